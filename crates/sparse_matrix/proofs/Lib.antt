@@ -1,5 +1,6 @@
--- The lemmas: about the numbers after a call writes one number, about the numbers after the entries
--- of a row are written one after the other, and about sums over the columns.
+-- The lemmas. `NumberLemmas` is about the numbers of a matrix after one number is written,
+-- `WritesLemmas` about its numbers after all entries of a row are written, and `SumLemmas` about
+-- sums over the columns of a row.
 mod NumberLemmas
 mod WritesLemmas
 mod SumLemmas

@@ -1,4 +1,4 @@
--- Which numbers a matrix has after one number is written.
+-- Lemmas about the numbers of a matrix after one of its numbers was written.
 use Rattle.std.proofs.Common.{◌≡◌, ◌≢◌, ℕ, ◌<◌, ◌≤◌, ◌==◌, ◌&&◌, ◌^◌, if◌then◌else◌, Bool, true, false, inl, inr, length, OnErr, OnOk, Result, Ok, Err, ap, refl, sym, ◌∙◌}
 use Rattle.std.specs.Option.{unwrap_or}
 use Rattle.std.proofs.lemmas.Bool.{and_from, and_left, and_right, cases_eq, eq-eqb, ne_eqb}
@@ -12,8 +12,8 @@ if_true x y e = ap (λ (b : Bool). if b then x else y) e
 if_false : {b : Bool} (x y : ℕ) → b ≡ false → (if b then x else y) ≡ y
 if_false x y e = ap (λ (b : Bool). if b then x else y) e
 
--- if f has the number v at row i and column j, and elsewhere the numbers of g, then `f k l` is
--- `if k == i && l == j then v else g k l`
+-- Let f and g be functions from a row and a column to a number. If `f i j` is v, and f and g are
+-- equal at all other rows and columns, then `f k l` is `if k == i && l == j then v else g k l`.
 pub at_place : (f g : ℕ → ℕ → ℕ) (i j v : ℕ) → f i j ≡ v → ((k l : ℕ) → l ≢ j → f k l ≡ g k l)
     → ((k l : ℕ) → k ≢ i → f k l ≡ g k l)
     → (k l : ℕ) → f k l ≡ (if k == i && l == j then v else g k l)
@@ -28,7 +28,8 @@ at_place f g i j v here columns rows k l = elim (cases_eq k i) [
       ∙ sym (if_false v (g k l) (and_left (k == i) (l == j) (ne_eqb k i other)))
 ]
 
--- let f have the numbers of g, except v at row i and column j
+-- context: f and g are functions from a row and a column to a number, and they are equal except
+-- that `f i j` is v
 module _ (f g : ℕ → ℕ → ℕ) (i j v : ℕ)
     (told : (k l : ℕ) → f k l ≡ (if k == i && l == j then v else g k l)) where
   pub here : f i j ≡ v
@@ -42,8 +43,8 @@ module _ (f g : ℕ → ℕ → ℕ) (i j v : ℕ)
   other_rows k l other =
       told k l ∙ if_false v (g k l) (and_left (k == i) (l == j) (ne_eqb k i other))
 
--- if f has in row i the numbers of h, and in the other rows those of g, then `f k l` is
--- `if k == i then h k l else g k l`
+-- Let f, g and h be functions from a row and a column to a number. If f equals h in row i, and
+-- equals g in all other rows, then `f k l` is `if k == i then h k l else g k l`.
 pub at_row : (f g h : ℕ → ℕ → ℕ) (i : ℕ) → ((l : ℕ) → f i l ≡ h i l)
     → ((k l : ℕ) → k ≢ i → f k l ≡ g k l)
     → (k l : ℕ) → f k l ≡ (if k == i then h k l else g k l)
@@ -54,8 +55,8 @@ at_row f g h i here rows k l = elim (cases_eq k i) [
 ]
 
 module _ (t : Table ℕ) (i j : ℕ) where
-  -- after v is written at row i and column j of the table t, the table has v there, and elsewhere
-  -- the numbers that it had
+  -- if the table t has a row i, then writing v at row i and column j makes the number there v, and
+  -- changes no other number
   pub number-with_value : (v : ℕ) → i < length t → (k l : ℕ)
       → number_at (with_value t i j v) k l ≡ (if k == i && l == j then v else number_at t k l)
   number-with_value v inside =
@@ -64,8 +65,8 @@ module _ (t : Table ℕ) (i j : ℕ) where
       (λ k l other. ap (λ o. unwrap_or o 0) (columns_unchanged t i j k l v other))
       (λ k l other. ap (λ o. unwrap_or o 0) (rows_unchanged t i j k l v other))
 
-  -- after the entry at row i and column j of the table t is removed, the number there is v, which
-  -- is 0, and the other numbers are those that the table had
+  -- if v is 0, then removing the entry at row i and column j of the table t makes the number there
+  -- v, and changes no other number
   pub number-without_value : (v : ℕ) → v ≡ 0 → (k l : ℕ)
       → number_at (without_value t i j) k l ≡ (if k == i && l == j then v else number_at t k l)
   number-without_value v zero =
@@ -74,13 +75,13 @@ module _ (t : Table ℕ) (i j : ℕ) where
       (λ k l other. ap (λ o. unwrap_or o 0) (columns_left t i j k l other))
       (λ k l other. ap (λ o. unwrap_or o 0) (rows_left t i j k l other))
 
--- if x and y are less than n, the one that b chooses is less than n
+-- if x and y are both less than n, then `if b then x else y` is less than n
 either_below : (b : Bool) (x y n : ℕ) → x < n → y < n → (if b then x else y) < n
 either_below true x y n first second = first
 either_below false x y n first second = second
 
--- if v and all numbers of t fit into a `u64`, so do all numbers of u, which has v at row i and
--- column j, and elsewhere the numbers of t
+-- if v and all numbers of t are less than 2 ^ 64, and u has the same numbers as t except for v at
+-- row i and column j, then all numbers of u are less than 2 ^ 64
 pub still_small : (t u : Table ℕ) (i j v : ℕ) → v < 2 ^ 64
     → ((k l : ℕ) → number_at t k l < 2 ^ 64)
     → ((k l : ℕ) → number_at u k l ≡ (if k == i && l == j then v else number_at t k l))
@@ -88,8 +89,9 @@ pub still_small : (t u : Table ℕ) (i j v : ℕ) → v < 2 ^ 64
 still_small t u i j v fits small told k l =
     rw (told k l) (either_below (k == i && l == j) v (number_at t k l) (2 ^ 64) fits (small k l))
 
--- if v and all numbers of t fit into a `u64`, so do all numbers of u, which is t with v written at
--- row i and column j if the call succeeded, and t if it failed
+-- A call that returns `result` changes the table t to u. On success, v is written at row i and
+-- column j; on failure, nothing changes. If v and all numbers of t are less than 2 ^ 64, then all
+-- numbers of u are less than 2 ^ 64.
 pub small_if_written : {X E : Type 0} (result : Result X E) (t u : Table ℕ) (i j v : ℕ)
     → i < length t → v < 2 ^ 64 → ((k l : ℕ) → number_at t k l < 2 ^ 64)
     → OnOk result (u ≡ with_value t i j v) → OnErr result (u ≡ t)
@@ -98,6 +100,6 @@ small_if_written (Ok _) t u i j v inside fits small is same =
     rw is (still_small t _ i j v fits small (number-with_value t i j v inside))
 small_if_written (Err _) t u i j v inside fits small is same = rw same small
 
--- a matrix has 0 at a row that it does not have
+-- if the table t has no row i, then its number at row i and column j is 0
 pub no_row : (t : Table ℕ) (i j : ℕ) → length t ≤ i → number_at t i j ≡ 0
 no_row t i j past = ap (λ o. unwrap_or o 0) (outside t i j past)

@@ -1,4 +1,5 @@
--- Sums over the columns of a row.
+-- Lemmas about sums over the columns of a row: a sum over the entries of a row equals the sum over
+-- all its columns.
 use Rattle.std.proofs.Common.{◌≡◌, ◌≢◌, ℕ, zero, suc, ◌+◌, ◌*◌, ◌<◌, Bool, true, false, cond, ◌&&◌, T, List, [], ◌∷◌, Some, None, inl, inr, Ordering, Less, Equal, Greater, is_eq, is_lt, length, map, sum, sum_by, nat_cmp, ap, arith, refl, sym, ◌∙◌}
 use Rattle.std.specs.Cmp.{nat_cmp_total, tied_itself}
 use Rattle.std.specs.FinMap as columns
@@ -30,8 +31,8 @@ same_sum f g (suc n) same =
     let last : f n ≡ g n = same n (omega arith) in
     λ i. rest i + last i
 
--- if f and g differ only at c, which is less than n, and f is greater than g by v there, then the
--- sum of f below n is greater than that of g by v
+-- if c is less than n, f c is v + g c, and f and g are equal at all other numbers, then the sum of
+-- f over the numbers less than n is v plus the sum of g over them
 sum_differs : (f g : ℕ → ℕ) (c v n : ℕ) → c < n → f c ≡ v + g c → ((j : ℕ) → j ≢ c → f j ≡ g j)
     → sum_below n f ≡ v + sum_below n g
 sum_differs f g c v zero inside here others = absurd (omega arith)
@@ -51,7 +52,8 @@ no_sum f zero = refl
 no_sum f (suc n) = let rest = no_sum f n in omega arith
 
 module _ (f : ℕ → ℕ) where
-  -- the number that the entries hold at column j, or 0 if there is no such entry, times f j
+  -- the number of the entry in a column, times f of this column; or 0, if the list of entries has
+  -- no entry in this column
   abbrev term : List (ℕ × ℕ) → ℕ → ℕ
   term entries j = unwrap_or (find nat_cmp j entries) 0 * f j
 
@@ -63,8 +65,9 @@ module _ (f : ℕ → ℕ) where
       (is_less (nat_cmp x e.0) (both_hold _ _ below).0)
       ∙ none_found x entries (both_hold _ _ below).1
 
-  -- if the columns of the entries increase and are less than n, the sum of each number times f of
-  -- its column, over the entries, is the sum of `term entries` over all columns less than n
+  -- If the columns of the entries are strictly increasing and less than n, two sums are equal: the
+  -- sum over all entries of the entry's number times f of its column, and the sum of `term entries`
+  -- over all columns less than n.
   entries_sum : (entries : List (ℕ × ℕ)) (n : ℕ) → T (is_sorted nat_cmp entries)
       → ((k : ℕ) → k < length entries → (slice_index_or entries k (0, 0)).0 < n)
       → sum_by (λ e. e.1 * f e.0) entries ≡ sum_below n (term entries)
@@ -93,8 +96,9 @@ module _ (f : ℕ → ℕ) where
           ∙ (let nothing : term entries e.0 ≡ 0 * f e.0 = ap (λ o. unwrap_or o 0 * f e.0) none in
           omega (arith, nothing))
 
--- if the columns of the entries of a row are less than n, the sum of each number times f of its
--- column is the same over the entries as over all columns less than n
+-- Each number of a row is multiplied by f of its column, and the products are added. If the columns
+-- of all entries of the row are less than n, the sum over the entries equals the sum over all
+-- columns less than n.
 pub row_sum : (f : ℕ → ℕ) (row : Columns ℕ) (n : ℕ) (entries : List (ℕ × ℕ))
     → entries ≡ columns.entries row
     → ((k : ℕ) → k < length entries → (slice_index_or entries k (0, 0)).0 < n)

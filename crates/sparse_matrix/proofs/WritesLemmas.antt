@@ -1,4 +1,5 @@
--- The entries of a row are written one after the other, each to a place of its own.
+-- Lemmas for the loops that write the entries of a row one after the other, each at a different
+-- place.
 use Rattle.std.proofs.Common.{◌≡◌, ◌≢◌, ℕ, ◌+◌, ◌<◌, ◌≤◌, List, Some, None, inl, inr, length, ap, arith, refl, subst, sym, ◌∙◌}
 use Rattle.std.specs.FinMap as columns
 use Rattle.std.specs.Option.{unwrap_or}
@@ -7,11 +8,12 @@ use Rattle.std.proofs.lemmas.Bool.{cases_eq, cases_lt}
 use Rattle.thin_rows.specs.Table.{Columns, Table, row_of, value_at}
 use Rattle.thin_rows.proofs.TableLemmas.{in_order, is_listed, listed}
 
--- no option is both `None` and a `Some`
+-- `None` is never equal to `Some x`
 never : {P : Type 0} {x : ℕ} → None ≡ Some x → P
 never e = cc
 
--- suppose that writing the number v over the number u gives the number `write u v`
+-- context: `row` is a row, `old j` is the number at column j before the entries of the row are
+-- written, and `write u v` is the number that results when v is written over u
 module _ (write : ℕ → ℕ → ℕ) (row : Columns ℕ) (old : ℕ → ℕ) where
   abbrev column : ℕ → ℕ
   column k = (slice_index_or (columns.entries row) k (0, 0)).0
@@ -19,18 +21,18 @@ module _ (write : ℕ → ℕ → ℕ) (row : Columns ℕ) (old : ℕ → ℕ) w
   abbrev number : ℕ → ℕ
   number k = (slice_index_or (columns.entries row) k (0, 0)).1
 
-  -- in the numbers `now`, the first n entries of the row are written, and the numbers at other
-  -- columns are the old ones
+  -- `now` maps each column to its number after the first n entries of the row were written over the
+  -- old numbers
   pub record IsWritten (n : ℕ) (now : ℕ → ℕ) : Type 0 where
     pub done : (k : ℕ) → k < n → now (column k) ≡ write (old (column k)) (number k)
     pub left : (j : ℕ) → ((k : ℕ) → k < n → column k ≢ j) → now j ≡ old j
 
-  -- in the old numbers, none of the entries is written
+  -- if no entry is written yet, the numbers are the old ones
   pub none_written : IsWritten 0 old
   none_written = record { done = λ k less. absurd (omega arith); left = λ j none. refl }
 
-  -- if n entries are written, and then the next entry is written and nothing else changes, then
-  -- n + 1 entries are written
+  -- if the first n entries are written, and writing the next entry changes no other number, then
+  -- the first n + 1 entries are written
   pub one_more : (n : ℕ) (now next : ℕ → ℕ) → n < length (columns.entries row) → IsWritten n now
       → next (column n) ≡ write (now (column n)) (number n)
       → ((j : ℕ) → j ≢ column n → next j ≡ now j) → IsWritten (n + 1) next
@@ -48,7 +50,7 @@ module _ (write : ℕ → ℕ → ℕ) (row : Columns ℕ) (old : ℕ → ℕ) w
         ∙ h.left j (λ k less. none k (omega (arith, less)));
   }
 
-  -- `one_more` also holds for `entries`, a list that equals the list of the row's entries
+  -- the lemma `one_more`, stated for a list `entries` that equals the list of the row's entries
   pub next_written : (entries : List (ℕ × ℕ)) → entries ≡ columns.entries row → (n : ℕ)
       (now next : ℕ → ℕ) → n < length entries → IsWritten n now
       → next (slice_index_or entries n (0, 0)).0
@@ -57,8 +59,9 @@ module _ (write : ℕ → ℕ → ℕ) (row : Columns ℕ) (old : ℕ → ℕ) w
       → IsWritten (n + 1) next
   next_written entries is = rw is one_more
 
-  -- if writing 0 over `old j` changes nothing, then after all entries are written, column j has the
-  -- number of the row written over `old j`. A column without an entry has the number 0
+  -- Suppose that all entries of the row are written. If writing 0 over `old j` does not change it,
+  -- then the number at column j is the row's number at column j written over `old j`. (The row's
+  -- number at a column without an entry is 0.)
   pub all_written : (n : ℕ) (now : ℕ → ℕ) → n ≡ length (columns.entries row) → IsWritten n now
       → (j : ℕ) → write (old j) 0 ≡ old j
       → now j ≡ write (old j) (unwrap_or (columns.get row j) 0)

@@ -1,2 +1,2 @@
--- The numbers of a matrix.
+-- The definitions that the contracts of matrices use.
 pub mod Numbers

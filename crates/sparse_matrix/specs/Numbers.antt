@@ -11,11 +11,12 @@ number_at table i j = unwrap_or (value_at table i j) 0
 abbrev pub added : ℕ → ℕ → ℕ
 added a b = min (a + b) (2 ^ 64 - 1)
 
--- f 0 + f 1 + .. + f (n - 1)
+-- the sum of a function over the numbers less than n: f 0 + f 1 + .. + f (n - 1)
 abbrev pub sum_below : ℕ → (ℕ → ℕ) → ℕ
 sum_below zero f = 0
 sum_below (suc n) f = sum_below n f + f n
 
--- the sum over all columns j: the number at row i and column j, times the number of the vector at j
+-- the product of row i of the table with the vector: the sum, over all columns, of the number in
+-- row i times the number of the vector at the same column
 abbrev pub dot : Table ℕ → ℕ → List ℕ → ℕ
 dot table i vector = sum_below (length vector) (λ j. number_at table i j * slice_index vector j)

@@ -125,8 +125,8 @@ impl<A: Allocator> Matrix<A> {
         Ok(())
     }
 
-    // Adds the numbers in a row of `other` to the numbers in the same row of this matrix. If it
-    // fails, some of the numbers may have been added.
+    // Adds the numbers in a row of `other` to the numbers in the same row of this matrix. If the
+    // call fails, some of the numbers may have been added.
     fn add_row(&mut self, row: usize, other: &Matrix<A>) -> Result<(), ThinVecError>
         requires row_in_bounds { row < length self.old.numbers }
         requires other_row_in_bounds { row < length other.now.numbers }
@@ -144,8 +144,8 @@ impl<A: Allocator> Matrix<A> {
         Ok(())
     }
 
-    // Writes the numbers in a row of `other` to a column of this matrix, which has only zeros. If
-    // it fails, some of the numbers may have been written.
+    // Writes the numbers in row `column` of `other` to column `column` of this matrix, where all
+    // numbers must be 0. If the call fails, some of the numbers may have been written.
     fn set_column(&mut self, column: usize, other: &Matrix<A>) -> Result<(), ThinVecError>
         requires column_in_bounds { column < self.old.columns }
         requires row_in_bounds { column < length other.now.numbers }

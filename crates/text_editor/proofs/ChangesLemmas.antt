@@ -6,11 +6,11 @@ use Rattle.std.specs.List.{replace_range}
 use Rattle.text_editor.specs.Changes.{AllFit, FitAlong, Fits, changed, texts_along, texts_of}
 use Rattle.text_editor.specs.declared.change.Change.{Change}
 
--- context: a change that inserts n characters, the text before the change, and the text after it
--- (`new`)
+-- context: a change that fits the text `text` and inserts n characters, and `new`, the text after
+-- the change
 module _ (change : Change) (n : ℕ) (text new : List ℕ) (fits : Fits change text)
     (count : n ≡ length change.characters.items) (made : new ≡ changed change text) where
-  -- the part of the text before the range of the change is `change.start` long
+  -- the part of the text before the range of the change has `change.start` characters
   short : length (take change.start text) ≡ change.start
   short = length-take-le change.start text (omega (arith, fits.start_le_end, fits.in_bounds))
 
@@ -26,8 +26,8 @@ module _ (change : Change) (n : ℕ) (text new : List ℕ) (fits : Fits change t
         length-append front change.characters.items,
       )
 
-  -- if `old` are the characters that the change replaced, then replacing the inserted characters
-  -- with `old` restores the text before the change
+  -- if `old` is the list of characters that the change replaced, then replacing the inserted
+  -- characters with `old` restores the text before the change
   pub takes_back : (old : List ℕ) → old ≡ slice_range text change.start change.end
       → text ≡ replace_range new change.start (change.start + n) old
   takes_back old is =
@@ -47,22 +47,23 @@ module _ (change : Change) (n : ℕ) (text new : List ℕ) (fits : Fits change t
       ∙ (ap (λ (l : List ℕ). take s text ++ l) (take-append-drop (e - s) (drop s text))
       ∙ take-append-drop s text)))
 
--- context: a list of changes whose last one is `change`, a text, and the text after `change`
--- (`after`)
+-- context: `changes` is `rest` followed by `change`, and `after` is the text after `change` is
+-- carried out on `text`
 module _ (changes rest : List Change) (change : Change) (text after : List ℕ)
     (is : changes ≡ rest ++ change ∷ []) (made : after ≡ changed change text) where
-  -- the reversed list begins with the last change
+  -- the reverse of `changes` is the last change, followed by the reverse of the other changes
   turned : reverse changes ≡ change ∷ reverse rest
   turned = ap (λ (cs : List Change). reverse cs) is ∙ reverse-append rest (change ∷ [])
 
-  -- the texts that `texts_of` lists begin with the text after the last change
+  -- if the changes are carried out from the last to the first, the first text produced is `after`,
+  -- and the further texts are the ones that the other changes produce from `after`
   pub texts_of-last : texts_of changes text ≡ after ∷ texts_of rest after
   texts_of-last =
       ap (λ (cs : List Change). texts_along cs text) turned
       ∙ ap (λ (t : List ℕ). t ∷ texts_along (reverse rest) t) (sym made)
 
-  -- if the last change fits the text, and all the others fit the text after the last change, then
-  -- all the changes fit the text
+  -- if the last change fits the text, and the other changes fit the text that the last change
+  -- produces, then all the changes fit the text (`AllFit`)
   pub AllFit-last : Fits change text → AllFit rest after → AllFit changes text
   AllFit-last fits all =
       subst (λ (cs : List Change). FitAlong cs text) (sym turned)
@@ -86,7 +87,7 @@ pub length-texts_of : (changes : List Change) (text : List ℕ)
 length-texts_of changes text =
     length-texts_along (reverse changes) text ∙ length-reverse changes
 
--- the first k changes produce the first k of the texts
+-- the texts that the first k changes produce are the first k texts that all the changes produce
 texts_along-take : (k : ℕ) (changes : List Change) (text : List ℕ)
     → texts_along (take k changes) text ≡ take k (texts_along changes text)
 texts_along-take zero changes text = refl
@@ -95,7 +96,7 @@ texts_along-take (suc k) (change ∷ changes) text =
     ap (λ (ts : List (List ℕ)). changed change text ∷ ts)
     (texts_along-take k changes (changed change text))
 
--- if the changes fit one after another, then so do the first k of them
+-- if all the changes can be carried out in order (`FitAlong`), so can the first k changes
 FitAlong-take : (k : ℕ) (changes : List Change) (text : List ℕ) → FitAlong changes text
     → FitAlong (take k changes) text
 FitAlong-take zero changes text all = tt
@@ -103,7 +104,8 @@ FitAlong-take (suc k) [] text all = tt
 FitAlong-take (suc k) (change ∷ changes) text all =
     (all.0, FitAlong-take k changes (changed change text) all.1)
 
--- the reverse of a list without its first m changes is the reversed list without its last m changes
+-- removing the first m changes and then reversing the list gives the same list as reversing it and
+-- then removing the last m changes
 reverse-drop : (m : ℕ) (changes : List Change)
     → reverse (drop m changes) ≡ take (length changes - m) (reverse changes)
 reverse-drop m changes =
@@ -117,14 +119,14 @@ reverse-drop m changes =
 
 -- context: a list of changes, from which the first m are removed, and a text
 module _ (m : ℕ) (changes : List Change) (text : List ℕ) where
-  -- the remaining changes produce the same texts as all the changes, without the last m texts
+  -- the remaining changes produce the texts that all the changes produce, except the last m texts
   pub texts_of-drop : texts_of (drop m changes) text
       ≡ take (length changes - m) (texts_of changes text)
   texts_of-drop =
       ap (λ (cs : List Change). texts_along cs text) (reverse-drop m changes)
       ∙ texts_along-take (length changes - m) (reverse changes) text
 
-  -- if all the changes fit the text, then all the remaining changes fit it
+  -- if all the changes fit the text, then the remaining changes fit the text (`AllFit`)
   pub AllFit-drop : AllFit changes text → AllFit (drop m changes) text
   AllFit-drop all =
       subst (λ (cs : List Change). FitAlong cs text) (sym (reverse-drop m changes))

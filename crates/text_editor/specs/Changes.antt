@@ -3,7 +3,7 @@ use Rattle.std.specs.Prelude.{ℕ, ◌≤◌, List, [], ◌∷◌, length, rever
 use Rattle.std.specs.List.{replace_range}
 use Rattle.text_editor.specs.declared.change.Change.{Change}
 
--- the text after the change is carried out on `text`
+-- the text after a change is carried out on a text
 abbrev pub changed : Change → List ℕ → List ℕ
 changed change text = replace_range text change.start change.end change.characters.items
 
@@ -27,7 +27,7 @@ FitAlong (change ∷ changes) text = Fits change text × FitAlong changes (chang
 abbrev pub texts_of : List Change → List ℕ → List (List ℕ)
 texts_of changes text = texts_along (reverse changes) text
 
--- holds if the changes can be carried out from the last to the first, each one within the bounds of
--- its text
+-- holds if each change fits the text that the changes after it in the list produce, when they are
+-- carried out from the last to the first
 abbrev pub AllFit : List Change → List ℕ → Type 0
 AllFit changes text = FitAlong (reverse changes) text

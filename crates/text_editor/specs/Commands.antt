@@ -5,7 +5,8 @@ use Rattle.text_editor.specs.History.{History}
 use Rattle.text_editor.specs.declared.command.Command.{Command}
 use Rattle.text_editor.specs.declared.command.Command.TheVariants.{Forget, Print, Redo, Replace, Undo}
 
--- relates the editor before a command that succeeds (`old`) to the editor after the command (`new`)
+-- `Does command old new` says what `command` does if it succeeds: `old` is the editor before the
+-- command, and `new` is the editor after it
 abbrev pub Does : Command → History → History → Type 0
 Does (Replace start end characters) old new =
     (new.text ≡ replace_range old.text start end characters.items)

@@ -2,7 +2,7 @@
 use Rattle.std.specs.Prelude.{◌≡◌, ℕ, List, []}
 
 -- the current text, the texts that repeated calls of `undo` restore (`past`), and the texts that
--- repeated calls of `redo` restore (`future`), each in the order of the calls
+-- repeated calls of `redo` restore (`future`); `past` and `future` are in the order of these calls
 pub record History : Type 0 where
   pub past : List (List ℕ)
   pub text : List ℕ

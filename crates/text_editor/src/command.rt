@@ -9,14 +9,15 @@ use thin_vec::ThinVec;
 /// A command, which is read from one line of the input.
 #[derive(Drop)]
 pub enum Command {
-    /// Replaces the characters from the first index up to, but not including, the second with a
-    /// text. It is written `insert AT TEXT`, `delete FROM TO` or `replace FROM TO TEXT`.
+    /// Replaces the characters from the first index up to, but not including, the second index with
+    /// the text in the third field. It is written `insert AT TEXT`, `delete FROM TO` or
+    /// `replace FROM TO TEXT`.
     Replace(usize, usize, ThinVec<char>),
-    /// Undoes the last edit that is not undone. It is written `undo`.
+    /// Undoes the last edit that has not been undone. It is written `undo`.
     Undo,
     /// Redoes the edit that was undone last. It is written `redo`.
     Redo,
-    /// Forgets the oldest edits, so that at most this number of edits can be undone. It is written
+    /// Forgets the oldest edits, so that at most COUNT edits can be undone. It is written
     /// `forget COUNT`.
     Forget(usize),
     /// Prints the text. It is written `print`.
@@ -30,8 +31,8 @@ impl Command {
     ///
     /// # Errors
     ///
-    /// Returns `NotACommand` if the line is not a command, and `NoRoom` if there is no room for its
-    /// characters.
+    /// Returns `NotACommand` if the line is not a command, and `NoRoom` if there is no room for the
+    /// text in the command.
     pub fn parse(alloc: Global, line: &str) -> Result<Command, EditError> {
         let (name, rest) = first_word(line);
         match name {

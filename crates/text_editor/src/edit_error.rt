@@ -3,7 +3,7 @@
 use thin_vec::ThinVecError;
 use thiserror::Error;
 
-/// Says why a command was not carried out. The text and its history are then as before.
+/// The reason why a command was not carried out. The text and its history have not changed.
 #[derive(Debug, Drop, Error)]
 pub enum EditError {
     /// The line is not a command.
@@ -15,8 +15,8 @@ pub enum EditError {
     /// There is no edit to undo: none was made, or every edit has been undone or forgotten.
     #[error("nothing to undo")]
     NothingToUndo,
-    /// There is no edit to redo: after the last new edit no edit was undone, or all undone edits
-    /// were made again.
+    /// There is no edit to redo: no edit was undone since the last new edit, or every undone edit
+    /// has been redone.
     #[error("nothing to redo")]
     NothingToRedo,
     /// There is no room for the edit. The field is the cause of the failure.

@@ -57,7 +57,7 @@ impl Editor {
     }
 
     /// Replaces the characters from `start` up to, but not including, `end` with `characters`.
-    /// Edits that are undone can then no longer be redone.
+    /// Edits that were undone before the call can no longer be redone.
     ///
     /// # Errors
     ///
@@ -91,7 +91,7 @@ impl Editor {
         Ok(())
     }
 
-    /// Undoes the last edit that is not undone.
+    /// Undoes the last edit that has not been undone.
     ///
     /// # Errors
     ///
@@ -143,7 +143,7 @@ impl Editor {
 }
 
 // Removes the last change of `from`, carries it out on `text`, and appends the change that undoes
-// it to `to`. If it fails, the text and the items of both lists do not change.
+// it to `to`. If `step` fails, `text` and the items of both lists do not change.
 fn step(
     text: &mut ThinVec<char>,
     from: &mut ThinVec<Change>,

@@ -1,5 +1,6 @@
--- The size of a block in bytes, and which capacities fit, that is, are small enough to be
--- allocated. In this file, s and a are the size and the alignment of an item, in bytes.
+-- The size of a block in bytes, and the capacities that fit. A capacity fits if a block of that
+-- capacity is small enough to be allocated. In this file, s and a are the size and the alignment of
+-- an item, in bytes.
 use Rattle.std.specs.Prelude.{◌≡◌, ℕ, ◌+◌, ◌*◌, ◌-◌, ◌^◌, ◌&&◌, ◌==◌, Bool, IsTrue, Option, if◌then◌else◌, max, nat_lt}
 use Rattle.std.specs.declared.option.Option.TheVariants.{Some, None}
 use Rattle.std.specs.Int.{next_multiple_of}
@@ -13,12 +14,12 @@ use denote.RattleType.{RattleType}
 abbrev pub IsAlign : ℕ → Type 0
 IsAlign a = (w : Width) × (a ≡ bytes w)
 
--- the offset in bytes of the first item in a block, after two words of 8 bytes and padding; the
--- argument is the alignment of an item
+-- `items_offset a` is the offset in bytes of the first item in a block, after two words of 8 bytes
+-- and padding; a is the alignment of an item
 abbrev pub items_offset : ℕ → ℕ
 items_offset a = max 16 a
 
--- the alignment in bytes of a block whose items have the given alignment
+-- `block_align a` is the alignment in bytes of a block whose items have the alignment a
 abbrev pub block_align : ℕ → ℕ
 block_align a = max 8 a
 
@@ -27,13 +28,13 @@ block_align a = max 8 a
 abbrev pub block_bytes : ℕ → ℕ → ℕ → ℕ
 block_bytes s a c = next_multiple_of (items_offset a + c * s) (block_align a)
 
--- `is_small s a c` is true if the capacity c, and the size in bytes of a block for c items of size
--- s and alignment a, are both at most `isize::MAX` (std: `Layout::from_size_align`)
+-- `is_small s a c` is true if neither c nor the size in bytes of a block for c items of size s and
+-- alignment a exceeds `isize::MAX` (std: `Layout::from_size_align`)
 abbrev pub is_small : ℕ → ℕ → ℕ → Bool
 is_small s a c = nat_lt c (2 ^ 63) && nat_lt (block_bytes s a c) (2 ^ 63)
 
--- whether a block of the given capacity is small enough to be allocated. This is `is_small` under a
--- name that does not unfold by itself, for files that need only the name.
+-- `fits s a c` says whether a block for c items of size s and alignment a is small enough to be
+-- allocated. It equals `is_small s a c`, but the prover does not unfold it by itself.
 unfoldable pub fits : ℕ → ℕ → ℕ → Bool
 fits s a c = is_small s a c
 
@@ -41,14 +42,16 @@ fits s a c = is_small s a c
 abbrev pub Fits : RattleType → ℕ → Type 0
 Fits R c = IsTrue (fits (type_size R) (type_align R) c)
 
--- the capacity that doubling chooses for a first block, unless more items need room: 1 for items of
--- more than `usize::MAX / 8` bytes, 4 for all others (source: thin-vec)
+-- The capacity that the rule `Doubling` chooses for the first block of a list, unless more items
+-- need room. It is 1 if the size s of an item exceeds `usize::MAX / 8` bytes, and 4 otherwise
+-- (source: thin-vec).
 unfoldable pub first : ℕ → ℕ
 first s = if nat_lt (2 ^ 61 - 1) s then 1 else 4
 
--- for items of the given size in bytes: how many items make a word, and how many words take as many
--- bytes as the header. Items of 1, 2, 4 or 8 bytes make words of 8 bytes, and an item of 16 bytes
--- is a word. Items of all other sizes make no words.
+-- `in_words s` is a pair of numbers: how many items of s bytes make one word, and how many words
+-- are as large as the header of 16 bytes. Items of 1, 2, 4 or 8 bytes make words of 8 bytes, and an
+-- item of 16 bytes is a word. Items of all other sizes make no words, and then `in_words s` is
+-- None.
 abbrev pub in_words : ℕ → Option (ℕ × ℕ)
 in_words s = if s == 1 then Some (8, 2) else (if s == 2 then Some (4, 2) else
     (if s == 4 then Some (2, 2) else (if s == 8 then Some (1, 2) else

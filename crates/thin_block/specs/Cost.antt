@@ -4,17 +4,17 @@ use Rattle.std.specs.Coded.{Coded, code_by, coded×, coded_ℕ}
 
 -- three counts of what was done to a block since it was made
 pub record Cost : Type 0 where
-  -- the number of granted requests for memory, both for a new allocation and for a change of its
-  -- size
+  -- the number of granted requests for memory: of new allocations, and of changes of the size of an
+  -- allocation
   pub blocks : ℕ
-  -- the number of items that reallocations have copied. If the block stays at its address, its
-  -- items are counted as copied too
+  -- The number of items that reallocations have copied. If a reallocation leaves the block at its
+  -- address, the items of the block are counted as copied, too.
   pub grown : ℕ
-  -- the number of items that were put into the block, or moved within it. A clone that is put into
-  -- the block counts as one item. An item that is taken out is not counted
+  -- The number of items that were put into the block, or moved within it. A clone that is put into
+  -- the block counts as one item. An item that is taken out is not counted.
   pub moves : ℕ
 
--- costs are encoded as the three numbers that they consist of
+-- a cost is encoded as its three counts
 abbrev pub cost_code : Coded Cost
 cost_code =
     code_by (ℕ × (ℕ × ℕ)) (coded× coded_ℕ (coded× coded_ℕ coded_ℕ))
@@ -25,7 +25,7 @@ cost_code =
 abbrev pub no_cost : Cost
 no_cost = record { blocks = 0; grown = 0; moves = 0 }
 
--- `growing k c` is the cost c plus one more allocation, into which k items were copied
+-- `growing k c` is the cost c plus one granted request for memory, which copied k items
 abbrev pub growing : ℕ → Cost → Cost
 growing k c = record { blocks = c.blocks + 1; grown = c.grown + k; moves = c.moves }
 

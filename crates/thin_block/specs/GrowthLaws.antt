@@ -18,7 +18,7 @@ pub fitting_is : (s a m n : ℕ) → fitting s a m ≡ Some n → IsTrue (fits s
 unfolding fitting
 fitting_is s a m n e = when_some (fits s a m) m n e
 
--- the capacity that doubling tries is at least twice the old capacity
+-- the capacity that the rule `Doubling` computes is at least twice the old capacity
 twice : (s c w : ℕ) → 2 * c ≤ max w (if c == 0 then first s else 2 * c)
 twice s c w = grind (arith, nat_tests)
 

@@ -1,4 +1,4 @@
--- What a block holds after a `&mut` to some of its items has ended.
+-- What a block holds once a mutable borrow (`&mut`) of some of its items has ended.
 use Rattle.std.specs.Prelude.{◌≡◌, ℕ, zero, suc, ◌≤◌, List, [], ◌∷◌, length, Option, slice_set}
 use Rattle.std.specs.declared.option.Option.TheVariants.{None, Some}
 use Rattle.core.specs.declared.alloc.Allocator.{Ghosts}
@@ -28,7 +28,7 @@ module _ {X : Type 0} where
   length-over (Some x ∷ s) zero (w ∷ ws) = ap suc (length-over s zero ws)
 
 module _ {X Z : Type 0} where
-  -- the block b with s as its slots, whose number does not change
+  -- the block b with s as its slots; s must have the same number of slots as b
   abbrev pub with_slots : (b : Block X Z) (s : List (Option X))
       → length s ≡ length b.slots → Block X Z
   with_slots b s same =

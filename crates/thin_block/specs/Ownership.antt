@@ -1,14 +1,14 @@
--- What a block owns in memory, and what a `&` to it lends, as formulas. R is the type of an item
--- with its layout; b and o are the allocation and the offset of an address.
--- No public clause cites this module.
---     place, places   one slot, and all slots in a row: each is an item in memory, or uninitialized
---                     memory for one
+-- What a block owns in memory, and what a `&` to a block lends, as formulas. R is the type of an
+-- item with its layout; b and o are the allocation and the offset of an address. No public clause
+-- cites this module.
+--     place, places   one slot, and a row of slots: each slot is an item in memory, or
+--                     uninitialized memory for an item
 --     frame           a block without its slots: the two words of the header, the fact that the
 --                     block fits, and the backing
---     word_of, way    if items make words: the type of a word, and what turns memory for its items
---                     into memory for the word
---     backing         what turns the parts of a block back into the memory that was allocated, and
---                     the right to free that memory
+--     word_of, way    if items make words: the type of a word, and the conversion of memory for the
+--                     items of a word into memory for the word
+--     backing         the conversion of the parts of a block back into the memory that was
+--                     allocated, and the right to free that memory
 --     block_owns      what a block owns: all of its allocation; if it has none, it only shares the
 --                     static header
 --     .._lent         what a `&` to a slot, to slots, to a header or to a block shows
@@ -44,17 +44,18 @@ any_same [] (y ∷ ys) e = absurd (omega arith)
 any_same (x ∷ xs) [] e = absurd (omega arith)
 any_same (x ∷ xs) (y ∷ ys) e = refl
 
--- whether a block is small enough to be allocated, for items of the given type and the given number
--- of slots
+-- `fits_block R c` says whether a block of c slots for items of R is small enough to be allocated
 abbrev pub fits_block : RattleType → ℕ → Bool
 fits_block R c = is_small (type_size R) (type_align R) c
 
--- one slot at an address: the item in memory, or uninitialized memory for an item
+-- one slot at an address: the item in memory if the slot is filled, and uninitialized memory for an
+-- item if the slot is empty
 abbrev pub place : (R : RattleType) → Option R.Denot → ℕ → ℕ → Fml
 place R (Some x) b o = lies_at R full_share (block_ptr b o) x
 place R None b o = room_for (raw (lone R.mir)) (block_ptr b o)
 
--- slots in a row, from an address on
+-- `places R xs b o`: the slots xs in memory, one after the other, from the offset o of the
+-- allocation b on
 abbrev pub places : (R : RattleType) → List (Option R.Denot) → ℕ → ℕ → Fml
 places R [] b o = ftrue
 places R (x ∷ xs) b o = fsep (place R x b o) (places R xs b (o + type_size R))
@@ -78,12 +79,13 @@ whole R c = whole_of (bare R) c
 abbrev pub word_of : Ty → ℕ → Ty
 word_of τ m = ty_struct [] (tcons (ty_array τ m) (tcons (ty_array (ty_int w64) 0) tnil))
 
--- how many items of a type make a word, and how many words take as many bytes as the header. Only
--- the size of the bare type matters.
+-- `words_of R` is a pair of numbers: how many items of R make one word, and how many words are as
+-- large as the header. It is None if items of R make no words. Only the size of the bare type of R
+-- matters.
 abbrev pub words_of : RattleType → Option (ℕ × ℕ)
 words_of R = in_words (size (bare R))
 
--- the type for which the memory of a block is allocated. If the items make words, it is an array of
+-- The type for which the memory of a block is allocated. If the items make words, it is an array of
 -- words, which the allocator can grow in place. Otherwise it is the type of the whole block.
 abbrev pub asked_for : Option (ℕ × ℕ) → Ty → ℕ → Ty
 asked_for None τ c = whole_of τ c
@@ -106,53 +108,55 @@ parts_for τ c b o = fsep (froom (ty_int w64) b o)
 abbrev pub parts : RattleType → ℕ → ℕ → ℕ → Fml
 parts R c b o = parts_for (bare R) c b o
 
--- what turns uninitialized memory for the items of one word into uninitialized memory for the word
+-- the conversion of uninitialized memory for the items of one word into uninitialized memory for
+-- that word
 abbrev pub way : Ty → ℕ → ℕ → ℕ → Fml
 way τ m b o = fwand (froom (ty_array τ m) b o) (froom (word_of τ m) b o)
 
--- for each of several words in a row: what turns uninitialized memory for its items into
--- uninitialized memory for the word
+-- for each of several adjacent words: the conversion of uninitialized memory for the items of the
+-- word into uninitialized memory for the word
 abbrev pub ways : Ty → ℕ → ℕ → ℕ → ℕ → Fml
 ways τ m zero b o = ftrue
 ways τ m (suc w) b o = fsep (way τ m b o) (ways τ m w b (o + size (word_of τ m)))
 
--- what turns uninitialized memory for the header into uninitialized memory for the words that take
--- as many bytes
+-- the conversion of uninitialized memory for the header into uninitialized memory for words that
+-- together are as large as the header
 abbrev pub header_way : Ty → ℕ → ℕ → ℕ → ℕ → Fml
 header_way τ m k b o = fwand (header_room b o) (froom (ty_array (word_of τ m) k) b o)
 
--- what turns the memory of the slots into memory for words: the conversion of each word, and the
--- memory at the end of the last word that belongs to no slot
+-- all that is needed to turn the memory of the slots into memory for words: the conversion for each
+-- word, and the memory at the end of the last word that belongs to no slot
 abbrev pub slots_way : Ty → ℕ → ℕ → ℕ → ℕ → ℕ → Fml
 slots_way τ m w c b o = fsep (ways τ m w b o) (froom (ty_array τ (w * m - c)) b (o + c * size τ))
 
--- what turns the uninitialized parts of a block back into the memory of the whole block, with its
--- padding
+-- the conversion of the uninitialized parts of a block back into uninitialized memory for the whole
+-- block, padding included
 abbrev pub way_back : Option (ℕ × ℕ) → Ty → ℕ → ℕ → ℕ → Fml
 way_back None τ c b o = fwand (parts_for τ c b o) (froom (whole_of τ c) b o)
 way_back (Some w) τ c b o = fsep (header_way τ w.0 w.1 b o)
     (slots_way τ w.0 (div_ceil c w.0) c b (o + 16))
 
--- what turns the parts of a block back into the memory of the whole block (`way_back`), and the
--- right to free the block
+-- the backing of a block: the conversion of its parts back into memory for the whole block
+-- (`way_back`), and the right to free the block
 abbrev pub backing_for : (Ty → Ptr → Fml) → Option (ℕ × ℕ) → Ty → ℕ → ℕ → ℕ → Fml
 backing_for t w τ c b o = fsep (way_back w τ c b o) (t (asked_for w τ c) (block_ptr b o))
 
--- for a block of items of a given type: what turns its parts back into the memory of the whole
--- block, and the right to free the block
+-- `backing t R c b o` is the backing of a block of c slots for items of R: the conversion of the
+-- parts of the block back into memory for the whole block, and the right t to free the block
 abbrev pub backing : (Ty → Ptr → Fml) → RattleType → ℕ → ℕ → ℕ → Fml
 backing t R c b o = backing_for t (words_of R) (bare R) c b o
 
 -- `frame t R n c b o` is a block without its slots: the capacity c and the length n in memory, the
--- fact that the block fits, and the backing
+-- fact that the block fits, and the backing, with t as the right to free the block
 abbrev pub frame : (Ty → Ptr → Fml) → RattleType → ℕ → ℕ → ℕ → ℕ → Fml
 frame t R n c b o =
     fsep (lies_at usize full_share (block_ptr b o) c)
     (fsep (lies_at usize full_share (block_ptr b (o + 8)) n)
     (fsep (feq Bool (fits_block R c) true) (backing t R c b o)))
 
--- what a block owns. A block without an allocator has no allocation: it shares the two words of the
--- static header, which are 0 and lent forever.
+-- What a block owns: its header, its slots and its backing, if it has an allocation. A block
+-- without an allocation only shares the two words of the static header, which are 0 and lent
+-- forever.
 abbrev pub block_owns : {D : Type 0} → (D → Ty → Ptr → Fml) → (R : RattleType) → Ptr → ℕ
     → List (Option R.Denot) → Option D → Fml
 block_owns t R null_ptr n xs a = ffalse

@@ -20,9 +20,9 @@ below_power : (n : ℕ) → n < 2 ^ n
 below_power zero = omega arith
 below_power (suc n) = omega (arith, below_power n, pow_more 2 n)
 
--- Let p be a power of two whose half is less than `max 1 n`. If p is less than n, let `next` be the
--- least power of two that is at least n. Then this least power is p if p is at least n, and `next`
--- otherwise.
+-- Let p be a power of two whose half is less than `max 1 n`. If p is at least n, then p is the
+-- least power of two that is at least n. If p is less than n, the lemma assumes that `next` is this
+-- least power. So `if b then p else next` is this least power in both cases.
 one_step : (b : Bool) (n p next : ℕ) → nat_le n p ≡ b → IsPowerOfTwo p → p / 2 < max 1 n
     → (p < n → IsNextPowerOfTwo n next) → IsNextPowerOfTwo n (if b then p else next)
 one_step true n p next e power half later = (power, leb-true n p e, half)
@@ -55,7 +55,7 @@ not_more n (suc j) k enough half = elim (cases_lt j k) [
       let some = pow_pos j in absurd (omega (arith, half, enough, under, twice, some)))
 ]
 
--- two numbers that are both the least power of two that is at least n are equal
+-- if p and q are both the least power of two that is at least n, then p equals q
 pub one_least_power : (n p q : ℕ) → IsNextPowerOfTwo n p → IsNextPowerOfTwo n q → p ≡ q
 one_least_power n p q first second =
     let under = not_more n first.0.0 second.0.0 (subst (λ x. n ≤ x) second.0.1 second.1)
@@ -71,25 +71,26 @@ pub powers_of_none : (s a c w : ℕ) → s ≡ 0 → power_bytes s a c w ≡ dou
 unfolding power_bytes
 powers_of_none s a c w none = let test : (s == 0) ≡ true = grind (arith, nat_tests) in rw test refl
 
--- for items of at least one byte, `power_bytes` chooses as many items as fit, with the header, into
--- the least power of two bytes that has room for w items and for twice the capacity
+-- Let items take at least one byte, and let p be the least power of two such that p bytes have room
+-- for the header and for w or 2 * c items, whichever are more. Then `power_bytes` is the number of
+-- items that have room in p bytes after the header if this capacity fits, and None otherwise.
 pub powers_of_some : (s a c w : ℕ) → 0 < s → power_bytes s a c w ≡ fitting s a
     ((least_power (items_offset a + max w (2 * c) * s) - items_offset a) / s)
 unfolding power_bytes
 powers_of_some s a c w some = let test : (s == 0) ≡ false = grind (arith, nat_tests) in rw test refl
 
--- what `power_bytes` chooses for items of at least one byte: assume that it chooses the capacity n
+-- assume that items take at least one byte, and that `power_bytes` chooses the capacity n
 module _ (s a c w n : ℕ) (some : 0 < s) (e : power_bytes s a c w ≡ Some n) where
   -- the size in bytes of w items or of 2 * c items, whichever is greater
   abbrev wanted : ℕ
   wanted = max w (2 * c) * s
 
-  -- the least power of two bytes that has room for the header and `wanted` bytes
+  -- the least power of two that is at least the sum of `wanted` and the bytes before the first item
   abbrev power : ℕ
   power = least_power (items_offset a + wanted)
 
-  -- n is the number of items that fit into `power` bytes after the header, and n is a capacity that
-  -- fits
+  -- n is the number of items that have room in `power` bytes after the header, and a block of that
+  -- capacity is small enough to be allocated
   named : IsTrue (fits s a ((power - items_offset a) / s)) × ((power - items_offset a) / s ≡ n)
   named = fitting_is s a ((power - items_offset a) / s) n (sym (powers_of_some s a c w some) ∙ e)
 
@@ -108,7 +109,8 @@ module _ (s a c w n : ℕ) (some : 0 < s) (e : power_bytes s a c w ≡ Some n) w
         fits = subst (λ (k : ℕ). IsTrue (fits s a k)) named.1 named.0;
       }
 
-  -- some power of two bytes has room for the header and n items, but not for one more item
+  -- there is a power of two p such that p bytes have room for the header and n items, but not for
+  -- one more item
   pub powers_filled : FillsPower s a n
   powers_filled =
       let parts = div-add-mod' (power - items_offset a) s in

@@ -1,8 +1,8 @@
--- Items in memory as words. A word is a `Words` of m items of T; M is the const parameter m.
--- No public clause cites this module.
---     run_at, runs_from    items that can be turned into a word; and items for several words in a
---                          row, from an address on
---     words_from           words in a row, from an address on
+-- The memory of items as memory of words. A word is a value of the struct `Words`, which holds m
+-- items of T; M is the const parameter m. No public clause cites this module.
+--     run_at, runs_from    the items of one word, and the items of several adjacent words, with
+--                          what converts them into words
+--     words_from           several adjacent words
 use Rattle.std.specs.Prelude.{ℕ, ◌+◌, List, [], ◌∷◌, map}
 use base.Fraction.{full_share}
 use base.Fml.{Fml, ftrue, ffalse, fsep}
@@ -20,23 +20,26 @@ module _ (T M : RattleType) where
   abbrev pub word : List T.Denot → (the_row T M).Denot
   word xs = record { items = xs; aligned = [] }
 
-  -- the items of one word in memory, and what turns memory for these items into memory for the word
+  -- the items of one word in memory, and the conversion of memory for these items into memory for
+  -- the word
   abbrev pub run_at : List T.Denot → ℕ → ℕ → Fml
   run_at xs b o = fsep (part_at (ArrayAt T M) full_share xs b o) (way (bare T) (value_of M) b o)
 
-  -- the items of several words in a row, each with its conversion into a word
+  -- the items of several adjacent words in memory, and for each word the conversion of memory for
+  -- its items into memory for the word
   abbrev pub runs_at : List (List T.Denot) → ℕ → ℕ → Fml
   runs_at [] b o = ftrue
   runs_at (xs ∷ xss) b o = fsep (run_at xs b o)
       (runs_at xss b (o + size (word_of (bare T) (value_of M))))
 
-  -- the items of several words in a row, which begin at the address of a pointer, each with its
-  -- conversion into a word
+  -- `runs_from xss p`: the items of several adjacent words in memory, from the address of the
+  -- pointer p on, and for each word the conversion of memory for its items into memory for the word
   abbrev pub runs_from : List (List T.Denot) → Ptr → Fml
   runs_from xss null_ptr = ffalse
   runs_from xss (block_ptr b o) = runs_at xss b o
 
-  -- several words in a row, which begin at the address of a pointer
+  -- `words_from xss p`: several adjacent words in memory, from the address of the pointer p on;
+  -- each word holds one list of xss
   abbrev pub words_from : List (List T.Denot) → Ptr → Fml
   words_from xss null_ptr = ffalse
   words_from xss (block_ptr b o) = places (the_row T M) (full (map word xss)) b o

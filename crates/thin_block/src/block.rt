@@ -11,7 +11,7 @@ use std::alloc::Allocator;
 use std::marker::{Model, PhantomData, Send, Sync};
 
 // The header to which a block without an allocation points. All such blocks share this header, and
-// nothing writes it.
+// nothing ever writes to it.
 static NO_BLOCK: Header = Header {
     cap: 0,
     len: 0,
@@ -26,16 +26,16 @@ struct Header {
     aligned: [u128; 0],
 }
 
-/// A pointer to an allocation that holds a capacity, a stored length, and as many slots as the
-/// capacity says. Each slot is empty or holds an item. A block may also have no allocation: then it
-/// has no slots, and its length is 0.
+/// A pointer to an allocation that holds a capacity, a stored length, and the slots, whose number
+/// is the capacity. Each slot is empty or holds an item. A block may also have no allocation: then
+/// it has no slots, and its length is 0.
 ///
 /// A block is one pointer wide. It cannot be dropped: once every slot is empty, `release` frees the
 /// memory. Contracts see the slots, the stored length, the allocator that the memory came from, and
-/// three counters. Only the slots and the length take memory.
+/// three counters. Of these four, only the slots and the length take memory.
 pub struct Block<T, A: Allocator> {
-    // Points to the capacity, which is followed by the length and then by the slots. Without an
-    // allocation, it points to `NO_BLOCK`.
+    // Points to the capacity, which is followed by the length and then by the slots. If the block
+    // has no allocation, points to `NO_BLOCK`.
     pub(crate) at: *mut usize,
     pub(crate) item: PhantomData<T>,
     pub(crate) handle: PhantomData<A>,
@@ -52,8 +52,8 @@ impl<T, A: Allocator> Model for Block<T, A> {
     ghost also_shares = { λ b _ κ. block_lent T.row b.at b.len b.slots b.alloc κ };
 }
 
-// A block owns its allocation alone, or shares the static header, which nothing writes. So a block
-// may be sent to another thread if its items and its allocator may be.
+// A block either is the only owner of its allocation, or shares the static header, which is never
+// written to. So a block may be sent to another thread if its items and its allocator may be.
 unsafe impl<T: Send, A: Allocator + Send> Send for Block<T, A> {}
 
 // A `&` to a block only reads its header and its items. So a block may be shared between threads if

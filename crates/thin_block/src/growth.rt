@@ -9,12 +9,12 @@ use crate::sizes::fits;
 pub mod doubling;
 pub mod power_bytes;
 
-/// A growth rule: it chooses the new capacity of a list whose capacity is too small. Nothing else
-/// decides by how much a list grows.
+/// A growth rule: it chooses the new capacity when a list needs more room than its capacity. Calls
+/// for an exact capacity, such as `reserve_exact`, do not use the rule.
 pub trait Growth {
     /// The rule as a function on numbers. Its arguments are the size and the alignment of an item
     /// in bytes, the old capacity, and the number of items that need room, which exceeds the old
-    /// capacity. `None` says that the new capacity overflows.
+    /// capacity. It returns `None` if the new capacity overflows.
     ghost rule: { ℕ → ℕ → ℕ → ℕ → Option ℕ };
 
     /// Returns the capacity to which a list of capacity `cap` grows in order to hold `want` items,

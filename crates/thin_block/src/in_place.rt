@@ -1,6 +1,6 @@
 //! Growing and shrinking a block in place. If the items of a block make words, the allocator can
-//! treat the block as an array of words. Its `grow` and `shrink` may then leave the block at its
-//! address.
+//! treat the block as an array of words. The allocator's `grow` and `shrink` may then leave the
+//! block at its address.
 ghost use Rattle.std.specs.Prelude.{◌≡◌, ◌+◌, ◌*◌, ◌/◌, ◌<◌, ◌≤◌, IfErr, IfOk, List, OnErr, OnOk, length};
 ghost use Rattle.std.specs.declared.option.Option.TheVariants.{Some};
 ghost use Rattle.std.specs.Int.{div_ceil};
@@ -49,8 +49,8 @@ impl<T, A: Allocator> Block<T, A> {
     ghost use Rattle.thin_block.specs.Block.{IsFrom, seen};
 
     // Resizes the block to `cap` slots, and may leave the items at their address. `M` items make a
-    // word, the header takes as many bytes as `K` words, and the items make at least `K` words. The
-    // call fails only if the allocator does, and then nothing changes.
+    // word, the header is as large as `K` words, and the items make at least `K` words. The call
+    // fails only if the allocator does, and then nothing changes.
     #[cold]
     pub(crate) fn remake_in_place<const M: usize, const K: usize>(
         &mut self,
@@ -100,13 +100,14 @@ impl<T, A: Allocator> Block<T, A> {
         grown
     }
 
-    // Returns this block with `cap` slots and the same items. `M` items make a word, the header
-    // takes as many bytes as `K` words, and the items make `count` words, which are at least `K`.
+    // Returns this block with `cap` slots and the same items. `M` items make a word, and the header
+    // is as large as `K` words. The items make `count` words, and `count` is at least `K`.
+    //
     // The items are turned into words, and the last `K` words are kept in the place of the header
     // until the allocator returns. So the block is an array of `count` words from its start, which
-    // the allocator can grow or shrink. `held` and `wanted` are the numbers of words that the block
-    // has room for before and after the call. The call fails only if the allocator does, and then
-    // returns the block unchanged.
+    // the allocator can grow or shrink. The block has room for `held` words before the call, and
+    // for `wanted` words after it. The call fails only if the allocator does, and then returns the
+    // block unchanged.
     fn resize_words<const M: usize, const K: usize>(
         self,
         alloc: &A,

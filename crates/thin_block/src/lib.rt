@@ -1,5 +1,5 @@
-//! The type `Block`: one allocation that holds a length, a capacity and slots for items. This is
-//! the only crate of the product with raw pointers.
+//! The type `Block`: one allocation that holds a length, a capacity and slots for items. Of the
+//! crates that implement `ThinVec`, only this one uses raw pointers.
 #![tactic(auto)]
 
 mod block;

@@ -73,8 +73,8 @@ impl<T, A: Allocator> Block<T, A> {
         self.resize(alloc, cap)
     }
 
-    // Sets the ghost cost to the cost of `from`, plus one growth that copies as many items as the
-    // length of `from`. The function does nothing at run time.
+    // Sets the ghost cost of this block to the cost of `from` plus one growth that copied
+    // `from.len()` items. The function does nothing at run time.
     fn charge_as(&mut self, from: &Block<T, A>)
         ensures changes { seen self.new ≡ record (seen self.old) {
           cost = growing from.now.len from.now.cost;
@@ -131,9 +131,9 @@ impl<T, A: Allocator> Block<T, A> {
         self.resize(alloc, cap)
     }
 
-    // Changes the number of slots to `cap`. If there are many items and they make whole words, they
-    // may stay where they are; otherwise they are moved to a new block. The call fails only if the
-    // allocator does, and then nothing changes.
+    // Changes the number of slots to `cap`. If there are many items and they make whole words, the
+    // allocator may leave the block at its address; otherwise the items are moved to a new block.
+    // The call fails only if the allocator does, and then nothing changes.
     #[inline(always)]
     fn resize(&mut self, alloc: &A, cap: usize) -> Result<(), ThinVecError>
         requires from { IsFrom self.old.alloc alloc.now }

@@ -33,9 +33,9 @@ impl<T, A: Allocator> Block<T, A> {
         }
     }
 
-    /// Moves `k` items down by `gap` slots, so that the first of them is in the slot `to`. The
-    /// `gap` slots from `to` on must be empty, and the items must follow them. If `gap` is a
-    /// constant, LLVM turns this call into a `memmove`.
+    /// Moves the `k` items in the slots from `to + gap` on to the slots from `to` on. The `gap`
+    /// slots from `to` on must be empty. If `gap` is a constant, LLVM turns this call into a
+    /// `memmove`.
     #[inline(always)]
     pub fn move_down(&mut self, to: usize, gap: usize, k: usize)
         requires in_bounds { to + gap + k ≤ length self.old.slots }
@@ -50,9 +50,9 @@ impl<T, A: Allocator> Block<T, A> {
         self.slide_run(to, gap, 0, k, false);
     }
 
-    /// Moves `k` items up by `gap` slots, of which the first is in the slot `from`. The `gap` slots
-    /// that follow the items must be empty. If `gap` is a constant, LLVM turns this call into a
-    /// `memmove`.
+    /// Moves the `k` items in the slots from `from` on to the slots from `from + gap` on. The `gap`
+    /// slots that follow the items must be empty. If `gap` is a constant, LLVM turns this call into
+    /// a `memmove`.
     #[inline(always)]
     pub fn move_up(&mut self, from: usize, gap: usize, k: usize)
         requires in_bounds { from + gap + k ≤ length self.old.slots }
@@ -83,7 +83,8 @@ impl<T, A: Allocator> Block<T, A> {
         let mut block = self;
         // This call tells the prover that the number of slots is below 2 ^ 63.
         let _cap = block.cap();
-        // In each arm, `gap` is a constant for LLVM, which turns the loop into a `memmove`.
+        // In each arm with a number, `gap` is a constant for LLVM, which turns the loop into a
+        // `memmove`.
         match gap {
             1 => block.move_down(to, gap, k),
             2 => block.move_down(to, gap, k),
@@ -105,7 +106,7 @@ impl<T, A: Allocator> Block<T, A> {
         block
     }
 
-    /// Moves items down as `close_gap` does, and makes no call if `gap` is one or two.
+    /// Moves items down as `close_gap` does, but without calling `close_gap` if `gap` is 1 or 2.
     #[inline(always)]
     pub fn close_small_gap(self, to: usize, gap: usize, k: usize) -> Block<T, A>
         requires in_bounds { to + gap + k ≤ length self.slots }
@@ -142,7 +143,8 @@ impl<T, A: Allocator> Block<T, A> {
         let mut block = self;
         // This call tells the prover that the number of slots is below 2 ^ 63.
         let _cap = block.cap();
-        // In each arm, `gap` is a constant for LLVM, which turns the loop into a `memmove`.
+        // In each arm with a number, `gap` is a constant for LLVM, which turns the loop into a
+        // `memmove`.
         match gap {
             1 => block.move_up(from, gap, k),
             2 => block.move_up(from, gap, k),
@@ -164,7 +166,7 @@ impl<T, A: Allocator> Block<T, A> {
         block
     }
 
-    // Moves the items as `move_run` does, if the two ranges of slots overlap.
+    // Moves the items as `move_run` does. The old and the new range of slots must overlap.
     fn move_overlapping(&mut self, from: usize, to: usize, k: usize)
         requires source { from + k ≤ length self.old.slots }
         requires target { to + k ≤ length self.old.slots }
@@ -185,7 +187,8 @@ impl<T, A: Allocator> Block<T, A> {
     // says whether the items move up. The slots through which the items move must be empty.
     //
     // The addresses of the items and of their new slots are computed from the address of the slot
-    // `low`. So if `from` and `to` are constants, LLVM sees the distance of the two addresses.
+    // `low`. So if `from` and `to` are constants, LLVM sees that the two addresses have a constant
+    // distance.
     #[inline(always)]
     fn slide_run(&mut self, low: usize, from: usize, to: usize, k: usize, up: bool)
         requires source { low + from + k ≤ length self.old.slots }
@@ -208,7 +211,7 @@ impl<T, A: Allocator> Block<T, A> {
         }
     }
 
-    // Moves the items as `move_run` does, if the two ranges of slots do not overlap.
+    // Moves the items as `move_run` does. The old and the new range of slots must not overlap.
     fn move_apart(&mut self, from: usize, to: usize, k: usize)
         requires source { from + k ≤ length self.old.slots }
         requires target { to + k ≤ length self.old.slots }
@@ -228,7 +231,8 @@ impl<T, A: Allocator> Block<T, A> {
         }
     }
 
-    /// Moves the `k` items in the slots from `from` on to the empty slots of `other` from `to` on.
+    /// Moves `k` items of this block, in the slots from `from` on, to the slots of `other` from
+    /// `to` on, which must be empty.
     pub fn move_run_to(&mut self, from: usize, k: usize, other: &mut Block<T, A>, to: usize)
         requires source { from + k ≤ length self.old.slots }
         requires target { to + k ≤ length other.old.slots }
@@ -245,8 +249,9 @@ impl<T, A: Allocator> Block<T, A> {
         self.move_run_charging(from, other, to, k);
     }
 
-    // Moves the `k` items in the slots from `from` on to the empty slots of `to_block` from `to`
-    // on. The ghost parameter `cost` is the cost of `to_block` after the call.
+    // Moves `k` items of this block, in the slots from `from` on, to the slots of `to_block` from
+    // `to` on, which must be empty. The ghost parameter `cost` is the cost of `to_block` after the
+    // call.
     pub(crate) fn move_run_charging(
         &mut self,
         from: usize,

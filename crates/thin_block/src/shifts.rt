@@ -1,8 +1,9 @@
-//! Moving a run of items within a block if the old and the new slots overlap.
+//! The function `slide`, which moves a run of items within a block when the old and the new slots
+//! overlap.
 //!
-//! The function is `std::ptr::copy` without its first test. That test compares the two pointers,
-//! which is allowed only in the first half of the address space, and an allocator does not promise
-//! where its blocks are. Here the caller says in which direction the items move.
+//! It is `std::ptr::copy` without the test that `copy` makes first. That test compares the two
+//! pointers, which is allowed only in the first half of the address space, and an allocator does
+//! not promise where its blocks are. The caller of `slide` says in which direction the items move.
 ghost use Rattle.std.specs.Prelude.{ℕ, ◌^◌, ◌<◌, List};
 ghost use Rattle.core.specs.Ptr.{array_size, memory_before_copy, memory_after_copy};
 ghost use types.Logic.{sem};

@@ -1,5 +1,5 @@
-//! The size of a block in bytes, and which capacities fit. The functions here compute with numbers
-//! only.
+//! The size of a block in bytes, and the test whether a capacity fits, that is, whether a block of
+//! that capacity is small enough to be allocated. The functions here only compute with numbers.
 ghost use Rattle.std.specs.Prelude.{◌≡◌, ◌↔◌, IsTrue};
 ghost use Rattle.std.specs.Mem.{type_size};
 ghost use Rattle.std.specs.Align.{type_align};

@@ -10,7 +10,7 @@ use crate::sizes::HEADER_WORDS;
 use core::slots::Slots;
 use std::alloc::Allocator;
 
-// Up to this many items are copied in one by one.
+// If there are at most this many items, `copied` copies them one by one.
 const FEW: usize = 16;
 
 impl<T, A: Allocator> Block<T, A> {

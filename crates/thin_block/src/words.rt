@@ -12,7 +12,8 @@ pub(crate) struct Words<T, const M: usize> {
     pub(crate) aligned: [u64; 0],
 }
 
-// Turns the items from `items` on into `count` words, in place. LLVM removes the loop.
+// Turns `count` arrays of `M` items, the first of which is at `items`, into `count` words, in
+// place. LLVM removes the loop.
 pub(crate) unsafe fn make_words<T, const M: usize>(items: *mut [T; M], count: usize)
     ghost runs: { List (List T) }
     requires count { length runs ≡ count }

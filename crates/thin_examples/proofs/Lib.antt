@@ -1,5 +1,5 @@
--- The lemmas about closures that keep all items, splices, trees, keepers, and closures of
--- `dedup_by` that write to the items.
+-- Lemmas, in one file for each subject: `retain` with a closure that keeps all items, splices,
+-- syntax trees, keepers, and `dedup_by` with a closure that writes to the items.
 mod MovesLemmas
 mod SpliceLemmas
 mod TreeLemmas

@@ -4,8 +4,8 @@ use Rattle.std.specs.Iterator.Runs.{WholeRun}
 use Rattle.std.specs.Prelude.{OnOk}
 use Rattle.std.specs.declared.result.Result.{Result}
 
--- if a list has the items of a front, of a whole run of the iterator s, and of a tail, the same is
--- true of an iterator, a front and a tail that are equal to these
+-- if the items of a list are a front, followed by the items of a whole run of the iterator s,
+-- followed by a tail, then s, the front and the tail may be replaced by equal ones
 pub run_between : {S T X E : Type 0} (steps : S → Option T → S → Type 0) (r : Result X E)
     (items : List T) {s s' : S} {front front' tail tail' : List T} → s ≡ s' → front ≡ front'
     → tail ≡ tail' → OnOk r (WholeRun steps s (λ p. items ≡ (front ++ p.items) ++ tail))

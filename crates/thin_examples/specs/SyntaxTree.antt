@@ -14,8 +14,8 @@ kind_of node = (out-Node node).kind
 abbrev pub children_of : Node → Thin Node Global
 children_of node = (out-Node node).children
 
--- the node count of a node, from the node counts of its children, which `node` holds in the places
--- of the children
+-- the node count of a node, if each of its children has been replaced by the node count of that
+-- child
 abbrev pub count_step : Node-F ℕ → ℕ
 count_step node = 1 + sum node.children.items
 

@@ -1,4 +1,4 @@
-//! The counter with which a worked row compares values with the expected ones.
+//! The counter of the comparisons that a worked row makes.
 use std::alloc::Allocator;
 use thin_vec::{Growth, ThinVec};
 
@@ -11,7 +11,7 @@ pub struct Checks {
 }
 
 impl Checks {
-    /// Makes a counter that has compared no value yet.
+    /// Makes a counter that has counted no comparison yet.
     pub fn new() -> Checks {
         Checks {
             compared: 0,

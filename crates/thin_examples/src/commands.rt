@@ -1,5 +1,5 @@
-//! Callers that carry out commands on a list. The main theorem of `thin_runner` tells them which
-//! items the list has afterwards.
+//! Callers that carry out commands on a list. By the main theorem of `thin_runner`, they promise
+//! which items the list has afterwards.
 ghost use Rattle.std.specs.Prelude.{◌≡◌, [], ◌∷◌, ◌++◌, All, OnOk, fold};
 ghost use Rattle.thin_vec.specs.List.Clones.{ClonesEqual};
 ghost use Rattle.thin_runner.specs.Plain.{items_after};
@@ -12,8 +12,8 @@ use thin_runner::judge::Judge;
 use thin_runner::runner::run;
 use thin_vec::{Growth, ThinVec, ThinVecError};
 
-/// Pushes 1, 2 and 3 and pops one item, by a run of commands. If the list was empty before, its
-/// items are then 1 and 2.
+/// Pushes 1, 2 and 3 and pops one item, by a run of commands. If the list is empty before the call,
+/// its items are 1 and 2 after the call.
 ///
 /// # Errors
 ///
@@ -37,9 +37,9 @@ pub fn one_and_two<A: Allocator + Copy, J: Judge<u64>>(
 ///
 /// # Errors
 ///
-/// If calls on the list fail, it fails with the cause of the first failure. The commands after that
-/// call are carried out nevertheless. It also fails if there is no room for the replies, and then
-/// no command is carried out.
+/// If calls on the list fail, `carry_out` fails with the cause of the first failed call. The
+/// commands after the failed call are carried out nevertheless. `carry_out` also fails if there is
+/// no room for the replies, and then no command is carried out.
 pub fn carry_out<T: Clone + Eq, A: Allocator + Copy, G: Growth, J: Judge<T>>(
     alloc: A,
     list: &mut ThinVec<T, A, G>,
@@ -58,7 +58,7 @@ pub fn carry_out<T: Clone + Eq, A: Allocator + Copy, G: Growth, J: Judge<T>>(
     }
 }
 
-// Fails with the cause of the first call that failed, if a reply reports one.
+// Fails if a reply reports a failed call, with the cause of the first failure.
 fn all_granted<T, A: Allocator, G: Growth>(replies: &[Reply<T, A, G>]) -> Result<(), ThinVecError>
     ensures granted { OnOk result (All IsGranted replies.now) }
 {

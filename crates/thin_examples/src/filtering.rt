@@ -18,7 +18,8 @@ pub fn keep_even<A: Allocator, G: Growth>(list: &mut ThinVec<u32, A, G>)
     list.retain(|number| number % 2 == 0);
 }
 
-/// Removes the repeated numbers from a sorted list. Then each number is less than the next one.
+/// Removes the repeated numbers from a sorted list. Afterwards, each number is less than the next
+/// one.
 pub fn keep_distinct<A: Allocator, G: Growth>(list: &mut ThinVec<u32, A, G>)
     requires sorted { IsSorted nat_cmp list.old.items }
     ensures distinct { IsStrictlyIncreasing list.new.items }
@@ -27,7 +28,8 @@ pub fn keep_distinct<A: Allocator, G: Growth>(list: &mut ThinVec<u32, A, G>)
     list.dedup();
 }
 
-/// Removes each number that has the same tens as the number kept before it, as 17 has after 12.
+/// Removes each number that agrees with the number kept before it in all digits except the last
+/// one, for example 17 after 12.
 pub fn keep_tens<A: Allocator, G: Growth>(list: &mut ThinVec<u32, A, G>)
     ensures items { list.new.items ≡ dedup (λ later kept. later / 10 == kept / 10) list.old.items }
     ensures capacity { list.new.capacity ≡ list.old.capacity }
@@ -44,8 +46,8 @@ pub fn keep_last_digits<A: Allocator, G: Growth>(list: &mut ThinVec<u32, A, G>)
 }
 
 /// Halves each number, and removes each number whose half is equal to the half kept before it. The
-/// closure halves the later number, and then compares. It is never called with the first number as
-/// the later one, so the first number is halved before.
+/// closure of `dedup_by` halves the later of two numbers, and then compares them. The first number
+/// is never the later one, so it is halved before the call of `dedup_by`.
 pub fn halve_each<A: Allocator, G: Growth>(list: &mut ThinVec<u32, A, G>)
     ensures items { list.new.items
         ≡ dedup (λ later kept. later == kept) (map (λ number. number / 2) list.old.items) }
@@ -61,19 +63,20 @@ pub fn halve_each<A: Allocator, G: Growth>(list: &mut ThinVec<u32, A, G>)
     });
 }
 
-/// Decides for each item whether it stays in a list. A keeper has a state, which each decision may
-/// change.
+/// A keeper decides for each item of a list whether the item is kept. A keeper has a state, which
+/// each decision may change.
 pub trait Keeper<T>: Copy {
     /// Maps a keeper and an item to the decision, the item as the keeper leaves it, and the keeper
     /// with its next state.
     ghost keeps: { Self → T → Bool × (T × Self) };
 
-    /// Returns whether `item` stays. The keeper may write to `item`.
+    /// Returns whether `item` is kept. The keeper may write to `item`.
     fn keep(&mut self, item: &mut T) -> bool
         ensures { keeps self.old item.old ≡ (result, (item.new, self.new)) };
 }
 
-/// Keeps the items for which a copy of `keeper` returns true, as the copy has left them.
+/// Keeps the items for which a copy of `keeper` returns true, with the changes that the copy has
+/// made to these items.
 pub fn keep_by<T: Copy, A: Allocator, G: Growth, J: Keeper<T>>(
     list: &mut ThinVec<T, A, G>,
     keeper: &J,

@@ -1,13 +1,13 @@
-//! Callers that make a list or add items to one, from an iterator or by copies. Their contracts
-//! need no proof files.
+//! Callers that make a list, add items to a list, or change an item. Of their contracts, only that
+//! of `room_for_eight` needs a proof file.
 ghost use Rattle.std.specs.Prelude.{◌≡◌, ◌+◌, ◌/◌, ◌≤◌, ◌++◌, [], IfErr, IfOk, IfSome, IsErrOf, IsOk, IsSome, IsTrue, None, filter, length, map, nat_lt, OnErr, OnOk, ◌-◌, ◌<◌, replicate, slice_index, slice_set, take};
 ghost use Rattle.thin_vec.specs.ThinVec.{HasRoomFor, IsCause, capacity_for};
 
 use std::alloc::{AllocError, Allocator};
 use thin_vec::{Growth, ThinVec, ThinVecError};
 
-/// Returns a list of half of each number, rounded down, in order. Returns `None` if there is no
-/// room for the list.
+/// Returns a list of the halves of the numbers, rounded down, in order. Returns `None` if there is
+/// no room for the list.
 pub fn halves<A: Allocator>(alloc: A, numbers: &[u32]) -> Option<ThinVec<u32, A>>
     ensures succeeds_empty { length numbers.now ≡ 0 → IsSome result }
     ensures items { IfSome result (λ list. list.items ≡ map (λ number. number / 2) numbers.now) }
@@ -42,8 +42,8 @@ pub fn extend_below<A: Allocator, G: Growth>(
 ///
 /// # Errors
 ///
-/// Fails only if the allocator does. By the lemma `few_items`, so few numbers cannot overflow the
-/// capacity.
+/// Fails only if the allocator does. By the lemma `few_items`, a capacity of eight numbers cannot
+/// overflow.
 pub fn room_for_eight<A: Allocator>(alloc: A) -> Result<ThinVec<u64, A>, ThinVecError>
     ensures capacity { IfOk result (λ list. list.capacity ≡ 8) }
     ensures cause { IfErr result (λ cause. cause ≡ ThinVecError.OutOfMemory) }
@@ -55,8 +55,8 @@ pub fn room_for_eight<A: Allocator>(alloc: A) -> Result<ThinVec<u64, A>, ThinVec
 ///
 /// # Errors
 ///
-/// Fails only if the allocator does, and then nothing changes. By the lemma `few_more`, so few
-/// numbers cannot overflow the capacity.
+/// Fails only if the allocator does, and then nothing changes. By the lemma `few_more`, the
+/// capacity for so short a list cannot overflow.
 #[tactic(auto, using(thin_vec::proofs::FewLemmas::few_more))]
 pub fn reserve_eight<A: Allocator>(list: &mut ThinVec<u64, A>) -> Result<(), ThinVecError>
     requires few { length list.old.items < 1000 }
@@ -177,7 +177,7 @@ pub fn take_all<T, A: Allocator, G: Growth>(
     ensures succeeds { HasRoomFor list.old (length other.old.items) → IsOk result }
     ensures succeeds_empty { other.old.items ≡ [] → IsOk result }
 
-    // On failure, neither list changes.
+    // On failure: the cause, and that neither list changes.
     ensures overflow { capacity_for G.rule T.row list.old (length other.old.items) ≡ None
         → IsErrOf result ThinVecError.CapacityOverflow }
     ensures cause { IfErr result
@@ -188,7 +188,7 @@ pub fn take_all<T, A: Allocator, G: Growth>(
     list.append(other)
 }
 
-/// Subtracts `less` from the first number, and returns the number as it was before.
+/// Subtracts `less` from the first number, and returns the first number as it was before the call.
 pub fn lower_first<A: Allocator, G: Growth>(list: &mut ThinVec<u32, A, G>, less: u32) -> u32
     requires some { 0 < length list.old.items }
     requires enough { less ≤ slice_index list.old.items 0 }

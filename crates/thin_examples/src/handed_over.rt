@@ -5,8 +5,8 @@ ghost use Rattle.thin_vec.specs.ThinVec.{HasRoomFor};
 use std::alloc::Allocator;
 use thin_vec::{Growth, ThinVec, ThinVecError};
 
-/// Moves the items from `start` up to, but not including, `end` to the end of `other`, or moves
-/// none.
+/// Moves the items of `list` at the indices `start..end` to the end of `other`. If the call fails,
+/// it moves no item.
 ///
 /// # Errors
 ///
@@ -63,12 +63,11 @@ pub fn hand_over_stepwise<T: Drop, A: Allocator, G: Growth>(
     Ok(())
 }
 
-/// Moves the odd numbers of `list` to the end of `other`, or moves none.
+/// Moves the odd numbers of `list` to the end of `other`. If the call fails, it moves no number.
 ///
 /// # Errors
 ///
-/// Fails if `other` cannot reserve room for as many numbers as `list` has. Then neither list
-/// changes.
+/// Fails if `other` cannot reserve room for `list.len()` numbers. Then neither list changes.
 pub fn hand_over_odd<A: Allocator, G: Growth>(
     list: &mut ThinVec<u32, A, G>,
     other: &mut ThinVec<u32, A, G>,
@@ -95,7 +94,7 @@ pub fn hand_over_odd<A: Allocator, G: Growth>(
 ///
 /// # Errors
 ///
-/// Fails if `odd` or `even` cannot reserve room for as many numbers as `list` has.
+/// Fails if `odd` or `even` cannot reserve room for `list.len()` numbers.
 pub fn divide<A: Allocator, G: Growth>(
     list: ThinVec<u32, A, G>,
     odd: &mut ThinVec<u32, A, G>,
@@ -120,7 +119,8 @@ pub fn divide<A: Allocator, G: Growth>(
     Ok(())
 }
 
-/// Appends twice each number, or appends nothing. It requests memory at most once.
+/// Appends the doubles of `numbers` to `list`, in order. If the call fails, it appends nothing. It
+/// requests memory at most once.
 ///
 /// # Errors
 ///

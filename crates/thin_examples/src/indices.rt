@@ -6,9 +6,9 @@ ghost use Rattle.thin_vec.specs.ThinVec.{IsWithin};
 use std::alloc::Allocator;
 use thin_vec::{Growth, Rejected, ThinVec};
 
-/// Returns the index after the `count` items that begin at `start`. The sum cannot overflow,
-/// because no length exceeds `isize::MAX`. The precondition `within` says so; every method of the
-/// list has a clause `within` that ensures it.
+/// Returns `start + count`, the index after the `count` items that begin at `start`. The sum cannot
+/// overflow, because the length is at most `isize::MAX`. This is the precondition `within`; every
+/// method of the list has a clause `within` that ensures it.
 pub fn run_end<T, A: Allocator, G: Growth>(
     list: &ThinVec<T, A, G>,
     start: usize,
@@ -21,8 +21,9 @@ pub fn run_end<T, A: Allocator, G: Growth>(
     start + count
 }
 
-/// Returns the item at `index` and the item after it. The index of the second item cannot overflow,
-/// because reading `list[index]` also ensures the clause `within`.
+/// Returns the item at `index` and the item after it. The sum `index + 1` cannot overflow, because
+/// reading `list[index]` also ensures that the length is at most `isize::MAX` (the clause
+/// `within`).
 pub fn neighbours<A: Allocator, G: Growth>(list: &ThinVec<u32, A, G>, index: usize) -> (u32, u32)
     requires in_bounds { index + 1 < length list.now.items }
     ensures first { result.0 ≡ slice_index list.now.items index }
@@ -55,12 +56,13 @@ pub fn set_to_zero<A: Allocator, G: Growth>(list: &mut ThinVec<u32, A, G>)
     list.as_mut_slice().fill(0);
 }
 
-/// Inserts `value` at `index`, removes it again, and returns it. By the lemma `undone`, the items
-/// are then as before.
+/// Inserts `value` at `index`, removes it again, and returns it. By the lemma `undone`, the list
+/// then has the same items as before the call.
 ///
 /// # Errors
 ///
-/// Fails if there is no room for `value`. The error holds `value`, and the items are as before.
+/// Fails if there is no room for `value`. The error holds `value`, and the items of the list do not
+/// change.
 #[tactic(auto, using(thin_vec::proofs::UndoLemmas::undone))]
 pub fn insert_and_remove<T: Drop, A: Allocator, G: Growth>(
     list: &mut ThinVec<T, A, G>,

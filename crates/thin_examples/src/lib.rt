@@ -1,6 +1,6 @@
-//! Examples of callers, for you to copy, with one file for each subject; and the worked rows:
-//! functions that compare the results of calls with values that were worked out by hand. The
-//! program `thin_bench` runs the rows.
+//! Examples of callers, for you to copy, in one file for each subject; and the worked rows. A
+//! worked row is a function that compares the results of calls with values that were worked out by
+//! hand. The program `thin_bench` runs the worked rows.
 #![tactic(auto)]
 
 pub mod checks;

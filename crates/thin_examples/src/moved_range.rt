@@ -5,8 +5,8 @@ ghost use Rattle.thin_vec.specs.ThinVec.{HasRoomFor};
 use std::alloc::{AllocError, Allocator};
 use thin_vec::{Growth, ThinVec};
 
-/// Moves the numbers from `start` up to, but not including, `end` to the end of `other`, or moves
-/// none.
+/// Moves the numbers of `list` at the indices `start..end` to the end of `other`. If the call
+/// fails, it moves no number.
 ///
 /// The function keeps the `Drain`, and passes only the slice of its numbers to `other`. If it
 /// passed the `Drain` itself, no contract would say which items `list` has afterwards.

@@ -75,8 +75,8 @@ pub fn extracted_first<A: Allocator, G: Growth>(list: &mut ThinVec<u32, A, G>) -
         .next()
 }
 
-/// Replaces two items with three, in a list in which one item follows them. This makes at most five
-/// moves: one for each new item, and two for the item after them.
+/// Replaces the third and the fourth of five items with three new items. This makes at most five
+/// moves: one for each new item, and two for the fifth item.
 ///
 /// # Errors
 ///

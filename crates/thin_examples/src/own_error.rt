@@ -12,7 +12,7 @@ pub enum OrderError {
     /// The order is for zero pieces.
     #[error("an order for no piece")]
     NoPiece,
-    /// The list of orders has no room for the order, and cannot get more.
+    /// The list of orders has no room for the order, and cannot get more room.
     #[error("no room for the order: {0}")]
     NoRoom(#[from] ThinVecError),
 }
@@ -54,7 +54,7 @@ pub fn take_order<A: Allocator, G: Growth>(
 ///
 /// # Errors
 ///
-/// Returns `NoRoom` if there is no room for them. Then neither list changes.
+/// Returns `NoRoom` if there is no room for the orders of `other`. Then neither list changes.
 pub fn take_orders<A: Allocator, G: Growth>(
     orders: &mut ThinVec<u32, A, G>,
     other: &mut ThinVec<u32, A, G>,

@@ -8,7 +8,7 @@ ghost use Rattle.thin_vec.specs.ThinVec.{HasRoomFor};
 use std::alloc::Allocator;
 use thin_vec::{Growth, ThinVec, ThinVecError};
 
-/// Replaces the bytes from `start` up to, but not including, `end` with `word`.
+/// Replaces the bytes at the indices `start..end` with `word`.
 ///
 /// # Errors
 ///
@@ -28,8 +28,8 @@ pub fn replace_word<A: Allocator, G: Growth>(
     text.replace_range_from_copies(start, end, word)
 }
 
-/// Replaces the bytes from `start` up to, but not including, `end` with `word`. The call cannot
-/// fail, because the precondition `shorter` says that `word` is no longer than this range.
+/// Replaces the bytes at the indices `start..end` with `word`. The call cannot fail, because the
+/// precondition `shorter` says that `word` is no longer than this range.
 pub fn shorten_to<A: Allocator, G: Growth>(
     text: &mut ThinVec<u8, A, G>,
     start: usize,
@@ -45,8 +45,8 @@ pub fn shorten_to<A: Allocator, G: Growth>(
     text.replace_range_from_copies(start, end, word).unwrap()
 }
 
-/// Replaces the lines from `start` up to, but not including, `end` with the lines of `newer`, which
-/// is empty afterwards. The replaced lines are dropped.
+/// Replaces the lines at the indices `start..end` with the lines of `newer`, which is empty
+/// afterwards. The replaced lines are dropped.
 ///
 /// # Errors
 ///

@@ -1,4 +1,4 @@
-//! A caller that reserves room for two items. The two pushes after that cannot fail.
+//! A caller that reserves room for two items, so that the two pushes that follow cannot fail.
 ghost use Rattle.std.specs.Prelude.{◌≡◌, ◌++◌, [], ◌∷◌, IfErr, IsErrOf, IsOk, None, OnErr, OnOk};
 ghost use Rattle.thin_vec.specs.ThinVec.{HasRoomFor, IsCause, capacity_for};
 

@@ -26,7 +26,7 @@ pub fn set_last<A: Allocator, G: Growth>(list: &mut ThinVec<u32, A, G>, value: u
     }
 }
 
-/// Overwrites the numbers from `start` up to, but not including, `end` with 0.
+/// Overwrites the numbers at the indices `start..end` with 0.
 pub fn clear_range<A: Allocator, G: Growth>(list: &mut ThinVec<u32, A, G>, start: usize, end: usize)
     requires start_le_end { start ≤ end }
     requires in_bounds { end ≤ length list.old.items }

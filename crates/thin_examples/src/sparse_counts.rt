@@ -13,8 +13,8 @@ use thin_vec::ThinVecError;
 ///
 /// # Errors
 ///
-/// Fails only if the allocator does. By the lemma `few_items`, so few rows cannot overflow the
-/// capacity.
+/// Fails only if the allocator does. By the lemma `few_items`, a capacity of seven rows cannot
+/// overflow.
 pub fn for_a_week(alloc: Global) -> Result<Rows<u32>, ThinVecError>
     ensures table { IfOk result (λ counts. counts ≡ replicate 7 columns.empty) }
     ensures cause { IfErr result (λ cause. cause ≡ ThinVecError.OutOfMemory) }
@@ -67,7 +67,7 @@ pub fn set_and_read<A: Allocator>(
     Ok(counts.get(row, column).copied())
 }
 
-/// Removes the count at `row` and `column`, and returns it. Returns 0 if there is no count.
+/// Removes and returns the count at `row` and `column`. Returns 0 if there is no count.
 pub fn take<A: Allocator>(counts: &mut Rows<u32, A>, row: usize, column: usize) -> u32
     requires in_bounds { row < length counts.old }
     ensures value { result ≡ unwrap_or (value_at counts.old row column) 0 }

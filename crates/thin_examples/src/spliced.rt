@@ -6,11 +6,10 @@ ghost use Rattle.std.specs.Prelude.{◌≡◌, ◌≤◌, ◌++◌, OnOk, drop, 
 use std::alloc::{AllocError, Allocator};
 use thin_vec::{Growth, SpliceRefused, ThinVec};
 
-/// Replaces the items from index `range.0` up to, but not including, `range.1` with the items that
-/// `iter` yields.
+/// Replaces the items at the indices `range.0..range.1` with the items that `iter` yields.
 ///
-/// If an iterator borrows, as an iterator over a slice does, its splice is proved in a function
-/// like this one, which is generic in the iterator.
+/// A splice with an iterator that borrows, such as an iterator over a slice, is proved in a
+/// function like this one, which is generic in the iterator.
 ///
 /// # Errors
 ///
@@ -33,12 +32,12 @@ pub fn splice_by<T: Drop, A: Allocator, G: Growth, I: Iterator<Item = T>>(
     list.splice(range.0, range.1, iter).finish(alloc)
 }
 
-/// Replaces the items from `start` up to, but not including, `end` with `numbers`.
+/// Replaces the items at the indices `start..end` with `numbers`.
 ///
 /// # Errors
 ///
-/// Fails if there is no room for the numbers. Then the list has those numbers for which there was
-/// room, in the place of the range, and the others are dropped.
+/// Fails if there is no room for the numbers. Then the numbers for which there was room have
+/// replaced the range, and the other numbers are dropped.
 pub fn splice_numbers<A: Allocator, G: Growth>(
     list: &mut ThinVec<u32, A, G>,
     start: usize,

@@ -9,11 +9,11 @@ use std::io;
 use std::io::ErrorKind;
 use thin_vec::{Growth, ThinVec};
 
-/// Collects twice each number into a list with the allocator `alloc`.
+/// Collects the doubles of the numbers into a list with the allocator `alloc`.
 ///
 /// # Errors
 ///
-/// Fails if there is no room for the numbers. Then there is no list.
+/// Fails if there is no room for the numbers.
 pub fn doubled<A: Allocator>(alloc: A, numbers: &[u32]) -> Result<ThinVec<u64, A>, AllocError>
     ensures items { IfOk result (λ list. list.items ≡ map (λ number. 2 * number) numbers.now) }
 {

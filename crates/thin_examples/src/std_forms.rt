@@ -8,7 +8,7 @@ use std::default::MadeWith;
 use std::mem;
 use thin_vec::{Growth, ThinVec, ThinVecError, thin_vec};
 
-/// Makes the list 1, 2.
+/// Makes a list of the numbers 1 and 2.
 ///
 /// # Errors
 ///
@@ -46,15 +46,15 @@ pub fn take_list<T, A: Allocator + Clone, G: Growth>(
     mem::try_take(list)
 }
 
-/// Makes an empty list by the trait that `or_default` of std's maps uses.
+/// Makes an empty list by the trait `MadeWith`, which `or_default` of std's maps uses.
 pub fn made<A: Allocator, G: Growth>(alloc: A) -> ThinVec<u32, A, G>
     ensures items { result.items ≡ [] }
 {
     MadeWith::made_with(alloc)
 }
 
-/// Appends `number` to the list that `lists` has for `key`. If `lists` has none, a new list is
-/// inserted first.
+/// Appends `number` to the list that `lists` has for `key`. If `lists` has no list for `key`, a new
+/// list is inserted first.
 ///
 /// # Errors
 ///

@@ -1,5 +1,5 @@
-//! Callers of methods that std's `Vec` and `ThinVec` have, and that the Rust crate thin-vec does
-//! not have.
+//! Callers of methods that `ThinVec` has in common with std's `Vec`, and that the Rust crate
+//! thin-vec does not have.
 ghost use Rattle.std.specs.Prelude.{◌≡◌, ◌-◌, ◌≤◌, [], ◌∷◌, ◌++◌, IfNone, IfSome, IsOk, OnErr, OnOk, insert, length, max, slice_range};
 ghost use Rattle.thin_vec.specs.ThinVec.{HasRoomFor};
 
@@ -50,7 +50,7 @@ pub fn set_length<A: Allocator, G: Growth>(
     list.resize_with(len, || 0)
 }
 
-/// Appends copies of the numbers from `start` up to, but not including, `end`.
+/// Appends copies of the numbers at the indices `start..end`.
 ///
 /// # Errors
 ///

@@ -1,4 +1,4 @@
--- The lemma modules: RunLemmas is about a run of one command, WordsLemmas about words that are
--- parsed one after the other.
+-- The modules with lemmas: `RunLemmas` is about runs of a single command, and `WordsLemmas` about
+-- parsing the words of a line one by one.
 mod RunLemmas
 mod WordsLemmas

@@ -1,4 +1,5 @@
--- The main theorem for a run of one command.
+-- Lemmas about a run of a single command: the run has exactly one reply, and the main theorem
+-- (`Headline`) holds for this reply.
 use Rattle.std.proofs.Common.{◌≡◌, List, [], ◌∷◌, ◌++◌, Option, Some, ap, arith, length, length-append, refl, subst, sym, ◌∙◌}
 use Rattle.std.specs.Option.{option_to_list}
 use Rattle.thin_vec.specs.ThinVec.{Thin}
@@ -8,14 +9,14 @@ use Rattle.thin_runner.specs.Setting.{Setting}
 use Rattle.thin_runner.specs.declared.command.Command.{Command}
 use Rattle.thin_runner.specs.declared.command.Reply.{Reply}
 
--- if a list ends with x and has length 1, it consists of x
+-- if a list ends with x and has length 1, then x is its only item
 alone : {X : Type 0} (front : List X) (x : X) → length (front ++ x ∷ []) ≡ 1
     → front ++ x ∷ [] ≡ x ∷ []
 alone [] x one = refl
 alone (y ∷ front) x one = absurd (omega (arith, length-append front (x ∷ [])))
 
--- context: a run of one command, before which there were no replies, and for which `Headline` is
--- true
+-- context: `commands` is the single command `command`, there are no replies before the run, and
+-- `Headline` holds for the run
 module _ {T A G J : Type 0} (here : Setting T A J) (old new : Thin T A)
     (command : Command T A G) (commands : List (Command T A G)) (before after : List (Reply T A G))
     (one : commands ≡ command ∷ []) (none : before ≡ [])
@@ -27,14 +28,15 @@ module _ {T A G J : Type 0} (here : Setting T A J) (old new : Thin T A)
   has_one (reply ∷ []) run = refl
   has_one (reply ∷ more ∷ replies) run = absurd run.1.1
 
-  -- after the run there is one reply
+  -- after the run there is exactly one reply
   pub one_reply : length after ≡ 1
   one_reply =
       ap length (headline.appended ∙ ap (λ (l : List (Reply T A G)). l ++ headline.replies) none)
       ∙ has_one headline.replies
       (subst (λ cs. Runs here old cs headline.replies new) one headline.allowed)
 
-  -- if the last reply was popped, `Headline` is true for a run of one command with this reply alone
+  -- if removing the last reply of `after` yields `reply`, then `Headline` holds for the single
+  -- command with `reply` as the only reply
   pub headline-one : (left : List (Reply T A G)) (popped : Option (Reply T A G))
       (reply : Reply T A G) → after ≡ left ++ option_to_list popped → popped ≡ Some reply
       → Headline here old (command ∷ []) [] (reply ∷ []) new

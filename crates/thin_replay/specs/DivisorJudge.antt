@@ -4,7 +4,7 @@ use Rattle.thin_runner.specs.Judge.{Judging}
 use Rattle.thin_replay.specs.Words.{Spells}
 use Rattle.thin_replay.specs.declared.divisor_judge.DivisorJudge.{DivisorJudge}
 
--- the number by which the judge decides about the item x
+-- the number that the judge divides in order to decide about the item x
 abbrev pub number_for : DivisorJudge → ℕ → ℕ
 number_for judge x = (x + judge.offset) % 2 ^ 64
 
@@ -12,11 +12,11 @@ number_for judge x = (x + judge.offset) % 2 ^ 64
 abbrev pub counted : DivisorJudge → DivisorJudge
 counted judge = record judge { offset = (judge.offset + judge.stride) % 2 ^ 64 }
 
--- the item x after the judge wrote to it
+-- the value of the item x after the judge has written to it
 abbrev pub written : DivisorJudge → ℕ → ℕ
 written judge x = (x + judge.added) % 2 ^ 64
 
--- whether the divisor divides the number for x
+-- whether the judge chooses the item x, that is, whether its divisor divides `number_for judge x`
 abbrev pub chooses : DivisorJudge → ℕ → Bool
 chooses judge x = number_for judge x % judge.divisor == 0
 
@@ -35,7 +35,8 @@ judging = record {
   take = λ judge x. (chooses judge x, written judge x, counted judge);
 }
 
--- the three texts are the decimal numbers of the judge, which has made no decision yet
+-- the three texts are the divisor, the stride and the addend of the judge in decimal, and the judge
+-- has made no decision yet
 pub record SpellsJudge (divisor stride added : List ℕ) (judge : DivisorJudge) : Type 0 where
   pub divisor_is : Spells divisor judge.divisor
   pub stride_is : Spells stride judge.stride

@@ -16,8 +16,8 @@ use Rattle.thin_replay.specs.declared.line.Line.TheVariants.{Carry, Help, New}
 abbrev pub BeginsForm : Words → List ℕ → ℕ → Type 0
 BeginsForm words name count = (count ≤ length words) × (word words 0 ≡ name)
 
--- the words have the form of the command, and contain its numbers, items and steps. This does not
--- restrict the words that describe a judge.
+-- The words have the form of the command, and spell its numbers, items and steps. If the command
+-- needs a judge, the words that describe the judge may be any words.
 abbrev pub Says : {A G : Type 0} → Words → Command ℕ A G → Type 0
 Says words (Push item) = HasForm words (codes "push") 2 × Spells (word words 1) item
 Says words Pop = HasForm words (codes "pop") 1
@@ -59,7 +59,8 @@ Says words (Splice start end steps items lower) = BeginsForm words (codes "splic
     × (SpellsSteps (word words 3) steps.items
     × (Spells (word words 4) lower × SpellAll (drop 5 words) items.items))))
 
--- if the command asks a judge, the last three words are the numbers of this judge
+-- if the command needs a judge, the last three words spell the divisor, the stride and the addend
+-- of this judge
 abbrev pub SaysJudge : {A G : Type 0} → Words → Command ℕ A G → DivisorJudge → Type 0
 SaysJudge words Retain judge = SpellsJudge (word words 1) (word words 2) (word words 3) judge
 SaysJudge words RetainMut judge = SpellsJudge (word words 1) (word words 2) (word words 3) judge
@@ -69,7 +70,7 @@ SaysJudge words (ExtractIf start end calls) judge =
     SpellsJudge (word words 4) (word words 5) (word words 6) judge
 SaysJudge words command judge = Unit {0}
 
--- the command asks no judge
+-- the command needs no judge
 abbrev pub AsksNone : {A G : Type 0} → Command ℕ A G → Type 0
 AsksNone Retain = ⊥
 AsksNone RetainMut = ⊥
@@ -78,11 +79,12 @@ AsksNone DedupByKey = ⊥
 AsksNone (ExtractIf start end calls) = ⊥
 AsksNone command = Unit {0}
 
--- the words have the form of the command, which asks no judge
+-- the words have the form of the command, and the command needs no judge
 abbrev pub SaysUnjudged : {A G : Type 0} → Words → Command ℕ A G → Type 0
 SaysUnjudged words command = Says words command × AsksNone command
 
--- the command has the name `name`, and takes no words except those for its judge
+-- the command has the name `name`, and its line consists of this name and the three words that
+-- describe its judge
 abbrev pub IsFilter : {A G : Type 0} → List ℕ → Command ℕ A G → Type 0
 IsFilter name Retain = name ≡ codes "retain"
 IsFilter name RetainMut = name ≡ codes "retain_mut"
@@ -90,17 +92,19 @@ IsFilter name DedupBy = name ≡ codes "dedup_by"
 IsFilter name DedupByKey = name ≡ codes "dedup_by_key"
 IsFilter name command = ⊥
 
--- the words have the form of the command of this call, and describe its judge, if it asks one
+-- The words have the form of the command of the call. If this command needs a judge, the last three
+-- words describe the judge of the call.
 abbrev pub IsCall : Words → Call → Type 0
 IsCall words call = Says words call.command × SaysJudge words call.command call.judge
 
--- the words have the form of this line
+-- the words are `help` for the line `Help`, `new` for the line `New`, and for any other line the
+-- words of its call
 abbrev pub IsLine : Words → Line → Type 0
 IsLine words Help = HasForm words (codes "help") 1
 IsLine words New = HasForm words (codes "new") 1
 IsLine words (Carry call) = IsCall words call
 
--- `words` are the words of the text, which are separated by white space
+-- splitting the text at white space yields exactly these words
 abbrev pub HasWords : List ℕ → Words → Type 0
 HasWords text words = (it : SplitWhitespace)
     × (split_whitespace_rest it ≡ text) × DrainsIf split_whitespace_steps ⊤ it words

@@ -6,7 +6,8 @@ use thin_runner::command::Reply;
 use thin_runner::hinted::Hinted;
 use thin_vec::{ThinVec, ThinVecError};
 
-/// Writes the forms of the lines, one on each line, and then the meaning of their words.
+/// Writes the text of `help`: the forms that a line can have, and then notes on the words in
+/// capitals.
 pub fn write_help(out: &mut impl Write) -> io::Result<()> {
     for form in &FORMS {
         writeln!(out, "{form}")?;
@@ -18,7 +19,7 @@ pub fn write_help(out: &mut impl Write) -> io::Result<()> {
     Ok(())
 }
 
-/// Writes the items and the capacity of the list, as the end of a line.
+/// Writes the items and the capacity of the list, and ends the line of output.
 pub fn write_list(out: &mut impl Write, list: &ThinVec<u64>) -> io::Result<()> {
     let capacity = list.capacity();
     writeln!(out, "; items {list:?}; capacity {capacity}")
@@ -54,7 +55,7 @@ pub fn write_reply(out: &mut impl Write, reply: Reply<u64>) -> io::Result<()> {
     }
 }
 
-// Writes the list that was passed to `append`, and the cause if the call failed.
+// Writes the list that was passed to `append`, after the cause of the failure if the call failed.
 fn write_other(
     out: &mut impl Write,
     other: &ThinVec<u64>,

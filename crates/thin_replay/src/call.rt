@@ -14,8 +14,7 @@ use crate::line_error::LineError;
 use std::alloc::Global;
 use thin_runner::command::Command;
 
-/// A command, and the judge that it asks. If the command asks no judge, the value of `judge` does
-/// not matter.
+/// A command, and the judge for it. If the command needs no judge, `judge` may have any value.
 #[derive(Drop)]
 pub struct Call {
     pub command: Command<u64>,
@@ -26,8 +25,9 @@ impl Call {
     ghost use Rattle.std.specs.Prelude.{◌≡◌, IfOk, IfSome};
     ghost use Rattle.thin_replay.specs.Lines.{IsCall};
 
-    /// Parses the words of a line. Returns `None` if they do not have the form of a command, and an
-    /// error if they have such a form but a word in it is wrong.
+    /// Parses the words of a line as a command and its judge. Returns `None` if the words do not
+    /// have the form of a command. Fails if they have such a form but one of the words cannot be
+    /// parsed, or if there is no memory for the command.
     pub fn parse(alloc: Global, words: &[&str]) -> Result<Option<Call>, LineError>
         ensures says { IfOk result (λ found. IfSome found (IsCall words.now)) }
     {
@@ -38,7 +38,7 @@ impl Call {
         Ok(command.map(Call::unjudged))
     }
 
-    // Returns a call of a command that asks no judge.
+    // Returns the call of a command that needs no judge.
     fn unjudged(command: Command<u64>) -> Call
         ensures command { result.command ≡ command }
     {
@@ -47,7 +47,8 @@ impl Call {
     }
 }
 
-// Parses the words of a line, if they have the form of a command that asks no judge.
+// Parses the words of a line as a command that needs no judge. Returns `None` if the words do not
+// have the form of such a command.
 fn parse_command(alloc: Global, words: &[&str]) -> Result<Option<Command<u64>>, LineError>
     ensures says { IfOk result (λ found. IfSome found (SaysUnjudged words.now)) }
 {

@@ -5,10 +5,10 @@ use crate::line_error::LineError;
 use crate::words::number_of;
 use thin_runner::judge::Judge;
 
-/// Decides by dividing a number by `divisor`, and counts its decisions.
+/// A judge that decides about an item by dividing a number by `divisor`, and counts its decisions.
 ///
-/// The number is the item plus `stride` times the number of earlier decisions. If the judge may
-/// write to an item, it then adds `added` to the item. All sums are modulo 2^64.
+/// The number is the item plus `stride` times the number of earlier decisions. After the decision,
+/// the judge adds `added` to the item, if it may write to the item. All sums are modulo 2^64.
 #[derive(Clone, Copy)]
 pub struct DivisorJudge {
     divisor: u64,
@@ -22,7 +22,7 @@ impl DivisorJudge {
     ghost use Rattle.std.specs.Prelude.{IfOk};
     ghost use Rattle.thin_replay.specs.DivisorJudge.{SpellsJudge, chooses, counted, number_for, written};
 
-    /// Returns a judge for commands that do not ask it.
+    /// Returns a placeholder for the judge of a command that needs no judge.
     pub fn idle() -> DivisorJudge {
         DivisorJudge {
             divisor: 1,
@@ -51,7 +51,7 @@ impl DivisorJudge {
         })
     }
 
-    // Returns the number for `item`, and counts the decision.
+    // Returns the number that is divided in order to decide about `item`, and counts the decision.
     fn number(&mut self, item: u64) -> u64
         ensures value { result ≡ number_for self.old item }
         ensures counted { self.new ≡ counted self.old }
@@ -61,7 +61,8 @@ impl DivisorJudge {
         number
     }
 
-    // Returns whether the divisor divides the number for `item`, and counts the decision.
+    // Returns whether `divisor` divides the number that `number` returns for `item`. This counts as
+    // one decision.
     fn divides(&mut self, item: u64) -> bool
         ensures value { result ≡ chooses self.old item }
         ensures counted { self.new ≡ counted self.old }

@@ -1,6 +1,7 @@
 //! The text that `help` prints.
 
-/// The forms of the lines. The first word of each form is the name of the command.
+/// The forms that a line of the input can have. The first word of a form is the name of its
+/// command.
 pub static FORMS: [&str; 27] = [
     "help",
     "new",
@@ -31,7 +32,7 @@ pub static FORMS: [&str; 27] = [
     "splice START END STEPS HINT ITEM ..",
 ];
 
-/// Notes on the words in capitals.
+/// Notes on the words in capitals that occur in the forms.
 pub static NOTES: [&str; 5] = [
     "All numbers are from 0 to 18446744073709551615.",
     "STEPS is `-`, or a word of the letters `f` (a call of `next`) and `b` (of `next_back`).",

@@ -8,11 +8,11 @@ use std::alloc::Global;
 /// A line of the input.
 #[derive(Drop)]
 pub enum Line {
-    /// The line `help`: prints the forms of the lines.
+    /// The line `help`, which prints the forms that a line can have.
     Help,
-    /// The line `new`: drops the list, and makes a new one.
+    /// The line `new`, which drops the list and makes a new one.
     New,
-    /// Any other line: carries out a command.
+    /// Any other line, which carries out a command.
     Carry(Call),
 }
 
@@ -21,8 +21,8 @@ impl Line {
     ghost use Rattle.thin_replay.specs.Lines.{HasWords, IsLine};
     ghost use Rattle.thin_replay.specs.Words.{Words};
 
-    /// Parses a line. Fails if its words do not have the form of a line, or if there is no memory
-    /// for what the line describes.
+    /// Parses a line. Fails if the line has none of the forms that `help` prints, if one of its
+    /// words cannot be parsed, or if there is no memory for what the line describes.
     pub fn parse(alloc: Global, text: &str) -> Result<Line, LineError>
         ensures says { IfOk result (λ line. (words : Words) × HasWords text.now words
             × IsLine words line) }
@@ -31,8 +31,7 @@ impl Line {
         Line::from_words(alloc, words.as_slice())
     }
 
-    // Parses the words of a line. Fails if they do not have the form of a line, or if there is no
-    // memory for what the line describes.
+    // Parses the words of a line, and fails in the same cases as `Line::parse`.
     fn from_words(alloc: Global, words: &[&str]) -> Result<Line, LineError>
         ensures says { IfOk result (IsLine words.now) }
     {
@@ -47,7 +46,8 @@ impl Line {
     }
 }
 
-// Returns the error for a line whose words have none of the forms.
+// Returns the error for a line that has none of the forms. The error says whether the name of the
+// command or the number of words is wrong.
 fn wrong_form(words: &[&str]) -> LineError {
     let Some(name) = words.first() else {
         return LineError::UnknownCommand;

@@ -1,19 +1,21 @@
-//! The errors of lines that are not commands.
+//! The errors for wrong lines of the input.
 
 use std::alloc::AllocError;
 use thiserror::Error;
 
-/// What is wrong with a line. Words in capitals are those of the forms that `help` prints.
+/// What is wrong with a line of the input. The words in capitals in the messages are those of the
+/// forms that `help` prints.
 #[derive(Debug, Drop, Error)]
 pub enum LineError {
     /// The first word is not the name of a command.
     #[error("no command has this name (`help` lists the commands)")]
     UnknownCommand,
-    /// The first word is the name of a command, but the line has too few or too many words for this
-    /// form.
+    /// The first word is the name of a command, but the line has too few or too many words. The
+    /// field is the form that the line should have.
     #[error("the form is `{0}`")]
     WrongForm(&'static str),
-    /// This word is not a number, or it is greater than 2^64 - 1.
+    /// A word that has to be a number is not one, or it is greater than 2^64 - 1. The field is the
+    /// name of this word in the form of the line.
     #[error("{0} is not a number from 0 to 18446744073709551615")]
     NotANumber(&'static str),
     /// The divisor of a judge is 0.

@@ -1,14 +1,14 @@
-//! The errors with which the program ends with the exit status 1.
+//! The errors that end the program with the exit status 1.
 
 use crate::line_error::LineError;
 use std::io;
 use thin_vec::ThinVecError;
 use thiserror::Error;
 
-/// Why no command was carried out, or why not all commands were.
+/// Why the program could not read, carry out or answer all lines of the input.
 #[derive(Debug, Drop, Error)]
 pub enum ReplayError {
-    /// A line is not a command. No command was carried out.
+    /// A line of the input is wrong, so no command was carried out.
     #[error("line {number}: {cause}")]
     BadLine {
         /// The number of the line. The first line has the number 1.
@@ -16,11 +16,12 @@ pub enum ReplayError {
         /// What is wrong with the line.
         cause: LineError,
     },
-    /// Standard input could not be read, standard output could not be written, or there was no
-    /// memory for the lines.
+    /// Reading standard input or writing to standard output failed, or there was no memory for the
+    /// lines.
     #[error("{0}")]
     Io(#[from] io::Error),
-    /// There was no memory to call `run`.
+    /// There was no memory for a vector that `run` takes: that of the commands, or that of the
+    /// replies.
     #[error("{0}")]
     Memory(#[from] ThinVecError),
 }

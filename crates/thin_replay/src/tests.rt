@@ -1,10 +1,10 @@
-//! Tests of the messages about lines that are not commands.
+//! Tests of the error messages for wrong lines of the input.
 
 use crate::line::Line;
 use crate::read_lines;
 use std::test::Fail;
 
-// Lines that are not commands, each with the message about it.
+// Wrong lines of the input, each with its error message.
 static WRONG: [(&str, &str); 9] = [
     (
         "pus 3",

@@ -15,7 +15,7 @@ pub fn item_of(word: &str) -> Result<u64, LineError>
     number_of(word, "ITEM")
 }
 
-/// Parses a word as a number. The error says that `name` is not a number.
+/// Parses a word as a number. On failure, the error says that `name` is not a number.
 pub fn number_of(word: &str, name: &'static str) -> Result<u64, LineError>
     ensures parses { ParsesUnsigned 64 10 word.now result }
 {
@@ -25,7 +25,7 @@ pub fn number_of(word: &str, name: &'static str) -> Result<u64, LineError>
     }
 }
 
-/// Parses a word as an index or a count. The error says that `name` is not a number.
+/// Parses a word as an index or a count. On failure, the error says that `name` is not a number.
 pub fn count_of(word: &str, name: &'static str) -> Result<usize, LineError>
     ensures parses { ParsesUnsigned 64 10 word.now result }
 {
@@ -46,7 +46,7 @@ pub fn items_of(alloc: Global, words: &[&str]) -> Result<Vec<u64>, LineError>
     Ok(items)
 }
 
-/// Parses each word as an item, and pushes the items to a list.
+/// Parses each word as an item, and returns the list of these items, in order.
 pub fn list_of(alloc: Global, words: &[&str]) -> Result<ThinVec<u64>, LineError>
     ensures items { IfOk result (λ list. SpellAll words.now list.items) }
 {

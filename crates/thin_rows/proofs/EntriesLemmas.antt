@@ -1,5 +1,5 @@
--- What a search among the entries of a row finds, and what an edit at the index that was found does
--- to the row.
+-- Lemmas about a search for a column among the entries of a row, and about edits at the index that
+-- the search finds.
 use Rattle.std.proofs.Common.{◌≡◌, ℕ, zero, suc, ◌+◌, ◌<◌, ◌≤◌, ◌≢◌, Bool, true, false, cond, not, ◌&&◌, T, List, [], ◌∷◌, length, map, get_or, set, Some, None, Result, Ok, Err, IfOk, IfErr, refl, sym, ap, ◌∙◌, nat_cmp, is_lt, is_eq, Less, Equal, Greater, insert, remove, arith}
 use Rattle.std.specs.FinMap.{find, put}
 use Rattle.std.specs.FinMap.Entries.{below_all, by_order, where_key}
@@ -28,7 +28,8 @@ is_more c k more = grind (arith, nat_tests)
 less_from : (c k : ℕ) → T (is_lt (nat_cmp c k)) → c < k
 less_from c k h = grind (arith, nat_tests)
 
--- true if the removal of the entry of column c keeps the entry of column k
+-- `stays c k` is true if removing the entry of column c keeps the entry of column k, that is, if
+-- the two columns differ
 abbrev pub stays : ℕ → ℕ → Bool
 stays c k = not (eq_by_cmp nat_cmp c k)
 
@@ -36,7 +37,8 @@ other_stays : (c k : ℕ) → k ≢ c → stays c k ≡ true
 other_stays c k other = grind (arith, nat_tests)
 
 module _ {V : Type 0} where
-  -- the column of the entry at index k
+  -- the column of the entry at an index, or the column of a default entry if the list has no entry
+  -- at this index
   abbrev column_at : List (ℕ × V) → ℕ → ℕ × V → ℕ
   column_at entries k d = (get_or entries k d).0
 
@@ -59,8 +61,8 @@ module _ {V : Type 0} where
   columns_rise (e ∷ entries) h (suc i) (suc k) d before inside =
       columns_rise entries (both_hold _ _ h).1 i k d (omega arith) (omega arith)
 
-  -- `IsRising`, which says that the columns of the entries are strictly increasing, implies std's
-  -- statement of this, `IsStrictlyIncreasing`
+  -- for the columns of the entries, `IsRising` implies std's `IsStrictlyIncreasing`: both say that
+  -- the columns are strictly increasing
   pub columns_increase : (entries : List (ℕ × V)) → IsRising entries
       → IsStrictlyIncreasing (map (λ entry. entry.0) entries)
   columns_increase (e ∷ entries) h k inside =
@@ -73,8 +75,9 @@ module _ {V : Type 0} where
   columns_increase [] h k inside = absurd (omega arith)
 
   module _ (c : ℕ) where
-    -- if the entry of column c is at the index at + 1, or would be inserted there, then in the list
-    -- without the first entry it is at the index `at`, or would be inserted there
+    -- If the entry of column c is at the index at + 1, it is at the index `at` in the list without
+    -- the first entry. The same holds for the index at which an entry of column c would be
+    -- inserted.
     place_after : (e : ℕ × V) (entries : List (ℕ × V)) (at : ℕ)
         → IsPlaceOf (e ∷ entries) c (suc at) → IsPlaceOf entries c at
     place_after e entries at p = record { in_bounds = omega (arith, p.in_bounds); same = p.same }
@@ -185,7 +188,8 @@ module _ {V : Type 0} where
         grind (arith, nat_tests)
 
     -- if the columns of the entries are strictly increasing, a binary search for column c returns
-    -- the index of its entry, or the index at which it would be inserted
+    -- the index of the entry of column c, or, as an `Err`, the index at which such an entry would
+    -- be inserted
     pub searched : (entries : List (ℕ × V)) → IsRising entries → (r : Result ℕ ℕ)
         → IsSearchInRange r (length entries)
         → IsBinarySearchResult (λ e. nat_cmp e.0 c) entries r

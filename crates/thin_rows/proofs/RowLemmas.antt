@@ -10,7 +10,7 @@ use Rattle.thin_rows.specs.Entries.{IsGapFor, IsPlaceOf, IsRising}
 use Rattle.thin_rows.proofs.EntriesLemmas.{find_at, find_gap, put_at, put_gap, stays, without_at, without_gap}
 
 -- if the columns q and k compare as equal, then removing the entry of column c keeps the entries of
--- both, or of neither
+-- both q and k, or of neither
 alike : (c q k : ℕ) → nat_cmp q k ≡ Equal → stays c k ≡ stays c q
 alike c q k e = ap (stays c) (sym (ranked q k Equal (sym e)))
 
@@ -21,12 +21,12 @@ module _ {V : Type 0} (es : List (ℕ × V)) (rising : IsRising es) where
   abbrev row : map.FinMap nat_cmp V
   row = from_sorted es
 
-  -- the row has as many entries as the list es
+  -- the number of entries of the row is the length of the list es
   pub len_is : map.len row ≡ length es
   len_is = len-entries row ∙ ap length (entries-from_sorted nat_cmp es rising)
 
   module _ (c : ℕ) where
-    -- let `new` be the entries es with the value v put at column c
+    -- context: `new` is the list es of entries after the value v was put at column c
     module _ (v : V) (new : List (ℕ × V)) (is_put : put nat_cmp c v es ≡ new) where
       put_rises : IsRising new
       put_rises = subst IsRising is_put (is_sorted-put nat_cmp nat_cmp_total c v es rising)
@@ -36,7 +36,7 @@ module _ {V : Type 0} (es : List (ℕ × V)) (rising : IsRising es) where
           ∙ (sym is_put ∙ (ap (put nat_cmp c v) (sym (entries-from_sorted nat_cmp es rising))
           ∙ sym (entries-insert nat_cmp_total row c v))))
 
-    -- let `new` be the entries es without the entry of column c
+    -- context: `new` is the list es of entries without the entry of column c
     module _ (new : List (ℕ × V)) (is_left : where_key nat_cmp (stays c) es ≡ new) where
       left_rises : IsRising new
       left_rises = subst IsRising is_left (is_sorted-where_key nat_cmp (stays c) es rising)
@@ -53,7 +53,7 @@ module _ {V : Type 0} (es : List (ℕ × V)) (rising : IsRising es) where
       left_is = same_map nat_cmp_total nat_cmp-IsAntisymmetric (from_sorted new)
           (map.remove row c) left_finds
 
-    -- let `at` be the index of the entry of column c
+    -- context: `at` is the index of the entry of column c in the list es
     module _ (at : ℕ) (place : IsPlaceOf es c at) where
       pub get_at : (d : ℕ × V) → map.get row c ≡ Some (get_or es at d).1
       get_at d = get-from_sorted nat_cmp es c rising ∙ find_at c es at d rising place
@@ -70,7 +70,8 @@ module _ {V : Type 0} (es : List (ℕ × V)) (rising : IsRising es) where
       pub remove_is : from_sorted (remove es at) ≡ map.remove row c
       remove_is = left_is _ (without_at c es at rising place)
 
-    -- suppose that column c has no entry, and that its entry would be inserted at the index `at`
+    -- context: the list es has no entry of column c, and such an entry would be inserted at the
+    -- index `at`
     module _ (at : ℕ) (gap : IsGapFor es c at) where
       pub get_gap : map.get row c ≡ None
       get_gap = get-from_sorted nat_cmp es c rising ∙ find_gap c es at gap

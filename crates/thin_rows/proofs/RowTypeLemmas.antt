@@ -1,5 +1,5 @@
--- Lemmas on capacities (which depend only on the size and the alignment of a type), and on errors
--- that are passed on.
+-- Lemmas about capacities, which depend on a type only through its size and alignment, and about
+-- errors that a call passes on to its caller.
 use Rattle.std.proofs.Common.{◌≡◌, ◌↔◌, ℕ, IsErrOf, None, Option, Result, Ok, Err, ap, refl, sym, ◌∙◌}
 use Rattle.std.specs.Borrow.{RattleType}
 use Rattle.std.specs.Mem.{type_size}
@@ -10,7 +10,7 @@ use Rattle.thin_vec.specs.declared.ThinVecError.TheVariants.{CapacityOverflow}
 use Rattle.thin_vec.specs.List.Capacity.{TellsOverflow, TellsOverflowOf}
 use Rattle.thin_vec.specs.Growth.{Rule, exact_capacity, ruled_capacity}
 
--- if two types have the same size and alignment, they have the same exact capacities
+-- if two types have the same size and alignment, `exact_capacity` is the same for both types
 pub exact_of_same : (R S : RattleType) (c w : ℕ) → type_size R ≡ type_size S
     → type_align R ≡ type_align S → exact_capacity R c w ≡ exact_capacity S c w
 unfolding exact_capacity
@@ -23,17 +23,18 @@ pub ruled_of_same : (rule : Rule) (R S : RattleType) (c d v w : ℕ) → type_si
 unfolding ruled_capacity
 ruled_of_same rule R S c d v w size align capacity want = rw (size, align, capacity, want) refl
 
--- no `Ok` is an error
+-- a result `Ok x` is not an error
 no_error : {X E P : Type 0} {x : X} {e : E} → IsErrOf (Ok x) e → P
 no_error same = cc
 
--- equal errors have equal causes
+-- if the result `Err d` has the error e, then d equals e
 pub same_cause : {X E : Type 0} {d e : E} → IsErrOf {T = X} (Err d) e → d ≡ e
 same_cause same = cc
 
--- if `Err cause` has the right cause for a list of w items of R (`TellsOverflowOf`), and the error
--- is passed on by `?` as `result`, then `result` has the right cause for w items of S, a type of
--- the size and alignment of R
+-- `TellsOverflowOf R w` says that the error of a call is `CapacityOverflow` if and only if w items
+-- of R are too large for a block. If this holds for `Err cause`, the operator `?` passes `cause` on
+-- in `result`, and S has the size and alignment of R, then `TellsOverflowOf S w` holds for
+-- `result`.
 pub error_tells : {X Y : Type 0} (R S : RattleType) (w : ℕ) (cause : ThinVecError)
     (result : Result Y ThinVecError) → type_size S ≡ type_size R → type_align S ≡ type_align R
     → IsErrAnd result (λ e. e ≡ cause) → TellsOverflowOf {X = X} R w (Err cause)
@@ -47,8 +48,9 @@ error_tells R S w cause (Err e) size align passed told = record {
   );
 }
 
--- if a and b are the same, and the cause is `CapacityOverflow` if and only if b is `None`, then a
--- failure with this cause has the right cause for the capacity a (`TellsOverflow`)
+-- If a equals b, and `cause` is `CapacityOverflow` if and only if b is `None`, then a failure with
+-- this cause satisfies `TellsOverflow a`: the cause is `CapacityOverflow` if and only if a is
+-- `None`.
 pub failure_tells : {X Y : Type 0} {a b : Option ℕ} {cause : ThinVecError} → a ≡ b
     → IsErrOf {T = X} (Err cause) CapacityOverflow ↔ (b ≡ None)
     → TellsOverflow a (let r : Result Y ThinVecError = Err cause in r)
@@ -59,8 +61,8 @@ failure_tells same told = record {
   );
 }
 
--- if S has the size and alignment of R, and `Ok x` is allowed for a list of w items of R
--- (`TellsOverflowOf`), then `Ok y` is allowed for w items of S
+-- For a successful call, `TellsOverflowOf R w` says that w items of R are not too large for a
+-- block. If this holds for R, and S has the size and alignment of R, then it holds for S.
 pub made_tells : {X Y : Type 0} (R S : RattleType) (w : ℕ) (x : X) (y : Y)
     → type_size S ≡ type_size R → type_align S ≡ type_align R
     → TellsOverflowOf R w (Ok x) → TellsOverflowOf S w (Ok y)

@@ -21,11 +21,11 @@ other_column : (j l : ℕ) → l ≢ j → eq_by_cmp nat_cmp l j ≡ false
 other_column j l other = grind (arith, nat_tests)
 
 module _ {V : Type 0} where
-  -- holds if the list `es` has the item e at an index
+  -- `IsAmong es e` holds if e is an item of the list es
   abbrev pub IsAmong : List (ℕ × V) → ℕ × V → Type 0
   IsAmong es e = (k : ℕ) × (k < length es) × ((d : ℕ × V) → slice_index_or es k d ≡ e)
 
-  -- if e is an item of the list es, it is also an item of the list with f in front
+  -- if e is an item of the list es, then e is also an item of `f ∷ es`
   later : (f : ℕ × V) (es : List (ℕ × V)) (e : ℕ × V) → IsAmong es e → IsAmong (f ∷ es) e
   later f es e among = (suc among.0, omega (arith, among.1), among.2)
 
@@ -45,7 +45,7 @@ module _ {V : Type 0} where
         | Greater ↦ λ o f. later e es (j, v) (found_at j v es f)
       ] refl found
 
-  -- a table has no value at a row that it does not have
+  -- if the table t has no row i, then it has no value at row i and column j
   pub outside : (t : Table V) (i j : ℕ) → length t ≤ i → value_at t i j ≡ None
   outside t i j past = ap (λ r. map.get r j) (get_or_past t i map.empty past) ∙ get-empty nat_cmp j
 
@@ -64,7 +64,8 @@ module _ {V : Type 0} where
     | inr other ↦ ap (λ r. map.get r l) (get_or-set_other t i k row map.empty other)
   ]
 
-  -- if row i is replaced by a row without a value at column l, then row i has no value there
+  -- if row i is replaced by a row without a value at column l, then the table has no value at row i
+  -- and column l
   no_value : (t : Table V) (i l : ℕ) (row : Columns V) → map.get row l ≡ None
       → value_at (set t i row) i l ≡ None
   no_value t i l row none = elim (cases_lt i (length t)) [
@@ -131,8 +132,8 @@ module _ {V : Type 0} where
         (omega (arith, past, length-replicate n (map.empty {X = V} {R = nat_cmp})))
   ]
 
-  -- each entry in the list of a row's entries holds the value of the row at the column of this
-  -- entry
+  -- in the list of a row's entries, the value of each entry is the value of the row at the column
+  -- of this entry
   pub listed : (row : Columns V) (k : ℕ) (d : ℕ × V) → k < length (map.entries row)
       → map.get row (slice_index_or (map.entries row) k d).0
       ≡ Some (slice_index_or (map.entries row) k d).1

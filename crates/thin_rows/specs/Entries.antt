@@ -7,7 +7,7 @@ use Rattle.thin_vec.specs.ThinVec.{Thin}
 use Rattle.thin_rows.specs.Table.{Columns}
 
 module _ {V : Type 0} where
-  -- the columns are strictly increasing
+  -- the columns of the entries are strictly increasing
   abbrev pub IsRising : List (ℕ × V) → Type 0
   IsRising entries = T (is_sorted nat_cmp entries)
 
@@ -16,8 +16,9 @@ module _ {V : Type 0} where
     pub in_bounds : i < length entries
     pub same : (d : ℕ × V) → (slice_index_or entries i d).0 ≡ column
 
-  -- no entry has the column `column`, and i is the index at which a new entry for it is inserted:
-  -- all entries before i have lesser columns, and all others have greater columns
+  -- no entry has the column `column`, and i is the index at which an entry of this column would be
+  -- inserted: the entries before i have smaller columns, and the entries from i on have greater
+  -- columns
   pub record IsGapFor (entries : List (ℕ × V)) (column i : ℕ) : Type 0 where
     pub in_bounds : i ≤ length entries
     pub smaller : (k : ℕ) (d : ℕ × V) → k < i → (slice_index_or entries k d).0 < column
@@ -25,7 +26,8 @@ module _ {V : Type 0} where
         → column < (slice_index_or entries k d).0
 
 module _ {V A : Type 0} where
-  -- the columns are strictly increasing, and the list owns a block if and only if it has an entry
+  -- the columns of the list's entries are strictly increasing, and the list owns a block if and
+  -- only if it has an entry
   pub record IsRow (list : Thin (ℕ × V) A) : Type 0 where
     pub rising : IsRising list.items
     pub block : (0 < list.capacity) ↔ (0 < length list.items)

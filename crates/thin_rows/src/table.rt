@@ -14,9 +14,9 @@ use thin_vec::{Rejected, ThinVec, ThinVecError};
 /// A sparse table: a finite map from row and column to value. The number of rows is fixed.
 ///
 /// A row keeps its entries in one block, in increasing order of their columns. A row without
-/// entries owns no block, and takes only the bytes of a pointer and of its allocator. The methods
-/// do not test at run time that a row exists: that the row number is less than the number of rows
-/// is a precondition.
+/// entries owns no block, and takes only the bytes of a pointer and of its allocator. A row number
+/// must be less than the number of rows. This is a precondition of the methods, which they do not
+/// test at run time.
 #[derive(Drop)]
 pub struct Rows<V, A: Allocator = Global> {
     rows: ThinVec<Row<V, A>, A>,
@@ -43,8 +43,8 @@ impl<V, A: Allocator + Copy> Rows<V, A> {
     ///
     /// # Errors
     ///
-    /// Fails with `CapacityOverflow` if that many rows do not fit into a block, and with
-    /// `OutOfMemory` if the allocator fails.
+    /// Fails with `CapacityOverflow` if `rows` rows do not fit into a block, and with `OutOfMemory`
+    /// if the allocator fails.
     pub fn with_rows(alloc: A, rows: usize) -> Result<Rows<V, A>, ThinVecError>
         // On success.
         ensures table { IfOk result (λ table. table ≡ replicate rows columns.empty) }
@@ -79,7 +79,7 @@ impl<V, A: Allocator> Rows<V, A> {
     }
 
     /// Returns the number of entries in all rows, or `usize::MAX` if there are more. (No memory has
-    /// room for that many.) It visits each row.
+    /// room for more entries than `usize::MAX`.) It visits each row.
     pub fn len(&self) -> usize
         ensures value { result ≡ min (sum (map (λ row. columns.len row) self.now)) (2 ^ 64 - 1) }
     {

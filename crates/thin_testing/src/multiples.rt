@@ -1,5 +1,5 @@
-//! Two more growth rules. Tests use them to see that the methods of a list, and runs of commands,
-//! keep their contracts under other growth rules too.
+//! Two growth rules that only tests use. With them, tests check that the methods of a list, and
+//! runs of commands, keep their contracts under rules other than those of `thin_vec`.
 ghost use Rattle.std.specs.Prelude.{◌≡◌};
 ghost use Rattle.std.specs.Mem.{type_size};
 ghost use Rattle.std.specs.Align.{type_align};
@@ -37,7 +37,7 @@ impl Growth for Threefold {
     ghost law = { threefold_law };
 }
 
-// Returns `times` times the capacity `cap`, or `want` if that is greater. Returns `None` if the
+// Returns `times` times the capacity `cap`, or `want` if `want` is greater. Returns `None` if the
 // result is too large for a block.
 fn next_multiple<T>(times: usize, cap: usize, want: usize) -> Option<usize>
     ensures value { result ≡ multiple times (type_size T.row) (type_align T.row) cap want }

@@ -2,8 +2,8 @@
 //!
 //! Pass it by reference, as `&Refusing<Global>`: a reference to an allocator is itself an
 //! allocator, and it is `Copy`. A request is a call of `allocate`, `grow` or `shrink`, so each
-//! growth of a list is one request. `grow` and `shrink` call those of `inner`, which may resize a
-//! block in place.
+//! growth of a list is one request. `grow` and `shrink` call the same methods of `inner`, which may
+//! resize a block in place.
 //!
 //! `blocks` counts the blocks that are allocated and not yet freed. So a test can detect a leak,
 //! although no contract says that a list frees its block. A block that is grown or shrunk still
@@ -16,8 +16,9 @@
 use std::alloc::{AllocError, Allocator};
 use std::cell::Cell;
 
-// The number of requests made; the number of the request that is refused, counting from 1 (if this
-// is 0, none is refused); and the number of blocks that are allocated and not yet freed.
+// What a `Refusing` counts: the `requests` since it was made, or since the last call of `refuse`,
+// and the `blocks` that are allocated and not yet freed. `refused` is the number of the request
+// that is refused, counting from 1. If `refused` is 0, no request is refused.
 #[derive(Drop)]
 struct Counts {
     requests: Cell<u64>,
@@ -32,14 +33,14 @@ fn refuses(counts: &Counts) -> bool {
     request == counts.refused.get()
 }
 
-// Counts one more block, if `answer` is an `Ok`.
+// Adds 1 to the number of blocks if `answer` is an `Ok`.
 fn granted(counts: &Counts, answer: Result<*mut u8, AllocError>) {
     if answer.is_ok() {
         counts.blocks.set(counts.blocks.get().saturating_add(1));
     }
 }
 
-// Counts one block less, since a block is being freed.
+// Subtracts 1 from the number of blocks, because a block is freed.
 fn returned(counts: &Counts) {
     counts.blocks.set(counts.blocks.get().saturating_sub(1));
 }
@@ -77,8 +78,8 @@ impl<B: Allocator> Refusing<B> {
         self.counts.requests.get()
     }
 
-    /// Returns the number of blocks that are allocated and not yet freed. `refuse` does not change
-    /// it.
+    /// Returns the number of blocks that are allocated and not yet freed. A call of `refuse` does
+    /// not change this number.
     pub fn blocks(&self) -> u64 {
         self.counts.blocks.get()
     }

@@ -1,5 +1,6 @@
-//! The growth rules once more, as functions on numbers, by which tests compute the capacities that
-//! they expect. The functions have no upper limit.
+//! The growth rules written a second time, as functions on numbers. Tests use these functions to
+//! compute the capacities that they expect. Unlike a rule, such a function has no upper limit: it
+//! never refuses a capacity as too large.
 use crate::multiples::{Fourfold, Threefold};
 use thin_vec::{Doubling, Growth, PowerBytes};
 

@@ -1,5 +1,5 @@
-//! Tests of what no contract states about lists and about the report. There are also functions
-//! whose contracts show what a caller can conclude from the contracts of the list.
+//! Tests of behaviour that no contract states. This module also has functions whose contracts show
+//! what a caller can conclude from the contracts of `ThinVec`.
 mod allocators;
 mod arguments;
 mod capacities;

@@ -1,5 +1,5 @@
--- Lemmas for callers of `dedup_by`, `dedup_by_key` and `extract_if` whose closure is stateless, and
--- changes no item.
+-- Lemmas for callers of `dedup_by`, `dedup_by_key` and `extract_if`. Most of them are for closures
+-- that change no item and whose result depends only on the items.
 use Rattle.std.proofs.Common.{◌≡◌, ◌+◌, ◌≤◌, Bool, true, false, List, [], ◌∷◌, ◌++◌, Option, None, Some, ap, append_assoc, arith, length, refl, sym, ◌∙◌}
 use Rattle.std.proofs.lemmas.Fn.{dedup_same}
 use Rattle.std.proofs.lemmas.List.{append-nil, length-append}
@@ -18,10 +18,10 @@ use Rattle.thin_vec.specs.declared.edits.holder.Holds.{Ghosts as HoldsGhosts}
 
 -- ---- `dedup_by` and `dedup_by_key`
 
--- in this module, R is the relation of the closure, as in specs/Edits/Dedup
+-- in this module, R is the relation of a closure that compares two items (see specs/Edits/Dedup)
 module _ {S T : Type 0} (R : S → T → T → Bool → S → T → T → Type 0) where
-  -- if each later item was compared with the last item kept before it, then ys are the kept items,
-  -- as std's `DedupsFrom` defines them
+  -- Let the items xs follow the kept item k. If each of them was compared with the last item kept
+  -- before it, the kept items ys satisfy std's `DedupsFrom`.
   dedups_from : (xs : List T) (s : S) (k : T) (stays : List Bool) (ys : List T) (t : S)
       → AskedLast R s k xs stays ys t → DedupsFrom R s k xs ys
   dedups_from [] s k stays ys t h = h.1
@@ -41,22 +41,22 @@ module _ {S T : Type 0} (R : S → T → T → Bool → S → T → T → Type 0
         ]) h.7,
   )
 
-  -- if each item of xs except the first was compared with the last item kept before it, then ys are
-  -- the kept items, as std's `DedupsAll` defines them
+  -- if each item of xs after the first was compared with the last item kept before it, the kept
+  -- items ys satisfy std's `DedupsAll`
   dedups_all : (xs : List T) (s : S) (stays : List Bool) (ys : List T) (t : S)
       → AskedPairs R s xs stays ys t → DedupsAll R s xs ys
   dedups_all [] s stays ys t h = h.1
   dedups_all (x ∷ xs) s stays ys t h = dedups_from xs s x stays ys t h
 
-  -- if `dedup_by` or `dedup_by_key` reduced the list v to w, their items satisfy std's `IsDeduped`,
-  -- about which std's proofs have lemmas in `lemmas/Fn`
+  -- If `dedup_by` or `dedup_by_key` reduced the list v to w, the items of v and w satisfy std's
+  -- `IsDeduped`. Std's proofs have lemmas about `IsDeduped` in `lemmas/Fn`.
   pub deduped_deduped : {A : Type 0} (s : S) (v w : Thin T A) → IsDedupedBy R s v w
       → IsDeduped R s v.items w.items
   deduped_deduped s v w h =
       record { told = dedups_all v.items s h.1.stays w.items h.0 h.1.asked }
 
-  -- if the closure is stateless, changes no item, and returns `same x y` for a later item x and the
-  -- last item y kept before it, the items kept are `dedup same` of the old ones
+  -- If the closure is stateless, changes no item, and returns `same x y` for an item x and the last
+  -- kept item y, then the items kept are `dedup same` of the old items.
   pub deduped_dedup : {A : Type 0} (same : T → T → Bool) {s : S} {v w : Thin T A}
       → ((x y : T) (b : Bool) (t : S) (x' y' : T) → R s x y b t x' y'
       → (b ≡ same x y) × (t ≡ s) × (x' ≡ x) × (y' ≡ y))
@@ -71,8 +71,9 @@ module _ {T : Type 0} (test : T → Bool) where
   abbrev pub others : List T → List T
   others xs = filter (λ x. not (test x)) xs
 
-  -- one call of `next` divides the items xs that were not tested before: it extracts `item`, which
-  -- is `None` at the end, keeps the items `kept` in the list, and does not test the items `rest`
+  -- What one call of `next` does with the items xs, which were not tested before. It extracts
+  -- `item` (`None` if no item of xs passes the test), keeps the items `kept` in the list, and does
+  -- not test the items `rest`.
   pub record Parts (xs : List T) (item : Option T) (kept rest : List T) : Type 0 where
     pub gone : filter test xs ≡ option_to_list item ++ filter test rest
     pub stay : others xs ≡ kept ++ others rest
@@ -85,8 +86,8 @@ module _ {T : Type 0} (test : T → Bool) where
   module _ {S : Type 0} (R : S → T → Bool → S → T → Type 0)
       (says : (s : S) (x : T) (b : Bool) (t : S) (y : T) → R s x b t y
       → (b ≡ test x) × (y ≡ x)) where
-    -- if one call of `next` tests the item x first, and divides the items xs after x as `Parts`
-    -- says, then it divides x followed by xs as `Parts` says
+    -- if `Parts` describes what a call of `next` does with xs, it also describes what a call of
+    -- `next` does with x followed by xs
     part : (x : T) (xs : List T) (item : Option T) (t u : S) (y : T) (kept rest : List T)
         (b : Bool) → b ≡ test x → y ≡ x
         → ((ks : List T) → ExtractsNext R u xs item t ks rest → Parts xs item ks rest)
@@ -112,8 +113,8 @@ module _ {T : Type 0} (test : T → Bool) where
           ended = then.ended;
         }
 
-    -- if the closure returns the result of the test and changes no item, one call of `next` divides
-    -- the items that were not tested before as `Parts` says
+    -- If the closure changes no item, and its result is that of a fixed test, then `Parts`
+    -- describes what one call of `next` does with the items xs, which were not tested before.
     pub parts : (s : S) (xs : List T) (item : Option T) (t : S) (kept rest : List T)
         → ExtractsNext R s xs item t kept rest → Parts xs item kept rest
     parts s [] item t kept rest e = record {
@@ -126,12 +127,12 @@ module _ {T : Type 0} (test : T → Bool) where
         part x xs item t e.1 e.2 kept rest e.0 answer.0 answer.1
         (λ ks n. parts e.1 xs item t ks rest n) e.4
 
--- in this module, `test` is a test of items, and each `ExtractIf` has the default holder
+-- in this module, `test` is a test of one item, and every `ExtractIf` has the type that users get
 module _ {T F A G : Type 0} {g : Ghosts G}
     {h : HoldsGhosts (Holder (Extracting T F A)) (Extracting T F A)} (test : T → Bool) where
-  -- the state of a loop that moves each item that an `ExtractIf` yields to the end of a sequence:
-  -- when the loop began, the `ExtractIf` was `start` and the sequence was `old`; now they are `now`
-  -- and `held`
+  -- A loop appends each item that an `ExtractIf` yields to a sequence. When the loop began, the
+  -- `ExtractIf` was `start` and the sequence was `old`; now the `ExtractIf` is `now` and the
+  -- sequence is `held`.
   pub record IsExtracting (start now : ExtractIf T F A G (Holder (Extracting T F A)) g h)
       (old held : List T) : Type 0 where
     pub gone : held ++ filter test (extract_rest now) ≡ old ++ filter test (extract_rest start)
@@ -142,7 +143,7 @@ module _ {T F A G : Type 0} {g : Ghosts G}
     pub count : length held + length (extract_rest now)
         ≤ length old + length (extract_rest start)
 
-  -- `IsExtracting` holds when the loop begins
+  -- before any item is yielded, `IsExtracting` holds
   pub extract_start : (e : ExtractIf T F A G (Holder (Extracting T F A)) g h) (old : List T)
       → IsExtracting e e old old
   extract_start e old =
@@ -151,8 +152,8 @@ module _ {T F A G : Type 0} {g : Ghosts G}
   module _ (R : F → T → Bool → F → T → Type 0)
       (says : (s : F) (x : T) (b : Bool) (t : F) (y : T) → R s x b t y
       → (b ≡ test x) × (y ≡ x)) where
-    -- if `IsExtracting` holds, and `next` yields an item, then `IsExtracting` holds again after
-    -- this item was appended to the sequence
+    -- If `IsExtracting` holds and `next` yields an item, then `IsExtracting` holds again after this
+    -- item is appended to the sequence.
     pub extract_step : {start now new : ExtractIf T F A G (Holder (Extracting T F A)) g h}
         {old held more : List T} {item : Option T} {x : T} → IsExtracting start now old held
         → ExtractSteps R now item new → item ≡ Some x → more ≡ held ++ x ∷ []
@@ -179,8 +180,9 @@ module _ {T F A G : Type 0} {g : Ghosts G}
           );
         }
 
-    -- if `IsExtracting` holds, and `next` yields `None`, then exactly the items of the range that
-    -- pass the test were appended, and the list has all other items once the `ExtractIf` is dropped
+    -- If `IsExtracting` holds, and `next` returns `None`, then the items appended are exactly the
+    -- items of the range that pass the test. The list has all other items once the `ExtractIf` is
+    -- dropped.
     pub extract_end : {start now new : ExtractIf T F A G (Holder (Extracting T F A)) g h}
         {old held : List T} {item : Option T} → IsExtracting start now old held
         → ExtractSteps R now item new → item ≡ None

@@ -1,4 +1,4 @@
--- Lemmas about what a list contains after its items were written to through a borrow.
+-- Lemmas about the items of a list after a write through a borrow of the list.
 use Rattle.std.proofs.Common.{◌≡◌, ℕ, zero, suc, ◌-◌, ◌<◌, List, [], ◌∷◌, ◌++◌, length, Some, ap, arith, refl, sym, ◌∙◌}
 use Rattle.std.proofs.Math.Seq.{take-length}
 use lib.ListN.{set, length-set}
@@ -13,8 +13,8 @@ use Rattle.thin_vec.proofs.list.InsertRemoveLemmas.{full-set}
 use Rattle.thin_vec.proofs.ListLemmas.{IsWritten, Settled, settle-front, thin-room}
 
 module _ {T : Type 0} where
-  -- if ws is written over slots that hold xs followed by empty slots, the items of ws beyond the
-  -- length of xs are ignored
+  -- Writing ws over slots that hold xs, followed by k empty slots, replaces the first items of xs
+  -- by those of ws. Items of ws beyond the length of xs are ignored.
   pub over-front : (xs : List T) (k : ℕ) (ws : List T) → over (full xs ++ empty k) 0 ws ≡ full
       (refill (length xs) xs ws) ++ empty k
   over-front [] zero ws = refl
@@ -23,8 +23,8 @@ module _ {T : Type 0} where
   over-front (x ∷ xs) k (w ∷ ws) = ap (λ l. Some w ∷ l) (over-front xs k ws)
 
 module _ {T A : Type 0} where
-  -- if ws is written over the slots of a list's block, the new block b' is that of a list of the
-  -- same length, with ws in place of its first items
+  -- if ws is written over the first slots of a list's block, the new block b' is that of a list of
+  -- the same length, in which ws replaces the first items
   pub settle-over : {b : Block T A} {a : A} → IsThin b a → (b' : Block T A) (ws : List T)
       {k : Cost} → IsWritten b b' (over b.slots 0 ws) b.len k
       → Settled b' a (refill (length (items_in b.slots)) (items_in b.slots) ws) (length b.slots)
@@ -37,8 +37,8 @@ module _ {T A : Type 0} where
       ∙ ap (λ n. full (refill (length xs) xs ws) ++ empty (length b.slots - n)) (sym same)))
       (t.packed.len ∙ sym same) (omega (arith, same, thin-room b a t))
 
-  -- writing ws over the slots of a block writes ws over the items of the list that contracts see
-  -- for this block
+  -- if ws is written over the slots of the block b, contracts see the list of b with ws written
+  -- over its items
   pub view-with_items : (b : Block T A) (a : A) (ws : List T) → IsThin b a
       → thin_of (block_with_items b 0 ws) a ≡ with_items (thin_of b a) ws
   view-with_items b a ws t =

@@ -1,5 +1,5 @@
--- The lemma modules. ThinVecLemmas and RetainLemmas are for callers too. UndoLemmas, FewLemmas,
--- SliceLemmas, TakenLemmas, CollectLemmas and EditLemmas are for callers alone.
+-- The lemma modules. ThinVecLemmas and RetainLemmas are for this crate and for callers. UndoLemmas,
+-- FewLemmas, SliceLemmas, TakenLemmas, CollectLemmas and EditLemmas are only for callers.
 mod ListLemmas
 pub mod ThinVecLemmas
 pub mod UndoLemmas

@@ -1,5 +1,5 @@
--- Lemmas about what the block of a list contains after each step on it. The items of a list are in
--- the first slots of its block.
+-- Lemmas about the contents of a list's block after each step on the block. The items of a list are
+-- in the first slots of its block.
 use Rattle.std.proofs.Common.{◌≡◌, ◌≢◌, ℕ, zero, suc, ◌+◌, ◌-◌, ◌<◌, ◌≤◌, List, [], ◌∷◌, ◌++◌, length, take, drop, Option, Some, None, refl, sym, ap, ◌∙◌, arith, get_or, length-append, append_assoc}
 use Rattle.std.proofs.lemmas.List.{length-replicate, length-map, take-append-drop, replicate-append-replicate, set_at, get_or_append_left, get_or-map, map_push, append-nil, length-take-le, drop_more, length_push, get_or-set_other}
 use Rattle.std.proofs.Math.Seq.{drop-length, take-append_seam}
@@ -21,8 +21,7 @@ module _ {T : Type 0} where
   items-empty zero = refl
   items-empty (suc k) = items-empty k
 
-  -- in a row that begins with the items xs, the items are xs, followed by the items in the other
-  -- slots s
+  -- the items in the row `full xs ++ s` are xs, followed by the items in the slots s
   pub items-full : (xs : List T) (s : List (Option T)) → items_in (full xs ++ s) ≡ xs ++ items_in s
   items-full [] s = refl
   items-full (x ∷ xs) s = ap (λ (ys : List T). x ∷ ys) (items-full xs s)
@@ -32,7 +31,7 @@ module _ {T : Type 0} where
   items-full-alone [] = refl
   items-full-alone (x ∷ xs) = ap (λ (ys : List T). x ∷ ys) (items-full-alone xs)
 
-  -- if the first of c slots hold xs and the other slots are empty, the items in these slots are xs
+  -- the row `front xs c` holds the items xs in its first slots, and no other items
   pub items-front : (xs : List T) (c : ℕ) → items_in (front xs c) ≡ xs
   items-front xs c = items-full xs (replicate (c - length xs) None)
       ∙ (ap (λ (ys : List T). xs ++ ys) (items-empty (c - length xs)) ∙ append-nil xs)
@@ -41,7 +40,7 @@ module _ {T : Type 0} where
   pub length-full : (xs : List T) → length (full xs) ≡ length xs
   length-full xs = length-map xs (λ (x : T). Some x)
 
-  -- if xs is no longer than c, `front xs c` has c slots
+  -- if xs has at most c items, `front xs c` has c slots
   pub length-front : (xs : List T) (c : ℕ) → length xs ≤ c → length (front xs c) ≡ c
   length-front xs c h =
       let e : List (Option T) = replicate (c - length xs) None in
@@ -56,8 +55,8 @@ module _ {T : Type 0} where
   pub full-same : (xs ys : List T) → full xs ≡ full ys → xs ≡ ys
   full-same xs ys e = sym (items-full-alone xs) ∙ (ap items_in e ∙ items-full-alone ys)
 
-  -- in a row that begins with the items xs, the slot i holds the item of xs at index i, if i is
-  -- less than the length of xs
+  -- in the row `full xs ++ s`, the slot i holds the item of xs at index i, for each i below the
+  -- length of xs
   pub slot-full : (xs : List T) (s : List (Option T)) (i : ℕ) (d : T) → i < length xs
       → slot (full xs ++ s) i ≡ Some (get_or xs i d)
   slot-full xs s i d h =
@@ -79,8 +78,8 @@ module _ {T : Type 0} where
       (sym (map_push (λ (x : T). Some x) xs v))
       ∙ ap (λ (n : ℕ). full (xs ++ v ∷ []) ++ replicate n None) m)))
 
-  -- in a row that begins with the items xs, emptying the slot i leaves the items before i, an empty
-  -- slot, the items after i, and the slots after xs, if i is less than the length of xs
+  -- In a row that holds the items xs and then the slots s, let i be an index of xs. Emptying the
+  -- slot i leaves the items before i, an empty slot, the items after i, and the slots s.
   pub full-take : (xs : List T) (s : List (Option T)) (i : ℕ) (d : T) → i < length xs
       → set (full xs ++ s) i None ≡ full (take i xs) ++ (None ∷ (full (drop (suc i) xs) ++ s))
   full-take [] s i d h = absurd (omega arith)
@@ -88,8 +87,8 @@ module _ {T : Type 0} where
   full-take (x ∷ xs) s (suc i) d h = let l : i < length xs = omega arith in
       ap (λ (r : List (Option T)). Some x ∷ r) (full-take xs s i d l)
 
-  -- if the first of c slots hold the items of xs and v, emptying the slot of v leaves xs in the
-  -- first slots
+  -- if the first of c slots hold xs followed by v, emptying the slot of v leaves xs in the first
+  -- slots
   pub front-pop : (xs : List T) (c : ℕ) (v : T) → length (xs ++ v ∷ []) ≤ c
       → set (front (xs ++ v ∷ []) c) (length xs) None ≡ front xs c
   front-pop xs c v h =
@@ -103,7 +102,7 @@ module _ {T : Type 0} where
       ∙ (set_at (full xs) (Some v) (replicate k None) None (length xs) (length-full xs)
       ∙ ap (λ (q : ℕ). full xs ++ replicate q None) m))
 
-  -- if xs is no longer than c, and c ≤ d, appending d - c empty slots to `front xs c` makes
+  -- if xs has at most c items and c ≤ d, appending d - c empty slots to `front xs c` gives
   -- `front xs d`
   pub front-grow : (xs : List T) (c d : ℕ) → length xs ≤ c → c ≤ d
       → front xs c ++ replicate (d - c) None ≡ front xs d
@@ -114,8 +113,8 @@ module _ {T : Type 0} where
       (replicate-append-replicate (c - length xs) (d - c) None
       ∙ ap (λ (q : ℕ). replicate q None) m)
 
-  -- in a row that begins with the items xs, the slot i holds the item of xs at index i, if i is
-  -- less than the length of xs
+  -- in the row `full xs ++ s`, the slot i holds the item of xs at index i, for each i below the
+  -- length of xs
   pub slot-get : (xs : List T) (s : List (Option T)) (i : ℕ) → i < length xs
       → slot (full xs ++ s) i ≡ slice_get xs i
   slot-get [] s i h = absurd (omega arith)
@@ -135,8 +134,8 @@ module _ {T A : Type 0} where
     pub items : items_in b.slots ≡ xs
     pub cap : length b.slots ≡ c
 
-  -- if b has the slots `front xs c`, the stored length of xs, and memory that came from `a`, it is
-  -- the block of a list with the items xs and the capacity c
+  -- If the slots of b are `front xs c`, its stored length is that of xs, and its memory came from
+  -- `a`, then b is the block of a list with the items xs and the capacity c.
   pub settled : (b : Block T A) (a : A) (xs : List T) (c : ℕ) → b.slots ≡ front xs c
       → b.len ≡ length xs → length xs ≤ c → IsFrom b.alloc a → Settled b a xs c
   settled b a xs c e n h f =
@@ -155,8 +154,8 @@ module _ {T A : Type 0} where
         cap = l;
       }
 
-  -- if the block b' has c slots, the items xs and the cost k, contracts see b' as the list v with
-  -- this capacity, these items and this cost
+  -- if the block b' has c slots, the items xs and the cost k, contracts see b' as the list v, but
+  -- with the capacity c, the items xs and the cost k
   pub thin_of-becomes : {w v : Thin T A} → w ≡ v → (b' : Block T A) {xs : List T} {c : ℕ} {k : Cost}
       → length b'.slots ≡ c → items_in b'.slots ≡ xs → b'.cost ≡ k
       → thin_of b' w.alloc ≡ record v { items = xs; capacity = c; cost = k }
@@ -167,8 +166,8 @@ module _ {T A : Type 0} where
     cost = cost i;
   }
 
-  -- if the number of slots of the block b' is the capacity of the old list, contracts see b' as the
-  -- old list with the items xs and the cost k of b'
+  -- if the block b' has the items xs and the cost k, and its number of slots is the old capacity,
+  -- contracts see b' as the list v, but with the items xs and the cost k
   pub thin_of-keeps : {w v : Thin T A} → w ≡ v → (b' : Block T A) {xs : List T} {k : Cost}
       → length b'.slots ≡ w.capacity → items_in b'.slots ≡ xs → b'.cost ≡ k
       → thin_of b' w.alloc ≡ record v { items = xs; cost = k }
@@ -187,18 +186,19 @@ module _ {T A : Type 0} where
       → length (items_in b.slots) ≡ n → IsPacked b.slots n
   thin-packed b a n t long = record { row = t.packed.row; len = sym long }
 
-  -- if b' has the allocator of b, and the memory of b came from `a`, the memory of b' came from `a`
+  -- if b' has the same allocator as b, and the memory of b came from `a`, then the memory of b'
+  -- came from `a` too
   pub from-same : (b b' : Block T A) (a : A) → IsFrom b.alloc a → b'.alloc ≡ b.alloc
       → IsFrom b'.alloc a
   from-same b b' a f e = λ x h. f x (sym e ∙ h)
 
-  -- the second block is the first block with the given slots, the given stored length and the given
-  -- cost
+  -- `IsWritten b b' s n k`: the block b' is the block b, except that its slots are s, its stored
+  -- length is n and its cost is k
   abbrev pub IsWritten : Block T A → Block T A → List (Option T) → ℕ → Cost → Type 0
   IsWritten b b' s n k = seen b' ≡ record (seen b) { slots = s; len = n; cost = k }
 
-  -- if the slots of a list's block became `front xs c`, and the stored length became the length of
-  -- xs, the new block is that of a list with the items xs and the capacity c
+  -- If the slots of a list's block became `front xs c`, and its stored length became that of xs,
+  -- then the new block b' is that of a list with the items xs and the capacity c.
   pub settle-front : {b : Block T A} {a : A} → IsThin b a → (b' : Block T A) (xs : List T) (c : ℕ)
       {s : List (Option T)} {n : ℕ} {k : Cost} → IsWritten b b' s n k → s ≡ front xs c
       → n ≡ length xs → length xs ≤ c → Settled b' a xs c
@@ -221,8 +221,8 @@ module _ {T A : Type 0} where
       ∙ front-push xs c v l))
       (omega (arith, t.packed.len, length_push xs v)) (omega (arith, length_push xs v))
 
-  -- if the last filled slot is the slot j, and it holds v, the items are the first j items,
-  -- followed by v
+  -- if the slot j is the last filled slot of a list's block b and holds v, the items of the list
+  -- are its first j items, followed by v
   pub last-item : (b : Block T A) (a : A) (v : T) (j : ℕ) → IsThin b a → j + 1 ≡ b.len
       → slot b.slots j ≡ Some v → items_in b.slots ≡ take j (items_in b.slots) ++ v ∷ []
   last-item b a v j t o w =
@@ -260,7 +260,7 @@ module _ {T A : Type 0} where
       ∙ (ap (λ (q : ℕ). set (front (ys ++ v ∷ []) c) q None) (sym m) ∙ front-pop ys c v k))
       (sym m) (omega (arith, length_push ys v))
 
-  -- in the block of a list, the slot i holds the item at index i, if i is less than the number of
+  -- in the block of a list, the slot i holds the item at index i, for each i below the number of
   -- items
   thin-slot : (b : Block T A) (a : A) (i : ℕ) → IsThin b a → i < length (items_in b.slots)
       → slot b.slots i ≡ slice_get (items_in b.slots) i
@@ -268,13 +268,13 @@ module _ {T A : Type 0} where
       ap (λ (r : List (Option T)). slot r i) t.packed.row ∙ slot-get (items_in b.slots)
       (replicate (length b.slots - length (items_in b.slots)) None) i h
 
-  -- in the block of a list, the slot of each item is filled
+  -- in the block of a list, each slot i below the number of items is filled
   pub thin-filled : (b : Block T A) (a : A) (i : ℕ) → IsThin b a → i < length (items_in b.slots)
       → IsSome (slot b.slots i)
   thin-filled b a i t h = rw (thin-slot b a i t h) (get-some (items_in b.slots) i h)
 
-  -- if the slots up to the stored length of a list's block hold exactly xs, then xs are the items
-  -- of the list
+  -- if the first slots of a list's block, up to the stored length, hold exactly the items xs, then
+  -- xs are the items of the list
   pub thin-run : (b : Block T A) (a : A) (xs : List T) (n : ℕ) → IsThin b a → n ≡ b.len
       → full xs ≡ slice_range b.slots 0 n → xs ≡ items_in b.slots
   thin-run b a xs n t len run =

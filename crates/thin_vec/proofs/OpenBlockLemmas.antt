@@ -1,5 +1,6 @@
--- Lemmas about what a contract sees of an open block after each step on it. Throughout, h is an
--- open block as it is stored: the block itself, and the indices where its parts begin and end.
+-- Lemmas about what a contract sees of an open block after each step. In this file, h is an open
+-- block as it is stored: a block, and the indices at which the parts of the open block begin and
+-- end.
 use Rattle.std.proofs.Common.{◌≡◌, ℕ, suc, ◌+◌, ◌-◌, ◌<◌, ◌≤◌, List, [], ◌∷◌, ◌++◌, Option, Some, None, length, take, drop, refl, sym, ap, ◌∙◌, subst, arith, length-append, append_assoc}
 use Rattle.std.proofs.lemmas.List.{drop_at, get_or-append_right, get_or-replicate, get_or_append_left, get_or_at, length-drop, length-take, length-take-le, length_push, map_push, replicate-append-replicate, set_at, take_at}
 use Rattle.std.proofs.lemmas.List.Edits.{split_between}
@@ -22,7 +23,7 @@ pub first-of : {X : Type 0} (xs : List X) → 0 < length xs → (x : X) × (ys :
 first-of [] h = absurd (omega arith)
 first-of (x ∷ ys) h = (x, ys, refl)
 
--- a non-empty list xs consists of a list ys, followed by its last item
+-- a non-empty list xs consists of a list ys, followed by the last item of xs
 pub last-of : {X : Type 0} (xs : List X) → 0 < length xs → (ys : List X)
     × (x : X) × (xs ≡ ys ++ x ∷ [])
 last-of [] h = absurd (omega arith)
@@ -84,13 +85,14 @@ module _ {T A : Type 0} where
   past_rest v = empty v.gap_after ++ past_after v
 
   module _ (h : Inside T A) (v : Open T A) (s : Shows h v) where
-    -- the slots of h are the slots before the middle run, then the middle run, then the slots after
-    -- it
+    -- the slots of h are, in order: the slots before the middle run, the middle run, and the slots
+    -- after the middle run
     pub by_rest : h.block.slots ≡ to_rest v ++ (full v.rest ++ past_rest v)
     by_rest = s.row ∙ sym
         (append_assoc (full v.front) (empty v.gap) (full v.rest ++ past_rest v))
 
-    -- the slots of h are the slots up to the end of the middle run, followed by the slots after it
+    -- the slots of h are the slots up to the end of the middle run, followed by the slots after the
+    -- middle run
     by_after : h.block.slots ≡ to_after v ++ past_rest v
     by_after = by_rest ∙ sym (append_assoc (to_rest v) (full v.rest) (past_rest v))
 
@@ -180,8 +182,8 @@ module _ {T A : Type 0} where
         ∙ ap (λ (k : ℕ). full v.tail ++ empty k) (sym some)))
         ∙ items-front v.tail (length v.tail + (v.capacity - reach v))
 
-    -- if h has the slots and the indices (`Shows`), the allocator, and the cost of v, contracts see
-    -- h as v
+    -- if h and v agree on the slots and the indices (`Shows`), on the allocator and on the cost,
+    -- contracts see h as v
     pub found : h.block.alloc ≡ v.alloc → h.block.cost ≡ v.cost → Found h v
     found alloc cost =
         let gap : h.rest_start - h.front_end ≡ v.gap = omega (arith, s.gap) in
@@ -222,14 +224,16 @@ module _ {T A : Type 0} where
         (omega (arith, length-full v.front, s.front))
         (omega (arith, length-full v.front, s.front, s.gap))
 
-  -- if the slots `rest_start..rest_end` hold exactly the items xs, then xs is the middle run
+  -- if the slots `rest_start..rest_end` hold exactly the items xs, then xs are the items of the
+  -- middle run
   pub rest-run : (h : Inside T A) (xs : List T) → full xs
       ≡ slice_range h.block.slots h.rest_start h.rest_end
       → xs ≡ (open_of h).rest
   rest-run h xs e = sym (items-full-alone xs) ∙ ap items_in e
 
-  -- ---- The steps. Each step has three parts: the block after the step, what a contract sees of
-  -- this block, and a lemma which says that a contract sees this.
+  -- ---- The steps. Each step has two definitions and a lemma. The first definition is the block
+  -- after the step, the second one is an `Open`, and the lemma says that contracts see the block as
+  -- this `Open`.
 
   module _ (h : Inside T A) (o : IsOpen h) (b : Block T A)
       (some : 0 < length (open_of h).rest) where
@@ -248,8 +252,8 @@ module _ {T A : Type 0} where
       len = h.len;
     }
 
-    -- what a contract sees of `first-left`, for the list of the items left in the middle run: the
-    -- gap before the middle run has one more slot
+    -- `first-seen ys` is what a contract sees of `first-left` if the items ys are left in the
+    -- middle run. The gap before the middle run has one more slot than in h.
     abbrev pub first-seen : List T → Open T A
     first-seen ys = record {
       front = v.front;
@@ -316,8 +320,8 @@ module _ {T A : Type 0} where
       len = h.len;
     }
 
-    -- what a contract sees of `last-left`, for the list of the items left in the middle run: the
-    -- gap after the middle run has one more slot
+    -- `last-seen ys` is what a contract sees of `last-left` if the items ys are left in the middle
+    -- run. The gap after the middle run has one more slot than in h.
     abbrev pub last-seen : List T → Open T A
     last-seen ys = record {
       front = v.front;
@@ -389,10 +393,10 @@ module _ {T A : Type 0} where
               (ap (λ (z : Seen T A). z.cost) now),
         )
 
-  -- in this module, the two gaps of an open block h are taken as one gap between the front and the
-  -- tail, if the middle run is empty
+  -- in this module, the two gaps around an empty middle run become one gap, and an open block
+  -- without a gap before the tail is closed
   module _ (h : Inside T A) (o : IsOpen h) where
-    -- the open block with both gaps taken as one gap after the front
+    -- the open block h with both gaps joined into one gap, directly after the front
     abbrev pub joined : Inside T A
     joined = record {
       block = h.block;
@@ -403,8 +407,8 @@ module _ {T A : Type 0} where
       len = h.len;
     }
 
-    -- what a contract sees of `joined`: the first gap is as long as both gaps together, and there
-    -- is no second gap
+    -- What a contract sees of `joined`. Its first gap has the slots of both gaps of h, and its
+    -- second gap has no slot.
     abbrev pub joined-seen : Open T A
     joined-seen = let w : Open T A = open_of h in
         record {
@@ -449,8 +453,8 @@ module _ {T A : Type 0} where
     abbrev all-after : List T
     all-after = (open_of h).rest ++ (open_of h).tail
 
-    -- if there is no gap before the tail, the slots are the front, the gap, the middle run directly
-    -- followed by the tail, and the empty slots after the tail
+    -- if there is no gap before the tail, the slots are, in order: the front, the gap before the
+    -- middle run, the middle run directly followed by the tail, and the empty slots after the tail
     side-by-side : (open_of h).gap_after ≡ 0 → h.block.slots ≡ full (open_of h).front
         ++ (empty (open_of h).gap ++ (full all-after ++ past_tail (open_of h)))
     side-by-side none =
@@ -461,14 +465,14 @@ module _ {T A : Type 0} where
         (sym (append_assoc (full w.rest) (full w.tail) (past_tail w))
         ∙ ap (λ (r : List (Option T)). r ++ past_tail w) (sym (full-append w.rest w.tail))))
 
-    -- if there is no gap before the tail, the middle run and the tail together have `len -
-    -- rest_start` items
+    -- if there is no gap before the tail, `len - rest_start` is the number of items in the middle
+    -- run and the tail together
     count-after : (open_of h).gap_after ≡ 0 → length all-after ≡ h.len - h.rest_start
     count-after none =
         omega (arith, length-append (open_of h).rest (open_of h).tail, o.rest, o.gap_after, o.tail)
 
-    -- if there is no gap before the tail, each slot from the middle run to the end of the tail is
-    -- filled
+    -- if there is no gap before the tail, each slot from the start of the middle run to the end of
+    -- the tail is filled
     pub after-filled : (open_of h).gap_after ≡ 0 → (j : ℕ) → h.rest_start ≤ j → j < h.len
         → IsSome (slot h.block.slots j)
     after-filled none j low high =
@@ -517,7 +521,7 @@ module _ {T A : Type 0} where
         (replicate-append-replicate w.gap (w.capacity - reach w) None
         ∙ ap (λ (k : ℕ). empty k) left))))
 
-    -- if there is no gap at all, all items are already in the first slots
+    -- if an open block has no gap, all its items are in the first slots
     pub closed-row : (open_of h).gap_after ≡ 0 → h.front_end ≡ h.rest_start
         → h.block.slots ≡ front (items_of (open_of h)) (length h.block.slots)
     closed-row none here =
@@ -541,12 +545,12 @@ module _ {T A : Type 0} where
         ∙ (ap (λ (r : List (Option T)). r ++ past_tail w) (sym (full-append w.front all-after))
         ∙ ap (λ (k : ℕ). full (items_of w) ++ empty k) left)))
 
-  -- in this module, the block b of a list is opened, and the items from `start` up to `end` are its
+  -- in this module, the block b of a list is opened, with the items from `start` up to `end` as the
   -- middle run
   module _ (b : Block T A) (a : A) (start end : ℕ) (t : IsThin b a) (order : start ≤ end)
       (within : end ≤ length (items_in b.slots)) where
-    -- `opened len` is the open block without a gap whose middle run is the items from `start` up to
-    -- `end`
+    -- `opened len` is the block b, opened: the items from `start` up to `end` are the middle run,
+    -- and there is no gap
     abbrev pub opened : ℕ → Inside T A
     opened len =
         record {
@@ -622,8 +626,8 @@ module _ {T A : Type 0} where
           len = h.len;
         }
 
-    -- what a contract sees of `filled`: the front ends with the new items, and the gap is shorter
-    -- by their number
+    -- What a contract sees of `filled`. The front ends with the new items, and the gap after the
+    -- front is shorter by the number of these items.
     abbrev pub filled-seen : Open T A
     filled-seen =
         let v : Open T A = open_of h in
@@ -682,8 +686,8 @@ module _ {T A : Type 0} where
         } in
         found filled filled-seen shows refl refl
 
-  -- in this module, the tail is moved up by `count` slots, and there are at least `count` empty
-  -- slots after it
+  -- in this module, the tail of h is moved up by `count` slots; before the move, at least `count`
+  -- empty slots follow the tail
   module _ (h : Inside T A) (o : IsOpen h) (b : Block T A) (count : ℕ)
       (room : h.len + count ≤ (open_of h).capacity) where
     -- the block after the tail was moved
@@ -697,7 +701,7 @@ module _ {T A : Type 0} where
       len = h.len + count;
     }
 
-    -- what a contract sees of `widened`: the gap before the tail has `count` more slots
+    -- what a contract sees of `widened`: the gap before the tail has `count` more slots than in h
     abbrev pub widened-seen : Open T A
     widened-seen =
         let v : Open T A = open_of h in
@@ -712,8 +716,8 @@ module _ {T A : Type 0} where
           cost = b.cost;
         }
 
-    -- the slots of h are the slots before the tail, the tail, `count` empty slots, and further
-    -- empty slots
+    -- the slots of h are, in order: the slots before the tail, the tail, `count` empty slots, and
+    -- further empty slots
     spare : h.block.slots ≡ to_tail (open_of h)
         ++ (full (open_of h).tail
         ++ (empty count ++ empty ((open_of h).capacity - reach (open_of h) - count)))

@@ -1,5 +1,5 @@
--- Lemmas about the number of items after slots were filled from an iterator, and about the slots of
--- a block while the items of a `Vec` are moved into them, from the last item to the first.
+-- Lemmas about the number of items that are put into slots from an iterator, and about a block
+-- while the items of a `Vec` are moved into its slots, the last item first.
 use Rattle.std.proofs.Common.{◌≡◌, ℕ, ◌+◌, ◌<◌, ◌≤◌, List, [], ◌∷◌, ◌++◌, length, take, drop, Option, Some, None, sym, ap, ◌∙◌, append_assoc, arith, get_or, length-append}
 use Rattle.std.proofs.lemmas.List.{append-nil, length-take-le, length_push, set_at, take_more}
 use lib.ListN.{set}
@@ -22,7 +22,7 @@ module _ {S X : Type 0} {steps : S → Option X → S → Type 0} {can : S → T
       go true full short = omega (arith, short refl)
       go false full short = omega (arith, full refl)
 
-  -- if m slots were filled from an iterator, and n equals m, then n slots were filled from it
+  -- if m equals n, and `IsFilledBy` holds for m slots, then it holds for n slots
   abbrev pub filled-room : {m n : ℕ} → m ≡ n → IsFilledBy steps can remaining m s f
       → IsFilledBy steps can remaining n s f
   filled-room same by = record {
@@ -35,7 +35,7 @@ module _ {S X : Type 0} {steps : S → Option X → S → Type 0} {can : S → T
   }
 
 module _ {T : Type 0} where
-  -- if the slots ys were written from the slot i + 1 on, writing y into the slot i is the same as
+  -- writing ys into a row from the slot i + 1 on, and then y into the slot i, is the same as
   -- writing y followed by ys from the slot i on
   laid-before : (i k : ℕ) (y : Option T) (ys s : List (Option T)) → k ≡ i + 1 → i < length s
       → set (laid k ys s) i y ≡ laid i (y ∷ ys) s
@@ -50,15 +50,16 @@ module _ {T : Type 0} where
       ∙ (set_at (take i s) (get_or s i None) (ys ++ rest) y i (length-take-le i s (omega arith))
       ∙ ap (λ (n : ℕ). take i s ++ (y ∷ (ys ++ drop n s))) past))
 
-  -- the items xs are being moved, from the last to the first, into the slots of the row r from
-  -- `start` on: `left` are the first items of xs, which have not been moved yet, and s is r with
-  -- the moved items in their slots
+  -- The items xs are being moved into the slots of the row r, from the slot `start` on, the last
+  -- item first. `left` are the first items of xs, which were not moved yet. The row s is r with the
+  -- moved items in their slots.
   pub record IsMoving (xs left : List T) (start : ℕ) (r s : List (Option T)) : Type 0 where
     pub rest : List T
     pub parts : xs ≡ left ++ rest
     pub row : s ≡ laid (start + length left) (full rest) r
 
-  -- before any item is moved, all items of xs are left to move, and the row s is unchanged
+  -- before any item is moved, `IsMoving` holds: all items of xs are left to move, and the row s is
+  -- unchanged
   pub moving-first : (xs : List T) (start : ℕ) (s : List (Option T)) → IsMoving xs xs start s s
   moving-first xs start s =
       record {
@@ -67,8 +68,8 @@ module _ {T : Type 0} where
         row = sym (laid-none (start + length xs) s);
       }
 
-  -- after v, the last of the items left to move, was moved into its slot i, the items `left` before
-  -- v are still left to move
+  -- If v is the last of the items left to move, and is moved into its slot i, then `IsMoving` holds
+  -- again, with the items `left` before v still left to move.
   pub moving-next : {xs : List T} (left : List T) {start : ℕ} (i : ℕ) (v : T)
       {r s : List (Option T)} → IsMoving xs (left ++ v ∷ []) start r s → i ≡ start + length left
       → start + length xs ≤ length r → IsMoving xs left start r (set s i (Some v))

@@ -15,7 +15,7 @@ use Rattle.thin_vec.specs.Open.{Open}
 use Rattle.thin_vec.specs.ThinVec.{Thin}
 use Rattle.thin_vec.specs.OpenBlock.Sift.{Advances, IsAskedAt, IsSifted, AskedUpTo, Sifts, Stops}
 
--- adding b moves to a cost, and then `a` moves, adds b + a moves
+-- adding b moves and then `a` moves to a cost is the same as adding b + a moves
 pub moving-more : (a b : ℕ) (c : Cost) → moving a (moving b c) ≡ moving (b + a) c
 moving-more a b c = let e : c.moves + b + a ≡ c.moves + (b + a) = omega arith in
     λ i. record { blocks = c.blocks; grown = c.grown; moves = e i }
@@ -32,17 +32,17 @@ moving-after gap k c some =
     ap (λ (b : Bool). if b then c else moving k c)
     (ne_eqb gap 0 (λ (e : gap ≡ 0). omega (arith, e)))
 
--- if there is no gap, k items stay in their slots, which costs no move
+-- if there is no gap, k items stay in their slots, and the cost does not change
 pub moving-before : (gap k : ℕ) (c : Cost) → (0 < gap → ⊥)
     → (if gap == 0 then c else moving k c) ≡ c
 moving-before zero k c none = refl
 moving-before (suc gap) k c none = absurd (none (omega arith))
 
--- if two equal lists both begin with an item, these items are equal
+-- if the lists `x ∷ xs` and `y ∷ ys` are equal, then their first items x and y are equal
 pub cons-head : {X : Type 0} {x y : X} {xs ys : List X} → x ∷ xs ≡ y ∷ ys → x ≡ y
 cons-head e = cc
 
--- if two equal lists both begin with an item, the rests after these items are equal
+-- if the lists `x ∷ xs` and `y ∷ ys` are equal, then xs and ys are equal
 pub cons-tail : {X : Type 0} {x y : X} {xs ys : List X} → x ∷ xs ≡ y ∷ ys → xs ≡ ys
 cons-tail e = ap (drop 1) e
 
@@ -62,15 +62,13 @@ none-left [] none = refl
 none-left (x ∷ xs) none = absurd (none (omega arith))
 
 module _ {T : Type 0} where
-  -- if the verdicts on two runs are joined, the items that stay are those of the first run,
-  -- followed by those of the second run
+  -- the verdicts `a ++ b` keep the items that a keeps, followed by the items that b keeps
   pub left_at-append : (a b : Verdicts T) → left_at true (a ++ b) ≡ left_at true a ++ left_at true b
   left_at-append [] b = refl
   left_at-append ((true, x) ∷ a) b = ap (λ (l : List T). x ∷ l) (left_at-append a b)
   left_at-append ((false, x) ∷ a) b = left_at-append a b
 
-  -- if the verdicts on two runs are joined, the number of items that stay is the sum of the numbers
-  -- for the two runs
+  -- the number of items that the verdicts `a ++ b` keep is the sum of the numbers for a and for b
   pub trues-append : (a b : Verdicts T) → trues (flags_of (a ++ b)) ≡ trues
       (flags_of a) + trues (flags_of b)
   trues-append [] b = omega arith
@@ -87,8 +85,8 @@ module _ {T : Type 0} where
   trues-stay [] = refl
   trues-stay (x ∷ xs) = ap suc (trues-stay xs)
 
-  -- if all items of xs stay, they do not move, and they do not change how many of the later items
-  -- move
+  -- if all items of xs are kept, none of them moves, so the number of items that move is the number
+  -- for the verdicts a on the later items
   pub moved_down-stay : (xs : List T) (a : Verdicts T) → moved_down (flags_of (stay xs ++ a))
       ≡ moved_down (flags_of a)
   moved_down-stay [] a = refl
@@ -98,8 +96,8 @@ module _ {S T : Type 0} (R : S → T → Bool → S → T → Type 0) where
   -- in this module, the items ys were tested, starting in the state t and ending in the state u,
   -- with the verdicts b
   module _ (t u : S) (ys : List T) (b : Verdicts T) (k : Asked R t ys b u) where
-    -- if the items xs were tested from the state s to the state t, and then other items from t on,
-    -- then xs followed by the other items were tested from s on
+    -- if the tests of the items xs led from the state s to the state t, and the tests of the items
+    -- ys led from t to u, then the tests of xs followed by ys led from s to u
     asked-append : (xs : List T) (s : S) (a : Verdicts T) → Asked R s xs a t
         → Asked R s (xs ++ ys) (a ++ b) u
     asked-append [] s a h = subst (λ (c : Verdicts T). Asked R s ys (c ++ b) u) (sym h.0)
@@ -114,14 +112,15 @@ module _ {S T : Type 0} (R : S → T → Bool → S → T → Type 0) where
       ap (λ (c : Verdicts T). c ++ b) h.6,
     )
 
-  -- if one item x was tested, then the list with the single item x was tested, with one verdict
+  -- if the item x was tested, `Asked` holds for the list with the single item x
   pub asked-one : (s t : S) (x y : T) (b : Bool) → R s x b t y → Asked R s (x ∷ []) ((b, y) ∷ []) t
   asked-one s t x y b h = (b, y, t, [], h, (refl, refl), refl)
 
   -- ---- runs of items that all stay
 
-  -- the items from k up to m were tested, starting in the state s, and each of them stays; t is the
-  -- state afterwards, and ys is xs with these items as the tests left them
+  -- Starting in the state s, the items of xs from index k up to m were tested, and all of them
+  -- stay. t is the state after the tests, and ys is xs with the tested items as the tests left
+  -- them.
   pub record Stays (k m : ℕ) (s : S) (xs : List T) (t : S) (ys : List T) : Type 0 where
     pub before : List T
     pub run : List T
@@ -133,8 +132,8 @@ module _ {S T : Type 0} (R : S → T → Bool → S → T → Type 0) where
     pub asked : Asked R s run (stay left) t
     pub now : ys ≡ before ++ (left ++ more)
 
-  -- before the first test, `Stays` holds from k up to k, and neither the state s nor the items xs
-  -- have changed
+  -- before any item is tested, `Stays` holds for the empty range from k up to k, with the state s
+  -- and the items xs unchanged
   pub stays-start : (k : ℕ) (s : S) (xs : List T) → k ≤ length xs → Stays k k s xs s xs
   stays-start k s xs low =
       record {
@@ -150,7 +149,7 @@ module _ {S T : Type 0} (R : S → T → Bool → S → T → Type 0) where
       }
 
   module _ (k m : ℕ) (s : S) (xs : List T) (t : S) (ys : List T) (h : Stays k m s xs t ys) where
-    -- the items before the next one to be tested, as the tests left them
+    -- the items before the next item to be tested, as the tests left them
     abbrev asked-part : List T
     asked-part = h.before ++ h.left
 
@@ -162,7 +161,8 @@ module _ {S T : Type 0} (R : S → T → Bool → S → T → Type 0) where
     parted : ys ≡ asked-part ++ h.more
     parted = h.now ∙ sym (append_assoc h.before h.left h.more)
 
-    -- if the item at m is tested next, it is the first of the items not yet tested
+    -- if the item at index m is tested next, the items before it are `asked-part`, and it is the
+    -- first of the items not yet tested
     next-parts : (b : Bool) (u : S) (zs : List T) (a : IsAskedAt R m t ys b u zs)
         → (a.before ≡ asked-part) × (h.more ≡ a.item ∷ a.after)
     next-parts b u zs a =
@@ -173,7 +173,7 @@ module _ {S T : Type 0} (R : S → T → Bool → S → T → Type 0) where
               ∙ (ap (drop m) e ∙ drop_at a.before (a.item ∷ a.after) m a.place),
         )
 
-    -- after the test of the item at m, only that item may have changed
+    -- the test of the item at index m changes no other item
     next-now : (b : Bool) (u : S) (zs : List T) (a : IsAskedAt R m t ys b u zs)
         → zs ≡ h.before ++ (h.left ++ a.left ∷ a.after)
     next-now b u zs a = a.now ∙ (ap (λ (l : List T). l ++ a.left ∷ a.after) (next-parts b u zs a).0
@@ -254,7 +254,7 @@ module _ {S T : Type 0} (R : S → T → Bool → S → T → Type 0) where
         length-append h.before (h.left ∷ h.after),
       )
 
-  -- if all tested items stay, as many items are left as were tested
+  -- if all tested items stay, the number of items does not change
   stay-count : (xs : List T) (s t : S) (ys : List T) → Asked R s xs (stay ys) t
       → length xs ≡ length ys
   stay-count [] s t [] h = refl
@@ -264,7 +264,7 @@ module _ {S T : Type 0} (R : S → T → Bool → S → T → Type 0) where
       ap suc (stay-count xs h.2 t ys
       (subst (λ (a : Verdicts T). Asked R h.2 xs a t) (sym (cons-tail h.6)) h.5))
 
-  -- the last test of a run does not change the number of items
+  -- the test that stops a run does not change the number of items
   stop-count : (u : S) (b : List T) (t : S) (e : List T) → Stops R u b t e → length e ≡ length b
   stop-count u [] t e h = ap length h.0
   stop-count u (x ∷ b) t e h = ap length h.2
@@ -296,8 +296,8 @@ module _ {S T : Type 0} (R : S → T → Bool → S → T → Type 0) where
   two-stay s xs t ys u zs a b = stays-more 0 1 s xs t ys (one-stays s xs t ys a) u zs b
 
   module _ (m n : ℕ) where
-    -- if the items before an index m were tested and all stay, and the tests from m on stopped at
-    -- an index n, then the tests from 0 on stopped at n
+    -- If all items before the index m were tested and stay, and the tests from m on stopped at the
+    -- index n, then the tests from 0 on stopped at n.
     pub runs-join : (s : S) (xs : List T) (t : S) (ys : List T) (u : S) (zs : List T)
         → Stays 0 m s xs t ys → AskedUpTo R m n t ys u zs → AskedUpTo R 0 n s xs u zs
     runs-join s xs t ys u zs h r =
@@ -331,11 +331,10 @@ module _ {S T : Type 0} (R : S → T → Bool → S → T → Type 0) where
               ∙ sym (append_assoc h.left r.left r.end));
         }
 
-  -- ---- the items that the tests of a run kept
+  -- ---- the items kept by the tests of a run
 
-  -- All items of xs except the last ones, `rest`, were tested, starting in the state s and ending
-  -- in the state t. `kept` are the tested items that stay, as the tests left them, and m is their
-  -- number.
+  -- Starting in the state s, the items of xs before `rest` were tested; t is the final state.
+  -- `kept` are the tested items that stay, as the tests left them, and m is their number.
   pub record Part (m : ℕ) (s : S) (xs : List T) (t : S) (kept rest : List T) : Type 0 where
     pub done : List T
     pub verdicts : Verdicts T
@@ -345,7 +344,7 @@ module _ {S T : Type 0} (R : S → T → Bool → S → T → Type 0) where
     pub count : trues (flags_of verdicts) ≡ m
 
   module _ (m : ℕ) (s : S) (xs : List T) (t : S) (ys : List T) (r : AskedUpTo R 0 m s xs t ys) where
-    -- the run begins at the first item
+    -- no item precedes the run, which begins at index 0
     run-none : r.before ≡ []
     run-none = nil_from_length r.before r.place
 
@@ -362,11 +361,11 @@ module _ {S T : Type 0} (R : S → T → Bool → S → T → Type 0) where
     pub run-was : xs ≡ r.run ++ r.after
     run-was = r.was ∙ ap (λ (l : List T). l ++ (r.run ++ r.after)) run-none
 
-    -- the first m items of ys are those of the run, as the tests left them
+    -- the first m items of ys are the items of the run, as the tests left them
     pub run-kept : take m ys ≡ r.left
     run-kept = ap (take m) run-now ∙ take_at r.left r.end m run-long
 
-    -- the items of ys from m on are those after the run
+    -- the items of ys from index m on are the items after the run
     pub run-end : drop m ys ≡ r.end
     run-end = ap (drop m) run-now ∙ drop_at r.left r.end m run-long
 
@@ -381,8 +380,8 @@ module _ {S T : Type 0} (R : S → T → Bool → S → T → Type 0) where
           subst (λ (y : T). R u x false t y) (cons-head same) h.1,
         )
 
-    -- if there is an item v after the run, the items of the run are kept, v is not, and the items
-    -- after v were not yet tested
+    -- If an item v follows the run, then the items of the run are kept, v is not kept, and the
+    -- items `rest` after v are not yet tested.
     pub part-goes : (v : T) (rest : List T) → drop m ys ≡ v ∷ rest → Part m s xs t (take m ys) rest
     part-goes v rest k =
         let g = stop-goes r.between r.after r.end v rest r.stops (sym run-end ∙ k) in
@@ -426,8 +425,8 @@ module _ {S T : Type 0} (R : S → T → Bool → S → T → Type 0) where
   -- ---- open blocks
 
   module _ {A : Type 0} (v w : Open T A) where
-    -- if a first part of the middle run of v was tested (`Part`), and the m items that stay were
-    -- moved to the front for one move each, v and w satisfy `Sifts`
+    -- If the first items of the middle run of v were tested (`Part`), and w is v with the m items
+    -- that stay moved to the front, for one move each, then v and w satisfy `Sifts`.
     pub sifts-of : (m : ℕ) (s t : S) (kept : List T) → Part m s v.rest t kept w.rest
         → 0 < w.gap → w ≡ record v {
           front = v.front ++ kept;
@@ -450,8 +449,9 @@ module _ {S T : Type 0} (R : S → T → Bool → S → T → Type 0) where
           });
         }
 
-  -- in this module, the items of the middle run of v were tested up to the first that does not
-  -- stay, or to the end, and there is a gap before the middle run
+  -- In this module, the open block v has a gap before its middle run. The items of the middle run
+  -- were tested, up to and including the first that does not stay, or to the end. w is the open
+  -- block after the tests.
   module _ {A : Type 0} (s t : S) (v w : Open T A) (gap : 0 < v.gap)
       (h : Advances R s v t w) where
     -- the tested items that stay, as the tests left them
@@ -462,8 +462,8 @@ module _ {S T : Type 0} (R : S → T → Bool → S → T → Type 0) where
     moved : w.cost ≡ moving h.count v.cost
     moved = ap (λ u. u.cost) h.now ∙ moving-after v.gap h.count v.cost gap
 
-    -- if z is w without the first item that does not stay, the open block before the tests and z
-    -- satisfy `Sifts`
+    -- if z is w without `value`, the tested item that does not stay, then v (the open block before
+    -- the tests) and z satisfy `Sifts`
     pub advanced-goes : (value : T) (z : Open T A) → w.rest ≡ value ∷ z.rest
         → z ≡ record w { rest = z.rest; gap = w.gap + 1 } → Sifts R s v t z
     advanced-goes value z rest same =
@@ -474,7 +474,8 @@ module _ {S T : Type 0} (R : S → T → Bool → S → T → Type 0) where
         (same ∙ (λ i. record (h.now i)
         { gap = sym (ap (λ u. u.gap) same) i; rest = z.rest; cost = moved i }))
 
-    -- if no item is left in the middle run of w, v and w satisfy `Sifts`, and no item was removed
+    -- if no item is left in the middle run of w, no item has to be removed, and v and w satisfy
+    -- `Sifts`
     pub advanced-ends : w.rest ≡ [] → Sifts R s v t w
     advanced-ends none =
         sifts-of v w h.count s t kept
@@ -535,14 +536,14 @@ module _ {S T : Type 0} (R : S → T → Bool → S → T → Type 0) where
 
   module _ {A : Type 0} (v w : Open T A) (m : ℕ) (s t : S) (ys : List T)
       (run : AskedUpTo R 0 m s v.rest t ys) where
-    -- The tested items that stay were appended to the front, which costs no move. Of the other
-    -- parts, only the gap and the middle run may have changed.
+    -- The open block w is the open block v with the tested items that stay appended to its front,
+    -- which costs no move. Only the gap and the middle run may also differ.
     abbrev Passed : Type 0
     Passed = w ≡ record v
         { front = v.front ++ take m ys; gap = w.gap; rest = w.rest }
 
-    -- if the item after the run is removed, and all items after it were then tested, the open block
-    -- before the tests and z satisfy `IsSifted`
+    -- If `value`, the item after the run, is removed, and the tests of all items after it led to
+    -- the open block z, then v (the open block before the tests) and z satisfy `IsSifted`.
     pub sifted-goes : (value : T) (u : S) (z : Open T A) → Passed → drop m ys ≡ value ∷ w.rest
         → Sifts R t w u z → z.rest ≡ [] → IsSifted R s v u z
     unfolding part-goes
@@ -579,7 +580,7 @@ module _ {S T : Type 0} (R : S → T → Bool → S → T → Type 0) where
               }));
         }
 
-    -- if no item is left after the run, v and w satisfy `IsSifted`: all items stay
+    -- if no item follows the run, all items stay, and v and w satisfy `IsSifted`
     pub sifted-ends : Passed → drop m ys ≡ [] → w.rest ≡ [] → IsSifted R s v t w
     unfolding part-ends
     sifted-ends p k none =
@@ -599,22 +600,23 @@ module _ {S T : Type 0} (R : S → T → Bool → S → T → Type 0) where
           });
         }
 
--- in this module, a test of the type J contains a closure, and returns what the closure returns;
--- `inside` gives the state of the closure
+-- In this module, a test contains a closure and returns what the closure returns. J is the type of
+-- the test's states, and `inside` maps a state of the test to the state of its closure.
 module _ {J S T : Type 0} (R : S → T → Bool → S → T → Type 0) (inside : J → S) where
-  -- the relation of the test: it is the relation of the closure, for the states of the closure
+  -- the relation of the test, which is the closure's relation R on the closure's states
   abbrev through : J → T → Bool → J → T → Type 0
   through s x b t y = R (inside s) x b (inside t) y
 
-  -- if the test tested the items xs, its closure tested them, with the same verdicts
+  -- if the test was called with the items xs, its closure was called with them too, with the same
+  -- verdicts
   pub asked-through : (xs : List T) (s t : J) (a : Verdicts T) → Asked through s xs a t
       → Asked R (inside s) xs a (inside t)
   asked-through [] s t a h = (h.0, ap inside h.1)
   asked-through (x ∷ xs) s t a h =
       (h.0, h.1, inside h.2, h.3, h.4, asked-through xs h.2 t h.3 h.5, h.6)
 
-  -- if the list v was reduced to w by the results of the test, it was reduced to w by the results
-  -- of the closure
+  -- if the verdicts of the test reduced the list v to w, then the verdicts of its closure reduced v
+  -- to w too
   pub retained-through : {A : Type 0} (s : J) (v w : Thin T A) (t : J)
       → IsRetainedTo through s v w t → IsRetained R (inside s) v w
   retained-through s v w t h = (
@@ -631,8 +633,9 @@ module _ {J S T : Type 0} (R : S → T → Bool → S → T → Type 0) (inside 
 
 -- in this module, R is the relation of a closure that only reads the item
 module _ {S T : Type 0} (R : S → T → Bool → S → Type 0) where
-  -- if a closure that only reads the items tested xs, there is one flag for each item, the closure
-  -- returned the flags in turn, and the items left are those of xs whose flag is true
+  -- If the items xs were tested by a closure that only reads them, then there is one flag for each
+  -- item, the closure returned the flags in turn, and the items that stay are the items of xs whose
+  -- flag is true.
   told : (xs : List T) (s t : S) (a : Verdicts T) → Asked (Looks R) s xs a t
       → (length (flags_of a) ≡ length xs) × ReturnsInTurn R s (flags_of a) xs t
       × (left_at true a ≡ items_where_true (flags_of a) xs)
@@ -648,16 +651,16 @@ module _ {S T : Type 0} (R : S → T → Bool → S → Type 0) where
       let left : y ≡ x = ap (λ (p : Bool × T). p.1) same ∙ h.4.1 in
       (ap suc rest.0, (h.2, answer, rest.1), first b y x a xs left rest.2)
     where
-      -- if the items left of xs are those whose flag is true, and the test left x unchanged, then
-      -- the items left of x followed by xs are those whose flag is true
+      -- If the items kept of xs are those whose flag is true, and the test left the item x
+      -- unchanged, then the items kept of x followed by xs are those whose flag is true.
       first : (b : Bool) (y x : T) (a : Verdicts T) (xs : List T) → y ≡ x
           → left_at true a ≡ items_where_true (flags_of a) xs
           → left_at true ((b, y) ∷ a) ≡ items_where_true (b ∷ flags_of a) (x ∷ xs)
       first true y x a xs e f = λ i. e i ∷ f i
       first false y x a xs e f = f
 
-  -- if `retain` with a closure that only reads the items reduced the list v to w, their items
-  -- satisfy std's `IsFiltered`, about which std's proofs have lemmas in `lemmas/Fn`
+  -- If `retain` with a closure that only reads the items reduced the list v to w, the items of v
+  -- and w satisfy std's `IsFiltered`. Std's proofs have lemmas about `IsFiltered` in `lemmas/Fn`.
   pub retained_filtered : {A : Type 0} (s : S) (v w : Thin T A) → IsRetained (Looks R) s v w
       → IsFiltered R s v.items w.items
   retained_filtered s v w h =
@@ -674,7 +677,7 @@ module _ {S T : Type 0} (R : S → T → Bool → S → Type 0) where
       (retained_filtered s v w h)
 
 module _ {S T : Type 0} (R : S → T → Bool → S → T → Type 0) where
-  -- at most as many items stay as were tested
+  -- the number of items that stay is at most the number of items tested
   pub few-left : (xs : List T) (s t : S) (a : Verdicts T) → Asked R s xs a t
       → length (left_at true a) ≤ length xs
   few-left [] s t a h =
@@ -684,14 +687,14 @@ module _ {S T : Type 0} (R : S → T → Bool → S → T → Type 0) where
       subst (λ (b : Verdicts T). length (left_at true b) ≤ suc (length xs)) (sym h.6)
       (one h.0 h.1 h.3 xs rest)
     where
-      -- one more verdict adds at most one item to those that stay
+      -- one more verdict adds at most one item to the items that stay
       one : (b : Bool) (y : T) (a : Verdicts T) (xs : List T)
           → length (left_at true a) ≤ length xs
           → length (left_at true ((b, y) ∷ a)) ≤ suc (length xs)
       one true y a xs few = omega (arith, few)
       one false y a xs few = omega (arith, few)
 
-  -- after `retain`, the list has at most as many items as before
+  -- `retain` does not increase the number of items
   pub few-retained : {A : Type 0} (s : S) (v w : Thin T A) → IsRetained R s v w
       → length w.items ≤ length v.items
   few-retained s v w h =

@@ -11,8 +11,8 @@ pub refill_all : {T : Type 0} (xs ws : List T) → length ws ≡ length xs
 refill_all xs ws same =
     ap (λ n. take n (ws ++ drop (length ws) xs)) (sym same) ∙ take-append_seam ws _
 
--- if ws is as long as the list v, then v with ws written over its items has the items ws
--- (std: `with_items_is`)
+-- if ws is as long as the list v, writing ws over the items of v leaves exactly the items ws (std:
+-- `with_items_is`)
 pub with_items_is : {T A : Type 0} (v : Thin T A) (ws : List T) → length ws ≡ length v.items
     → (with_items v ws).items ≡ ws
 with_items_is v ws same = refill_all v.items ws same

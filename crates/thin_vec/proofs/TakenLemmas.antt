@@ -13,8 +13,8 @@ module _ {T A : Type 0} where
   taken_front s [] t y = ap (λ v. v.items) y
   taken_front s (x ∷ xs) t y = y.1 ∙ ap (λ ys. x ∷ ys) (taken_front y.0 xs t y.2)
 
-  -- if calls of `next` have yielded xs and then `None`, xs are the items that remained before
-  -- (std: `All-taken`)
+  -- if calls of `next` have yielded xs and then returned `None`, xs are the items that remained
+  -- before these calls (std: `All-taken`)
   pub all_taken : (s : Thin T A) (xs : List T) → Drains (YieldsFirst rest) s xs → xs ≡ s.items
   all_taken s xs d = sym (taken_front s xs d.1.0 d.1.1
       ∙ (ap (λ ys. xs ++ ys) d.1.2.0 ∙ append-nil xs))

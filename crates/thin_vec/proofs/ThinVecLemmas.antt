@@ -26,14 +26,15 @@ module _ {T A : Type 0} (R : RattleType) (b : Block T A) (a : A) where
       in
       subst (IsWithin R) is here
 
-  -- a list is within bounds after a step that made its capacity c, if a block of this capacity is
-  -- small enough to be allocated
+  -- if the capacity of a list is c after a step, and a block of this capacity is small enough to be
+  -- allocated, then the list is within bounds
   pub within-settled : (xs : List T) (c : ℕ) → Fits R c → Settled b a xs c
       → IsWithin R (thin_of b a)
   within-settled xs c fits after =
       within-of (thin_of b a) after.thin refl (subst (Fits R) (sym after.cap) fits)
 
-  -- a list that was within bounds is within bounds after a step that kept its capacity
+  -- if a list is within bounds, it is still within bounds after a step that does not change its
+  -- capacity
   pub within-stays : (b' : Block T A) (v : Thin T A) (xs : List T) → IsWithin R v → thin_of b a ≡ v
       → Settled b' a xs (length b.slots) → IsWithin R (thin_of b' a)
   within-stays b' v xs kept is after = record {
@@ -65,8 +66,8 @@ module _ {T A : Type 0} (R : RattleType) (w : Thin T A) where
     fits = subst (Fits R) (sym nothing) (fits-none R);
   }
 
-  -- if v is within bounds, a list w of the same capacity is within bounds too, if w has at most as
-  -- many items as this capacity
+  -- If v is within bounds, the list w has the same capacity, and the length of w is at most this
+  -- capacity, then w is within bounds.
   pub within-like : (v : Thin T A) → IsWithin R v → w.capacity ≡ v.capacity
       → length w.items ≤ v.capacity → IsWithin R w
   within-like v kept same room =
@@ -78,7 +79,7 @@ module _ {T A : Type 0} (R : RattleType) (w : Thin T A) where
 
 -- in this module, the capacity of the list v becomes c
 module _ {T A : Type 0} (v : Thin T A) (c : ℕ) where
-  -- the cost does not change if the capacity does not
+  -- if the capacity does not change, the cost does not change
   pub cost_at-same : c ≡ v.capacity → cost_at v c ≡ v.cost
   cost_at-same e = let t : eqb c v.capacity ≡ true = grind (arith, nat_tests) in rw t refl
 
@@ -97,8 +98,8 @@ module _ {T A : Type 0} (v : Thin T A) (c : ℕ) where
 -- the rules that compute the cost of a growth, for callers that know the capacities
 pub ruleset costs = (cost_at-same, cost_at-more)
 
--- a cost that was cheap for the capacity c is cheap for c' after at most c items were copied into a
--- new block, if c' is larger than c and at least 2 * c
+-- If a cost is cheap for the capacity c, and n ≤ c items are copied into a new block whose capacity
+-- c' is greater than c and at least 2 * c, then the new cost is cheap for c'.
 cheap-growing : {c : ℕ} {k : Cost} (n c' : ℕ) → IsCheapAt c k → n ≤ c → c < c' → 2 * c ≤ c'
     → IsCheapAt c' (growing n k)
 cheap-growing {c = zero} {k} n c' h le larger doubled =
@@ -146,7 +147,8 @@ module _ {T A : Type 0} (rule : Rule) (R : RattleType) (law : KeepsLaw rule)
       let g = cap-grown more e in
       cost_at-more v c (omega (arith, g.0))
 
-  -- a change to the ruled capacity copies at most as many items as the capacity grows by
+  -- the number of items that a change to the ruled capacity copies is at most the number of slots
+  -- added
   pub cost_at-copied : length v.items ≤ v.capacity → capacity_for rule R v k ≡ Some c
       → (cost_at v c).grown + v.capacity ≤ v.cost.grown + c
   cost_at-copied room e =

@@ -3,7 +3,7 @@ use Rattle.std.proofs.Common.{◌≡◌, ℕ, zero, suc, ◌≤◌, List, [], �
 use Rattle.std.specs.Prelude.{Some, insert, remove, slice_get}
 
 module _ {T : Type 0} where
-  -- removing the item that was inserted at i restores the items
+  -- inserting an item at index i and then removing it leaves the list xs unchanged
   pub remove-insert : (xs : List T) (i : ℕ) (x : T) → i ≤ length xs → remove (insert xs i x) i ≡ xs
   remove-insert [] zero x h = refl
   remove-insert (y ∷ xs) zero x h = refl

@@ -1,2 +1,3 @@
--- The lemma modules of `src/convert/`. (Rattle makes this module, so no line of Lib.antt names it.)
+-- The lemma modules about `src/convert/`. Rattle adds this module by itself, so Lib.antt has no
+-- line for it.
 pub mod IntoIterLemmas

@@ -1,4 +1,5 @@
--- The lemma modules of `src/edits/`. (Rattle makes this module, so no line of Lib.antt names it.)
+-- The lemma modules about `src/edits/`. Rattle adds this module by itself, so Lib.antt has no line
+-- for it.
 pub mod DedupLemmas
 pub mod DrainLemmas
 pub mod ExtractIfLemmas

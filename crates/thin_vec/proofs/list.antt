@@ -1,4 +1,5 @@
--- The lemma modules of `src/list/`. (Rattle makes this module, so no line of Lib.antt names it.)
+-- The lemma modules about `src/list/`. Rattle adds this module by itself, so Lib.antt has no line
+-- for it.
 pub mod AppendSplitLemmas
 pub mod CapacityLemmas
 pub mod ClonesLemmas

@@ -1,4 +1,4 @@
--- The lemma modules of `src/open_block/`. (Rattle makes this module, so no line of Lib.antt names
--- it.)
+-- The lemma modules about `src/open_block/`. Rattle adds this module by itself, so Lib.antt has no
+-- line for it.
 pub mod DedupLemmas
 pub mod SiftLemmas

@@ -1,4 +1,4 @@
--- The definitions that the contracts of the files of `src/edits` use.
+-- The definitions for the calls in `src/edits/`.
 pub mod Dedup
 pub mod Drain
 pub mod ExtractIf

@@ -11,12 +11,12 @@ use Rattle.thin_vec.specs.contracts.convert.into_iter.IntoIter.{the_row as itera
 use Rattle.thin_vec.specs.contracts.list.ThinVec.{the_row}
 
 module _ {T A : Type 0} where
-  -- The list v, with ws written over its first items. The length does not change: items of ws
-  -- beyond it are ignored.
+  -- The list v with ws written over its first items. The length does not change: items of ws beyond
+  -- the length of v are ignored.
   abbrev pub with_items : Thin T A → List T → Thin T A
   with_items v ws = record v { items = refill (length v.items) v.items ws }
 
-  -- the list v, with w in place of the item at index i
+  -- the list v with w in the place of the item at index i
   abbrev pub with_item : Thin T A → ℕ → T → Thin T A
   with_item v i w = record v { items = slice_set v.items i w }
 
@@ -43,7 +43,7 @@ module _ (T A G : RattleType) (a : AllocatorGhosts A.Denot) (g : GrowthGhosts G.
   LendsIter it = follows (the_row T A G a g) (Array T 0) v.ghost_name
       (iter_mut_name it) (with_items v.now)
 
-  -- v is a borrowed iterator that was made from a list, and the reference r borrows the items that
-  -- v has not yielded yet: when the borrow ends, the iterator v contains what was written through r
+  -- The reference r borrows the items that v, an iterator made from a list, has not yielded yet.
+  -- When the borrow ends, the iterator v contains what was written through r.
   abbrev pub LendsRest : MutBor (List T.Denot) → Fml
   LendsRest r = Lends (iterator_row T A G a g) (Array T 0) v r (with_items v.now)

@@ -1,4 +1,4 @@
--- The definitions that the contracts of `thin_vec` use, including those of `thin_block`.
+-- The definitions that the contracts of `thin_vec` use. Some of them are in `thin_block`.
 pub mod ThinVec
 pub mod Cheap
 pub mod List

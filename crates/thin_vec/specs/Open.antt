@@ -72,13 +72,13 @@ module _ {T A : Type 0} where
   abbrev pub items_of : Open T A → List T
   items_of v = v.front ++ (v.rest ++ v.tail)
 
-  -- The cost of the open block `v` after its gap was closed. If the gap has a slot, each item of
-  -- the middle run and of the tail moves once for this.
+  -- The cost of the open block `v` after its gap was closed. If the gap has at least one slot,
+  -- closing it moves each item of the middle run and of the tail once.
   abbrev pub cost_closed : Open T A → Cost
   cost_closed v = if v.gap == 0 then v.cost else moving (length v.rest + length v.tail) v.cost
 
   -- The cost of the open block `v` after the items of its middle run were removed, and its tail was
-  -- moved down to the front. If there is a slot between the front and the tail, each item of the
-  -- tail moves once for this.
+  -- moved down to the front. If there is at least one slot between the front and the tail, each
+  -- item of the tail was moved once.
   abbrev pub cost_drained : Open T A → Cost
   cost_drained v = if range_len v == 0 then v.cost else moving (length v.tail) v.cost

@@ -21,8 +21,8 @@ module _ {T A : Type 0} where
         cost = h.block.cost;
       }
 
-  -- The slots of `h` are those of `v`. The indices in `h` say where the parts of `v` begin and end.
-  -- The tail ends within the slots.
+  -- The slots of `h` hold the parts of `v` in order, and the indices in `h` say where each part
+  -- begins and ends. The tail of `v` ends within the slots.
   pub record Shows (h : Inside T A) (v : Open T A) : Type 0 where
     pub row : h.block.slots ≡ row_of v
     pub front : length v.front ≡ h.front_end

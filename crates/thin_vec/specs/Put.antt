@@ -14,12 +14,13 @@ Gives steps s xs false t = Yields steps s xs t
 -- iterator ended. f has what is left of the iterator.
 pub record IsFilledBy {S X : Type 0} (steps : S → Option X → S → Type 0) (can : S → Type 0)
     (remaining : S → Count) (room : ℕ) (s : S) (f : Filled S) : Type 0 where
-  -- the items that were placed, in order: they are those that the iterator yielded
+  -- the items that were placed: the iterator yielded them in this order
   pub items : List X
   pub gave : Gives steps s items f.ended f.rest
   -- the iterator has ended if and only if one of the slots is still empty
   pub full : f.ended ≡ false → length items ≡ room
   pub short : f.ended ≡ true → length items < room
-  -- if the iterator has not ended, `next` may be called again, and fewer items are left to yield
+  -- If the iterator has not ended, `next` may be called again, and the bound on the items that the
+  -- iterator may still yield has decreased by at least the number of items placed.
   pub asked : f.ended ≡ false → can f.rest × IsFinite (remaining f.rest)
   pub nearer : f.ended ≡ false → length items + size (remaining f.rest) ≤ size (remaining s)

@@ -17,7 +17,7 @@ head_of [] = 0
 head_of (true ∷ bs) = 1
 head_of (false ∷ bs) = 2
 
--- the flags without the first
+-- the list of flags without its first flag
 abbrev tail_of : List Bool → List Bool
 tail_of [] = []
 tail_of (b ∷ bs) = bs
@@ -28,15 +28,15 @@ none_shape : (X : Type 0) (m : ℕ) → map is_some (let none : List (Option X) 
 none_shape X zero = refl
 none_shape X (suc m) = ap (λ l. false ∷ l) (none_shape X m)
 
--- the flags of the items ys, followed by m empty slots, are `shape n m`, where n is the length of
--- ys
+-- slots that hold the items ys, followed by m empty slots, have the flags `shape n m`, if n is the
+-- length of ys
 front_shape : {X : Type 0} (ys : List X) (m : ℕ)
     → map is_some (full ys ++ empty m) ≡ shape (length ys) m
 front_shape {X} [] m = none_shape X m
 front_shape (y ∷ ys) m = ap (λ l. true ∷ l) (front_shape ys m)
 
--- if s consists of its items followed by m empty slots, its flags are `shape n m`, where n is the
--- number of its items
+-- if s consists of its items followed by m empty slots, and n is the number of its items, then the
+-- flags of s are `shape n m`
 pub to_shape : {X : Type 0} (s : List (Option X)) (m : ℕ) → s ≡ full (items_in s) ++ empty m
     → map is_some s ≡ shape (length (items_in s)) m
 to_shape s m e = ap (map is_some) e ∙ front_shape (items_in s) m
@@ -51,16 +51,17 @@ all_none (x ∷ s) zero e = let n = ap length e in absurd (omega (arith, n))
 all_none (Some x ∷ s) (suc m) e = let n : 1 ≡ 2 = ap head_of e in absurd (omega (arith, n))
 all_none (None ∷ s) (suc m) e = ap (λ l. None ∷ l) (all_none s m (ap tail_of e))
 
--- if the flags of an empty slot followed by s are `shape n m`, where n is the length of ys, then
--- this row consists of ys followed by m empty slots (n is then 0)
+-- A row of slots begins with an empty slot and continues with s. If its flags are the flags of the
+-- items ys followed by m empty slots, then the row consists of ys followed by m empty slots. (So ys
+-- is empty.)
 none_first : {X : Type 0} (s : List (Option X)) (ys : List X) (m : ℕ)
     → false ∷ map is_some s ≡ shape (length ys) m → None ∷ s ≡ full ys ++ empty m
 unfolding head_of
 none_first s [] m e = all_none (None ∷ s) m e
 none_first s (y ∷ ys) m e = let n : 2 ≡ 1 = ap head_of e in absurd (omega (arith, n))
 
--- if the flags of s are `shape n m`, where n is the number of its items, then s consists of its
--- items followed by m empty slots
+-- if s has n items, and its flags are `shape n m`, then s consists of its items followed by m empty
+-- slots
 pub from_shape : {X : Type 0} (s : List (Option X)) (m : ℕ)
     → map is_some s ≡ shape (length (items_in s)) m → s ≡ full (items_in s) ++ empty m
 unfolding head_of

@@ -59,17 +59,17 @@ module _ {T A : Type 0} where
     pub small : v.capacity < 2 ^ 63
     pub fits : Fits R v.capacity
 
-  -- the list v has room for k more items, without growing
+  -- the list v has room for k more items without growing
   abbrev pub HasRoomFor : Thin T A → ℕ → Type 0
   HasRoomFor v k = length v.items + k ≤ v.capacity
 
-  -- the capacity that v, a list of items of R, gets by `rule` if it needs room for k more items. It
-  -- is None if this capacity overflows.
+  -- The capacity that v, a list of items of R, gets by `rule` if it needs room for k more items. It
+  -- is `None` if this capacity is too large.
   abbrev pub capacity_for : Rule → RattleType → Thin T A → ℕ → Option ℕ
   capacity_for rule R v k = ruled_capacity rule R v.capacity (length v.items + k)
 
-  -- the capacity that v, a list of items of R, gets if it needs room for exactly k more items. It
-  -- is None if a block of this capacity is too large to be allocated.
+  -- The capacity that v, a list of items of R, gets if it needs room for exactly k more items. It
+  -- is `None` if a block of this capacity is too large to be allocated.
   abbrev pub exact_for : RattleType → Thin T A → ℕ → Option ℕ
   exact_for R v k = exact_capacity R v.capacity (length v.items + k)
 
@@ -78,9 +78,9 @@ module _ {T A : Type 0} where
   abbrev pub cost_at : Thin T A → ℕ → Cost
   cost_at v c = if c == v.capacity then v.cost else growing (length v.items) v.cost
 
-  -- The cost of the list v after its capacity shrank to c. If c differs from the old capacity, the
-  -- cost includes one more block, into which all items were copied; but if c is 0, the block is
-  -- freed, and the cost becomes 0.
+  -- The cost of the list v after its capacity shrank to c. If c is the old capacity, the cost does
+  -- not change. Otherwise, if c is 0, the block is freed, and the cost becomes 0; if c is not 0,
+  -- the cost includes one more block, into which all items were copied.
   abbrev pub cost_shrunk_to : Thin T A → ℕ → Cost
   cost_shrunk_to v c = if c == v.capacity then v.cost else
       (if c == 0 then no_cost else growing (length v.items) v.cost)
@@ -89,8 +89,8 @@ module _ {T A : Type 0} where
   abbrev pub cost_shrunk : Thin T A → Cost
   cost_shrunk v = cost_shrunk_to v (length v.items)
 
--- the error `cause` is `CapacityOverflow` only if there is no capacity to allocate, that is, if
--- `named` is None
+-- `named` is the capacity that a call needs, or `None` if it is too large. The error `cause` is
+-- `CapacityOverflow` only if `named` is `None`.
 abbrev pub IsCause : Option ℕ → ThinVecError → Type 0
 IsCause named cause = cause ≡ CapacityOverflow → named ≡ None
 

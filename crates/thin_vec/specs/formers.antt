@@ -1,3 +1,4 @@
--- Formers: how a type may contain values of a type that contains it. There is one file for each
--- source file that declares such a type.
+-- Formers: the former of a type tells the prover why a type may contain itself inside this type, as
+-- a tree contains a list of trees. There is one file for each source file that declares a type with
+-- a former.
 pub mod list

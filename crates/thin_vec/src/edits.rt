@@ -1,5 +1,6 @@
 //! The methods that work on an open block, and the edits `Drain`, `ExtractIf` and `Splice`. An edit
-//! keeps the block open until it ends. Methods such as `retain` close the block before they return.
+//! keeps the block open until the edit ends. Methods such as `retain` close the block before they
+//! return.
 
 mod dedup;
 mod drain;

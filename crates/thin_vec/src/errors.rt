@@ -11,7 +11,8 @@ use std::io::ErrorKind;
 use std::{fmt, io};
 use thin_block::ThinVecError;
 
-/// The error of a call that takes one argument by value and returns it on failure, such as `push`.
+/// The error of a call, such as `push`, that takes one argument by value. On failure, such a call
+/// returns the argument in this error.
 #[derive(Drop)]
 pub struct Rejected<S> {
     /// The argument, unchanged. The caller owns it again.
@@ -25,8 +26,8 @@ pub struct Rejected<S> {
 pub struct ExtendRefused<T, I> {
     /// Says why the call failed.
     pub cause: ThinVecError,
-    /// The item that was taken from the iterator and for which there was no room. It is `None` if
-    /// the list could not get room for the size hint: then no item was taken.
+    /// The item that was taken from the iterator but for which the list had no room. It is `None`
+    /// if the room for the size hint could not be reserved: in that case, no item was taken.
     pub in_hand: Option<T>,
     /// The iterator, which yields the items that were not taken from it.
     pub rest: I,
@@ -35,12 +36,13 @@ pub struct ExtendRefused<T, I> {
 /// The error of `from_iter`. It holds every item that was taken from the iterator.
 #[derive(Drop)]
 pub struct CollectRefused<T, I, A: Allocator = Global> {
-    /// The list, which has the items that were placed and the allocator that was passed.
+    /// The list. It has the items that were placed, and the allocator that was passed to
+    /// `from_iter`.
     pub list: ThinVec<T, A>,
     /// Says why the call failed.
     pub cause: ThinVecError,
-    /// The item that was taken from the iterator and for which there was no room. It is `None` if
-    /// the list could not get room for the size hint: then no item was taken.
+    /// The item that was taken from the iterator but for which the list had no room. It is `None`
+    /// if the room for the size hint could not be reserved: in that case, no item was taken.
     pub in_hand: Option<T>,
     /// The iterator, which yields the items that were not taken from it.
     pub rest: I,
@@ -52,16 +54,16 @@ pub struct CollectRefused<T, I, A: Allocator = Global> {
 pub struct SpliceRefused<T, I, A: Allocator = Global> {
     /// Says why the call failed.
     pub cause: ThinVecError,
-    /// The items that were taken from the iterator after the placed ones, and that are not in the
-    /// list. The vector has the allocator that was passed to `finish`.
+    /// The items that were taken from the iterator after those that were placed in the list. The
+    /// vector has the allocator that was passed to `finish`.
     pub held: Vec<T, A>,
-    /// The item that was taken from the iterator after the ones in `held`, and for which there was
+    /// The item that was taken from the iterator after the items in `held`, and for which there was
     /// no room. It is `None` if the list could not get room for the size hint, or for the items in
     /// `held`.
     pub in_hand: Option<T>,
     /// The iterator, which yields the items that were not taken from it. If `held` is not empty and
-    /// `in_hand` is `None`, the iterator has returned `None`, and must not be asked again.
-    /// Otherwise, it may be asked again.
+    /// `in_hand` is `None`, the iterator has returned `None`, and `next` must not be called on it
+    /// again. In all other cases, `next` may be called.
     pub rest: I,
 }
 
@@ -135,8 +137,8 @@ impl<T: Drop, I: Drop, A: Allocator> From<SpliceRefused<T, I, A>> for AllocError
 impl<S: Drop> From<Rejected<S>> for io::Error {
     ghost from_gives = { λ _ error. error_kind error ≡ Kind.OutOfMemory };
 
-    // Drops the value. The kind is `OutOfMemory` for both causes, because std has no `ErrorKind`
-    // for an overflow.
+    // Drops the value. The kind of the error is `OutOfMemory` even if the cause was
+    // `CapacityOverflow`, because std has no `ErrorKind` for an overflow.
     fn from(_refused: Rejected<S>) -> io::Error {
         io::Error::from(ErrorKind::OutOfMemory)
     }
@@ -145,7 +147,8 @@ impl<S: Drop> From<Rejected<S>> for io::Error {
 impl<T: Drop, I: Drop> From<ExtendRefused<T, I>> for io::Error {
     ghost from_gives = { λ _ error. error_kind error ≡ Kind.OutOfMemory };
 
-    // Drops the item in hand and the iterator. The kind is `OutOfMemory` for both causes.
+    // Drops the item in hand and the iterator. The kind of the error is `OutOfMemory`, whatever the
+    // cause was.
     fn from(_refused: ExtendRefused<T, I>) -> io::Error {
         io::Error::from(ErrorKind::OutOfMemory)
     }
@@ -154,7 +157,8 @@ impl<T: Drop, I: Drop> From<ExtendRefused<T, I>> for io::Error {
 impl<T: Drop, I: Drop, A: Allocator> From<CollectRefused<T, I, A>> for io::Error {
     ghost from_gives = { λ _ error. error_kind error ≡ Kind.OutOfMemory };
 
-    // Drops the list, the item in hand and the iterator. The kind is `OutOfMemory` for both causes.
+    // Drops the list, the item in hand and the iterator. The kind of the error is `OutOfMemory`,
+    // whatever the cause was.
     fn from(_refused: CollectRefused<T, I, A>) -> io::Error {
         io::Error::from(ErrorKind::OutOfMemory)
     }
@@ -163,15 +167,15 @@ impl<T: Drop, I: Drop, A: Allocator> From<CollectRefused<T, I, A>> for io::Error
 impl<T: Drop, I: Drop, A: Allocator> From<SpliceRefused<T, I, A>> for io::Error {
     ghost from_gives = { λ _ error. error_kind error ≡ Kind.OutOfMemory };
 
-    // Drops the held items, the item in hand and the iterator. The kind is `OutOfMemory` for both
-    // causes.
+    // Drops the held items, the item in hand and the iterator. The kind of the error is
+    // `OutOfMemory`, whatever the cause was.
     fn from(_refused: SpliceRefused<T, I, A>) -> io::Error {
         io::Error::from(ErrorKind::OutOfMemory)
     }
 }
 
-// The texts name only the cause. So the values that an error holds need not implement `Debug` or
-// `Display`.
+// Of the fields of an error, `Debug` and `Display` print only the cause. So the other fields need
+// not implement these traits.
 impl<S> fmt::Debug for Rejected<S> {
     fn fmt<W: fmt::Write>(&self, f: &mut fmt::Formatter<W>) -> fmt::Result {
         f.debug_struct("Rejected")

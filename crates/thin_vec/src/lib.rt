@@ -1,5 +1,5 @@
 //! A growable list that is one pointer wide: its length and its capacity are stored in its
-//! allocation, before the items. Its methods have the names that they have in Rust's `Vec`.
+//! allocation, before the items. Its methods have the same names as in Rust's `Vec`.
 //!
 //! The list is a port of the Rust crate thin-vec. If that crate lacks a method of this list, the
 //! comment of the method says so.

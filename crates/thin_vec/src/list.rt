@@ -55,8 +55,8 @@ impl<T, A: Allocator, G: Growth> Model for ThinVec<T, A, G> {
 impl<T, A: Allocator> ThinVec<T, A> {
     ghost use Rattle.thin_vec.specs.ThinVec.{IsNew, IsWithin};
 
-    /// Returns an empty list of capacity 0, which keeps `alloc`. It allocates nothing. The growth
-    /// rule of the list is `Doubling`.
+    /// Returns an empty list of capacity 0, which keeps `alloc`. The call allocates nothing. The
+    /// growth rule of the list is `Doubling`.
     pub fn new(alloc: A) -> ThinVec<T, A>
         ensures new { IsNew result alloc }
         ensures within { IsWithin T.row result }
@@ -64,8 +64,9 @@ impl<T, A: Allocator> ThinVec<T, A> {
         ThinVec::ruled(alloc)
     }
 
-    /// Returns an empty list of capacity 0, which keeps `alloc`. It allocates nothing, and does the
-    /// same as `new`. It replaces the trait `Default`, whose method takes no allocator.
+    /// Does the same as `new`: returns an empty list of capacity 0, which keeps `alloc`, and
+    /// allocates nothing. This method replaces the trait `Default`, whose method takes no
+    /// allocator.
     pub fn default_in(alloc: A) -> ThinVec<T, A>
         ensures new { IsNew result alloc }
         ensures within { IsWithin T.row result }
@@ -80,7 +81,7 @@ impl<T, A: Allocator, G: Growth> ThinVec<T, A, G> {
     ghost use Rattle.thin_vec.specs.Lends.{LendsItems};
     ghost use Rattle.thin_vec.specs.ThinVec.{HasRoomFor, IsNew, IsWithin};
 
-    /// Returns an empty list of capacity 0 with the growth rule `G`, which keeps `alloc`. It
+    /// Returns an empty list of capacity 0 with the growth rule `G`, which keeps `alloc`. The call
     /// allocates nothing.
     ///
     /// This method is our own: the Rust crate thin-vec has a single growth rule.
@@ -122,8 +123,7 @@ impl<T, A: Allocator, G: Growth> ThinVec<T, A, G> {
         self.len() == 0
     }
 
-    /// Returns the number of items for which the block has room, including the items that the list
-    /// has.
+    /// Returns the number of items that the list can hold without growing.
     pub fn capacity(&self) -> usize
         ensures value { result ≡ self.now.capacity }
         ensures within { IsWithin T.row self.now }
@@ -131,7 +131,7 @@ impl<T, A: Allocator, G: Growth> ThinVec<T, A, G> {
         self.block.cap()
     }
 
-    /// Returns whether the list has a block, which it has if and only if its capacity is not 0.
+    /// Returns whether the list has a block, that is, whether its capacity is not 0.
     pub fn has_capacity(&self) -> bool
         ensures value { IsTrue result ↔ (0 < self.now.capacity) }
         ensures within { IsWithin T.row self.now }
@@ -162,7 +162,8 @@ impl<T, A: Allocator, G: Growth> ThinVec<T, A, G> {
         ensures err { OnErr result (self.new ≡ self.old) }
         ensures value_returned { IfErr result (λ error. error.value ≡ value) }
 
-        // In any case. The capacity and the cause of a failure are as for `reserve(1)`.
+        // In any case. The new capacity and the cause of a failure are those of a call of
+        // `reserve(1)`.
         ensures reserves { Reserves G.rule T.row 1 self.old self.new (causes result) }
         ensures keeps { Keeps T.row self.old self.new }
     {
@@ -194,7 +195,7 @@ impl<T, A: Allocator, G: Growth> ThinVec<T, A, G> {
     }
 
     /// Appends `value`, which the list then owns, without growing. The list must have room for one
-    /// more item, as it has after `reserve(1)`. So the call cannot fail, and returns no `Result`.
+    /// more item; `reserve(1)` makes such room. So the call cannot fail, and returns no `Result`.
     ///
     /// Rattle's `Vec` has a method of this name, and the Rust crate thin-vec has none.
     pub fn push_reserved(&mut self, value: T)
@@ -268,8 +269,8 @@ impl<T, A: Allocator, G: Growth> ThinVec<T, A, G> {
 }
 
 impl<T: Drop, A: Allocator, G: Growth> Drop for ThinVec<T, A, G> {
-    // Drops each item, and then frees the block. It does not update the stored length, because the
-    // block is freed anyway. A list without a block is dropped without a call.
+    // Drops each item, and then frees the block. The stored length is not updated, because the
+    // block is freed anyway. If the list has no block, `drop_block` is not called.
     #[inline(always)]
     fn drop(self) {
         let (block, alloc) = self.into_parts();

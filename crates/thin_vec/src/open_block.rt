@@ -35,8 +35,8 @@ use thin_block::{Block, Growth};
 /// - The *front* has the items before the range, and the items that were kept or inserted so far.
 ///   They do not move again while the block is open.
 /// - The *gap* has the empty slots between the front and the middle run.
-/// - The *middle run* has the items of the range that were not yet yielded or tested. In names of
-///   fields and in contracts, it is called `rest`.
+/// - The *middle run* has the items of the range not yet yielded or tested. In names of fields and
+///   in contracts, it is called `rest`.
 /// - `gap_after` has the empty slots between the middle run and the tail. There are such slots only
 ///   after items were removed from the end of the middle run, or the tail was moved up.
 /// - The *tail* has the items after the range.
@@ -76,8 +76,8 @@ impl<T, A: Allocator> Model for OpenBlock<T, A> {
 }
 
 impl<T, A: Allocator, G: Growth> ThinVec<T, A, G> {
-    // Takes the block out of the list, with the items from `start` up to `end` as the middle run.
-    // The list is left empty, without a block.
+    // Takes the block out of the list. The items from index `start` up to, but not including, `end`
+    // become the middle run. The list is left empty, without a block.
     pub(crate) fn open(&mut self, start: usize, end: usize) -> OpenBlock<T, A>
         requires start_le_end { start ≤ end }
         requires in_bounds { end ≤ length self.old.items }
@@ -108,8 +108,8 @@ impl<T, A: Allocator, G: Growth> ThinVec<T, A, G> {
     }
 
     // Takes the block out of the list, with a gap of `count` empty slots before the item at `at`.
-    // For this, the item at `at` and all items after it are moved up by `count` slots, as one run.
-    // The list is left empty, without a block.
+    // To make this gap, the item at `at` and all items after it are moved up by `count` slots, as
+    // one run. The list is left empty, without a block.
     pub(crate) fn open_wide(&mut self, at: usize, count: usize) -> OpenBlock<T, A>
         requires in_bounds { at ≤ length self.old.items }
         requires room { HasRoomFor self.old count }
@@ -137,9 +137,9 @@ impl<T, A: Allocator, G: Growth> ThinVec<T, A, G> {
         block
     }
 
-    // Puts the block back into the list. If there is a gap, all items after it are moved down
-    // first, as one run; a gap of one or two slots is closed without a call. If the list has
-    // another block, that block is freed.
+    // Puts the block back into the list. If there is a gap, all items after the gap are first moved
+    // down, as one run; the code for a gap of one or two slots is inlined. If the list has another
+    // block, that block is freed.
     #[inline(always)]
     pub(crate) fn close(&mut self, block: OpenBlock<T, A>)
         requires empty { self.old.items ≡ [] }
@@ -273,7 +273,7 @@ impl<T, A: Allocator> OpenBlock<T, A> {
         self.len += count;
     }
 
-    // Yields the first item of the middle run, or returns `None` if there is none.
+    // Yields the first item of the middle run, or returns `None` if the middle run is empty.
     pub(crate) fn next(&mut self) -> Option<T>
         ensures yields { YieldsFirst rest_of self.old result self.new }
         ensures range { range_len self.new ≡ range_len self.old }
@@ -288,7 +288,7 @@ impl<T, A: Allocator> OpenBlock<T, A> {
         Some(self.take_first())
     }
 
-    // Yields the last item of the middle run, or returns `None` if there is none.
+    // Yields the last item of the middle run, or returns `None` if the middle run is empty.
     pub(crate) fn next_back(&mut self) -> Option<T>
         ensures yields { YieldsLast rest_of self.old result self.new }
         ensures range { range_len self.new ≡ range_len self.old }

@@ -1,4 +1,4 @@
-//! Loops over a block: items are put into its empty slots, or taken out to be dropped.
+//! Loops that put items into the empty slots of a block, or take them out and drop them.
 ghost use Rattle.std.specs.Iterator.{IsFinite};
 ghost use Rattle.std.specs.List.{FoldsTo};
 ghost use Rattle.std.specs.Prelude.{◌≡◌, ℕ, ◌+◌, ◌-◌, ◌<◌, ◌≤◌, List, HoldsAt, length, replicate};
@@ -12,7 +12,7 @@ use std::alloc::Allocator;
 use std::iter::Iterator;
 use thin_block::Block;
 
-/// What is left of an iterator whose items were placed in empty slots, in order.
+/// The result of moving items of an iterator into empty slots, in order.
 pub(crate) struct Filled<I> {
     /// The iterator, which yields the items that were not placed.
     pub(crate) rest: I,
@@ -22,7 +22,7 @@ pub(crate) struct Filled<I> {
     pub(crate) ended: bool,
 }
 
-// Drops all items of a block. They are in its first `len` slots.
+// Drops all items of `block`, which are in its first `len` slots.
 pub(crate) fn drop_items<T: Drop, A: Allocator>(block: &mut Block<T, A>, len: usize)
     requires packed { IsPacked block.old.slots len }
     ensures changes { seen block.new
@@ -47,7 +47,7 @@ pub(crate) fn put_vec<T, A: Allocator, B: Allocator>(
       cost = moving (length items.items) block.old.cost;
     } }
 {
-    // This call tells the prover that the number of slots is below 2 ^ 63, so each index is, too.
+    // This call tells the prover that the number of slots, and so each index, is below 2 ^ 63.
     let _whole = block.cap();
     while let Some(item) = items.pop() {
         block.put(start + items.len(), item);
@@ -56,7 +56,7 @@ pub(crate) fn put_vec<T, A: Allocator, B: Allocator>(
 }
 
 // Puts clones of `items` into the empty slots from `start` on, in order, until a clone fails.
-// Returns the number of clones.
+// Returns the number of clones made.
 pub(crate) fn put_clones<T: Clone, A: Allocator>(
     block: &mut Block<T, A>,
     start: usize,
@@ -73,7 +73,7 @@ pub(crate) fn put_clones<T: Clone, A: Allocator>(
     ensures refused { result < length items.now
         → HoldsAt (λ x. ¬ (T.is_infallible x)) items.now result }
 {
-    // This call tells the prover that the number of slots is below 2 ^ 63, so each index is, too.
+    // This call tells the prover that the number of slots, and so each index, is below 2 ^ 63.
     let _whole = block.cap();
     for i in 0..items.len() {
         match items[i].clone() {
@@ -85,7 +85,7 @@ pub(crate) fn put_clones<T: Clone, A: Allocator>(
 }
 
 // Puts clones of `value` into the `count` empty slots from `start` on, until a clone fails. Returns
-// the number of clones.
+// the number of clones made.
 pub(crate) fn put_repeated<T: Clone, A: Allocator>(
     block: &mut Block<T, A>,
     start: usize,
@@ -103,7 +103,7 @@ pub(crate) fn put_repeated<T: Clone, A: Allocator>(
     } }
     ensures refused { result < count → ¬ (T.is_infallible value.now) }
 {
-    // This call tells the prover that the number of slots is below 2 ^ 63, so each index is, too.
+    // This call tells the prover that the number of slots, and so each index, is below 2 ^ 63.
     let _whole = block.cap();
     for i in 0..count {
         match value.clone() {
@@ -131,16 +131,16 @@ pub(crate) fn put_results<T, A: Allocator, F: FnMut() -> T>(
       cost = moving count block.old.cost;
     } }
 {
-    // This call tells the prover that the number of slots is below 2 ^ 63, so each index is, too.
+    // This call tells the prover that the number of slots, and so each index, is below 2 ^ 63.
     let _whole = block.cap();
     for i in 0..count {
         block.put(start + i, make());
     }
 }
 
-// Puts the items that `iter` yields into the empty slots from `start` up to `end`, and returns the
-// block. Stops if the iterator returns `None` or the slots are full. The block is passed by value,
-// so that its pointer stays in a register and LLVM vectorizes the loop.
+// Moves items of `iter` into the empty slots from `start` up to, but not including, `end`, until
+// the slots are full or `iter` returns `None`. The block is passed by value and returned, so that
+// its pointer stays in a register and LLVM vectorizes the loop.
 pub(crate) fn put_iter<T, A: Allocator, I: Iterator<Item = T>>(
     block: Block<T, A>,
     start: usize,

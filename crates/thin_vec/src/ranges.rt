@@ -1,12 +1,13 @@
-//! Converts the ranges of Rust into the two numbers that `drain`, `extract_if` and `splice` take.
+//! The function `bounds`, which converts a range of Rust into the two numbers that `drain`,
+//! `extract_if` and `splice` take.
 ghost use Rattle.std.specs.Prelude.{◌≡◌, ◌≤◌, IfSome};
 ghost use Rattle.thin_vec.specs.Ranges.{range_between};
 
 use std::ops::Bound;
 
-/// Returns the range between two bounds in a list of `len` items, as two numbers: the index of its
-/// first item, and the index after its last item. Returns `None` if the range begins after its end,
-/// or if it ends after the last item of the list.
+/// Converts the range with the bounds `start` and `end`, of a list of `len` items, into two
+/// numbers: the index at which the range begins, and the index before which it ends. Returns `None`
+/// if the range begins after its end, or if it ends after the end of the list.
 ///
 /// The two numbers meet the preconditions on the range of `drain`, `extract_if` and `splice`.
 /// Rust's `slice::range` returns the same numbers, and panics if this function returns `None`.

@@ -29,8 +29,8 @@ impl Growth for Doubling {
     ghost law = { doubling_law };
 }
 
-/// Returns the capacity that doubling chooses for a first block, unless more items need room: 4, or
-/// 1 for items of more than `usize::MAX / 8` bytes.
+/// Returns the capacity that `Doubling` chooses for the first block of a list, unless more items
+/// need room. It is 1 for items of more than `usize::MAX / 8` bytes, and 4 for all others.
 pub fn first_capacity<T>() -> usize
     ensures value { result ≡ first (type_size T.row) }
 {
@@ -42,7 +42,8 @@ pub fn first_capacity<T>() -> usize
 }
 
 /// Returns the capacity that a list of capacity `cap` has under `Doubling` once it has room for
-/// `want` items. This is `cap` if there is room already, and `None` if the new capacity overflows.
+/// `want` items. This is `cap` if `cap` is at least `want`, and `None` if the new capacity
+/// overflows.
 pub fn next_capacity<T>(cap: usize, want: usize) -> Option<usize>
     ensures value { result ≡ ruled_capacity doubling T.row cap want }
 {

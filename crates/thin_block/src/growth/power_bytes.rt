@@ -8,10 +8,11 @@ use crate::growth::doubling::Doubling;
 use crate::growth::{Growth, fitting};
 use crate::sizes::{HEADER, item_size};
 
-/// A growth rule that chooses as many items as fit, together with the header, into a power of two
-/// bytes. This is the least power of two that has room for the wanted items, and for twice the old
-/// capacity. If an allocator rounds requests up to powers of two, a block then wastes less than one
-/// item. For items of size 0, the rule is the same as `Doubling`.
+/// A growth rule by which each block fills a power of two bytes. Let p be the least power of two
+/// such that p bytes have room for the header and either the wanted items or twice the old
+/// capacity, whichever is more. The rule chooses the number of items that have room in p bytes
+/// after the header. If an allocator rounds requests up to powers of two, a block then wastes less
+/// than the size of one item. For items of size 0, the rule is the same as `Doubling`.
 ///
 /// The rule is this port's own, modelled on the one that the Rust crate thin-vec has for Gecko.
 pub struct PowerBytes {}
@@ -43,9 +44,9 @@ impl Growth for PowerBytes {
     ghost law = { power_bytes_law };
 }
 
-// Returns the least power of two bytes that has room for a header and `items` items of `size`
-// bytes. Returns `None` if that power is greater than 2 ^ 63: then no block of that many items
-// fits.
+// Returns the least power of two that is at least the size in bytes of a header and `items` items,
+// each of `size` bytes. Returns `None` if that power is greater than 2 ^ 63: then a block for these
+// items is too large to be allocated.
 fn power_for(items: usize, size: usize) -> Option<usize>
     ensures none { IfNone result (2 ^ 63 < 16 + items * size) }
     ensures value { IfSome result (λ power. power ≡ least_power (16 + items * size)) }

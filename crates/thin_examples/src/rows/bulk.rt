@@ -37,7 +37,8 @@ pub fn row_15<A: Allocator + Copy>(alloc: A) -> Outcome {
     Ok(checks)
 }
 
-/// Checks `extend` by five items, if the lower bound of the size hint is 0, 3, 5 or 9.
+/// Checks the items and the capacity after `extend` with an iterator of five items that claims the
+/// lower bound 0, 3, 5 or 9.
 pub fn row_24<A: Allocator + Copy>(alloc: A) -> Outcome {
     let mut checks = Checks::new();
     for (lower, capacity) in [(0, 8), (3, 8), (5, 5), (9, 9)] {
@@ -48,8 +49,8 @@ pub fn row_24<A: Allocator + Copy>(alloc: A) -> Outcome {
     Ok(checks)
 }
 
-// Checks the error of a failed `extend`: the cause is an overflow, no item is in hand, and the
-// iterator still yields all its items.
+// Checks the error of a failed `extend`: the cause is `CapacityOverflow`, `in_hand` is `None`, and
+// the iterator still yields all its items.
 fn check_refused<A: Allocator>(checks: &mut Checks, refused: ExtendRefused<i32, Hinted<i32, A>>) {
     let ExtendRefused {
         cause,
@@ -63,7 +64,8 @@ fn check_refused<A: Allocator>(checks: &mut Checks, refused: ExtendRefused<i32, 
     );
 }
 
-/// Checks that `extend` takes no item from an iterator whose size hint overflows the capacity.
+/// Checks that `extend` fails and takes no item from the iterator if the size hint overflows the
+/// capacity.
 pub fn row_25<A: Allocator + Copy>(alloc: A) -> Outcome {
     let mut checks = Checks::new();
     let mut list = listed(alloc, [1])?;
@@ -75,7 +77,7 @@ pub fn row_25<A: Allocator + Copy>(alloc: A) -> Outcome {
     Ok(checks)
 }
 
-/// Checks that `from_iter` reserves exactly as many places as the iterator has items.
+/// Checks that `from_iter` makes a list without spare capacity.
 pub fn row_27<A: Allocator + Copy>(alloc: A) -> Outcome {
     let mut checks = Checks::new();
     for count in 0..20 {

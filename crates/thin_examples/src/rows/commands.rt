@@ -15,8 +15,8 @@ fn put<T: Drop, A: Allocator>(items: &mut Vec<T, A>, item: T) -> Result<(), Thin
     }
 }
 
-// Makes three commands: an insert past the end of the list, a push, and a drain of one item, which
-// is then asked for two items.
+// Makes three commands: an insert past the end of the list, a push, and a drain of one item by two
+// steps, so that the second step yields nothing.
 fn past_the_end<A: Allocator + Copy>(alloc: A) -> Result<Vec<Command<i32, A>, A>, ThinVecError> {
     let mut steps = Vec::new(alloc);
     put(&mut steps, Step::Back)?;
@@ -43,8 +43,8 @@ fn check_replies<A: Allocator>(checks: &mut Checks, replies: &[Reply<i32, A>]) {
     }
 }
 
-/// Checks a run of three commands: an insert past the end, a push, and a drain that is asked for
-/// one item more than it has.
+/// Checks a run of three commands: an insert past the end, a push, and a drain that has one step
+/// more than it has items.
 pub fn row_41<A: Allocator + Copy>(alloc: A) -> Outcome {
     let mut checks = Checks::new();
     let mut list: ThinVec<i32, A> = ThinVec::new(alloc);

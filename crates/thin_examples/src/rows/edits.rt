@@ -51,8 +51,8 @@ pub fn row_9<A: Allocator + Copy>(alloc: A) -> Outcome {
     Ok(checks)
 }
 
-/// Checks which pairs of `Bound`s are ranges of a list of five items, and the two numbers that
-/// `bounds` returns for them.
+/// Checks which pairs of `Bound`s are ranges of a list of five items, and which pair of indices
+/// `bounds` returns for each range.
 pub fn row_18<A: Allocator + Copy>(_alloc: A) -> Outcome {
     let mut checks = Checks::new();
     for (start, end, wanted) in [
@@ -69,7 +69,7 @@ pub fn row_18<A: Allocator + Copy>(_alloc: A) -> Outcome {
     Ok(checks)
 }
 
-/// Checks an `ExtractIf` that is called until it returns `None`.
+/// Checks an `ExtractIf` whose `next` is called until it returns `None`.
 pub fn row_33<A: Allocator + Copy>(alloc: A) -> Outcome {
     let mut checks = Checks::new();
     let mut list = listed(alloc, [1, 2, 3, 4, 5, 6, 8, 9, 11, 13, 14, 15])?;

@@ -3,7 +3,8 @@ use crate::checks::Checks;
 use crate::rows::{Outcome, listed};
 use std::alloc::Allocator;
 
-/// Checks that `dedup_by` compares each item with the last one that it kept.
+/// Checks that `dedup_by` compares each item with the last item that it kept, and not with the item
+/// before.
 pub fn row_13<A: Allocator + Copy>(alloc: A) -> Outcome {
     let mut checks = Checks::new();
     let mut list = listed(alloc, [1i32, 2, 3, 5])?;
@@ -12,8 +13,8 @@ pub fn row_13<A: Allocator + Copy>(alloc: A) -> Outcome {
     Ok(checks)
 }
 
-// Returns whether `later` and `kept` have the same word. If so, adds the count of `later` to that
-// of `kept`.
+// Returns whether `later` and `kept` have the same word. If so, adds the count of `later` to the
+// count of `kept`.
 fn add_count(later: &mut (&'static str, i32), kept: &mut (&'static str, i32)) -> bool {
     let same = later.0 == kept.0;
     if same {

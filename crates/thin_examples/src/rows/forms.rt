@@ -1,5 +1,5 @@
-//! The worked rows of lists that are made by `thin_vec!`, iterated over, compared, hashed, written
-//! to, or converted.
+//! The worked rows of `thin_vec!`, and of iterating over, comparing, hashing, writing to and
+//! converting lists.
 use crate::checks::Checks;
 use crate::rows::{Outcome, listed};
 use std::alloc::Allocator;
@@ -22,8 +22,8 @@ pub fn row_3<A: Allocator + Copy>(alloc: A) -> Outcome {
     Ok(checks)
 }
 
-/// Checks that `into_array` returns the list if the array has another length, and that the clone of
-/// an empty list has no block.
+/// Checks that `into_array` returns the list if the array does not have the length of the list, and
+/// that the clone of an empty list has no block.
 pub fn row_20<A: Allocator + Copy>(alloc: A) -> Outcome {
     let mut checks = Checks::new();
     let digits = [0, 1, 2, 3, 4, 5, 6, 7, 8, 9];
@@ -59,7 +59,7 @@ fn hash_of<A: Allocator>(list: &ThinVec<i32, A>) -> u64 {
     hasher.finish()
 }
 
-// Checks that comparing a list of the items `left` with one of the items `right` returns `order`.
+// Checks that `cmp` of a list of the items `left` with a list of the items `right` returns `order`.
 fn check_order<A: Allocator + Copy>(
     checks: &mut Checks,
     alloc: A,
@@ -87,7 +87,8 @@ pub fn row_30<A: Allocator + Copy>(alloc: A) -> Outcome {
     Ok(checks)
 }
 
-// Writes bytes to the end of a list, and checks the returned numbers and the list.
+// Writes bytes to the end of the list `bytes`, and checks the returned numbers of bytes and the
+// list.
 fn check_writes<A: Allocator>(checks: &mut Checks, bytes: &mut ThinVec<u8, A>) -> io::Result<()> {
     bytes.write_all(&[3, 4, 5])?;
     checks.holds(bytes, &[1, 2, 3, 4, 5], 5);

@@ -4,7 +4,8 @@ ghost use Rattle.std.specs.Prelude.{int_rem, pos};
 
 use thin_runner::judge::Judge;
 
-/// Picks the even numbers, and treats equal numbers as the same. It does not write to the numbers.
+/// A judge that picks the even numbers, and treats two numbers as the same if they are equal. It
+/// does not write to the numbers.
 #[derive(Clone, Copy)]
 pub struct Evens;
 

@@ -45,7 +45,8 @@ fn remove<A: Allocator>(
     }
 }
 
-// Compares the entries of row 1 with `entries`, and whether the row owns a block with `owns_block`.
+// Checks that row 1 has the entries `entries`, that the table has no other entries, and that row 1
+// owns a block if and only if `owns_block` is true.
 fn check_entries<A: Allocator>(
     checks: &mut Checks,
     table: &Rows<char, A>,

@@ -15,7 +15,7 @@ pub fn row_1<A: Allocator + Copy>(alloc: A) -> Outcome {
     Ok(checks)
 }
 
-/// Checks the capacity after each of five pushes.
+/// Checks the capacity of a new list after each of five pushes.
 pub fn row_2<A: Allocator + Copy>(alloc: A) -> Outcome {
     let mut checks = Checks::new();
     let mut list = ThinVec::new(alloc);
@@ -27,8 +27,8 @@ pub fn row_2<A: Allocator + Copy>(alloc: A) -> Outcome {
     Ok(checks)
 }
 
-/// Checks the capacity of a list of three items after `reserve` of 1 and of 10, and after
-/// `reserve_exact` of 1.
+/// Checks the capacity of a list of three items after one call: `reserve(1)`, `reserve(10)` or
+/// `reserve_exact(1)`.
 pub fn row_4<A: Allocator + Copy>(alloc: A) -> Outcome {
     let mut checks = Checks::new();
     for (additional, is_exact, capacity) in [(1, false, 6), (10, false, 13), (1, true, 4)] {
@@ -65,8 +65,7 @@ pub fn row_5<A: Allocator + Copy>(alloc: A) -> Outcome {
     Ok(checks)
 }
 
-// Compares the word that `swap_remove` returns with `word`, and the words that are left with
-// `left`.
+// Checks that `swap_remove` at `index` returns `word`, and that the list then has the words `left`.
 fn check_swapped<A: Allocator>(
     checks: &mut Checks,
     list: &mut ThinVec<&'static str, A>,
@@ -118,7 +117,8 @@ pub fn row_19<A: Allocator + Copy>(alloc: A) -> Outcome {
     Ok(checks)
 }
 
-/// Checks that a list keeps the capacity that it was made with until `shrink_to_fit`.
+/// Checks that pushes into reserved room and `clear` do not change the capacity, and that
+/// `shrink_to_fit` reduces it to the length.
 pub fn row_23<A: Allocator + Copy>(alloc: A) -> Outcome {
     let mut checks = Checks::new();
     let mut list = ThinVec::with_capacity(alloc, 10)?;

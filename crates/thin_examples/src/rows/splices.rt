@@ -7,8 +7,8 @@ use std::iter::{empty, once};
 use thin_runner::hinted::Hinted;
 use thin_vec::{SpliceRefused, ThinVec, ThinVecError};
 
-// Replaces two of five items with three, by an iterator that claims `claim` items, and checks the
-// list and its capacity.
+// Replaces two of five items with the three items of an iterator that claims to have `claim` items,
+// and checks the list and its capacity.
 fn check_claimed<A: Allocator + Copy>(
     checks: &mut Checks,
     alloc: A,
@@ -22,8 +22,8 @@ fn check_claimed<A: Allocator + Copy>(
     Ok(())
 }
 
-/// Checks a `splice` by an iterator that claims too many items, and one by an iterator that claims
-/// the true number.
+/// Checks a `splice` with an iterator that claims too many items, and a `splice` with an iterator
+/// that claims the true number.
 pub fn row_10<A: Allocator + Copy>(alloc: A) -> Outcome {
     let mut checks = Checks::new();
     check_claimed(&mut checks, alloc, 1000, 1005)?;
@@ -31,8 +31,8 @@ pub fn row_10<A: Allocator + Copy>(alloc: A) -> Outcome {
     Ok(checks)
 }
 
-// Checks the error of a failed `finish`: the cause is an overflow, no item is held or in hand, and
-// the iterator still yields the item that was not inserted.
+// Checks the error of a failed `finish`: the cause is `CapacityOverflow`, `held` and `in_hand` have
+// no item, and the iterator still yields the item that was not inserted.
 fn check_refused<A: Allocator>(
     checks: &mut Checks,
     refused: SpliceRefused<i32, Hinted<i32, A>, A>,
@@ -49,8 +49,8 @@ fn check_refused<A: Allocator>(
     checks.items(&[rest.next(), rest.next()], &[Some(12), None]);
 }
 
-/// Checks that a `finish` whose size hint overflows the capacity fills the places of the range,
-/// inserts no further item, and fails.
+/// Checks `finish` of a splice whose iterator has a size hint that overflows the capacity: the call
+/// replaces the items of the range, inserts no further item, and fails.
 pub fn row_11<A: Allocator + Copy>(alloc: A) -> Outcome {
     let mut checks = Checks::new();
     let mut list = listed(alloc, [1, 2, 3, 4, 5])?;
@@ -63,8 +63,8 @@ pub fn row_11<A: Allocator + Copy>(alloc: A) -> Outcome {
     Ok(checks)
 }
 
-// Checks that a `drain` of an empty list yields no item, and that a `splice` by an empty iterator
-// leaves it empty.
+// Checks that a `drain` of an empty list yields no item, and that the list is still empty after a
+// `splice` with an empty iterator.
 fn check_edits_of_nothing<A: Allocator + Copy>(
     checks: &mut Checks,
     alloc: A,
@@ -106,8 +106,8 @@ pub fn row_22<A: Allocator + Copy>(alloc: A) -> Outcome {
     Ok(checks)
 }
 
-// Checks a `splice` of a whole list by an empty iterator: it yields all items, and leaves an empty
-// list.
+// Checks a `splice` of a whole list with an empty iterator: the splice yields all items, and the
+// list is empty afterwards.
 fn check_emptied<A: Allocator + Copy>(checks: &mut Checks, alloc: A) -> Result<(), ThinVecError> {
     let mut list = listed(alloc, [1, 2, 3, 4, 5])?;
     let mut splice = list.splice(0, 5, empty());
@@ -119,8 +119,8 @@ fn check_emptied<A: Allocator + Copy>(checks: &mut Checks, alloc: A) -> Result<(
     Ok(())
 }
 
-// Checks a `splice` of a list of the numbers from 1 to 5 that yields two items and inserts three.
-// Returns the list.
+// Checks a `splice` that yields two of five items and inserts three items in their place. Returns
+// the list.
 fn check_spliced<A: Allocator + Copy>(
     checks: &mut Checks,
     alloc: A,
@@ -133,7 +133,7 @@ fn check_spliced<A: Allocator + Copy>(
     Ok(list)
 }
 
-// Checks a second `splice` of the list, which yields an item that the first one inserted.
+// Checks a second `splice` of the list, which yields an item that the first `splice` inserted.
 fn check_spliced_again<A: Allocator + Copy>(
     checks: &mut Checks,
     alloc: A,

@@ -1,4 +1,4 @@
-//! The parser of the commands that ask a judge.
+//! The parser of the commands that need a judge.
 ghost use Rattle.std.specs.Prelude.{IfOk, IfSome};
 ghost use Rattle.thin_replay.specs.Lines.{IsCall, IsFilter};
 
@@ -8,8 +8,8 @@ use crate::line_error::LineError;
 use crate::words::count_of;
 use thin_runner::command::Command;
 
-/// Parses the words of a line. Returns `None` if they do not have the form of one of these
-/// commands.
+/// Parses the words of a line as a command that needs a judge. Returns `None` if the words do not
+/// have the form of such a command.
 pub fn parse(words: &[&str]) -> Result<Option<Call>, LineError>
     ensures says { IfOk result (λ found. IfSome found (IsCall words.now)) }
 {
@@ -32,8 +32,8 @@ pub fn parse(words: &[&str]) -> Result<Option<Call>, LineError>
     }
 }
 
-// Returns the command with the name `name`, if its line has no other words than those that describe
-// the judge.
+// Returns the command with the name `name`, if the line of this command consists of the name and
+// the three words that describe the judge. Otherwise, returns `None`.
 fn filter(name: &str) -> Option<Command<u64>>
     ensures filter { IfSome result (IsFilter name.now) }
 {

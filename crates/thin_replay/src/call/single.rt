@@ -1,4 +1,4 @@
-//! The parser of the commands that add, remove or replace one item, or remove the last items.
+//! The parser of the commands that add, remove or replace one item, and of `truncate` and `clear`.
 ghost use Rattle.std.specs.Prelude.{IfOk, IfSome};
 ghost use Rattle.thin_replay.specs.Lines.{SaysUnjudged};
 
@@ -6,8 +6,8 @@ use crate::line_error::LineError;
 use crate::words::{count_of, item_of};
 use thin_runner::command::Command;
 
-/// Parses the words of a line. Returns `None` if they do not have the form of one of these
-/// commands.
+/// Parses the words of a line as a command that adds, removes or replaces one item, or as
+/// `truncate` or `clear`. Returns `None` if the words do not have the form of such a command.
 pub fn parse(words: &[&str]) -> Result<Option<Command<u64>>, LineError>
     ensures says { IfOk result (λ found. IfSome found (SaysUnjudged words.now)) }
 {

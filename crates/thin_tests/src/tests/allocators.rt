@@ -1,5 +1,5 @@
-//! Tests that a call which takes an allocator makes its result on that allocator, and not on the
-//! allocator of the list. This holds even if the list is empty.
+//! Tests that a call with an allocator as an argument allocates its result there, and not on the
+//! allocator of the list, even if the list is empty.
 use crate::tests::support::assertions::{assert_counts, assert_len, assert_same};
 use crate::tests::support::claims::Claims;
 use crate::tests::support::items::{list_of, refusing_nth};
@@ -9,7 +9,7 @@ use thin_examples::spliced::splice_by;
 use thin_testing::Refusing;
 use thin_vec::ThinVec;
 
-// Pushes an item to a `Vec` of `len` items, and asserts that it then has one item more.
+// Pushes an item to a `Vec` of `len` items, and asserts that the `Vec` then has `len + 1` items.
 fn push_one_more<A: Allocator>(rt: &impl Abort, mut vec: Vec<i32, A>, len: usize) -> Vec<i32, A> {
     vec.push(9).ok().expect(rt, "memory");
     assert_same(rt, vec.len(), len.saturating_add(1));
@@ -84,8 +84,8 @@ fn clone_iter_into_vec<A: Allocator + Copy>(
     move_into_vec(rt, list, alloc)
 }
 
-// Moves the items of `list` into a `Vec` on `other`. The number `way` says which of the six
-// functions of this file does this.
+// Moves the items of `list` into a `Vec` on `other`, in one of six ways. `way` is the number of the
+// way, from 0 to 5.
 fn move_by_way(
     rt: &impl Abort,
     way: u32,
@@ -102,9 +102,9 @@ fn move_by_way(
     }
 }
 
-// Moves a list of these items to another allocator by each of the six functions of this file.
-// Asserts each time that the list's own allocator has no block left, and that the other allocator
-// has one block.
+// Moves a list of `items` to another allocator in each of the six ways of `move_by_way`. Asserts
+// after each move that the list's own allocator has no block left, and that the other allocator has
+// one block.
 fn assert_each_way_moves_the_block(rt: &impl Abort, alloc: Global, items: &[i32]) {
     let own = refusing_nth(rt, alloc, 0);
     let other = refusing_nth(rt, alloc, 0);

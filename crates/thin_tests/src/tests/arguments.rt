@@ -1,4 +1,5 @@
-//! Tests that `thin_vec!` evaluates each argument once, in the order in which they are written.
+//! Tests that `thin_vec!` evaluates its arguments once each, in the order in which they are
+//! written.
 use crate::tests::support::assertions::{assert_list, assert_same};
 use std::alloc::Global;
 use std::cell::Cell;

@@ -7,7 +7,7 @@ use std::process::Abort;
 use thin_testing::Refusing;
 use thin_vec::{ThinVec, ThinVecError};
 
-// Clears the list, and asserts that it then is empty and has this capacity.
+// Clears the list, and asserts that the list is then empty and has the capacity `capacity`.
 fn assert_cleared(rt: &impl Abort, list: &mut ThinVec<i32>, capacity: usize) {
     list.clear();
     assert_list(rt, list, &[], capacity);
@@ -26,7 +26,7 @@ fn clear_keeps_the_capacity(rt: HostRuntime) {
     assert_cleared(&rt, &mut list, 4);
 }
 
-// Pushes these items, and asserts that the list then has this capacity.
+// Pushes `items`, and asserts that the list then has the capacity `capacity`.
 fn assert_pushed(rt: &impl Abort, list: &mut ThinVec<i32>, items: Range<i32>, capacity: usize) {
     push_all(rt, list, items);
     assert_same(rt, list.capacity(), capacity);
@@ -69,7 +69,7 @@ fn reserve_exact_reserves_no_more_than_needed(rt: HostRuntime) {
     assert_reserved_exact(&rt, &mut list, 16, 33);
 }
 
-// Asserts that `with_capacity` fails with `CapacityOverflow` for this capacity.
+// Asserts that `with_capacity(capacity)` fails with `CapacityOverflow`.
 fn assert_overflows<T: Drop>(rt: &impl Abort, alloc: &'static Refusing<Global>, capacity: usize) {
     let refused = ThinVec::<T, &'static Refusing<Global>>::with_capacity(alloc, capacity).err();
     let overflow = Some(ThinVecError::CapacityOverflow);

@@ -7,7 +7,7 @@ use std::cell::Cell;
 use std::process::Abort;
 use thin_vec::{ThinVec, ThinVecError, thin_vec};
 
-// Asserts that a list of these items and its clone both have these items and no spare room.
+// Makes a list of `items` and its clone. Asserts that both have these items and no spare capacity.
 fn assert_cloned(rt: &impl Abort, alloc: Global, items: &[i32]) {
     let list = ThinVec::from_slice(alloc, items).expect(rt, "memory");
     assert_list(rt, &list, items, items.len());
@@ -80,8 +80,8 @@ fn row_37_extend_from_slice_drops_its_clones_if_one_fails(rt: HostRuntime) {
     assert_same(&rt, drops.get(), 8);
 }
 
-// Replaces the first of two items by clones of three items. Only `granted` of the clones succeed,
-// which are fewer than three: asserts that the call fails and drops the clones that it made.
+// Replaces the first of two items by clones of three items. The cell `granted` allows fewer than
+// three clones, so the call fails. Asserts that the call drops the clones that it made.
 fn assert_replace_range_fails(
     rt: &impl Abort,
     alloc: Global,

@@ -8,7 +8,8 @@ use std::process::Abort;
 use std::rc::Rc;
 use thin_vec::ThinVec;
 
-// Returns whether the item is not 2. The closure that calls this owns the counted value.
+// Returns whether the item is not 2. The argument `_owned` is owned by the closure that calls this
+// function.
 fn is_not_two(_owned: &Counted<'_>, item: i32) -> bool {
     item != 2
 }
@@ -55,9 +56,9 @@ fn dedup_by_key_drops_its_closure(rt: HostRuntime) {
     assert_without_two(&rt, &list, &drops);
 }
 
-// The closure owns an `Rc`, whose count shows when the closure is dropped. It does not own a
-// `Counted`, which borrows a cell: here, the borrow checker does not support a closure that
-// borrows.
+// Here the closure owns an `Rc`, whose reference count shows when the closure is dropped. In the
+// other tests, it owns a `Counted`, which borrows a cell; here, the borrow checker does not support
+// a closure that borrows.
 #[test]
 fn extract_if_drops_its_closure(rt: HostRuntime) {
     let kept = Rc::new(rt.alloc(), 2).ok().expect(&rt, "memory");

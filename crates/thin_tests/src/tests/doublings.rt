@@ -1,13 +1,14 @@
-//! The capacity of a list of numbers after each of five pushes, and what its blocks have cost. The
-//! figures are proved: they are in the contracts.
+//! The capacity of a list after each of five pushes, and the cost of its blocks. All figures are
+//! proved, because contracts state them.
 ghost use Rattle.std.specs.Prelude.{◌≡◌, ◌+◌, ◌*◌, ◌<◌, [], ◌∷◌, IfOk, OnOk, length};
 ghost use Rattle.thin_vec.specs.ThinVec.{HasRoomFor};
 
 use std::alloc::Allocator;
 use thin_vec::{ThinVec, ThinVecError};
 
-/// Pushes five items to a new list, and returns the list and the capacity after each push. The list
-/// first has a block of 4 slots. The fifth push copies its 4 items to a block of 8 slots.
+/// Pushes five items to a new list, and returns the list and the capacity after each push. The
+/// first push allocates a block of 4 slots. The fifth push copies the 4 items to a block of 8
+/// slots.
 pub fn five_pushes<A: Allocator>(alloc: A) -> Result<(ThinVec<u32, A>, [usize; 5]), ThinVecError>
     ensures capacities { IfOk result (λ made. made.1 ≡ 4 ∷ 4 ∷ 4 ∷ 4 ∷ 8 ∷ []) }
     ensures grown { IfOk result (λ made. made.0.cost.grown ≡ 4) }

@@ -1,5 +1,5 @@
-//! `drain`: functions whose contracts show what a caller can conclude, and tests of what a `Drain`
-//! yields and leaves.
+//! Functions whose contracts show what a caller of `drain` can conclude, and tests of which items a
+//! `Drain` yields and which items are left in the list.
 ghost use Rattle.std.specs.Prelude.{◌≡◌, ◌+◌, ◌≤◌, ◌++◌, IfOk, IfSome, OnOk, drop, length, max, reverse, slice_range, take};
 ghost use Rattle.std.specs.List.{fold, remove_range};
 ghost use Rattle.thin_vec.specs.Edits.Drain.{drain_lender};
@@ -12,8 +12,8 @@ use std::ops::Bound;
 use std::process::Abort;
 use thin_vec::{Drain, Growth, ThinVec, ThinVecError, bounds};
 
-/// Removes the items from `start` up to `end` from the list, and returns the greatest of them, or
-/// `least` if that is greater.
+/// Removes the items from `start` up to `end` from the list, and returns the maximum of `least` and
+/// the removed items.
 pub fn drain_greatest(list: &mut ThinVec<u32, Global>, start: usize, end: usize, least: u32) -> u32
     requires start_le_end { start ≤ end }
     requires in_bounds { end ≤ length list.old.items }
@@ -93,8 +93,8 @@ pub fn drain_reversed(
     list.drain(start, end).rev().collect(alloc)
 }
 
-/// Drains a range that is given by two bounds, as Rust's ranges are. Returns `None` if the list has
-/// no such range.
+/// Drains the range with the bounds `start` and `end`. A bound can be included, excluded or
+/// missing, as in Rust's ranges. Returns `None` if the list has no such range.
 pub fn drain_between<T: Drop, A: Allocator, G: Growth>(
     list: &mut ThinVec<T, A, G>,
     start: Bound<usize>,
@@ -208,8 +208,8 @@ fn drain_yields_an_inclusive_range_of_the_first_item(rt: HostRuntime) {
     assert_drained(&rt, texts, first, false, &["0"], &["1"]);
 }
 
-// Drains a range of a list of six texts, where both ends of the range are included. Asserts what
-// the drain yields and what is left.
+// Drains a range of a list of six texts, from the index `first` up to and including `last`. Asserts
+// what the drain yields and what is left in the list.
 fn assert_texts_drained<R: Abort>(
     rt: &R,
     alloc: Global,

@@ -1,5 +1,5 @@
-//! Tests that `?` after a failed call drops each value that the error holds, exactly once, for each
-//! type of error that `?` converts to.
+//! Tests that converting an error by `?` drops each value that the error holds, exactly once. There
+//! is one test for each error type to which `?` converts.
 use crate::tests::support::assertions::assert_same;
 use crate::tests::support::counted::{Counted, counted_list};
 use std::alloc::{AllocError, Global};
@@ -29,8 +29,8 @@ fn assert_conversion_drops<E: From<R> + Drop, R: Drop>(
 
 const CAUSE: ThinVecError = ThinVecError::OutOfMemory;
 
-// Asserts that the errors of a failed `push` and of a failed `extend` drop the values that they
-// hold. The iterator that the error of `extend` holds counts its drop too.
+// Asserts that converting the error of a failed `push` or `extend` drops all values that the error
+// holds. One of them is the iterator in the error of `extend`, which counts its drop too.
 fn assert_push_and_extend_errors_dropped<'a, E>(rt: &impl Abort, drops: &'a Cell<u32>)
 where
     E: From<Rejected<Counted<'a>>> + From<ExtendRefused<Counted<'a>, Counted<'a>>> + Drop,
@@ -49,8 +49,8 @@ where
     assert_conversion_drops::<E, _>(rt, drops, extend, 2);
 }
 
-// Asserts that the errors of a failed `from_iter` and of a failed `finish` drop the values that
-// they hold.
+// Asserts that converting the error of a failed `from_iter` or `finish` drops all values that the
+// error holds.
 fn assert_from_iter_and_finish_errors_dropped<'a, E>(
     rt: &impl Abort,
     alloc: Global,

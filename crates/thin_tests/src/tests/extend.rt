@@ -1,5 +1,5 @@
-//! Tests of `extend` and `from_iter`: the cases of the Rust crate's tests, and what a failed call
-//! returns.
+//! Tests of `extend` and `from_iter`: the cases in the tests of the Rust crate `thin-vec`, and what
+//! a failed call returns.
 use crate::tests::support::assertions::{assert_counts, assert_list, assert_same};
 use crate::tests::support::claims::Claims;
 use crate::tests::support::counted::Counted;

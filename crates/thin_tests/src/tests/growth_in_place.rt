@@ -1,5 +1,6 @@
-//! Tests of lists that grow and shrink in place once they are long. Lists whose items have 1, 2, 4,
-//! 8 or 16 bytes do so. Each change of the capacity is refused first, and then made.
+//! Tests of lists that are long enough to grow and shrink in place, with items of 1, 2, 4, 8 or 16
+//! bytes. Each change of the capacity is tried twice: the first request is refused, the second one
+//! is granted.
 use crate::tests::support::assertions::assert_same;
 use crate::tests::support::items::push;
 use std::alloc::{Allocator, Global};
@@ -8,7 +9,7 @@ use std::process::Abort;
 use thin_testing::{Refusing, Ruled};
 use thin_vec::{Doubling, Growth, PowerBytes, ThinVec, ThinVecError};
 
-// A type of items that are made from numbers.
+// An item type whose values are made from numbers.
 trait Numbered: Copy + PartialEq + Debug + Drop {
     fn numbered(number: usize) -> Self;
 }
@@ -56,8 +57,7 @@ impl Numbered for u128 {
     }
 }
 
-// Asserts that the list has `len` items, that the number of each item is its index, and that the
-// list has this capacity.
+// Asserts that the list has `len` items, each made from its index, and the capacity `capacity`.
 fn assert_numbered<T: Numbered, A: Allocator, G: Growth>(
     rt: &impl Abort,
     list: &ThinVec<T, A, G>,
@@ -74,7 +74,7 @@ fn assert_numbered<T: Numbered, A: Allocator, G: Growth>(
     assert_same(rt, found, (len, len, capacity));
 }
 
-// Pushes items until there is no spare room. The number of each item is its index.
+// Pushes items until the list has no spare capacity. Each item is made from its index.
 fn fill<T: Numbered, A: Allocator, G: Growth>(rt: &impl Abort, list: &mut ThinVec<T, A, G>) {
     for number in list.len()..list.capacity() {
         push(rt, list, T::numbered(number));
@@ -99,8 +99,8 @@ fn assert_grows<T: Numbered, B: Allocator, G: Ruled>(
     assert_same(rt, refusing.requests(), 2);
 }
 
-// Makes a list of at least 600 items by pushes, beginning at the capacity `first`. Asserts each
-// growth.
+// Makes a list of at least 600 items by pushes, beginning at the capacity `first`. Checks each
+// growth by `assert_grows`.
 fn assert_pushes<T: Numbered, B: Allocator, G: Ruled>(
     rt: &impl Abort,
     refusing: &Refusing<B>,
@@ -174,9 +174,10 @@ fn assert_capacities<T: Numbered, B: Allocator>(
 }
 
 // Runs `assert_pushes` and `assert_capacities` for one type of item, of `size` bytes. The shortest
-// block that can stay in place has 32 words (256 bytes) of items, so the lists have about this
-// many bytes. Their capacities are up to 18 items greater. If an item is smaller than a word, some
-// of these capacities fill a whole number of words, and others do not.
+// block that can stay in place has 32 words (256 bytes) of items, so the lists for
+// `assert_capacities` have about this many bytes. Their capacities are up to 18 items greater. If
+// an item is smaller than a word, some of these capacities fill a whole number of words, and others
+// do not.
 fn assert_type<T: Numbered>(rt: &impl Abort, alloc: Global, size: usize) {
     let refusing = Refusing::new(alloc, 0);
     for first in [0, 5, 261] {

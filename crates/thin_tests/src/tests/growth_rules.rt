@@ -6,7 +6,8 @@ use std::alloc::Global;
 use std::process::Abort;
 use thin_vec::{PowerBytes, ThinVec};
 
-// Pushes until each of these capacities is full, and asserts the capacity after each push.
+// Pushes items to a new list under the rule `PowerBytes`. Asserts after each push that the capacity
+// is the first number in `capacities` that is at least the length.
 fn assert_grows<T: Copy + Drop>(rt: &impl Abort, alloc: Global, item: T, capacities: &[usize]) {
     let mut list = ThinVec::<T, Global, PowerBytes>::ruled(alloc);
     for &capacity in capacities {

@@ -1,5 +1,5 @@
-//! Tests of the iterator that takes a list by value: what remains after some steps, and how it
-//! ends.
+//! Tests of `IntoIter`, the iterator that takes a list by value: which items remain after some
+//! steps, and that the iterator ends.
 use crate::tests::support::assertions::{assert_items, assert_list, assert_same};
 use crate::tests::support::items::{list_of, refusing_nth};
 use std::alloc::{Allocator, Global};

@@ -1,4 +1,4 @@
-//! Tests of the largest capacities of a block, for types that Rust has, against numbers that were
+//! Tests of the largest capacity of a block, for several primitive types, against numbers that were
 //! computed by hand.
 ghost use Rattle.std.specs.Prelude.{◌≡◌, IsTrue, IsFalse, ◌^◌, ◌-◌, ◌+◌};
 ghost use Rattle.thin_block.specs.Capacity.{items_offset, fits as fits_at};

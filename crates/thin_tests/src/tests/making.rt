@@ -1,4 +1,4 @@
-//! Tests of lists whose items are written out, and of lists made from an array.
+//! Tests of `thin_vec!` with listed items, and of `from_array`.
 use crate::tests::support::assertions::{assert_counts, assert_same};
 use crate::tests::support::counted::Counted;
 use std::cell::Cell;

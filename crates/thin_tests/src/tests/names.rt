@@ -1,4 +1,4 @@
-//! Uses each public name of the crate, and each trait that programs rely on, once.
+//! Uses each public name of the crate `thin_vec` once, and each trait that programs rely on.
 use crate::tests::support::assertions::assert_same;
 use std::alloc::{AllocError, Allocator, Global};
 use std::convert::AsSlice;
@@ -12,7 +12,7 @@ use thin_vec::{
     Doubling, ExtractIf, Growth, IntoIter, Rejected, ThinVec, ThinVecError, fits, thin_vec,
 };
 
-// Compiles only if a list of bytes has these traits.
+// Compiles only if the type `L`, a list of bytes, has the traits that its bounds name.
 fn assert_list_traits<L>(_list: &L)
 where
     L: Clone + Eq + Ord + Hash + Debug + Drop,
@@ -20,20 +20,21 @@ where
     L: Index<usize, Output = u8> + IndexMut<usize> + IntoIterator<Item = u8> + Write,
 {}
 
-// Compiles only if an iterator over bytes has these traits. The tests pass an `IntoIter` and a
-// `Drain`.
+// Compiles only if the type `I`, an iterator over bytes, has the traits that its bounds name. The
+// tests pass an `IntoIter` and a `Drain`.
 fn assert_iterator_traits<I>(_items: &I)
 where
     I: DoubleEndedIterator + ExactSizeIterator + FusedIterator + Iterator<Item = u8> + Debug + Drop,
 {}
 
-// Compiles only if an error type has these traits. The test passes `ThinVecError`.
+// Compiles only if the type `E`, an error type, has the traits that its bounds name. The test
+// passes a `ThinVecError`.
 fn assert_error_traits<E>(_cause: &E)
 where
     E: Error + Copy + Eq + From<AllocError> + From<Rejected<u8>>,
 {}
 
-// A struct that derives `Clone`. The items of its list allocate memory when they are cloned.
+// A struct that derives `Clone`. Cloning its list clones the strings, which allocates memory.
 #[derive(Clone, Drop)]
 struct Names {
     all: ThinVec<String>,

@@ -1,5 +1,5 @@
-//! A test of pushes whose memory is refused: what a failed push returns, and what the list has
-//! then.
+//! A test of pushes whose request for memory is refused. It checks what a failed push returns, and
+//! which items the list then has.
 use crate::tests::support::assertions::{assert_counts, assert_list, assert_same};
 use crate::tests::support::items::{push_all, refusing_nth};
 use std::alloc::Allocator;

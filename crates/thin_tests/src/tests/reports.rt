@@ -11,8 +11,8 @@ use thin_examples::rows::Outcome;
 use thin_testing::Refusing;
 use thin_vec::ThinVecError;
 
-// A writer that appends what is written to `text`. The call of `write` with the number `failing`
-// fails.
+// A writer that appends to `text` what is written. Its call of `write` with the number `failing`
+// fails, or no call if `failing` is 0.
 #[derive(Drop)]
 struct Failing<'a> {
     text: &'a mut String,
@@ -46,8 +46,8 @@ const REPORT: &str =
     row 36 ok\nrow 40 ok\nrow 41 ok\n\
     35 rows ok\n";
 
-// The exit codes of the program. An `ExitCode` can be read only by printing it, so these are
-// texts.
+// The exit codes of the program. An `ExitCode` can be read only by printing it, so these are the
+// printed texts.
 const EVERY_ROW_OK: &str = "ExitCode(unix_exit_status(0))";
 
 const ROW_FAILED: &str = "ExitCode(unix_exit_status(1))";
@@ -56,9 +56,9 @@ const OUT_OF_MEMORY: &str = "ExitCode(unix_exit_status(2))";
 
 const NOT_WRITTEN: &str = "ExitCode(unix_exit_status(3))";
 
-// Writes the report to `text`. The call of `write` with the number `failing` fails, or none if that
-// is 0. Asserts that the report ends with the exit code `end`, and returns how many calls of
-// `write` were made.
+// Writes the report to `text`. The call of `write` with the number `failing` fails, or no call if
+// `failing` is 0. Asserts that the report ends with the exit code `end`, and returns how many calls
+// of `write` were made.
 fn report_into<A: Allocator + Copy, R: Abort>(
     rt: &R,
     alloc: A,
@@ -76,8 +76,8 @@ fn report_into<A: Allocator + Copy, R: Abort>(
     out.calls
 }
 
-// Writes a report whose call of `write` with this number fails. Asserts that the report up to this
-// call was written, and that it made no further call.
+// Writes a report while the call of `write` with the number `failing` fails. Asserts that the text
+// written is the beginning of the whole report, and that the failed call was the last.
 fn assert_written_until<R: Abort>(rt: &R, alloc: Global, failing: usize) {
     let mut text = String::new(alloc);
     let calls = report_into(rt, alloc, &mut text, failing, NOT_WRITTEN);
@@ -98,9 +98,9 @@ fn report_stops_at_a_failed_write(rt: HostRuntime) {
     }
 }
 
-// Makes a report whose request for memory with this number is refused. Asserts that the lines of
-// the rows before this request were written, that the last line says "out of memory", and that all
-// blocks are freed.
+// Writes a report while the request for memory with the number `nth` is refused. Asserts that the
+// text written is the beginning of the whole report, followed by the line "out of memory", and that
+// all blocks are freed.
 fn assert_reported_until<R: Abort>(rt: &R, alloc: Global, nth: u64) {
     let refusing = Refusing::new(alloc, nth);
     let mut text = String::new(alloc);
@@ -124,8 +124,8 @@ fn report_ends_with_out_of_memory_at_any_refused_request(rt: HostRuntime) {
     }
 }
 
-// Reports these rows. Asserts that `wanted` is written, and that the report ends with the exit code
-// `end`.
+// Writes a report on `rows`. Asserts that `wanted` is written, and that the report ends with the
+// exit code `end`.
 fn assert_report_of_rows(rt: &impl Abort, alloc: Global, rows: &[u32], wanted: &str, end: &str) {
     let mut text = String::new(alloc);
     {
@@ -164,8 +164,8 @@ fn report_counts_failed_rows_and_exits_with_1(rt: HostRuntime) {
     );
 }
 
-// Writes the line of row 7 with this outcome. Asserts that it is `line`, and that `status` is
-// returned.
+// Writes the line of row 7 for `outcome`. Asserts that this line is `line`, and that `write_row`
+// returns `status`.
 fn assert_row<R: Abort>(rt: &R, alloc: Global, outcome: Outcome, line: &str, status: Status) {
     let mut text = String::new(alloc);
     {
@@ -180,7 +180,7 @@ fn assert_row<R: Abort>(rt: &R, alloc: Global, outcome: Outcome, line: &str, sta
     assert!(rt; text.as_str() == line, "not {line}");
 }
 
-// Returns the checks of a row that compared one value, which was right or wrong.
+// Returns the checks of a row that compared one value. The value was right if `right` is true.
 fn checks_of_one_value(right: bool) -> Checks {
     let mut checks = Checks::new();
     checks.is(right);

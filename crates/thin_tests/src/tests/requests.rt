@@ -5,17 +5,18 @@ use std::alloc::{Allocator, Global};
 use std::process::Abort;
 use thin_testing::Refusing;
 
-// Pushes an item, and asserts whether the push succeeds.
+// Pushes an item, and asserts that the push succeeds if and only if `granted` is true.
 fn assert_push<A: Allocator>(rt: &impl Abort, items: &mut Vec<u8, A>, item: u8, granted: bool) {
     assert_same(rt, items.push(item).is_ok(), granted);
 }
 
-// Reserves room for 1000 more items, and asserts whether this succeeds.
+// Reserves room for 1000 more items, and asserts that this succeeds if and only if `granted` is
+// true.
 fn assert_reserve<A: Allocator>(rt: &impl Abort, items: &mut Vec<u8, A>, granted: bool) {
     assert_same(rt, items.reserve(1000).is_ok(), granted);
 }
 
-// Asserts how many blocks are allocated and not freed.
+// Asserts that exactly `blocks` blocks are allocated and not yet freed.
 fn assert_blocks(rt: &impl Abort, refusing: &Refusing<Global>, blocks: u64) {
     assert_same(rt, refusing.blocks(), blocks);
 }

@@ -7,9 +7,10 @@ use thin_examples::rows::{ROWS, row};
 use thin_testing::Refusing;
 use thin_vec::{ThinVec, thin_vec};
 
-// How many values each row compares, and how many requests it makes, counted by hand. A row that
-// compares fewer values, or does the work of another row, has a different line. The requests of row
-// 35 are made by the `format!` of Rattle's library, and are shown as 0.
+// One line for each row: its number, how many values it compares, and how many requests it makes,
+// all counted by hand. A row that compares fewer values, or does the work of another row, has a
+// different line. Row 35 is shown with 0 requests: its requests are made by the `format!` of
+// Rattle's library, and are not counted here.
 const COUNTS: &str = "\
     1: 5, 0\n\
     2: 12, 2\n\
@@ -47,8 +48,8 @@ const COUNTS: &str = "\
     40: 15, 2\n\
     41: 6, 5\n";
 
-// Runs a row. Asserts that it is ok and that all its blocks are freed. Returns how many values it
-// compares, and how many requests it makes.
+// Runs the row `number`. Asserts that the row is ok, and that all its blocks are freed. Returns how
+// many values the row compares, and how many requests it makes.
 fn run_and_count<R: Abort>(rt: &R, alloc: Global, number: u32) -> (u32, u64) {
     let refusing = Refusing::new(alloc, 0);
     let checks = row(&refusing, number).ok().expect(rt, "no refusal");
@@ -78,7 +79,7 @@ fn assert_wrong(rt: &impl Abort, checks: Checks, values: u32) {
     assert!(rt; checks.compared() == values && !checks.is_ok());
 }
 
-// Returns the result of comparing the list 1, 2 with these items and this capacity.
+// Returns the checks after the list 1, 2 was compared with `items` and `capacity`.
 fn checks_of_holds(rt: &impl Abort, alloc: Global, items: &[u32], capacity: usize) -> Checks {
     let list = thin_vec![alloc => 1, 2].expect(rt, "memory");
     let mut checks = Checks::new();

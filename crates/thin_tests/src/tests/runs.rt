@@ -1,4 +1,4 @@
-//! A test of `run`, which runs commands: what no contract states about it.
+//! A test of `run`, which runs commands on a list: without commands, it makes no request.
 use crate::tests::support::assertions::assert_same;
 use crate::tests::support::items::refusing_nth;
 use std::alloc::Global;

@@ -5,7 +5,7 @@ use std::alloc::Global;
 use std::process::Abort;
 use thin_vec::ThinVec;
 
-// Asserts whether the list has a block, by `has_capacity`.
+// Asserts that `has_capacity` returns `owns_block`, which says whether the list has a block.
 fn assert_owns_block<T>(rt: &impl Abort, list: &ThinVec<T>, owns_block: bool) {
     assert_same(rt, list.has_capacity(), owns_block);
 }

@@ -1,5 +1,5 @@
-//! `splice`: functions whose contracts show what a caller can conclude, and tests of what a failed
-//! `finish` leaves and returns.
+//! Functions whose contracts show what a caller of `splice` can conclude, and tests of what a
+//! failed `finish` leaves in the list and returns.
 ghost use Rattle.std.specs.Prelude.{◌≡◌, ◌≤◌, ◌++◌, OnOk, drop, length, take};
 
 use crate::tests::support::assertions::{assert_items, assert_len, assert_list, assert_same};
@@ -31,8 +31,8 @@ pub fn replace<A: Allocator, G: Growth>(
     }
 }
 
-/// Replaces the items from `start` up to `end` by the numbers, and then puts the old items back.
-/// The list has the same items as before.
+/// Replaces the items from `start` up to `end` by the numbers, and then puts the old items back. On
+/// success, the list has the same items as before.
 pub fn replace_and_undo<A: Allocator + Copy, G: Growth>(
     list: &mut ThinVec<u32, A, G>,
     start: usize,
@@ -87,8 +87,8 @@ fn assert_refused<A: Allocator>(
     assert_same(rt, rest.next(), None);
 }
 
-// Splices the items of `iter` into a list in place of a range, which has to fail. Asserts which
-// items and which capacity the list then has (`left`), and what the failed call returns (`wanted`).
+// Replaces a range of a list by the items of `iter`. The call has to fail. Asserts which items and
+// which capacity the list then has (`left`), and what the failed call returns (`wanted`).
 fn assert_range_refused<A: Allocator + Copy>(
     rt: &impl Abort,
     alloc: A,
@@ -121,8 +121,8 @@ fn row_12_refused_finish_returns_the_item_in_hand(rt: HostRuntime) {
 
 #[test]
 fn row_39_refused_finish_returns_the_held_items(rt: HostRuntime) {
-    // The requests are for the list's first block, for the vector of the items held back, and for
-    // the growth of the list. The last one is refused.
+    // The first request is for the list's block, the second one for the vector of the items held
+    // back, and the third one for the growth of the list. The third one is refused.
     let refusing = refusing_nth(&rt, rt.alloc(), 3);
     let iter = Claims::new(&[7, 8, 9], 0);
     let left = (&[1, 7, 3][..], 3);

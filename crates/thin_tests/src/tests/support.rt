@@ -1,4 +1,4 @@
-//! What the tests share: assertions, items, iterators and allocators.
+//! Helpers that the tests share: assertions, items, iterators and allocators.
 pub mod assertions;
 pub mod claims;
 pub mod counted;

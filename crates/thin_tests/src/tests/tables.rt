@@ -1,5 +1,6 @@
-//! Tests of the table of `thin_rows`: what no contract states (when memory is requested and freed,
-//! and how a table is printed), and many random calls that are compared with a `BTreeMap`.
+//! Tests of the table of `thin_rows`. They check what no contract states: when memory is requested
+//! and freed, and how a table is printed. They also compare the results of many random calls with
+//! those of a `BTreeMap`.
 ghost use Rattle.std.specs.Prelude.{◌<◌, length};
 
 use crate::tests::support::assertions::{assert_counts, assert_same};
@@ -13,14 +14,15 @@ use std::process::Abort;
 use thin_rows::{Rows, ThinVecError};
 use thin_testing::Refusing;
 
-// Asserts that the table has the row, which its calls require.
+// Asserts that the table has a row with the index `row`. The calls of a table require this.
 fn assert_row<V, A: Allocator>(rt: &impl Abort, table: &Rows<V, A>, row: usize)
     ensures in_bounds { row < length table.now }
 {
     assert!(rt; row < table.rows());
 }
 
-// Asserts that the row has these entries, and that it has a block if and only if it is not empty.
+// Asserts that the row has exactly `entries`, and that the row has a block if and only if it has an
+// entry.
 fn assert_entries<A: Allocator>(
     rt: &impl Abort,
     table: &Rows<u32, A>,
@@ -152,8 +154,8 @@ fn prints_a_row_of_many_entries(rt: HostRuntime) {
     );
 }
 
-// Sets entries in `columns` columns of row 0, the last column first, and in as many columns of the
-// last row, the first column first.
+// Sets entries in row 0 and in the last row, `columns` entries in each. Row 0 is filled from its
+// last column to its first, the last row from its first column to its last.
 fn fill_columns<A: Allocator>(rt: &impl Abort, table: &mut Rows<u32, A>, columns: usize) {
     for column in 0..columns {
         assert_set(rt, table, (table.rows().saturating_sub(1), column), 7, None);
@@ -215,8 +217,8 @@ fn a_cleared_row_frees_its_block_and_makes_no_request(rt: HostRuntime) {
     assert_counts(&rt, refusing, 0, 2);
 }
 
-// Makes a row of `columns` entries, and sets each of them again. Asserts that this makes no request
-// for memory.
+// Makes a row of `columns` entries, and sets each entry again. Asserts that setting the entries
+// again makes no request for memory.
 fn assert_set_again(rt: &impl Abort, refusing: &Refusing<Global>, columns: usize) {
     let mut table = Rows::with_rows(refusing, 1).expect(rt, "memory");
     for column in 0..columns {
@@ -311,8 +313,8 @@ fn set_both<A: Allocator>(
     }
 }
 
-// Asserts that the table and the reference have equally many entries, and that each entry of the
-// table is in the reference.
+// Asserts that the table and the reference have the same number of entries, and that each entry of
+// the table is in the reference.
 fn assert_both<A: Allocator>(rt: &impl Abort, table: &Rows<u32, A>, reference: &Reference) {
     assert_same(rt, table.len(), reference.len());
     for row in 0..table.rows() {

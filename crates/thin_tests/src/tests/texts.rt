@@ -7,7 +7,7 @@ use std::fmt::{Debug, Display};
 use std::process::Abort;
 use thin_vec::{CollectRefused, ExtendRefused, Rejected, SpliceRefused, ThinVec, ThinVecError};
 
-/// Asserts the three texts of a value: those of `{:?}`, `{:#?}` and `{:04?}`.
+/// Asserts that `{:?}`, `{:#?}` and `{:04?}` print the value as the three texts, in this order.
 pub fn assert_texts<D: Debug>(rt: &impl Abort, alloc: Global, value: &D, texts: [&str; 3]) {
     assert_text(rt, alloc, value, texts[0]);
     let lines = format!(in alloc; "{value:#?}").expect(rt, "memory");
@@ -90,7 +90,7 @@ fn assert_prints_cause<E: Debug + Display>(
     assert_same(rt, told.as_str(), wanted.as_str());
 }
 
-// Asserts the same as `assert_prints_cause` for each error type that holds values, with this cause.
+// Calls `assert_prints_cause` for an error of each type that holds values, with the cause `cause`.
 fn assert_all_print_cause(rt: &impl Abort, alloc: Global, cause: ThinVecError) {
     let (value, in_hand, rest) = (1, Some(1), 2);
     let rejected = Rejected { value, cause };

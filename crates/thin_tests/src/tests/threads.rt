@@ -1,5 +1,5 @@
-//! Sends lists, and what is made of lists, through functions whose bounds are `Send` and `Sync`. No
-//! thread is started: the test is that these functions compile and are proved.
+//! Passes lists, and values made from lists, to functions whose bounds are `Send` and `Sync`. No
+//! thread is started: the test is that these calls compile and are proved.
 ghost use Rattle.std.specs.Prelude.{◌≡◌};
 
 use crate::tests::support::assertions::assert_same;
@@ -29,7 +29,7 @@ fn needs_sync<X: Sync>(value: &X) -> &X
     value
 }
 
-// Sends a list of any items, with any allocator and any growth rule.
+// Passes a list of any item type, allocator and growth rule to `needs_send`.
 fn send_list<T: Send, A: Allocator + Send, G: Growth + Send>(
     list: ThinVec<T, A, G>,
 ) -> ThinVec<T, A, G>
@@ -38,7 +38,7 @@ fn send_list<T: Send, A: Allocator + Send, G: Growth + Send>(
     needs_send(list)
 }
 
-// Shares a list of any items, with any allocator and any growth rule.
+// Passes a list of any item type, allocator and growth rule to `needs_sync`.
 fn share_list<T: Sync, A: Allocator + Sync, G: Growth + Sync>(
     list: &ThinVec<T, A, G>,
 ) -> &ThinVec<T, A, G>

@@ -35,7 +35,7 @@ fn a_leaf_owns_no_block(rt: HostRuntime) {
     }
 }
 
-// Returns a list of the rules in order, with spare room.
+// Returns a list of the numbers in `rules`, in order, with spare capacity.
 fn roomy(rt: &impl Abort, alloc: Global, rules: &[u32]) -> ThinVec<u32> {
     let mut style = ThinVec::with_capacity(alloc, 10).expect(rt, "memory");
     for rule in rules {

@@ -1,5 +1,5 @@
-//! A function whose contract states that a list is one word wide, and a `Vec` three words. It holds
-//! for every item type and every growth rule.
+//! A function whose contract states that a list is one word wide, and that a `Vec` is three words
+//! wide. The contract holds for every item type and every growth rule.
 ghost use Rattle.std.specs.Prelude.{◌≡◌};
 
 use std::alloc::{Allocator, Global};

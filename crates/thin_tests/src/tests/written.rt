@@ -1,5 +1,6 @@
-//! Generic functions that make a list of written-out items and take it apart. The only bound on the
-//! item type is `T: Drop`. `three` needs no condition on the size of an item.
+//! Two generic functions: `three` makes a list by `thin_vec!`, and `pair` takes the items out of a
+//! list. Their only bound on the item type is `T: Drop`. `three` needs no condition on the size of
+//! an item.
 ghost use Rattle.std.specs.Mem.{type_size};
 ghost use Rattle.std.specs.Prelude.{◌≡◌, ◌*◌, ◌^◌, ◌<◌, [], ◌∷◌, IfOk, IfSome};
 

@@ -35,7 +35,7 @@ module _ {T : Type 0} where
       (replicate-append-replicate start 1 None))
 
   -- a row whose last item is x consists of the slots before x, the slot of x, and the empty slots
-  -- after it
+  -- after x
   row-last : (start k : ℕ) (xs : List T) (x : T) → empty start ++ (full (xs ++ x ∷ []) ++ empty k)
       ≡ (empty start ++ full xs) ++ (Some x ∷ empty k)
   row-last start k xs x =
@@ -49,7 +49,7 @@ module _ {T : Type 0} where
   before-last start xs =
       omega (arith, length-append (empty start) (full xs), length-empty T start, length-full xs)
 
-  -- in the row of `start` empty slots, the items xs and x, and k empty slots, the slot after xs
+  -- in a row of `start` empty slots, the items xs, the item x and k empty slots, the slot after xs
   -- holds x
   slot-last : (start k : ℕ) (xs : List T) (x : T)
       → slot (empty start ++ (full (xs ++ x ∷ []) ++ empty k)) (start + length xs) ≡ Some x
@@ -78,8 +78,8 @@ module _ {T : Type 0} where
       all : (ys : List T) (n : ℕ) → n ≡ length ys → take n ys ≡ ys
       all ys n same = ap (take n) (sym (append-nil ys)) ∙ take_at ys [] n (sym same)
 
-  -- in the row of `start` empty slots and the slots s, writing ws from the slot `start` on writes
-  -- ws over s
+  -- in a row of `start` empty slots, followed by the slots s, writing ws from the slot `start` on
+  -- writes ws over s
   over-after : (start : ℕ) (s : List (Option T)) (ws : List T)
       → over (empty start ++ s) start ws ≡ empty start ++ over s 0 ws
   over-after zero s ws = refl
@@ -126,7 +126,7 @@ module _ {T A : Type 0} where
         cap = l;
       }
 
-  -- `end` is at most the number of slots
+  -- in the block of an iterator, `end` is at most the number of slots
   pub walked-room : (b : Block T A) (a : A) (start end : ℕ)
       → IsWalked b a start end → end ≤ length b.slots
   walked-room b a start end t =
@@ -142,7 +142,7 @@ module _ {T A : Type 0} where
         length-full xs,
       )
 
-  -- each slot from `start` up to `end` holds an item
+  -- in the block of an iterator, each slot from `start` up to `end` holds an item
   pub walked-filled : (b : Block T A) (a : A) (start end i : ℕ) → IsWalked b a start end → start ≤ i
       → i < end → IsSome (slot b.slots i)
   walked-filled b a start end i t low high =
@@ -177,9 +177,9 @@ module _ {T A : Type 0} where
     abbrev gap : ℕ
     gap = length b.slots - end
 
-    -- in the row of `start` empty slots, the items ys and k empty slots: if the slot `start` holds
-    -- an item, this item is the first of ys, and emptying the slot leaves one more empty slot
-    -- before the other items
+    -- Take a row of `start` empty slots, the items ys and k empty slots. If its slot `start` holds
+    -- v, then v is the first item of ys, and emptying this slot leaves one more empty slot before
+    -- the other items.
     first-of : (ys : List T) (k : ℕ) → 0 < length ys
         → slot (empty start ++ (full ys ++ empty k)) start ≡ Some v
         → (ys ≡ v ∷ drop 1 ys)
@@ -258,7 +258,7 @@ module _ {T A : Type 0} where
         (from-same b b' a t.from (ap (λ v. v.alloc) w))
 
   -- if ws was written over the slots from `start` on, the new block b' is that of an iterator of
-  -- the same length, with ws in place of its first items
+  -- the same length, in which ws replaces the first items
   pub settle-written : (b b' : Block T A) (a : A) (start end : ℕ) (ws : List T)
       → IsWalked b a start end → seen b' ≡ record (seen b) { slots = over b.slots start ws }
       → Walking b' a (refill (length (items_in b.slots)) (items_in b.slots) ws)

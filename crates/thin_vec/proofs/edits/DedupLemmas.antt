@@ -1,4 +1,4 @@
--- Lemmas about which items stay after each was tested against the last item kept so far, and about
+-- Lemmas about which items stay if each item is tested against the last item kept so far, and about
 -- how the results of consecutive tests combine. Throughout, R is the relation of the closure, and
 -- s, t and u are states of the closure.
 use Rattle.std.proofs.Common.{◌≡◌, ℕ, zero, suc, ◌+◌, ◌<◌, ◌≤◌, Bool, true, false, List, [], ◌∷◌, ◌++◌, length, take, drop, refl, sym, ap, subst, ◌∙◌, arith, inl, inr, append_assoc}
@@ -14,13 +14,14 @@ use Rattle.thin_vec.specs.ThinVec.{Thin}
 use Rattle.thin_vec.proofs.RetainLemmas.{cons-head, cons-not-nil, cons-tail, moving-more, moving-none, single}
 use Rattle.thin_vec.proofs.OpenBlockLemmas.{last-of}
 
--- the type of relations between a state, a later item, the last item kept, whether the later item
--- is removed, the state afterwards, and both items as the test left them
+-- The type of relations for a test of two items. Such a relation has seven arguments: the state
+-- before the test, the later item, the last item kept, whether the later item is removed, the state
+-- after the test, and both items as the test left them.
 abbrev OnPairs : Type 0 → Type 0 → Type 1
 OnPairs S T = S → T → T → Bool → S → T → T → Type 0
 
--- if two lists that each end with an item are equal, their last items are equal, and so are the
--- lists before them
+-- if two non-empty lists are equal, their last items are equal, and the lists without their last
+-- items are equal
 last-same : {X : Type 0} (a b : List X) (x y : X) → a ++ x ∷ [] ≡ b ++ y ∷ [] → (a ≡ b) × (x ≡ y)
 last-same [] [] x y e = (refl, cons-head e)
 last-same [] (z ∷ b) x y e = let n = ap length e in absurd (omega (arith, n, length_push b y))
@@ -33,7 +34,7 @@ last-same (z ∷ a) (q ∷ b) x y e =
 abbrev pub all-stay : ℕ → List Bool
 all-stay n = replicate n true
 
--- if two lists of flags are joined, the number of true flags is the sum of the numbers for the two
+-- the number of true flags in two joined lists is the sum of the numbers of true flags in the two
 -- lists
 trues-join : (a b : List Bool) → trues (a ++ b) ≡ trues a + trues b
 trues-join [] b = omega arith
@@ -45,8 +46,8 @@ trues-all : (n : ℕ) → trues (replicate n true) ≡ n
 trues-all zero = refl
 trues-all (suc n) = ap suc (trues-all n)
 
--- if the first n items stay, they do not move, and they do not change how many of the later items
--- move
+-- items that stay at the start of a list do not move: `moved_down` is the same with and without
+-- their n flags
 moved-all : (n : ℕ) (b : List Bool) → moved_down (replicate n true ++ b) ≡ moved_down b
 moved-all zero b = refl
 moved-all (suc n) b = moved-all n b
@@ -62,8 +63,8 @@ map-answer : (b : Bool) {P Q P' Q' : Type 0} → (P → P') → (Q → Q') → M
 map-answer true f g m = f m
 map-answer false f g m = g m
 
--- if a list of at least two items ends with l and begins with k, the items after k end with l, and
--- the items before l begin with k
+-- if a list of at least two items begins with k and ends with l, it still ends with l without its
+-- first item, and it still begins with k without its last item
 after-first : {X : Type 0} (pre zs : List X) (k l : X) → pre ++ l ∷ [] ≡ k ∷ zs → 0 < length zs
     → (p : List X) × (zs ≡ p ++ l ∷ []) × (pre ≡ k ∷ p)
 after-first [] zs k l e some = let n = ap length e in absurd (omega (arith, n, some))
@@ -91,8 +92,8 @@ module _ {S T : Type 0} (R : OnPairs S T) where
   -- in this module, the items zs were tested, starting in the state t and ending in the state u,
   -- and l was the last item kept before them
   module _ (t u : S) (l : T) (g : List Bool) (ws zs : List T) (m : AskedLast R t l zs g ws u) where
-    -- if the items xs were tested from the state s on, and further items were then tested against
-    -- the last item kept, then xs followed by these items were tested from s on
+    -- if the items xs were tested from the state s on, and the items zs were tested next, then xs
+    -- followed by zs were tested from the state s on
     last-append : (xs : List T) (s : S) (k : T) (f : List Bool) (pre : List T)
         → AskedLast R s k xs f (pre ++ l ∷ []) t → AskedLast R s k (xs ++ zs) (f ++ g) (pre ++ ws) u
     last-append [] s k f pre h =
@@ -123,9 +124,8 @@ module _ {S T : Type 0} (R : OnPairs S T) where
 
   -- ---- runs of items that all stay
 
-  -- The first m items of xs stay so far: the first item, and m - 1 later items, which were tested.
-  -- ys is xs with these items as the tests left them; s and t are the states before and after the
-  -- tests.
+  -- The first item of xs stays, and the m - 1 items after it were tested and stay. ys is xs with
+  -- these items as the tests left them. s and t are the states before and after the tests.
   pub record PairStays (m : ℕ) (s : S) (xs : List T) (t : S) (ys : List T) : Type 0 where
     pub first : T
     pub done : List T
@@ -137,7 +137,7 @@ module _ {S T : Type 0} (R : OnPairs S T) where
     pub kept : suc (length pre) ≡ m
     pub now : ys ≡ pre ++ last ∷ after
 
-  -- before the first test, `PairStays` holds for the first item alone, if there is one
+  -- if xs is not empty, `PairStays` holds for its first item alone, before any test
   pub pair-start : (s : S) (xs : List T) → 0 < length xs → PairStays 1 s xs s xs
   pair-start s [] some = absurd (omega arith)
   pair-start s (x ∷ xs) some =
@@ -154,14 +154,15 @@ module _ {S T : Type 0} (R : OnPairs S T) where
       }
 
   module _ (m : ℕ) (s : S) (xs : List T) (t : S) (ys : List T) (h : PairStays m s xs t ys) where
-    -- the pair of items that `a` tests is the last item kept and the first item not yet tested
+    -- `a` is the next test: it tested the first item not yet tested against the last item kept
     pub record NextPair (b : Bool) (u : S) (zs : List T)
         (a : IsPairAskedAt R m t ys b u zs) : Type 0 where
       pub front : a.before ≡ h.pre
       pub last : a.kept ≡ h.last
       pub after : h.after ≡ a.later ∷ a.after
 
-    -- each test `a` of the items at m - 1 and m satisfies `NextPair`
+    -- if `a` tested the item at index m against the item before it, `a` is the next test
+    -- (`NextPair`)
     next-pair : (b : Bool) (u : S) (zs : List T) (a : IsPairAskedAt R m t ys b u zs)
         → NextPair b u zs a
     next-pair b u zs a =
@@ -178,21 +179,22 @@ module _ {S T : Type 0} (R : OnPairs S T) where
         ∙ drop_at a.before (a.kept ∷ a.later ∷ a.after) (length h.pre) n) in
         record { front = sym fronts; last = sym (cons-head rests); after = cons-tail rests }
 
-    -- the test `a` tested its later item against the last item kept
+    -- the later item of `a` was tested against the last item kept
     next-asked : (b : Bool) (u : S) (zs : List T) (a : IsPairAskedAt R m t ys b u zs)
         → R t a.later h.last b u a.later_left a.kept_left
     next-asked b u zs a = subst (λ (k : T). R t a.later k b u a.later_left a.kept_left)
         (next-pair b u zs a).last a.asked
 
-    -- after the test `a`, the old items are the first item, the later items tested so far, which
-    -- end with the later item of `a`, and the items not yet tested
+    -- xs consists of its first item, the items tested before `a`, the item that `a` tested, and the
+    -- items not yet tested
     next-was : (b : Bool) (u : S) (zs : List T) (a : IsPairAskedAt R m t ys b u zs)
         → xs ≡ h.first ∷ ((h.done ++ a.later ∷ []) ++ a.after)
     next-was b u zs a = h.was ∙ ap (λ (l : List T). h.first ∷ l)
         (ap (λ (l : List T). h.done ++ l) (next-pair b u zs a).after
         ∙ sym (append_assoc h.done (a.later ∷ []) a.after))
 
-    -- after the test `a`, only the two items that it tested may have changed
+    -- after the test `a`, zs has the two items of `a` as the test left them, and no other item has
+    -- changed
     next-now : (b : Bool) (u : S) (zs : List T) (a : IsPairAskedAt R m t ys b u zs)
         → zs ≡ (h.pre ++ a.kept_left ∷ []) ++ a.later_left ∷ a.after
     next-now b u zs a =
@@ -200,7 +202,7 @@ module _ {S T : Type 0} (R : OnPairs S T) where
         (next-pair b u zs a).front
         ∙ sym (append_assoc h.pre (a.kept_left ∷ []) (a.later_left ∷ a.after)))
 
-    -- if the item at m is tested and stays, `PairStays` holds for m + 1
+    -- if the item at index m was tested and stays, `PairStays` holds for the first m + 1 items
     pub pair-more : (u : S) (zs : List T) → IsPairAskedAt R m t ys false u zs
         → PairStays (m + 1) s xs u zs
     pair-more u zs a =
@@ -228,7 +230,8 @@ module _ {S T : Type 0} (R : OnPairs S T) where
           now = next-now false u zs a;
         }
 
-    -- if the item at m is tested and is removed, the tests stopped at m (`PairsAskedUpTo`)
+    -- if the item at index m was tested and is to be removed, the tests stopped there, with m items
+    -- kept (`PairsAskedUpTo`)
     pub pair-goes : (u : S) (zs : List T) → IsPairAskedAt R m t ys true u zs
         → PairsAskedUpTo R m s xs u zs
     pair-goes u zs a =
@@ -254,17 +257,17 @@ module _ {S T : Type 0} (R : OnPairs S T) where
 
   module _ (m : ℕ) (s : S) (xs : List T) (t : S) (ys : List T)
       (r : PairsAskedUpTo R m s xs t ys) where
-    -- the first m items of ys are the kept ones, as the tests left them
+    -- the first m items of ys are the items kept, as the tests left them
     pub run-left : take m ys ≡ r.left
     run-left = ap (take m) r.now ∙ take_at r.left (r.over ++ r.after) m r.long
 
-    -- the items of ys from m on are the item to be removed, if there is one, followed by the items
-    -- not yet tested
+    -- from index m on, ys has the item to be removed, if there is one, and then the items not yet
+    -- tested
     pub run-over : drop m ys ≡ r.over ++ r.after
     run-over = ap (drop m) r.now ∙ drop_at r.left (r.over ++ r.after) m r.long
 
-    -- if there is an item after the kept ones, it is the item to be removed, and the items after it
-    -- were not yet tested
+    -- if an item follows the m items kept, that item is to be removed, and the items after it were
+    -- not yet tested
     pub run-goes : (value : T) (rest : List T) → drop m ys ≡ value ∷ rest → (r.after ≡ rest)
         × (r.stays ≡ all-stay r.more ++ false ∷ [])
     run-goes value rest k =
@@ -274,7 +277,7 @@ module _ {S T : Type 0} (R : OnPairs S T) where
           | inr q ↦ absurd (cons-not-nil (sym k ∙ (run-over ∙ (λ i. q.0 i ++ q.1.0 i))))
         ]
 
-    -- if there is no item after the kept ones, all items were tested, and all are kept
+    -- if no item follows the m items kept, all items were tested, and all are kept
     pub run-ends : drop m ys ≡ [] → (r.after ≡ []) × (r.stays ≡ all-stay r.more)
     run-ends k =
         elim r.stops [
@@ -284,7 +287,8 @@ module _ {S T : Type 0} (R : OnPairs S T) where
           | inr q ↦ (q.1.0, q.1.1)
         ]
 
-    -- the length of the run is 1, for the first item, plus the number of later items that stay
+    -- m, the number of items kept, is 1 (for the first item, which is not tested) plus the number
+    -- of tested items that stay
     pub run-count : (f : List Bool) → trues f ≡ 0 → r.stays ≡ all-stay r.more ++ f
         → suc (trues r.stays) ≡ m
     run-count f none e =
@@ -293,8 +297,8 @@ module _ {S T : Type 0} (R : OnPairs S T) where
   -- ---- open blocks
 
   module _ {A : Type 0} (v w : Open T A) where
-    -- after the tests, the open block has the given front and the given cost; of the other parts,
-    -- only the gap and the middle run may have changed
+    -- `Moved front cost` holds if w is v with this front and this cost. In addition, only the gap
+    -- and the middle run of w may differ from those of v.
     abbrev Moved : List T → Cost → Type 0
     Moved front cost = w ≡ record v
         { front = front; gap = w.gap; rest = w.rest; cost = cost }
@@ -306,8 +310,8 @@ module _ {S T : Type 0} (R : OnPairs S T) where
     moved e n = λ i. record v { front = e i; gap = w.gap; rest = w.rest; cost = n i }
 
     module _ (s t : S) where
-      -- `Dedups` holds if the items `done` were tested, with `first` as the last item kept before
-      -- them, and those of them that stay were moved to the front
+      -- if the items `done` were tested, the first of them against `first`, the last item of the
+      -- front, and the items that stay were moved to the front, then `Dedups` holds
       dedups-of : (before : List T) (first : T) (done : List T) (stays : List Bool) (kept : List T)
           → v.front ≡ before ++ first ∷ [] → v.rest ≡ done ++ w.rest
           → AskedLast R s first done stays kept t → 0 < w.gap
@@ -335,7 +339,7 @@ module _ {S T : Type 0} (R : OnPairs S T) where
         (last-goes s t a.kept x y a.kept_left a.asked) gap
         (now ∙ moved (λ i. a.now i) (sym (moving-none v.cost)))
 
-    -- if the next item x was tested and stays, and was moved to the front for one move, `Dedups`
+    -- if the item x was tested, stays, and was moved to the front at the cost of one move, `Dedups`
     -- holds
     pub dedups-stays : {s t : S} (x y : T) (front : List T)
         → IsLastAsked R s x v.front false t y front → v.rest ≡ x ∷ w.rest
@@ -349,9 +353,9 @@ module _ {S T : Type 0} (R : OnPairs S T) where
     module _ (s t u : S) (x y z : T) (front ys zs : List T)
         (a : IsLastAsked R s x v.front false t y front) (b : Bool)
         (n : IsNextAsked R t y ys b u z zs) (whole : v.rest ≡ x ∷ ys) where
-      -- if the next item stays, and the item after it was tested too, the front then ends with the
-      -- item kept before these two, as the first test left it, and the next item, as the second
-      -- test left it
+      -- If x stays, and the item after x was then tested, the front followed by x ends with two
+      -- items: the last item of the front, as the first test left it, and x, as the second test
+      -- left it.
       two-front : (front ++ z ∷ [] ≡ a.before ++ a.kept_left ∷ z ∷ [])
       two-front = ap (λ (l : List T). l ++ z ∷ []) a.now
           ∙ append_assoc a.before (a.kept_left ∷ []) (z ∷ [])
@@ -370,8 +374,8 @@ module _ {S T : Type 0} (R : OnPairs S T) where
           (a.kept_left ∷ z ∷ []) a.was (whole ∙ ap (λ (l : List T). x ∷ l)
           (n.was ∙ ap (λ (l : List T). n.later ∷ l) same)) asked gap (now ∙ moved two-front refl)
 
-      -- if the next two items stay, the run of items from the second one on stays too, and the item
-      -- after the run, if there is one, is removed, then `Dedups` holds
+      -- `Dedups` holds if the next item stays, a run of m items after it stays, and the item after
+      -- that run, if there is one, is removed
       pub dedups-run : b ≡ false → (m : ℕ) (q : S) (ws : List T) (r : PairsAskedUpTo R m u zs q ws)
           → r.after ≡ w.rest → suc (trues r.stays) ≡ m
           → 0 < w.gap → Moved ((front ++ z ∷ []) ++ take m ws) (moving m (moving 1 v.cost))
@@ -400,8 +404,8 @@ module _ {S T : Type 0} (R : OnPairs S T) where
           ∙ append_assoc a.before (a.kept_left ∷ z ∷ []) r.left)
           (moving-more m 1 v.cost ∙ ap (λ (k : ℕ). moving k v.cost) paid))
 
-  -- before the first test, an open block v that has a gap and a non-empty front satisfies `Dedups`
-  -- with itself
+  -- if the open block v has a gap and a non-empty front, `Dedups` holds for v and v itself: no item
+  -- was tested
   pub dedups-start : {A : Type 0} (s : S) (v : Open T A) → 0 < length v.front
       → 0 < v.gap → Dedups R s v s v
   dedups-start s v some gap =
@@ -457,13 +461,13 @@ module _ {S T : Type 0} (R : OnPairs S T) where
 
   module _ {A : Type 0} (v w : Open T A) (m : ℕ) (s t : S) (ys : List T)
       (r : PairsAskedUpTo R m s v.rest t ys) where
-    -- The items of the run, as the tests left them, are the front, which costs no move. Of the
-    -- other parts, only the gap and the middle run may have changed.
+    -- w is v with a front of exactly the items kept, as the tests left them, and with the same
+    -- cost. In addition, only the gap and the middle run may differ.
     abbrev RunPassed : Type 0
     RunPassed = Moved v w (take m ys) v.cost
 
-    -- if the item after the run is removed, and all items after it were then tested, the open block
-    -- before the tests and z satisfy `IsDeduped`
+    -- if the item after the run is removed, and all items after that item are then tested,
+    -- `IsDeduped` holds for the old open block v and the final one, z
     pub deduped-goes : (value : T) (u : S) (z : Open T A) → RunPassed → drop m ys ≡ value ∷ w.rest
         → Dedups R t w u z → z.rest ≡ [] → IsDeduped R s v u z
     deduped-goes value u z p k h none =
@@ -496,7 +500,7 @@ module _ {S T : Type 0} (R : OnPairs S T) where
           });
         }
 
-    -- if no item is left after the run, v and w satisfy `IsDeduped`: all items stay
+    -- if no item follows the run, all items stay, and `IsDeduped` holds for v and w
     pub deduped-ends : RunPassed → drop m ys ≡ [] → w.rest ≡ [] → IsDeduped R s v t w
     deduped-ends p k none =
         let g = run-ends m s v.rest t ys r k in
@@ -517,15 +521,16 @@ module _ {S T : Type 0} (R : OnPairs S T) where
           });
         }
 
--- in this module, a test of the type J contains a closure, and returns what the closure returns;
--- `inside` gives the state of the closure
+-- in this module, J is a type of tests: a test contains a closure, and returns what the closure
+-- returns. `inside` gives the state of the closure in a test.
 module _ {J S T : Type 0} (R : OnPairs S T) (inside : J → S) where
-  -- the relation of the test: it is the relation of the closure, for the states of the closure
+  -- the relation of the test: the relation of the closure, between the states that the closure has
+  -- inside the test
   abbrev through : OnPairs J T
   through s x k b t y l = R (inside s) x k b (inside t) y l
 
-  -- if the test tested the items xs after the kept item k, its closure tested them, with the same
-  -- answers
+  -- if the items xs were tested by the test, after the kept item k, they were tested by its
+  -- closure, with the same results
   last-through : (xs : List T) (s t : J) (k : T) (f : List Bool) (ys : List T)
       → AskedLast through s k xs f ys t → AskedLast R (inside s) k xs f ys (inside t)
   last-through [] s t k f ys h = (h.0, h.1, ap inside h.2)
@@ -541,14 +546,13 @@ module _ {J S T : Type 0} (R : OnPairs S T) (inside : J → S) where
         (λ q. (q.0, last-through xs h.3 t h.1 h.4 q.0 q.1, q.2)) h.7,
   )
 
-  -- if the test tested the items xs, its closure tested them, with the same answers
+  -- if the items xs were tested by the test, they were tested by its closure, with the same results
   pairs-through : (xs : List T) (s t : J) (f : List Bool) (ys : List T)
       → AskedPairs through s xs f ys t → AskedPairs R (inside s) xs f ys (inside t)
   pairs-through [] s t f ys h = (h.0, h.1, ap inside h.2)
   pairs-through (x ∷ xs) s t f ys h = last-through xs s t x f ys h
 
-  -- if the list v was reduced to w by the results of the test, it was reduced to w by the results
-  -- of the closure
+  -- if the test reduced the list v to w, its closure reduced v to w
   pub deduped-through : {A : Type 0} (s : J) (v w : Thin T A) (t : J) → IsDedupedTo through s v w t
       → IsDedupedBy R (inside s) v w
   deduped-through s v w t h = (
@@ -561,8 +565,8 @@ module _ {J S T : Type 0} (R : OnPairs S T) (inside : J → S) where
     },
   )
 
--- in this module, a stateless test E decides which items stay, so that the items that stay and the
--- items that move are functions of the items
+-- in this module, the test E is stateless, so the two items alone decide whether the later one
+-- stays
 module _ {S T : Type 0} (E : T → T → Bool) where
   -- if the items xs were tested after the kept item k, the flags are `unlike_from E k xs`, and the
   -- items kept are `dedup_from E k xs`
@@ -614,7 +618,7 @@ module _ {S T : Type 0} (R : OnPairs S T) where
       one true m few = let f = few h.2 ys m in omega (arith, f)
       one false m few = let f = few h.1 m.0 m.1 in omega (arith, f, ap length m.2)
 
-  -- at most as many items are kept as xs has
+  -- the number of items kept is at most the length of xs
   few-pairs : (xs : List T) (s t : S) (stays : List Bool) (ys : List T)
       → AskedPairs R s xs stays ys t → length ys ≤ length xs
   few-pairs [] s t stays ys h = omega (arith, ap length h.1)

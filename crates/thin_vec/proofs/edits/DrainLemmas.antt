@@ -24,7 +24,7 @@ module _ {T A G : Type 0} {g : Ghosts G} {h : HoldsGhosts (Holder (Open T A)) (O
         cost = q.cost ∙ p.cost;
       }
 
-  -- a `Drain`, and the same `Drain` after any number of calls of `next`, satisfy `DrainKeeps`
+  -- calls of `next` do not change what the list will be once the `Drain` is dropped (`DrainKeeps`)
   pub drain_keeps_along : (d : Drain T A G (Holder (Open T A)) g h) → DrainKeepsAlong d
   drain_keeps_along d [] later e = subst (λ t. DrainKeeps d t) e
       (record { lender = refl; kept = refl; capacity = refl; alloc = refl; cost = refl })

@@ -1,5 +1,4 @@
--- Lemmas about which item a closure extracts, if items are tested up to and including the first
--- that it extracts.
+-- Lemmas about the item that a closure extracts: the first item for which it returns true.
 use Rattle.std.proofs.Common.{◌≡◌, ℕ, ◌+◌, ◌≤◌, Bool, true, false, List, [], ◌∷◌, ◌++◌, Option, None, Some, length, take, drop, refl, sym, ap, subst, ◌∙◌, arith, length-append}
 use Rattle.std.proofs.lemmas.List.{drop_at, length-take-le, nil_from_length, take_at}
 use Rattle.std.specs.List.Retain.{ExtractsNext}
@@ -48,12 +47,12 @@ module _ {F T : Type 0} (R : F → T → Bool → F → T → Type 0) where
     abbrev J : S → T → Bool → S → T → Type 0
     J s x b t y = R (of s) x (not b) (of t) y
 
-    -- in this module, the closure keeps none of the items `after`, if it begins in the state
-    -- `between`: either it extracts the first of these items, or there are none
+    -- In this module, the closure begins in the state `between` and keeps none of the items
+    -- `after`: it extracts the first of these items, or there are none.
     module _ (between : S) (after : List T) (item : Option T) (t : F) (rest : List T)
         (e : ExtractsNext R (of between) after item t [] rest) where
-      -- if a run of items was tested before, and all of them stay, the closure kept this run, and
-      -- then extracted the first item after it, if there is one
+      -- if all items of a run stay, and the items `after` follow the run, the closure keeps the run
+      -- and then extracts the first of the items `after`, if there is one
       picked-after : (s : S) (run left : List T) → Asked J s run (stay left) between
           → ExtractsNext R (of s) (run ++ after) item t left rest
       picked-after s [] [] a =
@@ -116,7 +115,8 @@ module _ {F T : Type 0} (R : F → T → Bool → F → T → Type 0) where
       pub picked-room : m ≤ length ys
       picked-room = omega (arith, reached, ap length now, length-append h.left h.end)
 
-      -- what the closure extracted from the items after the run is what it extracted from all items
+      -- if the closure keeps the run, and then extracts `item` from the items after the run, `item`
+      -- is what the closure extracts from all items
       whole : (item : Option T) (rest : List T) → ExtractsNext R (of h.between) h.after item (of t)
           [] rest → ExtractsNext R (of s) xs item (of t) (take m ys) rest
       whole item rest e =
@@ -140,8 +140,8 @@ module _ {F T : Type 0} (R : F → T → Bool → F → T → Type 0) where
           whole (Some v) zs (stops-at-item h.between t h.after h.end v zs
           h.stops (sym end-is ∙ some))
 
--- if xs has at least k items, moving the first k of them over the gap costs one move for each item
--- of `take k xs`
+-- if xs has at least k items, moving k items costs the same as moving the items of `take k xs`: no
+-- move if there is no gap, and one move for each item otherwise
 pub cost-of : {T : Type 0} (gap : ℕ) (cost : Cost) (k : ℕ) (xs : List T) → k ≤ length xs
     → (if gap == 0 then cost else moving k cost)
     ≡ (if gap == 0 then cost else moving (length (take k xs)) cost)

@@ -40,8 +40,9 @@ module _ {S T A : Type 0} (steps : S → Option T → S → Type 0) (can : S →
       (by : IsFilledBy steps can remaining v.gap s f) × IsClosedWith v by.items a w
       × (f.end ≡ length v.front + length by.items)
 
-  -- The list u is v with xs in its gap, where xs end before the slot `end` and were yielded by
-  -- calls of `next` that led from s to t. The gap is full, and `next` may be called on t.
+  -- The list u is the open block v with the items xs between its front and its tail. There are
+  -- enough of these items to fill the gap, and the last of them is in the slot before `end`. Calls
+  -- of `next` yielded xs and led from the iterator s to t, and `next` may be called on t.
   pub record IsReached (v : Open T A) (s : S) (u : Thin T A) (xs : List T) (end : ℕ)
       (t : S) : Type 0 where
     pub items : u.items ≡ with_between v xs
@@ -79,15 +80,15 @@ module _ {S T A : Type 0} {steps : S → Option T → S → Type 0} {can : S →
     filled-drains done = (f.rest, subst (λ b. Gives steps s p.0.items b f.rest) done p.0.gave)
 
     module _ (rule : Rule) (R : RattleType) (n : ℕ) (left : Count) where
-      -- if filling and closing the gap took at most n further moves, the list satisfies `HasTaken`
-      -- with n further moves
+      -- if closing the gap took at most n moves, `HasTaken` holds with at most n moves of old items
       pub filled-taken : p.1.cost.0 ≤ n → HasTaken rule R (left_of v a) w n left
       filled-taken few =
           taken-spare rule R (left_of v a) w (length p.0.items) p.1.cost.0 n left p.1.cost.1
           p.1.capacity (omega (arith, filled-long, length-append v.front v.tail)) few p.1.alloc
 
-      -- if a gap was opened in the list u, filled, and closed, with at most n further moves in all,
-      -- then u and the new list satisfy `HasTaken` with n further moves
+      -- If a gap was opened in the list u, filled, and closed, and opening and closing the gap took
+      -- at most n moves, then `HasTaken` holds for u and the new list, with at most n moves of old
+      -- items.
       pub wide-taken : (u : Thin T A) (at count : ℕ) → IsWide v u at count → a ≡ u.alloc
           → p.1.cost.0 + (length u.items - at) ≤ n → HasTaken rule R u w n left
       wide-taken u at count wide from few =
@@ -112,7 +113,7 @@ module _ {S T A : Type 0} {steps : S → Option T → S → Type 0} {can : S →
     pub reached-long : length u.items ≡ end + length v.tail
     reached-long = omega (arith, ap length p.items, between-length v xs, p.ends)
 
-    -- if u grows to w with the same items, `IsReached` still holds
+    -- if u grows to w with the same items, `IsReached` holds for w too
     pub reached-grown : (w : Thin T A) → w.items ≡ u.items
         → IsReached steps can remaining v s w xs end t
     reached-grown w same = record {
@@ -125,9 +126,9 @@ module _ {S T A : Type 0} {steps : S → Option T → S → Type 0} {can : S →
       nearer = p.nearer;
     }
 
-    -- if the steps so far satisfy `HasTaken` with m further moves, the later steps, up to the list
-    -- w, satisfy it with n further moves, and m + n ≤ k, then all steps together satisfy it with k
-    -- further moves
+    -- If the steps so far satisfy `HasTaken` with at most m moves of old items, and the later
+    -- steps, up to the list w, satisfy it with at most n, then all steps together satisfy it with
+    -- at most k, where k is at least m + n.
     pub reached-taken : (rule : Rule) (R : RattleType) → KeepsLaw rule → (a : A) (w : Thin T A)
         (m n k : ℕ) → m + n ≤ k → HasTaken rule R (left_of v a) u m (remaining s)
         → HasTaken rule R u w n (remaining t) → HasTaken rule R (left_of v a) w k (remaining s)
@@ -139,7 +140,7 @@ module _ {S T A : Type 0} {steps : S → Option T → S → Type 0} {can : S →
         before now
 
     -- if the capacity has not changed so far, a capacity d that satisfies `IsExtended` for the
-    -- later steps satisfies it for all steps
+    -- later steps also satisfies `IsExtended` for all steps
     pub reached-extended : (rule : Rule) (R : RattleType) (a : A) (d n : ℕ)
         → u.capacity ≡ v.capacity → IsExtended rule R u d n (remaining t)
         → IsExtended rule R (left_of v a) d n (remaining s)
@@ -156,8 +157,8 @@ module _ {S T A : Type 0} {steps : S → Option T → S → Type 0} {can : S →
               ((ap (λ n. n + (length xs + e.0)) (length-append v.front v.tail) ∙ want) i)) ∙ e.2,
         )
 
-    -- if more items were inserted at `end`, and the iterator has still not ended, `IsReached` holds
-    -- with these items too
+    -- if more items were inserted at `end`, and the iterator has still not ended, `IsReached` still
+    -- holds, with the inserted items included
     pub reached-more : {w : Thin T A} {room : ℕ} {f : Filled S}
         (by : IsFilledBy steps can remaining room t f)
         → w.items ≡ (take end u.items ++ by.items) ++ drop end u.items
@@ -197,8 +198,8 @@ module _ {S T A : Type 0} {steps : S → Option T → S → Type 0} {can : S →
       cause = tt;
     }
 
-    -- if the items xs were placed before a tail, and the later steps returned a result r, the whole
-    -- `finish` satisfies `IsFinished` with r
+    -- if the items xs were placed before a non-empty tail, and the later steps returned the result
+    -- r, then `finish` as a whole satisfies `IsFinished` with r
     pub finished-from : {t : S} {u : Thin T A} {xs : List T} {end : ℕ}
         (r : Result (Unit {0}) (SpliceRefused T S A))
         → IsReached steps can remaining v s u xs end t → 0 < length v.tail

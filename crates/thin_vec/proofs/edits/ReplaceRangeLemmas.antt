@@ -1,5 +1,5 @@
--- Lemmas about what a list contains while the clones that are to replace a range are outside that
--- range, and about what a contract sees of the open block after the clones were moved into the
+-- Lemmas about replacing a range by clones: what the list contains while the clones are still
+-- outside the range, and what contracts see of the open block after the clones were moved into the
 -- range.
 use Rattle.std.proofs.Common.{if◌then◌else◌, inl, inr, eqb, min, Bool, true, false, ◌≡◌, ℕ, zero, suc, ◌+◌, ◌-◌, ◌≤◌, List, [], ◌∷◌, ◌++◌, None, Option, append_assoc, ap, arith, drop, length, length-append, refl, sym, take, ◌∙◌}
 use Rattle.std.proofs.lemmas.List.{drop_at, length-drop, length-take-le, replicate-append-replicate, take-append-drop, take-append-le, take_at}
@@ -20,7 +20,8 @@ use Rattle.thin_vec.proofs.edits.SpliceLemmas.{moving-add, moving-zero}
 use Rattle.thin_vec.proofs.OpenBlockLemmas.{Found, found, past_tail, reached}
 use Rattle.thin_vec.proofs.ListLemmas.{length-empty, length-full}
 
--- if xs are clones of ss, and ys of ts, then xs followed by ys are clones of ss followed by ts
+-- if xs are clones of ss, and ys are clones of ts, then xs followed by ys are clones of ss followed
+-- by ts
 pub all_zip-append : {X : Type 0} (R : X → X → Type 0) (ss ts xs ys : List X) → AllZip R ss xs
     → AllZip R ts ys → AllZip R (ss ++ ts) (xs ++ ys)
 all_zip-append R [] ts [] ys e h = h
@@ -51,9 +52,9 @@ module _ {T : Type 0} where
       (λ m. front m ++ past m) ∙ take-append-drop i xs
 
 module _ {T : Type 0} (xs : List T) (i j : ℕ) (order : i ≤ j) (within : j ≤ length xs) where
-  -- if w is a list xs with zs inserted at an index j, and ys appended, then moving ys from the end
-  -- of w into the place of the items from an index i up to j makes xs with ys and zs in place of
-  -- these items
+  -- Let w be the list xs with zs inserted at the index j and ys appended. If ys are moved from the
+  -- end of w to the index i, and replace the items from there up to j, the result is xs with ys and
+  -- zs in place of these items.
   pub brought-in : (ys zs : List T) {w : List T} {n : ℕ} → length ys ≡ n
       → w ≡ replace_range xs j j zs ++ ys
       → (take i w ++ drop (length w - n) w) ++ take (length w - n - j) (drop j w)
@@ -246,8 +247,7 @@ at-most-more {n} {m} {k} {c} {d} {e} h few is = record {
   cost = is ∙ (ap (λ q. moving m q) h.cost ∙ moving-add m h.moves c);
 }
 
--- if at most n moves lead from one cost to another, and n ≤ m, then at most m moves lead from the
--- one to the other
+-- if at most n moves lead from the cost c to d, and n ≤ m, then at most m moves lead from c to d
 pub at-most-le : {n m : ℕ} {c d : Cost} → MovesAtMost n c d → n ≤ m → MovesAtMost m c d
 at-most-le {n} {m} {c} {d} h le = record {
   moves = h.moves;
@@ -255,8 +255,7 @@ at-most-le {n} {m} {c} {d} h le = record {
   cost = h.cost;
 }
 
--- if either no moves or n moves lead from one cost to another, then at most n moves lead from the
--- one to the other
+-- if the cost d is c after either no move or n moves, then at most n moves lead from c to d
 pub at-most-if : (b : Bool) (n : ℕ) (c d : Cost) → d ≡ (if b then c else moving n c)
     → MovesAtMost n c d
 at-most-if true n c d is = record { moves = 0; few = omega arith; cost = is ∙ moving-zero c }
@@ -270,14 +269,14 @@ if-le false k n = omega arith
 -- k clones replace a range of r items: the first k1 clones take the places of the range, and the
 -- other k2 need further places
 pub record IsParted (k r k1 k2 : ℕ) : Type 0 where
-  -- the places of the range are taken by as many clones as possible
+  -- k1 is the number of clones, or the number of places of the range if that is smaller
   pub first : k1 ≡ min k r
-  -- each clone is one of the k1 or of the k2
+  -- the k1 clones and the k2 clones together are all the clones
   pub all : k1 + k2 ≡ k
 
--- if the k2 clones are inserted after the range, the k1 clones are appended to the list and then
--- moved into the range, and t items follow the range, then the number of moves is that of a
--- replacement, plus one for each of the k1 clones
+-- Let t items follow the range. If the k2 clones are inserted after the range, and the k1 clones
+-- are appended to the list and then moved into the range, then the number of moves is the number
+-- for a replacement plus one for each of the k1 clones.
 pub cloning-moves : {k r k1 k2 : ℕ} → IsParted k r k1 k2 → (t : ℕ) {z u : ℕ} → z ≡ 0 → u ≡ t + k2
     → ((k2 + (if eqb k2 z then 0 else t)) + k1) + (k1 + (if eqb k1 r then 0 else u))
     ≡ (k + (if eqb k r then 0 else t)) + min k r

@@ -34,8 +34,8 @@ pub moving-zero : (c : Cost) → c ≡ moving 0 c
 moving-zero c = ap (λ m. let d : Cost = record c { moves = m } in d)
     (let e : c.moves ≡ c.moves + 0 = omega arith in e)
 
--- if n items were placed into the gap of v, which made w, closing w costs at most one further move
--- for each item of the tail, and none if the gap is full
+-- Let w be the open block v with n items placed into its gap. Closing w moves each item of the tail
+-- at most once, and no item if the gap is full.
 pub closed-moves : {T A : Type 0} (v w : Open T A) (n : ℕ) → w.cost ≡ moving (v.gap - w.gap)
     v.cost → w.rest ≡ [] → w.tail ≡ v.tail → n ≡ v.gap - w.gap
     → (m : ℕ) × (cost_closed w ≡ moving (n + m) v.cost) × (m ≤ length v.tail)
@@ -70,8 +70,8 @@ closed-moves v w n paid none same count = go (eqb w.gap 0) refl
         false-true : false ≡ true → ⊥
         false-true h = cc
 
--- if n items were moved up (unless `count` is 0) before k items were placed, and m items were moved
--- afterwards, then at most n + m moves are counted in addition to the k moves of the placed items
+-- First n items are moved up, unless `count` is 0; next k items are placed, and then m items are
+-- moved. At most n + m moves are counted in addition to the k moves of the placed items.
 pub run-moves : (count n k m : ℕ) (c d : Cost) → d ≡ (if eqb count 0 then c else moving n c)
     → (x : ℕ) × (moving (k + m) d ≡ moving (k + x) c) × (x ≤ n + m)
 run-moves count n k m c d e = go (eqb count 0) e
@@ -106,9 +106,9 @@ module _ {S X : Type 0} (steps : S → Option X → S → Type 0) where
   yields-drawn s u xs o x is all =
       yields-more steps s all.0 u xs x all.1 (subst (λ r. steps all.0 r u) is all.2)
 
-  -- Let x followed by xs be the items `held`, followed by the item in o if there is one. If one
-  -- call of `next` yielded x, and later calls yielded xs, then all these calls yielded `held` and
-  -- then the item in o. If o is `None`, the last call returned `None`.
+  -- Let x followed by xs be the items `held` and then the item in o, if there is one. If a call of
+  -- `next` yielded x, and later calls yielded xs, then these calls together yielded `held` and then
+  -- the item in o. If o is `None`, they yielded `held` and then returned `None`.
   pub drawn-after : (s t u : S) (x : X) (xs held : List X) (o : Option X) → steps s (Some x) t
       → held ++ option_to_list o ≡ x ∷ xs
       → MatchOption o (YieldsThen steps t xs None u) (λ _. Yields steps t xs u)
@@ -123,7 +123,7 @@ module _ {S X : Type 0} (steps : S → Option X → S → Type 0) where
 
 module _ {T A : Type 0} where
   -- if k items were placed into spare capacity, with k + m moves, and m ≤ n, then v and w satisfy
-  -- `CostsAdding` with n further moves
+  -- `CostsAdding` with at most n moves of old items
   pub adding-run : (v w : Thin T A) (k m n : ℕ) → w.cost ≡ moving (k + m) v.cost
       → w.capacity ≡ v.capacity → length w.items ≡ length v.items + k → m ≤ n → CostsAdding v w n
   adding-run v w k m n e same long few = record {
@@ -145,7 +145,7 @@ pub any-err : {X E : Type 0} {Q : E → Type 0} (r : Result X E) → ((e : E) �
 any-err (Ok _) h = tt
 any-err (Err e) h = h e
 
--- inserting ys into xs makes a list that is as long as xs and ys together
+-- the length of xs with ys inserted is the length of xs plus the length of ys
 pub inserted-long : {T : Type 0} (xs ys : List T) (at : ℕ) → at ≤ length xs
     → length ((take at xs ++ ys) ++ drop at xs) ≡ length xs + length ys
 inserted-long xs ys at in_bounds =
@@ -168,8 +168,8 @@ module _ {S X : Type 0} (steps : S → Option X → S → Type 0) where
 
 module _ {S X A : Type 0} (steps : S → Option X → S → Type 0) (can : S → Type 0)
     (remaining : S → Count) where
-  -- if xs were placed before the calls that satisfy `Stopped`, then all calls satisfy `Stopped`
-  -- with xs as the placed items
+  -- if calls of `next` yielded xs, and later calls satisfy `Stopped` with no item placed, then all
+  -- these calls satisfy `Stopped` with xs as the placed items
   pub stopped-more : (s t : S) (xs : List X) (error : SpliceRefused X S A) → Yields steps s xs t
       → Stopped steps can remaining t [] error → Stopped steps can remaining s xs error
   stopped-more s t xs error before (inl now) =
@@ -190,8 +190,8 @@ module _ {S X A : Type 0} (steps : S → Option X → S → Type 0) (can : S →
         (now.2.0, yields-join steps s t now.2.0 xs error.held.items before now.2.1, now.2.2),
       )
 
-  -- if no item is held, calls that yielded the placed items and then the item in hand, if there is
-  -- one, satisfy `Stopped`
+  -- if no item is held, and calls of `next` yielded the placed items and then the item in hand, if
+  -- there is one, then these calls satisfy `Stopped`
   pub stopped-now : (s : S) (xs : List X) (error : SpliceRefused X S A) → error.held.items ≡ []
       → PausedAfter steps can remaining s (xs ++ option_to_list error.in_hand) error.rest
       → Stopped steps can remaining s xs error
@@ -207,11 +207,11 @@ module _ {S X A : Type 0} (steps : S → Option X → S → Type 0) (can : S →
       )
 
 -- in this module, `error` is the error of a `finish` that failed, v is the list after the failure,
--- and `left` bounds the rest of the iterator
+-- and `left` bounds how many items the rest of the iterator may yield
 module _ {S T A : Type 0} (rule : Rule) (R : RattleType) (v : Thin T A) (tail : List T)
     (left : Count) (error : SpliceRefused T S A) where
-  -- if there is a tail, and no item is held or in hand, the cause of the failure follows from the
-  -- hint
+  -- `IsStopCause` holds if there is a tail, no item is held, no item is in hand, and room for the
+  -- size hint could not be reserved
   pub stop-at-hint : 0 < length tail → error.held.items ≡ [] → error.in_hand ≡ None
       → FailsAtHint rule R v left error.cause → IsStopCause rule R v tail left error
   stop-at-hint some none empty fails = record {
@@ -221,8 +221,8 @@ module _ {S T A : Type 0} (rule : Rule) (R : RattleType) (v : Thin T A) (tail : 
     by_push = λ no_tail. absurd (omega (arith, some, ap length no_tail));
   }
 
-  -- if there is a tail, and items are held or an item is in hand, the cause of the failure follows
-  -- from these items
+  -- `IsStopCause` holds if there is a tail, an item is held or in hand, and the cause of the
+  -- failure is what `IsStopCause` says for held items and for an item in hand
   pub stop-at-held : 0 < length tail → (error.in_hand ≡ None → 0 < length error.held.items)
       → (error.in_hand ≡ None → (error.cause ≡ CapacityOverflow)
       ↔ (capacity_for rule R v (length error.held.items) ≡ None))
@@ -236,7 +236,7 @@ module _ {S T A : Type 0} (rule : Rule) (R : RattleType) (v : Thin T A) (tail : 
   }
 
   -- if there is no tail, no item is held, and `extend` failed with the same cause and the same item
-  -- in hand, then what holds for the cause of `extend` holds for the cause of `error`
+  -- in hand, then `IsStopCause` follows from `IsExtendCause`
   pub stop-at-end : (e : ExtendRefused T S) → tail ≡ [] → error.held.items ≡ []
       → error.cause ≡ e.cause → error.in_hand ≡ e.in_hand → IsExtendCause rule R v left e
       → IsStopCause rule R v tail left error
@@ -253,8 +253,8 @@ module _ {S T A : Type 0} (rule : Rule) (R : RattleType) (v : Thin T A) (tail : 
   }
 
 module _ (rule : Rule) (R : RattleType) where
-  -- if n is at least the number of items for which a capacity was ruled, the capacity satisfies
-  -- `IsKeptOrRuled` with n
+  -- if d is the ruled capacity of v for k more items, and n is at least the length of v plus k,
+  -- then d satisfies `IsKeptOrRuled` with n
   pub kept-or-ruled : KeepsLaw rule → {T A : Type 0} (v : Thin T A) (k d n : ℕ)
       → capacity_for rule R v k ≡ Some d → length v.items + k ≤ n
       → IsKeptOrRuled rule R v.capacity d n
@@ -303,7 +303,8 @@ module _ {T A : Type 0} where
   between-length v xs =
       omega (arith, length-append (v.front ++ xs) v.tail, length-append v.front xs)
 
-  -- if v has no tail, appending xs to the front and the tail puts xs in place of the middle run
+  -- if v has no tail, appending xs to the items of v outside its middle run is the same as putting
+  -- xs in place of the middle run
   pub after-items : (v : Open T A) (xs : List T) → v.tail ≡ []
       → (v.front ++ v.tail) ++ xs ≡ with_between v xs
   after-items v xs none =
@@ -314,7 +315,7 @@ module _ {T A : Type 0} where
 -- in this module, the steps of `finish` work on lists of items of R, under the growth rule `rule`
 module _ (rule : Rule) (R : RattleType) {T A : Type 0} where
   -- if k items were placed into spare capacity, with k + m moves, and m ≤ n, then v and w satisfy
-  -- `HasTaken` with n further moves
+  -- `HasTaken` with at most n moves of old items
   pub taken-spare : (v w : Thin T A) (k m n : ℕ) (left : Count) → w.cost ≡ moving (k + m) v.cost
       → w.capacity ≡ v.capacity → length w.items ≡ length v.items + k → m ≤ n → w.alloc ≡ v.alloc
       → HasTaken rule R v w n left
@@ -338,7 +339,7 @@ module _ (rule : Rule) (R : RattleType) {T A : Type 0} where
     };
   }
 
-  -- if nothing changed, v and w satisfy `HasTaken`
+  -- if w equals v, `HasTaken` holds for v and w
   pub taken-none : (v w : Thin T A) (n : ℕ) (left : Count) → w ≡ v → HasTaken rule R v w n left
   taken-none v w n left e =
       taken-spare v w 0 0 n left (ap (λ z. z.cost) e ∙ moving-zero v.cost)
@@ -347,7 +348,7 @@ module _ (rule : Rule) (R : RattleType) {T A : Type 0} where
 
   module _ (law : KeepsLaw rule) where
     -- if v grew to the ruled capacity for h more items, and h is at most the number of items that
-    -- the iterator has left, then v and w satisfy `HasTaken` with 0 further moves
+    -- the iterator has left, then v and w satisfy `HasTaken` with no move of old items
     pub taken-reserved : (v w : Thin T A) (h : ℕ) (left : Count)
         → capacity_for rule R v h ≡ Some w.capacity → w.items ≡ v.items → w.alloc ≡ v.alloc
         → w.cost ≡ cost_at v w.capacity → (IsCheap v → IsCheap w) → h ≤ size left
@@ -361,8 +362,8 @@ module _ (rule : Rule) (R : RattleType) {T A : Type 0} where
       cheap = cheap;
     }
 
-    -- if v and u satisfy `HasTaken` with m further moves, u and w satisfy it with n further moves,
-    -- and m + n ≤ k, then v and w satisfy it with k further moves
+    -- If v and u satisfy `HasTaken` with at most m moves of old items, and u and w satisfy it with
+    -- at most n, then v and w satisfy it with at most k, where k is at least m + n.
     pub taken-join : (v u w : Thin T A) (m n k : ℕ) (left more : Count) → m + n ≤ k
         → length v.items ≤ length u.items
         → (HasRoomFor v (size left) → u.capacity ≡ v.capacity → HasRoomFor u (size more))

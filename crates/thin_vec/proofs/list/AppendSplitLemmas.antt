@@ -69,7 +69,7 @@ module _ {T : Type 0} where
 
 module _ {T A : Type 0} where
   -- if xs was written after the last item of a list, and the stored length was increased by the
-  -- length of xs, the new block b' is that of the list with xs appended
+  -- length of xs, the new block b' is the block of the list with xs appended
   pub settle-more : {b : Block T A} {a : A} → IsThin b a → (b' : Block T A) (xs : List T) (n : ℕ)
       → n ≡ b.len → n + length xs ≤ length b.slots → {l : ℕ} {k : Cost} → l ≡ n + length xs
       → IsWritten b b' (laid n (full xs) b.slots) l k
@@ -83,8 +83,8 @@ module _ {T A : Type 0} where
       (omega (arith, new, end, length-append ys xs)) (omega (arith, room, end, length-append ys xs))
 
   module _ {b o : Block T A} {a p : A} (t : IsThin b a) (u : IsThin o p) where
-    -- if the items of another list from index i on were written after the last item of a list, the
-    -- new block b' is that of the list with these items appended
+    -- if the items from index i on of a second list were written after the last item of the first
+    -- list, the new block b' is the block of the first list with these items appended
     pub settle-joined : (b' : Block T A) (i : ℕ) {k n : ℕ} → i ≤ length (items_in o.slots)
         → k ≡ o.len - i → n ≡ b.len → n + k ≤ length b.slots
         → {m : Cost} → IsWritten b b' (laid n (run i k o.slots) b.slots) (n + k) m
@@ -99,7 +99,7 @@ module _ {T A : Type 0} where
         (slots-are w (ap (λ (r : List (Option T)). laid n r b.slots) same))
 
   -- if the slots of the items from index i on were emptied, and the stored length became i, the new
-  -- block o' is that of the list of the first i items
+  -- block o' is the block of a list of the first i items
   pub settle-cut : {o : Block T A} {p : A} → IsThin o p → (o' : Block T A) (i : ℕ) {k : ℕ}
       {m : Cost} → i ≤ length (items_in o.slots) → k ≡ o.len - i
       → IsWritten o o' (emptied i k o.slots) i m

@@ -31,14 +31,14 @@ module _ (rule : Rule) (law : KeepsLaw rule) (R : RattleType) where
       }
 
 module _ {T : Type 0} where
-  -- c empty slots are the slots of a list with no items and the capacity c
+  -- the slots of an empty list of capacity c are c empty slots
   pub front-none : (c : ℕ) → empty {T = T} c ≡ front [] c
   front-none c = let same : c ≡ c - 0 = omega arith in ap (λ (m : ℕ). empty m) same
 
 module _ {T A : Type 0} {b : Block T A} {a : A} (t : IsThin b a) where
-  -- if the slots of a list's block became c slots, the first of which hold the items of the list,
-  -- and the others of which are empty, then the new block b' is that of a list with the same items
-  -- and the capacity c
+  -- if the block of a list now has c slots, of which the first hold the items of the list and the
+  -- others are empty, then the new block b' is the block of a list with the same items and the
+  -- capacity c
   settle-remade : (b' : Block T A) (c : ℕ) {s : List (Option T)} {k : Cost}
       → seen b' ≡ record (seen b) { slots = s; alloc = Some a; cost = k }
       → s ≡ front (items_in b.slots) c → length (items_in b.slots) ≤ c
@@ -47,8 +47,8 @@ module _ {T A : Type 0} {b : Block T A} {a : A} (t : IsThin b a) where
       settled b' a (items_in b.slots) c (ap (λ v. v.slots) w ∙ e) (ap (λ v. v.len) w ∙ t.packed.len)
       room (λ x h. some-same (sym h ∙ ap (λ v. v.alloc) w))
 
-  -- whether a growth to c slots succeeded or failed, the new block b' is that of a list with the
-  -- same items, and has at most c slots
+  -- whether a growth to c slots succeeded or failed, the new block b' is the block of a list with
+  -- the same items, and has at most c slots
   pub settle-tried : {X E : Type 0} (r : Result X E) (b' : Block T A) (c : ℕ)
       → length b.slots < c
       → OnOk r (seen b' ≡ record (seen b) {
@@ -70,8 +70,8 @@ module _ {T A : Type 0} {b : Block T A} {a : A} (t : IsThin b a) where
     omega (arith, ap (λ (q : Block T A). length q.slots) same),
   )
 
-  -- after the block of a list shrank to its first k slots, and these hold all items, the new block
-  -- is that of a list with the same items and the capacity k
+  -- if the block of a list shrank to its first k slots, and these hold all items, the new block b'
+  -- is the block of a list with the same items and the capacity k
   pub settle-shrink : (b' : Block T A) (k : ℕ) {m : Cost} → length (items_in b.slots) ≤ k
       → k ≤ length b.slots
       → seen b' ≡ record (seen b) { slots = take k b.slots; alloc = Some a; cost = m }
@@ -85,7 +85,7 @@ module _ {T A : Type 0} {b : Block T A} {a : A} (t : IsThin b a) where
       ∙ (ap (λ (m : ℕ). take m (front xs k ++ rest)) (sym (length-front xs k room))
       ∙ take-append_seam (front xs k) rest)) room
 
--- a new block of c empty slots is that of a list with no items and the capacity c
+-- a new block of c empty slots is the block of an empty list of capacity c
 pub settle-new : {T A : Type 0} (b : Block T A) (a : A) (c : ℕ) {k : Cost}
     → seen b ≡ record { slots = empty c; len = 0; alloc = Some a; cost = k } → Settled b a [] c
 settle-new b a c w = settled b a [] c (ap (λ v. v.slots) w ∙ front-none c) (ap (λ v. v.len) w)

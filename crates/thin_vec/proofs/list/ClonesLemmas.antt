@@ -1,6 +1,6 @@
--- Lemmas about what a block contains while clones are put into its spare slots, and after the
--- stored length includes these clones; and about the items of a range of a list, read after more
--- items were appended to the list.
+-- Lemmas about clones that are put into the spare slots of a block, before and after the stored
+-- length includes them. Other lemmas are about the items of a range, read after more items were
+-- appended to the list.
 use Rattle.std.proofs.Common.{◌≡◌, ◌+◌, ◌-◌, ◌<◌, ◌≤◌, [], ◌∷◌, ◌++◌, ◌∙◌, List, Option, Some, ap, append_assoc, arith, drop, get_or, length, refl, suc, sym, take, zero, ℕ}
 use Rattle.std.proofs.lemmas.List.{get_or-drop, get_or-take, get_or_append_left, length-drop, length-take-le, map_push, replicate-append-replicate}
 use Rattle.std.proofs.lemmas.List.Elements.{All-from_recursion, all_zip_more, length_all_zip, recursion_from_All}
@@ -17,8 +17,8 @@ use Rattle.thin_vec.proofs.ListLemmas.{length-full}
 
 module _ {T : Type 0} {clones : T → T → Type 0} {sources : List T} {n i : ℕ}
     {s s' : List (Option T)} (lays : LaysClones clones sources n i s s') where
-  -- if clones of the first n sources were written, and there are at least n sources, there are n
-  -- clones
+  -- if there are at least n sources, and clones of the first n of them were written, then there are
+  -- n clones
   pub length-copies : n ≤ length sources → length lays.copies ≡ n
   length-copies few = sym (length_all_zip clones (take n sources) lays.copies lays.cloned)
       ∙ length-take-le n sources few
@@ -45,8 +45,8 @@ pub all-repeated : {T : Type 0} (clones : T → T → Type 0) (x : T) (n m : ℕ
     → AllZip clones (take n (replicate m x)) ys → All (clones x) ys
 all-repeated {T} clones x n m ys cloned = All-from_recursion (clones x) ys (each n m ys cloned)
   where
-    -- if ys are clones of the first n of m repetitions of x, each of ys is a clone of x, stated by
-    -- recursion over ys
+    -- the same claim, proved by recursion: if ys are clones of the first n of m repetitions of x,
+    -- each of ys is a clone of x
     each : (n m : ℕ) (ys : List T) → AllZip clones (take n (replicate m x)) ys
         → AllByRecursion (clones x) ys
     each zero m [] e = tt
@@ -57,8 +57,8 @@ all-repeated {T} clones x n m ys cloned = All-from_recursion (clones x) ys (each
     each (suc n) (suc m) (y ∷ ys) e = (e.0, each n m ys e.1)
 
 module _ {T : Type 0} (clones : T → T → Type 0) where
-  -- if every clone of x equals x, then xs followed by n clones of x and by x itself is xs followed
-  -- by n + 1 repetitions of x
+  -- if every clone of x equals x, then appending n clones of x and x itself to xs is the same as
+  -- appending n + 1 repetitions of x
   pub equal-repeated : (n m : ℕ) {x : T} {xs ys zs : List T} → CloneEquals clones x
       → AppendsRepeats clones x n xs ys → zs ≡ ys ++ x ∷ [] → m ≡ n + 1 → zs ≡ xs ++ replicate m x
   equal-repeated n m {x} {xs} equal repeats last one =
@@ -76,8 +76,8 @@ module _ {T : Type 0} (clones : T → T → Type 0) where
       each [] e = refl
       each (y ∷ ys) e = λ i. equal y e.0 i ∷ each ys e.1 i
 
--- for a new list v that needs room to reach the length k, the rule chooses the same capacity as for
--- k items and the old capacity 0
+-- if v is a new list, the rule chooses the same capacity for v to reach the length k as for a list
+-- of capacity 0 to hold k items
 pub capacity-new : {T A : Type 0} (rule : Rule) (R : RattleType) (v : Thin T A) (a : A) (k : ℕ)
     → IsNew v a → capacity_for rule R v (k - length v.items) ≡ ruled_capacity rule R 0 k
 capacity-new rule R v a k new =
@@ -92,7 +92,7 @@ pub not-all : {X : Type 0} (P : X → Type 0) (xs : List X) (i : ℕ) → i < le
 not-all P [] i low never all = absurd (omega arith)
 not-all P (x ∷ xs) i low never all = never x (all i x low)
 
--- the rules for the capacity of a new list
+-- the rule set that contains the lemma about the capacity of a new list
 pub ruleset new_lists = (capacity-new)
 
 module _ {T : Type 0} (xs : List T) (a b : ℕ) (within : b ≤ length xs) where

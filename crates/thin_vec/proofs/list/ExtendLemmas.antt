@@ -43,7 +43,7 @@ module _ {S X : Type 0} (steps : S → Option X → S → Type 0) where
   yields-join s t u [] ys e more = subst (λ r. Yields steps r ys u) (sym e) more
   yields-join s t u (x ∷ xs) ys e more = (e.0, e.1, yields-join e.0 t u xs ys e.2 more)
 
-  -- if calls of `next` yielded xs followed by ys, the first of these calls yielded xs
+  -- if calls of `next` yielded xs followed by ys, an initial part of these calls yielded xs
   pub yields-first : (s u : S) (xs ys : List X) → Yields steps s (xs ++ ys) u
       → (t : S) × Yields steps s xs t
   yields-first s u [] ys e = (s, refl)
@@ -56,8 +56,8 @@ module _ {S X : Type 0} (steps : S → Option X → S → Type 0) where
       → WholeRun steps s (λ p. P p.items)
   run_of s P all = (run steps s all.0 true (to_end steps s all.0 all.1), refl, refl, all.2)
 
-  -- if it follows from r being `Ok` that calls of `next` yielded items for which P holds, and then
-  -- `None`, it also follows that these calls form a whole run (`WholeRun`)
+  -- for a result that is `Ok`: if calls of `next` yielded items for which P holds, and then `None`,
+  -- there is a whole run (`WholeRun`) for whose items P holds
   pub run_of_ok : {E : Type 0} (s : S) (P : List X → Type 0) (r : Result (Unit {0}) E)
       → OnOk r ((xs : List X) × Drains steps s xs × P xs)
       → OnOk r (WholeRun steps s (λ p. P p.items))
@@ -73,7 +73,7 @@ module _ {S X : Type 0} (steps : S → Option X → S → Type 0) (s : S) where
   run_given xs o t P gave h =
       (run steps s (xs ++ option_to_list o) false (t, gave, λ e. absurd (false≢true e)), refl, h)
 
-  -- if a result is an error, and calls of `next` yielded the placed items and then the item in
+  -- for a result that is an error: if calls of `next` yielded the placed items and then the item in
   -- hand, if there is one, these calls are a run of the iterator (`SomeRun`)
   pub run_given_err : {E : Type 0} (can : S → Type 0) (remaining : S → Count)
       (hand : E → Option X) (rest : E → S) (P : List X → Type 0) (r : Result (Unit {0}) E)
@@ -97,8 +97,8 @@ match-some P Q None some p = absurd (false≢true some)
 pub hand-empty : {X : Type 0} {o : Option X} → IsSome o → o ≡ None → ⊥
 hand-empty some none = false≢true (subst IsSome none some)
 
--- if each error of a result has an item in hand, and P holds if the result is an error, then
--- `MatchOption error.in_hand (Q error) (λ _. P)` holds of the error
+-- for a result that is an error: if the error has an item in hand, and P holds, then `MatchOption
+-- error.in_hand (Q error) (λ _. P)` holds
 pub full-in-hand : {T S : Type 0} (P : Type 0) (Q : ExtendRefused T S → Type 0)
     (r : Result (Unit {0}) (ExtendRefused T S)) → IfErr r (λ error. IsSome error.in_hand)
     → OnErr r P → IfErr r (λ error. MatchOption error.in_hand (Q error) (λ _. P))
@@ -166,16 +166,16 @@ module _ (rule : Rule) (R : RattleType) (law : KeepsLaw rule) where
   loose-join c d e (inl p) q = subst (λ n. IsLoose rule R n e) p q
   loose-join c d e (inr p) q = inr (p.0, p.1, p.2, p.3, omega (arith, p.4, loose-le d e q))
 
-  -- a capacity that satisfies `IsKeptOrRuled` for at most n items satisfies it for at most m items,
-  -- if n ≤ m
+  -- if a capacity satisfies `IsKeptOrRuled` for n items, and n ≤ m, then it satisfies
+  -- `IsKeptOrRuled` for m items
   pub ruled-more : (c n m : ℕ) {d d' : ℕ} → d' ≡ d → n ≤ m → IsKeptOrRuled rule R c d n
       → IsKeptOrRuled rule R c d' m
   ruled-more c n m same more (inl e) = inl (same ∙ e)
   ruled-more c n m same more (inr p) =
       inr (p.0, p.1, p.2, omega (arith, p.3, more), p.4 ∙ ap Some (sym same))
 
-  -- if the capacity e satisfies `IsKeptOrRuled` after the capacity d, and P holds if e is d, then e
-  -- satisfies `IsKeptOrRuled` after the capacity c, or P holds
+  -- Let the capacity e satisfy `IsKeptOrRuled` after the capacity d, and let P hold if e equals d.
+  -- Then e satisfies `IsKeptOrRuled` after any capacity c, or P holds.
   pub ruled-after : (c d e n : ℕ) (P : Type 0) → IsKeptOrRuled rule R d e n → (e ≡ d → P)
       → IsKeptOrRuled rule R c e n ⊎ P
   ruled-after c d e n P (inl same) f = inr (f same)
@@ -188,7 +188,7 @@ module _ (rule : Rule) (R : RattleType) (law : KeepsLaw rule) where
   collected-after n h left hint e (inl same) = inr (h, hint, e ∙ ap Some (sym same))
   collected-after n h left hint e (inr p) = inl p
 
-  -- a change to the ruled capacity is a loose growth
+  -- if d is the ruled capacity of v for k more items, a change to d is a loose growth (`IsLoose`)
   pub loose-ruled : {T A : Type 0} (v : Thin T A) (k d : ℕ) → capacity_for rule R v k ≡ Some d
       → IsLoose rule R v.capacity d
   loose-ruled v k d e =
@@ -199,7 +199,7 @@ module _ (rule : Rule) (R : RattleType) (law : KeepsLaw rule) where
 
 module _ {T A : Type 0} where
   -- if k items were appended to v with k moves, after at most one growth, v and w satisfy
-  -- `CostsAdding` with no other move
+  -- `CostsAdding` with no move of old items
   pub filled-at : (v w : Thin T A) (k : ℕ) → w.cost ≡ moving k (cost_at v w.capacity)
       → length w.items ≡ length v.items + k
       → (cost_at v w.capacity).grown + v.capacity ≤ v.cost.grown + w.capacity → CostsAdding v w 0
@@ -215,8 +215,8 @@ module _ {T A : Type 0} where
         (omega (arith, ap (λ c. c.blocks) f), omega (arith, ap (λ c. c.grown) f));
   }
 
-  -- if the list v became w by at most a growth, and no item was appended, v and w satisfy
-  -- `CostsAdding`
+  -- if the list v became w by at most one growth, and no item was appended, v and w satisfy
+  -- `CostsAdding` with no move of old items
   pub filled-reserved : (v w : Thin T A) → w.cost ≡ cost_at v w.capacity
       → w.items ≡ v.items
       → (cost_at v w.capacity).grown + v.capacity ≤ v.cost.grown + w.capacity → CostsAdding v w 0
@@ -232,7 +232,7 @@ module _ {T A : Type 0} where
       })) (omega (arith, ap length n)) few
 
   -- if k items were appended to v with k moves, and the capacity did not change, v and w satisfy
-  -- `CostsAdding`
+  -- `CostsAdding` with no move of old items
   pub filled-spare : (v w : Thin T A) (k : ℕ)
       → w ≡ record v { items = w.items; cost = moving k v.cost }
       → length w.items ≡ length v.items + k → CostsAdding v w 0
@@ -242,9 +242,9 @@ module _ {T A : Type 0} where
       filled-at v w k (ap (λ u. u.cost) e ∙ ap (λ c. moving k c) (sym kept)) n
       (omega (arith, ap (λ c. c.grown) kept, same))
 
-  -- if v and u satisfy `CostsAdding` with m other moves, and u and w satisfy it with n other moves,
-  -- then v and w satisfy it with k other moves, provided that m + n ≤ k, no capacity shrinks, and u
-  -- has at least as many items as v
+  -- Let no capacity shrink, and let u have at least as many items as v. If v and u satisfy
+  -- `CostsAdding` with at most m moves of old items, and u and w satisfy it with at most n, then v
+  -- and w satisfy it with at most k, where k is at least m + n.
   pub adding-join : {v u w : Thin T A} (m n k : ℕ) → m + n ≤ k → CostsAdding v u m
       → CostsAdding u w n → v.capacity ≤ u.capacity → u.capacity ≤ w.capacity
       → length v.items ≤ length u.items → CostsAdding v w k
@@ -267,7 +267,8 @@ module _ {T A : Type 0} where
     ];
   }
 
-  -- if v and w satisfy `CostsAdding` with no other move, they satisfy it with n other moves
+  -- if v and w satisfy `CostsAdding` with no move of old items, they satisfy it with at most n
+  -- moves of old items
   pub adding-more : (v w : Thin T A) (n : ℕ) → CostsAdding v w 0 → CostsAdding v w n
   adding-more v w n p = record {
     copied = p.copied;

@@ -1,4 +1,4 @@
--- Lemmas about what a block contains while items are removed from it or moved within it, and
+-- Lemmas about what a block contains while items of a list are inserted, removed or moved, and
 -- afterwards.
 use Rattle.thin_vec.proofs.list.CapacityLemmas.{front-none}
 use Rattle.std.proofs.Common.{◌≡◌, ◌≢◌, ℕ, zero, suc, ◌+◌, ◌-◌, ◌<◌, ◌≤◌, List, [], ◌∷◌, ◌++◌, length, take, drop, Option, Some, None, refl, sym, ap, ◌∙◌, subst, arith, get_or, length-append, append_assoc}
@@ -95,7 +95,7 @@ module _ {T : Type 0} where
 
 module _ {T A : Type 0} {b : Block T A} {a : A} (t : IsThin b a) where
   -- if the slot of the item at i was emptied, the later items were moved down by one slot, and the
-  -- stored length was decremented, the new block is that of the list without this item
+  -- stored length was decremented, the new block b' is the block of the list without this item
   pub settle-remove : (b' : Block T A) (i : ℕ) {j k : ℕ} → i < length (items_in b.slots)
       → j ≡ i + 1 → k ≡ b.len - j → {l : ℕ} {m : Cost} → l ≡ b.len
       → IsWritten b b' (moved j i k (set b.slots i None)) (l - 1) m
@@ -109,7 +109,7 @@ module _ {T A : Type 0} {b : Block T A} {a : A} (t : IsThin b a) where
       (omega (arith, thin-room b a t, length-remove xs i h))
 
   -- if the items from i on were moved up by one slot, v was written into the slot i, and the stored
-  -- length was incremented, the new block is that of the list with v inserted at i
+  -- length was incremented, the new block b' is the block of the list with v inserted at i
   pub settle-insert : (b' : Block T A) (i : ℕ) (v : T) {j k : ℕ} → i ≤ length (items_in b.slots)
       → b.len < length b.slots → j ≡ i + 1 → k ≡ b.len - i → {l : ℕ} {m : Cost} → l ≡ b.len
       → IsWritten b b' (set (moved i j k b.slots) i (Some v)) (l + 1) m
@@ -186,7 +186,8 @@ module _ {T : Type 0} where
           length-replicate {A = Option T} (i - k) None,
         )
 
-    -- while slots are emptied, the slot i, which is the next one, still holds the item at i
+    -- while slots are emptied, the slot i, which is the next to be emptied, still holds the item at
+    -- index i
     split : emptying xs k i c ≡ pre ++ (Some (item-at xs i bound).0 ∷ post)
     unfolding pre post
     split =
@@ -214,7 +215,7 @@ module _ {T : Type 0} where
         ∙ ap (λ (s : List (Option T)). s ++ post)
         (replicate-append-replicate (i - k) 1 None ∙ ap empty more))))
 
-  -- after all slots from k on were emptied, the slots are those of the first k items
+  -- after all slots from k on were emptied, the slots are those of a list of the first k items
   pub emptying-all : (xs : List T) (k c : ℕ) → k ≤ length xs → length xs ≤ c
       → emptying xs k (length xs) c ≡ front (take k xs) c
   emptying-all xs k c order room =
@@ -234,7 +235,7 @@ module _ {T : Type 0} where
       (full-set xs s i m (omega arith))
 
   -- if the item at i and the last item m are taken out, and m is written into the slot i, the slots
-  -- are those of the list after `swap_remove`
+  -- are those of the list after `swap_remove` at i
   front-swap_remove : (ys : List T) (c i : ℕ) (v m : T) → i < length ys → length (ys ++ m ∷ []) ≤ c
       → set (set (set (front (ys ++ m ∷ []) c) i None) (length ys) None) i (Some m) ≡ front
       (swap_remove (ys ++ m ∷ []) i v) c
@@ -260,8 +261,8 @@ module _ {T : Type 0} where
       ∙ ap (λ (l : List T). front l c) (sym cut))))
 
 module _ {T A : Type 0} where
-  -- if all slots were emptied, and the stored length is 0, the new block is that of a list with no
-  -- items and the same capacity
+  -- if all slots were emptied, and the stored length is 0, the new block b' is the block of an
+  -- empty list with the same capacity
   pub settle-emptied : {b : Block T A} {a : A} → IsThin b a → (b' : Block T A)
       {s : List (Option T)} {m : Cost} → IsWritten b b' s 0 m → s ≡ empty (length b.slots)
       → Settled b' a [] (length b.slots)
@@ -269,9 +270,9 @@ module _ {T A : Type 0} where
       settle-front t b' [] (length b.slots) w (e ∙ front-none (length b.slots)) refl (omega arith)
 
   module _ {b : Block T A} {a : A} (t : IsThin b a) (b' : Block T A) (i last : ℕ) where
-    -- if the item at i, which is not the last, and the last item were taken out, the last one was
-    -- written into the slot i, and the stored length was decremented, the new block is that of the
-    -- list after `swap_remove`
+    -- Let the item at i not be the last item. If both items were taken out, the last item was
+    -- written into the slot i, and the stored length was decremented, then the new block is the
+    -- block of the list after `swap_remove` at i.
     settle-swap_remove : (v : T) {m : T} → i < last → last + 1 ≡ b.len → slot b.slots last ≡ Some m
         → {k : Cost} → IsWritten b b' (set (set (set b.slots i None) last None) i (Some m)) last k
         → Settled b' a (swap_remove (items_in b.slots) i v) (length b.slots)
@@ -310,8 +311,9 @@ module _ {T A : Type 0} where
               long,
             )
 
-    -- if the content of the last filled slot was moved into the slot i, which may be the same slot,
-    -- and the stored length was decremented, the new block is that of the list after `swap_remove`
+    -- Let the content of the last filled slot be moved into the slot i, which may be the same slot.
+    -- If the stored length was decremented too, the new block is the block of the list after
+    -- `swap_remove` at i.
     pub settle-replaced : (v : T) → i ≤ last → last + 1 ≡ b.len → slot b.slots i ≡ Some v
         → {k : Cost} → IsWritten b b' (set (set b.slots i (slot b.slots last)) last None) last k
         → Settled b' a (swap_remove (items_in b.slots) i v) (length b.slots)

@@ -1,4 +1,4 @@
--- Lemmas about how `Keeps`, `Reserves` and `TellsOverflow` follow from the facts about a step.
+-- Lemmas by which `Keeps`, `Reserves` and `TellsOverflow` follow from what one step of a call did.
 use Rattle.std.proofs.Common.{◌≡◌, ℕ, ◌+◌, Err, Ok, Option, Result, Some, ap, arith, inl, inr, length, sym, ◌∙◌}
 use Rattle.std.specs.Borrow.{RattleType}
 use Rattle.std.specs.Prelude.{IfErr}
@@ -11,16 +11,15 @@ use Rattle.thin_vec.specs.Cheap.{IsCheap}
 use Rattle.thin_vec.specs.List.Capacity.{Keeps, Reserves, TellsOverflow, TellsOverflowOf}
 use Rattle.thin_vec.specs.ThinVec.{HasRoomFor, IsWithin, Thin, capacity_for}
 
--- if a capacity was chosen, the result `Ok` of a call satisfies `TellsOverflow`
+-- if the growth rule names a capacity, a call that returns `Ok` satisfies `TellsOverflow`
 pub tells-ok : {X : Type 0} (x : X) (named : Option ℕ) (n : ℕ) → named ≡ Some n
     → TellsOverflow named (Ok x)
 tells-ok x named n is = record {
   overflow = (λ e. ok-err x CapacityOverflow e, λ none. absurd (none-some none is));
 }
 
--- if m items of the type R have the same exact capacity as n items of the type S, and a result `Ok`
--- satisfies `TellsOverflowOf` for the items of R, then a result `Ok` satisfies it for the items of
--- S
+-- Let m items of the type R have the same exact capacity as n items of the type S. If some `Ok`
+-- satisfies `TellsOverflowOf` for the m items of R, every `Ok` satisfies it for the n items of S.
 pub tells-made : {X : Type 0} {x y : X} (R S : RattleType) (m n : ℕ)
     → exact_capacity R 0 m ≡ exact_capacity S 0 n
     → TellsOverflowOf R m (let r : Result X ThinVecError = Ok x in r)
@@ -32,8 +31,8 @@ tells-made {x = x} {y} R S m n e told = record {
   );
 }
 
--- if m items of the type R have the same exact capacity as n items of the type S, and the result r
--- satisfies `TellsOverflowOf` for the items of R, then r satisfies it for the items of S
+-- Let m items of the type R have the same exact capacity as n items of the type S. If the result r
+-- satisfies `TellsOverflowOf` for the m items of R, r satisfies it for the n items of S.
 pub tells-same : {X : Type 0} {r : Result X ThinVecError} (R S : RattleType) (m n : ℕ)
     → exact_capacity R 0 m ≡ exact_capacity S 0 n → TellsOverflowOf R m r → TellsOverflowOf S n r
 tells-same R S m n e told = record {
@@ -59,8 +58,8 @@ module _ {T A : Type 0} (R : RattleType) (v : Thin T A) where
         rw (blocks, capacity) old;
   }
 
-  -- the list w satisfies `Keeps` if neither the allocator nor the capacity changed, neither a block
-  -- nor a copied item was added to its cost, and both lists are within bounds
+  -- `Keeps` holds for the lists v and w if the allocator and the capacity did not change, neither a
+  -- block nor a copied item was added to the cost, and both lists are within bounds
   pub keeps-kept : (w : Thin T A) → w.alloc ≡ v.alloc → w.capacity ≡ v.capacity
       → (w.cost.blocks ≡ v.cost.blocks) × (w.cost.grown ≡ v.cost.grown)
       → IsWithin R v × IsWithin R w → Keeps R v w
@@ -72,7 +71,7 @@ module _ {T A : Type 0} (R : RattleType) (v : Thin T A) where
   }
 
   module _ (rule : Rule) where
-    -- if v has room for k more items, and its capacity does not change, the result `Ok` of a call
+    -- if v has room for k more items, and its capacity does not change, a call that returns `Ok`
     -- satisfies `Reserves`
     pub reserves-room : {X : Type 0} {x : X} (k : ℕ) (w : Thin T A) → HasRoomFor v k
         → w.capacity ≡ v.capacity → Reserves rule R k v w (Ok x)
@@ -86,9 +85,10 @@ module _ {T A : Type 0} (R : RattleType) (v : Thin T A) where
           overflow = (λ e. ok-err x CapacityOverflow e, λ none. absurd (none-some none named));
         }
 
-    -- Let S be a type for which the rule chooses the same capacity as for the item type, and let l
-    -- equal k. If a list grew to u and satisfies `Reserves`, and w has the capacity of u, then w
-    -- satisfies `Reserves` after a further step that fails only with `OutOfMemory`.
+    -- Let the rule choose the same capacity for l items of the type S as for k items of the item
+    -- type, where l equals k. If the growth of v to u satisfies `Reserves`, and a further step does
+    -- not change the capacity and fails only with `OutOfMemory`, then both steps together satisfy
+    -- `Reserves` for S.
     pub reserves-then : {X Y : Type 0} {x : X} (S : RattleType) (k l : ℕ) (u w : Thin T A)
         (r : Result Y ThinVecError) → l ≡ k
         → capacity_for rule S v l ≡ capacity_for rule R v k → w.capacity ≡ u.capacity
@@ -114,10 +114,10 @@ module _ {T A : Type 0} (R : RattleType) (v : Thin T A) where
           );
         }
 
-    -- Let S be a type for which the rule chooses the same capacity as for the item type, and let l
-    -- equal k. If a call for k items of the item type failed, satisfies `Reserves`, and did not
-    -- change the list, then a call for l items of S that failed with the same error satisfies
-    -- `Reserves`.
+    -- Let the rule choose the same capacity for l items of the type S as for k items of the item
+    -- type, where l equals k. If a call for k items of the item type failed, satisfies `Reserves`,
+    -- and did not change the list, then a call for l items of S that failed with the same error
+    -- satisfies `Reserves`.
     pub reserves-failed : {X Y : Type 0} (S : RattleType) (k l : ℕ) (w : Thin T A)
         (cause : ThinVecError) → l ≡ k
         → capacity_for rule S v l ≡ capacity_for rule R v k

@@ -1,5 +1,5 @@
--- Lemmas about what a contract sees of an open block after two of its items were tested against
--- each other, step by step.
+-- Lemmas about what contracts see of an open block while one of its items is tested against
+-- another: each lemma is about one step of the test.
 use Rattle.std.proofs.Common.{◌≡◌, ◌≢◌, ℕ, zero, suc, ◌+◌, ◌-◌, ◌<◌, ◌≤◌, List, [], ◌∷◌, ◌++◌, Option, Some, None, length, take, drop, refl, sym, ap, ◌∙◌, arith, length-append, append_assoc, get_or}
 use Rattle.std.proofs.lemmas.List.{drop_at, get_or_at, get_or-set_other, length-drop, length-take-le, length_push, set_at, take_at}
 use Rattle.std.specs.Prelude.{IsSome, slice_range}
@@ -28,14 +28,14 @@ module _ {T : Type 0} where
   over-none (None ∷ s) = refl
   over-none (Some x ∷ s) = refl
 
-  -- the slots i and i + 1 hold k and x, and writing k' and x' over them writes each into its own
-  -- slot
+  -- The slots i and i + 1 hold the items k and x. Writing k' and x' over these items puts k' into
+  -- the slot i and x' into the slot i + 1.
   pub record Neighbours (s : List (Option T)) (i : ℕ) (k x k' x' : T) : Type 0 where
     pub first : slot s i ≡ Some k
     pub second : slot s (suc i) ≡ Some x
     pub now : over s i (k' ∷ x' ∷ []) ≡ set (set s i (Some k')) (suc i) (Some x')
 
-  -- if k and x are the first two items from the slot i on, `Neighbours` holds
+  -- if the first two slots from the slot i on hold k and x, `Neighbours` holds
   pub neighbours : (s : List (Option T)) (i : ℕ) (k x k' x' : T) → Some k ∷ Some x ∷ [] ≡ take 2
       (drop i s) → Neighbours s i k x k' x'
   neighbours [] zero k x k' x' e = absurd (cons-not-nil e)
@@ -58,8 +58,8 @@ module _ {T : Type 0} where
   -- one item each, `a` and `b`
   module _ (s : List (Option T)) (i : ℕ) (all a b : List T) (within : i + 2 ≤ length s)
       (lent : full all ≡ slice_range s i (i + 2)) (cut : all ≡ a ++ b) (one : length a ≡ 1) where
-    -- if the item of `a` is k and that of `b` is x, then `Neighbours` holds, and writing k' into
-    -- `a` and x' into `b` writes each into its own slot
+    -- if the item of `a` is k, and the item of `b` is x, then `Neighbours` holds, and writing k'
+    -- into `a` and x' into `b` puts k' into the slot i and x' into the slot i + 1
     pub parts-of : {k x : T} (k' x' : T) → k ≡ get_or a 0 k → x ≡ get_or b 0 x
         → Neighbours s i k x k' x'
         × (over s i (set a 0 k' ++ set b 0 x') ≡ set (set s i (Some k')) (suc i) (Some x'))

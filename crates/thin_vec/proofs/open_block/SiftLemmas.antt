@@ -17,7 +17,8 @@ use Rattle.thin_block.proofs.Outcomes.{some-same}
 use Rattle.thin_vec.proofs.OpenBlockLemmas.{Found, at_rest, by_rest, empty-more, first-of, found, past_rest, to_rest}
 use Rattle.thin_vec.proofs.ListLemmas.{length-full}
 
--- a list with more than k items consists of k items, the item at k, and the items after it
+-- a list with more than k items consists of its first k items, the item at index k, and the items
+-- after that item
 pub split-at : {X : Type 0} (xs : List X) (k : ℕ) → k < length xs → (pre : List X) × (x : X)
     × (post : List X) × (length pre ≡ k) × (xs ≡ pre ++ x ∷ post)
 split-at [] k low = absurd (omega arith)
@@ -38,8 +39,8 @@ module _ {T : Type 0} where
       ∙ sym (append_assoc a (full pre) (Some x ∷ (full post ++ z))))
 
 module _ {T A : Type 0} where
-  -- if two open blocks have the same gap before the tail, the same tail, and as many empty slots
-  -- after it, their slots after the middle run are equal
+  -- if two open blocks have the same gap before the tail, the same tail, and the same number of
+  -- empty slots after the tail, their slots after the middle run are equal
   pub same-past : (v w : Open T A) → w.gap_after ≡ v.gap_after → w.tail ≡ v.tail
       → v.capacity - reach v ≡ w.capacity - reach w → past_rest v ≡ past_rest w
   same-past v w b t n = λ i. empty (sym b i) ++ (full (sym t i) ++ empty (n i))
@@ -140,8 +141,8 @@ module _ {T A : Type 0} where
     abbrev u : Open T A
     u = open_of h
 
-    -- `moved_run b` is the open block with the memory of b, after the first items of the middle run
-    -- became the last items of the front
+    -- `moved_run b` is the open block whose slots are in the block b, after the first items of the
+    -- middle run became the last items of the front
     abbrev pub moved_run : Block T A → Inside T A
     moved_run b = record {
       block = b;
@@ -158,8 +159,8 @@ module _ {T A : Type 0} where
     moved_run-seen b = record u
         { front = u.front ++ take k u.rest; rest = drop k u.rest; cost = b.cost }
 
-    -- if the slots of b are the front, the moved items, the gap, and the other slots, contracts see
-    -- `moved_run b` as `moved_run-seen b`
+    -- if the slots of b are, in this order, the front, the moved items, the gap, and the other
+    -- slots, contracts see `moved_run b` as `moved_run-seen b`
     moved_run-shows : (b : Block T A)
         → b.slots ≡ full u.front
         ++ (full (take k u.rest) ++ (empty u.gap ++ (full (drop k u.rest) ++ past_rest u)))
@@ -200,7 +201,8 @@ module _ {T A : Type 0} where
         (full-append (take k u.rest) (drop k u.rest)) ∙ append_assoc (full (take k u.rest))
         (full (drop k u.rest)) (past_rest u))
 
-    -- the slots of h are the front, the gap, the items to be moved, and the other slots
+    -- the slots of h are, in this order, the front, the gap, the items to be moved, and the other
+    -- slots
     parted : h.block.slots ≡ full u.front
         ++ (empty u.gap ++ (full (take k u.rest) ++ (full (drop k u.rest) ++ past_rest u)))
     parted = o.row ∙ ap (λ (r : List (Option T)). full u.front ++ (empty u.gap ++ r)) cut
@@ -232,7 +234,7 @@ module _ {T A : Type 0} where
         (sym o.gap) (sym few))) (ap (λ (z : Seen T A). z.alloc) now)
 
   -- if the first item of the middle run was taken out of its slot and written into the first slot
-  -- after the front, contracts see `moved_run b` for one item as `moved_run-seen b`
+  -- after the front, contracts see `moved_run b` as `moved_run-seen b`, both for one moved item
   pub move_one_down-step : (h : Inside T A) (o : IsOpen h) (some : 1 ≤ length (open_of h).rest)
       → 0 < (open_of h).gap → (b : Block T A) {x : T} {c : Cost}
       → slot h.block.slots h.rest_start ≡ Some x

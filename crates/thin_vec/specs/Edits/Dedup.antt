@@ -30,8 +30,8 @@ module _ {S T : Type 0} (R : S → T → T → Bool → S → T → T → Type 0
   AskedPairs s (x ∷ xs) stays ys t = AskedLast s x xs stays ys t
 
   -- The list `w` has the items of the list `v` that the test keeps, as the test left them. Its cost
-  -- is that of `v`, with one more move for each item kept after the first removed item. The test
-  -- started in the state `s` and ended in the state `t`.
+  -- is the cost of `v`, with one more move for each item kept after the first removed item. The
+  -- test started in the state `s` and ended in the state `t`.
   pub record IsDedupedTo {A : Type 0} (s : S) (v w : Thin T A) (t : S) : Type 0 where
     pub stays : List Bool
     pub asked : AskedPairs s v.items stays w.items t
@@ -42,19 +42,21 @@ module _ {S T : Type 0} (R : S → T → T → Bool → S → T → T → Type 0
   IsDedupedBy s v w = (t : S) × IsDedupedTo s v w t
 
 -- The relation of the test that compares two items by `E`: the later item `x` is removed if `E x k`
--- is true. The test leaves both items as they are, and its states `s` and `t` do not matter.
+-- is true for the kept item `k`. The test leaves both items as they are, and its states `s` and `t`
+-- do not matter.
 abbrev pub Compares : {S T : Type 0} → (T → T → Bool) → S → T → T → Bool → S → T → T → Type 0
 Compares E s x k b t y l = (b ≡ E x k) × (y ≡ x) × (l ≡ k)
 
 module _ {T : Type 0} (E : T → T → Bool) where
-  -- For each item that follows the kept item `k`, in order: whether it is kept. An item is kept if
-  -- `E` returns false for it and the last item kept before it.
+  -- The flags of the items that follow the kept item `k`, in order. Each flag says whether its item
+  -- is kept. An item is kept if `E` returns false for the item and the last item kept before it.
   abbrev pub unlike_from : T → List T → List Bool
   unlike_from k [] = []
   unlike_from k (x ∷ xs) = if E x k then false ∷ unlike_from k xs else true ∷ unlike_from x xs
 
-  -- For each item of a list except the first, in order: whether it is kept. The first item is kept.
-  -- A later item is kept if `E` returns false for it and the last item kept before it.
+  -- The flags of the items of a list except the first, in order. Each flag says whether its item is
+  -- kept. An item is kept if `E` returns false for the item and the last item kept before it. (The
+  -- first item of the list is kept.)
   abbrev pub unlike : List T → List Bool
   unlike [] = []
   unlike (x ∷ xs) = unlike_from x xs

@@ -1,4 +1,5 @@
--- The parts of a `Drain` that contracts name, and what its calls state. (std: `vec::Drain`)
+-- The parts of a `Drain` that contracts name, and what the contracts of its methods say. (std:
+-- `vec::Drain`)
 use Rattle.std.specs.Prelude.{◌≡◌, ℕ, List, ◌++◌, Option}
 use Rattle.std.specs.Borrow.{GName}
 use Rattle.std.specs.Iterator.{Yields, YieldsFirst, YieldsLast}
@@ -10,8 +11,8 @@ use Rattle.thin_vec.specs.declared.edits.drain.Drain.{Drain}
 use Rattle.thin_vec.specs.declared.edits.holder.Holder.{Holder}
 use Rattle.thin_vec.specs.declared.edits.holder.Holds.{Ghosts as HoldsGhosts}
 
--- The definitions are for a `Drain` with the default holder, `Holder`: it is the one that `drain`
--- returns. A holder is the field that owns the list's open block.
+-- These definitions are about a `Drain` whose holder is a `Holder`: the method `drain` returns no
+-- other. A holder is the field that owns the open block of the list.
 module _ {T A G : Type 0} {g : Ghosts G} {h : HoldsGhosts (Holder (Open T A)) (Open T A)} where
   -- the items of the range that were not yet yielded
   abbrev pub drain_rest : Drain T A G (Holder (Open T A)) g h → List T
@@ -66,12 +67,12 @@ module _ {T A G : Type 0} {g : Ghosts G} {h : HoldsGhosts (Holder (Open T A)) (O
   DrainKeepsAlong first = (items : List T) (later : Drain T A G (Holder (Open T A)) g h)
       → Yields DrainSteps first items later → DrainKeeps first later
 
-  -- Calls of `next` yield the items of `drain_rest` in order, whatever `Drain` of this type they
-  -- begin with. The argument only names the type.
+  -- From any `Drain` of this type, calls of `next` yield the items of `drain_rest` in order. The
+  -- argument of `DrainsInOrder` only names the type.
   abbrev pub DrainsInOrder : Drain T A G (Holder (Open T A)) g h → Type 0
   DrainsInOrder d = YieldsInOrder DrainSteps drain_rest
 
-  -- Calls of `next_back` yield the items of `drain_rest` in reverse order, whatever `Drain` of this
-  -- type they begin with. The argument only names the type.
+  -- From any `Drain` of this type, calls of `next_back` yield the items of `drain_rest` in reverse
+  -- order. The argument of `DrainsInReverse` only names the type.
   abbrev pub DrainsInReverse : Drain T A G (Holder (Open T A)) g h → Type 0
   DrainsInReverse d = YieldsInReverse DrainStepsBack drain_rest

@@ -15,10 +15,10 @@ use Rattle.thin_vec.specs.declared.edits.holder.Holds.{Ghosts as HoldsGhosts}
 -- closure left it.
 module _ {T F A : Type 0} (R : F → T → Bool → F → T → Type 0) where
   -- A step of the extraction led from `old` to `new`. The closure was called with the items of the
-  -- middle run, in order, until it returned true, or until the middle run ended. `item` is the item
-  -- for which it returned true, or `None` if there is none. This item was removed. `kept` has the
-  -- items for which the closure returned false. They became the last items of the front. If `old`
-  -- has a gap, each of them counts one move. All these items are as the closure left them.
+  -- middle run, in order, until it returned true or the middle run ended. `item` is the item for
+  -- which the closure returned true, which was removed, or `None` if there is no such item. `kept`
+  -- has the items for which the closure returned false. These items became the last items of the
+  -- front, with one move each if `old` has a gap. All tested items are as the closure left them.
   pub record Extracts (old : Extracting T F A) (item : Option T)
       (new : Extracting T F A) : Type 0 where
     pub kept : List T
@@ -33,8 +33,8 @@ module _ {T F A : Type 0} (R : F → T → Bool → F → T → Type 0) where
     pub cost : new.block.cost ≡ (if old.block.gap == 0 then old.block.cost else moving
         (length kept) old.block.cost)
 
--- The definitions in this module are about an `ExtractIf` with the default holder, `Holder`. Users
--- get no other.
+-- These definitions are about an `ExtractIf` whose holder is a `Holder`: the method `extract_if`
+-- returns no other.
 module _ {T F A G : Type 0} {g : Ghosts G}
     {h : HoldsGhosts (Holder (Extracting T F A)) (Extracting T F A)} where
   -- the items before the range, and the tested items that were kept, as the closure left them
@@ -73,8 +73,8 @@ module _ {T F A G : Type 0} {g : Ghosts G}
   abbrev pub extract_lender : ExtractIf T F A G (Holder (Extracting T F A)) g h → GName
   extract_lender e = e.list.ghost_name
 
-  -- A call of `next` led from `old` to `new`, and returned `item`: this was one step of the
-  -- extraction. `old` and `new` borrow the same list.
+  -- A call of `next` on `old` returned `item` and led to `new`, by one step of the extraction.
+  -- `old` and `new` borrow the same list.
   pub record ExtractSteps (R : F → T → Bool → F → T → Type 0)
       (old : ExtractIf T F A G (Holder (Extracting T F A)) g h) (item : Option T)
       (new : ExtractIf T F A G (Holder (Extracting T F A)) g h) : Type 0 where

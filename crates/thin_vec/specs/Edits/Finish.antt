@@ -1,5 +1,5 @@
--- What the contracts of the private functions that `finish` of a `Splice` calls say. No public
--- contract uses this file.
+-- The definitions for the private functions that `finish` of a `Splice` calls. No public contract
+-- uses this file.
 use Rattle.std.specs.Prelude.{◌≡◌, ℕ, ◌+◌, ◌*◌, ◌<◌, ◌≤◌, List, [], IfErr, IsOk, OnErr, OnOk, Option, length}
 use Rattle.std.specs.Iterator.{Count, Drains, size}
 use Rattle.std.specs.declared.result.Result.{Result}
@@ -30,7 +30,8 @@ module _ {T A : Type 0} where
     pub items : w.items ≡ with_between v xs
     pub capacity : w.capacity ≡ v.capacity
     pub alloc : w.alloc ≡ a
-    -- one move for each item of xs, and one for each item of the tail if the gap is not full
+    -- one move for each item of xs, and at most one for each item of the tail; if the items of xs
+    -- fill the gap, no item of the tail is moved
     pub cost : (m : ℕ) × (w.cost ≡ moving (length xs + m) v.cost) × (m ≤ length v.tail)
         × (length xs ≡ v.gap → m ≡ 0)
 

@@ -12,8 +12,8 @@ module _ {T A : Type 0} where
   abbrev pub moves_replacing : Thin T A → ℕ → ℕ → ℕ → ℕ
   moves_replacing v i j k = k + (if k == j - i then 0 else length v.items - j)
 
-  -- The number of moves if `k` clones, which are made while the old items are still in the list,
-  -- replace the items of `v` with the indices from `i` up to, but not including, `j`. These are the
+  -- The number of moves if `k` clones replace the items of `v` from index `i` up to, but not
+  -- including, `j`. The clones are made while the old items are still in the list. There are the
   -- moves of `moves_replacing`, and one more move for each clone that is moved into the range.
   abbrev pub moves_cloning : Thin T A → ℕ → ℕ → ℕ → ℕ
   moves_cloning v i j k = moves_replacing v i j k + min k (j - i)
@@ -32,7 +32,7 @@ pub record MovesAtMost (n : ℕ) (before after : Cost) : Type 0 where
   pub few : moves ≤ n
   pub cost : after ≡ moving moves before
 
--- The cost of the list `w` is the cost that the list `v` has after its capacity was changed to that
--- of `w`, with at most `n` more moves.
+-- The cost of the list `w` is the cost of the list `v` after a change to the capacity of `w`, with
+-- at most `n` more moves.
 abbrev pub CostsAtMost : {T A : Type 0} → ℕ → Thin T A → Thin T A → Type 0
 CostsAtMost n v w = MovesAtMost n (cost_at v w.capacity) w.cost

@@ -34,7 +34,7 @@ module _ {T : Type 0} where
   abbrev pub stay : List T → Verdicts T
   stay xs = map (λ (x : T). (true, x)) xs
 
-  -- for each of `verdicts`, whether the item is kept
+  -- the flags of `verdicts`: each flag says whether the item is kept
   abbrev pub flags_of : Verdicts T → List Bool
   flags_of verdicts = map (λ (answer : Bool × T). answer.0) verdicts
 
@@ -50,8 +50,8 @@ module _ {S T : Type 0} (R : S → T → Bool → S → T → Type 0) where
       × (verdicts ≡ (b, y) ∷ rest)
 
   -- The list `w` has the items of the list `v` that the test keeps, as the test left them. Its cost
-  -- is that of `v`, with one more move for each item kept after the first removed item. The test
-  -- started in the state `s` and ended in the state `t`.
+  -- is the cost of `v`, with one more move for each item kept after the first removed item. The
+  -- test started in the state `s` and ended in the state `t`.
   pub record IsRetainedTo {A : Type 0} (s : S) (v w : Thin T A) (t : S) : Type 0 where
     pub verdicts : Verdicts T
     pub asked : Asked s v.items verdicts t

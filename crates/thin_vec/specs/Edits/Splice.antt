@@ -1,5 +1,5 @@
--- The parts of a `Splice` that contracts name, and what a list is, and has cost, once the splice is
--- finished. (std: `Vec::splice`)
+-- The parts of a `Splice` that contracts name, and the items and the cost of the list once the
+-- splice is finished. (std: `Vec::splice`)
 use Rattle.std.specs.Prelude.{◌≡◌, ◌⊎◌, ◌↔◌, ◌<◌, ◌≤◌, [], ◌++◌, IsSome, List, MatchOption, Option, length, ℕ}
 use Rattle.std.specs.Iterator.{Count, YieldsFirst, YieldsLast, YieldsThen}
 use Rattle.std.specs.Option.{option_to_list}
@@ -16,10 +16,11 @@ use Rattle.thin_vec.specs.declared.edits.splice.Splice.{Splice}
 use Rattle.thin_vec.specs.declared.edits.holder.Holds.{Ghosts as HoldsGhosts}
 
 module _ {S T A : Type 0} (steps : S → Option T → S → Type 0) where
-  -- `finish` failed after it had placed the items `placed` of the iterator `s`. The items that it
-  -- drew after them are in the error, first `held` and then `in_hand`, and `rest` is the iterator
-  -- after these. There are two cases: `next` may be called on `rest`, and items are held only if
-  -- one is in hand; or no item is in hand, items are held, and `s` has returned `None` after them.
+  -- `finish` failed after it had placed the items `placed` of the iterator `s`. The error has the
+  -- items that `finish` drew after `placed`: first the items in `held`, then the item in `in_hand`.
+  -- It also has the rest of the iterator, `rest`. There are two cases. Either `next` may be called
+  -- on `rest`, and `held` is empty if no item is in hand; or no item is in hand, `held` is not
+  -- empty, and the iterator has returned `None`.
   abbrev pub Stopped : (S → Type 0) → (S → Count) → S → List T → SpliceRefused T S A → Type 0
   Stopped can remaining s placed error =
       (PausedAfter steps can remaining s
@@ -41,24 +42,26 @@ module _ {T A : Type 0} where
     pub by_held : 0 < length error.held.items → error.in_hand ≡ None
         → (error.cause ≡ CapacityOverflow)
         ↔ (capacity_for rule R w (length error.held.items) ≡ None)
-    -- if items follow the range and an item is in hand, there was no memory to hold that item
+    -- if items follow the range and an item is in hand, the cause is `OutOfMemory`: there was no
+    -- memory to hold that item
     pub by_in_hand : 0 < length tail → IsSome error.in_hand → error.cause ≡ OutOfMemory
     -- if no item follows the range and an item is in hand, the cause is `CapacityOverflow` if and
     -- only if there is no ruled capacity for one more item
     pub by_push : tail ≡ [] → IsSome error.in_hand
         → (error.cause ≡ CapacityOverflow) ↔ (capacity_for rule R w 1 ≡ None)
 
-  -- `finish` failed, and no item follows the range: v is the list without the range, w is the list
-  -- after the call, and `s` is the iterator
+  -- `finish` failed, and no item follows the range. v is the list without the range, w is the list
+  -- after the call, and `s` is the iterator before the call.
   pub record FailsAsExtend {S : Type 0} (v w : Thin T A) (s : S) (error : SpliceRefused T S A)
       : Type 0 where
     pub held : error.held.items ≡ []
-    -- if no item is in hand, nothing was drawn and the list lacks only the range; if an item is in
-    -- hand, the list is full
+    -- If no item is in hand, no item was drawn, and the list has lost only the items of the range.
+    -- If an item is in hand, the list is full.
     pub in_hand : MatchOption error.in_hand ((w ≡ v) × (error.rest ≡ s))
         (λ _. length w.items ≡ w.capacity)
 
-  -- the list on the allocator a that an open block becomes if its middle run is dropped
+  -- the list that an open block becomes if its middle run is dropped; a is the allocator of the
+  -- list
   abbrev pub left_of : Open T A → A → Thin T A
   left_of v a = record {
     items = v.front ++ v.tail;
@@ -93,11 +96,12 @@ module _ {I T A G H : Type 0} {g : Ghosts G} {h : HoldsGhosts H (Open T A)} wher
   abbrev pub splice_lender : Splice I T A G H g h → GName
   splice_lender s = s.list.ghost_name
 
-  -- the list without the range, with the cost before any item after the range has moved
+  -- The list without the items of the range. Its cost is the cost so far: no item after the range
+  -- has been moved yet.
   abbrev pub splice_left : Splice I T A G H g h → Thin T A
   splice_left s = left_of (splice_block s) (splice_alloc s)
 
-  -- the number of places of the range, including those whose items were already yielded
+  -- the number of places of the range, including the places of items that were already yielded
   abbrev pub splice_range : Splice I T A G H g h → ℕ
   splice_range s = range_len (splice_block s)
 
@@ -105,14 +109,15 @@ module _ {I T A G H : Type 0} {g : Ghosts G} {h : HoldsGhosts H (Open T A)} wher
   abbrev pub splice_replaced : Splice I T A G H g h → List T → List T
   splice_replaced s xs = with_between (splice_block s) xs
 
-  -- `most` items of the iterator can be placed without new memory: the range has at least as many
-  -- places, or no item follows the range, and the list without the range has room for them
+  -- `most` items of the iterator can be placed without a request for memory. Either the range has
+  -- at least `most` places, or no item follows the range, and the list without the range has room
+  -- for `most` more items.
   abbrev pub HasPlacesFor : Splice I T A G H g h → ℕ → Type 0
   HasPlacesFor s most =
       (most ≤ splice_range s)
       ⊎ (((splice_block s).tail ≡ []) × HasRoomFor (splice_left s) most)
 
-  -- `old` and `new` borrow the same list, have the same iterator, and the same items before and
+  -- `old` and `new` borrow the same list, and have the same iterator and the same items before and
   -- after the range
   pub record SpliceKeeps (old new : Splice I T A G H g h) : Type 0 where
     pub lender : splice_lender new ≡ splice_lender old

@@ -17,7 +17,7 @@ module _ {T : Type 0} (clones : T → T → Type 0) where
   abbrev pub ClonesEqual : Type 0
   ClonesEqual = (x : T) → CloneEquals x
 
-  -- s' is s with clones of the first n sources in the slots from i on
+  -- s' has the slots of s, with clones of the first n sources put into the slots from index i on
   pub record LaysClones (sources : List T) (n i : ℕ) (s s' : List (Option T)) : Type 0 where
     pub copies : List T
     pub cloned : AllZip clones (take n sources) copies
@@ -49,8 +49,9 @@ pub record IsResized {T : Type 0} (clones : T → T → Type 0) (xs : List T) (n
       × (ys ≡ xs ++ (copies ++ x ∷ []))
   pub len : length ys ≡ n
 
--- a clone failed: `at` is the index of its source, whose clone can fail. The clones of the sources
--- before it were made, so the cost `after` is `before` plus one move for each of them
+-- Cloning the source at index `at` failed; `infallible` does not hold for this source. All sources
+-- before it were cloned, so the cost `after` is the cost `before` plus one move for each of these
+-- clones.
 pub record StopsAtClone {T : Type 0} (infallible : T → Type 0) (sources : List T)
     (before after : Cost) : Type 0 where
   pub at : ℕ
@@ -58,8 +59,8 @@ pub record StopsAtClone {T : Type 0} (infallible : T → Type 0) (sources : List
   pub fallible : HoldsAt (λ x. ¬ (infallible x)) sources at
   pub cost : after ≡ moving at before
 
--- the cost of the list w is the cost that the list v has at the capacity of w, plus one move for
--- each source before some source whose clone can fail
+-- Cloning one of the sources failed, and the list v became w. The cost of w is the cost of v after
+-- a change to the capacity of w, plus one move for each source cloned before the failure.
 abbrev pub CostsUpToClone : {T A : Type 0} → (T → Type 0) → List T → Thin T A → Thin T A → Type 0
 CostsUpToClone infallible sources v w =
     StopsAtClone infallible sources (cost_at v w.capacity) w.cost

@@ -1,7 +1,7 @@
--- What the calls that draw items from an iterator leave: the items, the capacity, the cost, the
--- rest of the iterator, and the error. Throughout, v is the list before the call, w the list after
--- it, R the type of the items, and `left` bounds how many items the iterator may still yield. (std:
--- `Vec::extend`)
+-- What the contracts of calls that draw items from an iterator say about the items, the capacity,
+-- the cost, the rest of the iterator, and the error. Throughout, v is the list before the call, w
+-- is the list after it, R is the type of the items, and `left` is an upper bound on the number of
+-- items that the iterator may still yield. (std: `Vec::extend`)
 use Rattle.std.specs.Prelude.{◌≡◌, ◌↔◌, ◌⊎◌, ℕ, ◌+◌, ◌<◌, ◌≤◌, IsSome, List, ◌++◌, Option, length}
 use Rattle.std.specs.Iterator.{Count, IsFinite, Yields, size}
 use Rattle.std.specs.Iterator.SizeHint.{IsWithinCount}
@@ -24,9 +24,9 @@ pub record PausedAfter {S X : Type 0} (steps : S → Option X → S → Type 0) 
   pub can_next : can t
   pub finite : IsFinite (remaining t)
 
--- The capacity was c and is now d: it stayed, or it grew at least to the capacity that the rule
--- gives if a block of capacity c needs room for w items, where w is some number greater than c. So
--- it stayed, or at least doubled.
+-- The capacity was c and is now d. It did not change, or it grew at least to a capacity that the
+-- rule gives to a block of capacity c which needs room for more than c items. So it did not change,
+-- or it at least doubled.
 abbrev pub IsLoose : Rule → RattleType → ℕ → ℕ → Type 0
 IsLoose rule R c d =
     (d ≡ c) ⊎ ((w : ℕ) × (n : ℕ) × (c < w) × (ruled_capacity rule R c w ≡ Some n) × (n ≤ d))
@@ -37,14 +37,14 @@ IsLoose rule R c d =
 abbrev pub IsRuled : Rule → RattleType → ℕ → ℕ → Type 0
 IsRuled rule R d n = (e w : ℕ) × (e < w) × (w ≤ n) × (ruled_capacity rule R e w ≡ Some d)
 
--- the capacity was c and is now d: it stayed, or the rule gives d to some block that needs room for
--- at most n items
+-- the capacity was c and is now d: it did not change, or the rule gives d to some block that needs
+-- room for at most n items
 abbrev pub IsKeptOrRuled : Rule → RattleType → ℕ → ℕ → ℕ → Type 0
 IsKeptOrRuled rule R c d n = (d ≡ c) ⊎ IsRuled rule R d n
 
--- the capacity of the list v became d, and the list then has n items: the capacity stayed, or the
--- rule gives d to some block that needs room for at most n items, or d is the ruled capacity of v
--- for a size hint that the iterator may have
+-- The capacity of the list v became d, and the list then has n items. The capacity did not change,
+-- or the rule gives d to some block that needs room for at most n items, or d is the ruled capacity
+-- of v for a size hint that the iterator may have.
 abbrev pub IsExtended : {T A : Type 0} → Rule → RattleType → Thin T A → ℕ → ℕ → Count → Type 0
 IsExtended rule R v d n left =
     IsKeptOrRuled rule R v.capacity d n
@@ -57,15 +57,16 @@ IsCollected rule R d n left =
     IsRuled rule R d n ⊎ ((h : ℕ) × IsWithinCount h left × (exact_capacity R 0 h ≡ Some d))
 
 module _ {T A : Type 0} where
-  -- what the capacity is after items of an iterator were added to the list v, which became w;
-  -- `left` bounds how many items the iterator may yield
+  -- the capacity after items of an iterator were added to the list v, which became w; `left` bounds
+  -- how many items the iterator may yield
   pub record GrowsFor (rule : Rule) (R : RattleType) (v w : Thin T A) (left : Count) : Type 0 where
-    -- if v has room for as many items as the iterator may yield, the capacity stays
+    -- if v has room for all items that the iterator may yield, the capacity does not change
     pub had_room : HasRoomFor v (size left) → w.capacity ≡ v.capacity
-    -- the capacity stays, or it grows at least to the capacity that the rule gives
+    -- the capacity does not change, or it grows at least to a capacity that the rule gives
     pub loose : IsLoose rule R v.capacity w.capacity
-    -- the capacity stays, or the rule gives it to some block that needs room for at most the final
-    -- number of items, or it is the ruled capacity for a size hint that the iterator may have
+    -- the capacity does not change, or the rule gives it to some block that needs room for at most
+    -- the final number of items, or it is the ruled capacity for a size hint that the iterator may
+    -- have
     pub ruled : IsExtended rule R v w.capacity (length w.items) left
 
   -- The cost of adding items to the list v, which became w: one move for each added item, and at
@@ -74,14 +75,15 @@ module _ {T A : Type 0} where
   pub record CostsAdding (v w : Thin T A) (n : ℕ) : Type 0 where
     pub least : v.cost.moves + length w.items ≤ w.cost.moves + length v.items
     pub moves : w.cost.moves + length v.items ≤ v.cost.moves + n + length w.items
-    -- if the capacity stayed, no block and no copied item was added
+    -- if the capacity did not change, the cost counts no further block and no further copied item
     pub kept : w.capacity ≡ v.capacity → (w.cost.blocks ≡ v.cost.blocks)
         × (w.cost.grown ≡ v.cost.grown)
-    -- if the capacity grew, there is at least one block more, and at least the items of v were
-    -- copied
+    -- if the capacity grew, the cost counts at least one further block, and at least the items of v
+    -- as copied
     pub grown : v.capacity < w.capacity → (v.cost.blocks < w.cost.blocks)
         × (v.cost.grown + length v.items ≤ w.cost.grown)
-    -- growth has copied at most as many items as the capacity has grown by
+    -- the number of items that growth copied is at most the number of slots by which the capacity
+    -- grew
     pub copied : w.cost.grown + v.capacity ≤ v.cost.grown + w.capacity
 
   -- w is a new list on the allocator `a`, made of the items of an iterator; `left` bounds how many
@@ -95,11 +97,11 @@ module _ {T A : Type 0} where
     pub ruled : IsCollected rule R w.capacity (length w.items) left
     -- each item was moved once
     pub moves : w.cost.moves ≡ length w.items
-    -- the list is on the allocator, cheap and within bounds
+    -- the list has the allocator `a`, is cheap, and is within the limits of `IsWithin`
     pub made : IsMade R a w
 
-  -- what the contract of std's `Extend` says on success and on failure, if the items xs were
-  -- appended to the list v, which became w
+  -- what the contract of std's `Extend` says, for both success and failure, about a call that
+  -- appended the items xs to the list v, which became w
   abbrev pub Extends : Rule → RattleType → Thin T A → List T → Thin T A → Type 0
   Extends rule R v xs w =
       (w.items ≡ v.items ++ xs) × (length w.items ≡ length v.items + length xs)
@@ -113,9 +115,9 @@ module _ {T A : Type 0} where
       × IsWithin R v
 
   -- A call failed because it could not reserve room for the size hint h of its iterator. The list w
-  -- has no room for h items, and the cause is `CapacityOverflow` if and only if there is no ruled
-  -- capacity for them. (h is the lower bound that `size_hint` returned; `left` bounds how many
-  -- items the iterator may yield.)
+  -- has no room for h more items, and the cause is `CapacityOverflow` if and only if there is no
+  -- ruled capacity for h more items. (h is the lower bound that `size_hint` returned; `left` bounds
+  -- how many items the iterator may yield.)
   abbrev pub FailsAtHint : Rule → RattleType → Thin T A → Count → ThinVecError → Type 0
   FailsAtHint rule R w left cause =
       (h : ℕ) × IsWithinCount h left × ¬ (HasRoomFor w h)
@@ -125,8 +127,8 @@ module _ {T A : Type 0} where
   -- may yield
   pub record IsExtendCause {S : Type 0} (rule : Rule) (R : RattleType) (w : Thin T A)
       (left : Count) (error : ExtendRefused T S) : Type 0 where
-    -- if an item is in hand, the cause is `CapacityOverflow` if and only if there is no ruled
-    -- capacity for one more item
+    -- if an item is in hand (drawn from the iterator, but not added to the list), the cause is
+    -- `CapacityOverflow` if and only if there is no ruled capacity for one more item
     pub by_push : IsSome error.in_hand
         → (error.cause ≡ CapacityOverflow) ↔ (capacity_for rule R w 1 ≡ None)
     -- if no item is in hand, room for the size hint could not be reserved
@@ -135,12 +137,13 @@ module _ {T A : Type 0} where
   -- why `from_iter` failed; `left` bounds how many items the rest of the iterator may yield
   pub record IsCollectCause {S : Type 0} (rule : Rule) (R : RattleType) (left : Count)
       (error : CollectRefused T S A) : Type 0 where
-    -- if an item is in hand, the cause is `CapacityOverflow` if and only if there is no ruled
-    -- capacity for one more item
+    -- if an item is in hand (drawn from the iterator, but not added to the list), the cause is
+    -- `CapacityOverflow` if and only if there is no ruled capacity for one more item
     pub by_push : IsSome error.in_hand
         → (error.cause ≡ CapacityOverflow) ↔ (capacity_for rule R error.list 1 ≡ None)
-    -- if no item is in hand, a block for exactly the size hint h could not be made: h is not 0, and
-    -- the cause is `CapacityOverflow` if and only if h is too large as a capacity
+    -- If no item is in hand, a block whose capacity is exactly the size hint h could not be
+    -- allocated. In this case h is not 0, and the cause is `CapacityOverflow` if and only if a
+    -- block of capacity h is too large.
     pub by_hint : error.in_hand ≡ None
         → (h : ℕ) × IsWithinCount h left × (0 < h)
         × ((error.cause ≡ CapacityOverflow) ↔ (exact_capacity R 0 h ≡ None))

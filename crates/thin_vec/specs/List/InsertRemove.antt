@@ -10,8 +10,8 @@ use Rattle.thin_vec.specs.Cheap.{IsCheap}
 use Rattle.thin_vec.specs.ThinVec.{Thin, IsWithin, capacity_for, cost_at}
 use Rattle.thin_vec.specs.contracts.list.ThinVec.{the_row}
 
--- w is the list v after one item was added with k moves: it contains xs, and its capacity is the
--- ruled one for one more item
+-- w is the list v after one item was added with k moves: its items are xs, and its capacity is the
+-- ruled capacity for one more item
 pub record IsAdded {T A : Type 0} (rule : Rule) (R : RattleType) (v : Thin T A) (xs : List T)
     (k : ℕ) (w : Thin T A) : Type 0 where
   pub items : w.items ≡ xs
@@ -23,8 +23,9 @@ pub record IsAdded {T A : Type 0} (rule : Rule) (R : RattleType) (v : Thin T A) 
 
 module _ (T A G : RattleType) (a : AllocatorGhosts A.Denot) (g : GrowthGhosts G.Denot)
     (v : MutBor (Thin T.Denot A.Denot)) where
-  -- if r is `Ok`, it borrows an item that was added with k moves: when the borrow ends with the
-  -- value x, v satisfies `IsAdded` with the items `holding x`. If r is `Err`, v does not change.
+  -- If r is `Ok`, it borrows an item that was added to the list v with k moves. When the borrow
+  -- ends and the item is x, `IsAdded` holds for the list with the items `holding x`. If r is `Err`,
+  -- the list v does not change.
   abbrev pub LendsAdded : {E : Type 0} → (T.Denot → List T.Denot) → ℕ
       → Result (MutBor T.Denot) E → Fml
   LendsAdded holding k r = LendsSoOk (the_row T A G a g) T v r

@@ -65,11 +65,11 @@ module _ {S T : Type 0} (R : S → T → T → Bool → S → T → T → Type 0
     pub asked : R s later kept b t later_left kept_left
     pub now : slots' ≡ slice_set (slice_set slots i (Some kept_left)) (suc i) (Some later_left)
 
-  -- The first item of `xs` is kept. Starting in the state `s`, each later item was tested against
-  -- the item before it, up to and including the first item that is to be removed, or to the end of
-  -- `xs`. `m` is the number of items kept, and `t` is the final state. `ys` is `xs` with the tested
-  -- items as the test left them: `left` has the items kept, and `over` has the item that is to be
-  -- removed, if there is one.
+  -- The first item of `xs` is kept. Starting in the state `s`, the later items were tested in
+  -- order, each against the item before it, until an item was to be removed or `xs` ended. `m` is
+  -- the number of items kept, and `t` is the final state. `ys` is `xs` with the tested items as the
+  -- test left them: `left` has the items kept, and `over` has the item that is to be removed, if
+  -- there is one.
   pub record PairsAskedUpTo (m : ℕ) (s : S) (xs : List T) (t : S) (ys : List T) : Type 0 where
     pub first : T
     pub done : List T
@@ -86,10 +86,10 @@ module _ {S T : Type 0} (R : S → T → T → Bool → S → T → T → Type 0
     pub stops : ((length over ≡ 1) × (stays ≡ replicate more true ++ false ∷ []))
         ⊎ ((over ≡ []) × ((after ≡ []) × (stays ≡ replicate more true)))
 
-  -- Starting in the state `s`, items from the start of the middle run of `v` were tested, each
-  -- against the last item kept before it. (For the first of them, this is the last item of the
-  -- front.) `t` is the final state, and `w` is the open block afterwards, which has a gap. The
-  -- items kept were moved to the front, and each counts one move. The other tested items were
+  -- The last item of the front of `v` is kept. Starting in the state `s`, items from the start of
+  -- the middle run of `v` were tested, each against the last item kept before it. `t` is the final
+  -- state, and `w` is the open block afterwards, which has a gap. The items of the middle run that
+  -- are kept were moved to the front, and each counts one move. The other tested items were
   -- removed.
   pub record Dedups {A : Type 0} (s : S) (v : Open T A) (t : S) (w : Open T A) : Type 0 where
     pub before : List T

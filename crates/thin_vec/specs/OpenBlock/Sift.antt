@@ -44,10 +44,10 @@ module _ {S T : Type 0} (R : S → T → Bool → S → T → Type 0) where
     pub stops : Stops between after t end
     pub now : ys ≡ before ++ (left ++ end)
 
-  -- Starting in the state `s`, items of the middle run of `v` were tested, up to and including the
-  -- first that is to be removed, or to the end. `t` is the final state, and `w` is the open block
-  -- afterwards. The items kept became a part of the front. If `v` has a gap, each of them counts
-  -- one move. The item that is to be removed is the first item of the middle run of `w`.
+  -- Starting in the state `s`, the items of the middle run of `v` were tested in order, until an
+  -- item was to be removed or the middle run ended. `t` is the final state, and `w` is the open
+  -- block afterwards. The items kept became a part of the front. If `v` has a gap, each item kept
+  -- counts one move. The item that is to be removed is the first item of the middle run of `w`.
   pub record Advances {A : Type 0} (s : S) (v : Open T A) (t : S) (w : Open T A) : Type 0 where
     pub count : ℕ
     pub left : List T
@@ -75,8 +75,9 @@ module _ {S T : Type 0} (R : S → T → Bool → S → T → Type 0) where
     }
 
   -- Starting in the state `s`, all items of the middle run of `v` were tested. `t` is the final
-  -- state, and `w` is the open block afterwards. The items kept are at the end of its front, and
-  -- its middle run is empty. Each item kept after the first removed item counts one move.
+  -- state, and `w` is the open block afterwards. The items kept are at the end of the front of `w`,
+  -- and the middle run of `w` is empty. Each item kept after the first removed item counts one
+  -- move.
   pub record IsSifted {A : Type 0} (s : S) (v : Open T A) (t : S) (w : Open T A) : Type 0 where
     pub verdicts : Verdicts T
     pub asked : Asked R s v.rest verdicts t

@@ -1,4 +1,4 @@
-//! Lists of bytes: `from_str`, and std's trait `Write`.
+//! Methods of lists of bytes: `from_str`, and the methods of std's trait `Write`.
 ghost use Rattle.std.specs.Prelude.{◌≡◌, ◌+◌, ◌++◌, IfErr, IfOk, IsErr, IsOk, None, OnErr, OnOk, Some, length};
 ghost use Rattle.std.specs.Borrow.{u8};
 ghost use Rattle.std.specs.IoError.{error_kind};
@@ -15,8 +15,8 @@ use thin_block::{Growth, ThinVecError};
 impl<A: Allocator> ThinVec<u8, A> {
     ghost use Rattle.thin_vec.specs.ThinVec.{cost_new};
 
-    /// Makes a list of the bytes of `text`, in order. Its capacity is exactly their number. An
-    /// empty text needs no allocation.
+    /// Makes a list of the bytes of `text`, in order. The capacity is exactly the number of bytes.
+    /// An empty text needs no allocation.
     ///
     /// # Errors
     ///
@@ -52,8 +52,8 @@ impl<A: Allocator, G: Growth> Write for ThinVec<u8, A, G> {
     ///
     /// # Errors
     ///
-    /// Fails only if there is not enough spare capacity, and the new capacity would be too large or
-    /// the allocator fails. Then the list is unchanged. In both cases the kind of the error is
+    /// Fails only if the list has to grow, and either the new capacity would be too large or the
+    /// allocator fails. Then the list is unchanged. In both cases, the kind of the error is
     /// `OutOfMemory`, because std has no `ErrorKind` for an overflow.
     fn write(&mut self, buf: &[u8]) -> io::Result<usize>
         // On success.
@@ -66,7 +66,7 @@ impl<A: Allocator, G: Growth> Write for ThinVec<u8, A, G> {
         // When it must succeed.
         ensures succeeds { HasRoomFor self.old (length buf.now) → IsOk result }
 
-        // On failure, the list is unchanged.
+        // The call fails if the new capacity would be too large. On failure, the list is unchanged.
         ensures overflow { capacity_for G.rule u8 self.old (length buf.now) ≡ None → IsErr result }
         ensures cause { IfErr result (λ error. error_kind error ≡ ErrorKind.OutOfMemory) }
         ensures err { OnErr result (self.new ≡ self.old) }
@@ -85,8 +85,8 @@ impl<A: Allocator, G: Growth> Write for ThinVec<u8, A, G> {
     ///
     /// # Errors
     ///
-    /// Fails only if there is not enough spare capacity, and the new capacity would be too large or
-    /// the allocator fails. Then the list is unchanged. In both cases the kind of the error is
+    /// Fails only if the list has to grow, and either the new capacity would be too large or the
+    /// allocator fails. Then the list is unchanged. In both cases, the kind of the error is
     /// `OutOfMemory`, because std has no `ErrorKind` for an overflow.
     fn write_all(&mut self, buf: &[u8]) -> io::Result<()>
         // On success.
@@ -98,7 +98,7 @@ impl<A: Allocator, G: Growth> Write for ThinVec<u8, A, G> {
         // When it must succeed.
         ensures succeeds { HasRoomFor self.old (length buf.now) → IsOk result }
 
-        // On failure, the list is unchanged.
+        // The call fails if the new capacity would be too large. On failure, the list is unchanged.
         ensures overflow { capacity_for G.rule u8 self.old (length buf.now) ≡ None → IsErr result }
         ensures cause { IfErr result (λ error. error_kind error ≡ ErrorKind.OutOfMemory) }
         ensures err { OnErr result (self.new ≡ self.old) }

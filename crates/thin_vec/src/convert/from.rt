@@ -19,10 +19,10 @@ impl<T, A: Allocator> ThinVec<T, A> {
     /// Moves the items of an array into a new list, in order. The capacity of the list is exactly
     /// `N`. An empty array needs no allocation.
     ///
-    /// Like every array, the array has to take fewer than 2^63 bytes. If `T` is a concrete type,
-    /// the checker proves this by itself. A function that is generic in `T` needs the precondition
-    /// `N * type_size T.row < 2 ^ 63`, with `type_size` of `Rattle.std.specs.Mem`. `thin_vec!` has
-    /// no such condition.
+    /// Like every array, `items` must take fewer than 2^63 bytes. If `T` is a concrete type, the
+    /// checker proves this by itself. A function that is generic in `T` needs the precondition
+    /// `N * type_size T.row < 2 ^ 63`, where `type_size` is the one of `Rattle.std.specs.Mem`.
+    /// `thin_vec!` has no such condition.
     ///
     /// # Errors
     ///
@@ -200,7 +200,7 @@ impl<T: Copy, A: Allocator> ThinVec<T, A> {
 }
 
 impl<T: Clone, A: Allocator> ThinVec<T, A> {
-    /// Makes a list that has a clone of each item of a slice, in order. The capacity of the list is
+    /// Makes a list of clones of the items of a slice, in order. The capacity of the list is
     /// exactly the number of items. An empty slice needs no allocation. For items that are `Copy`,
     /// `from_copies` is faster.
     ///
@@ -234,7 +234,8 @@ impl<T: Clone, A: Allocator> ThinVec<T, A> {
     }
 }
 
-// Returns the number of items of an array. Its contract tells the prover that this number is `N`.
+// Returns the number of items of an array. The contract of this function tells the prover that the
+// number is `N`.
 fn count<T, const N: usize>(items: &[T; N]) -> usize
     ensures value { result ≡ N }
     ensures length { result ≡ length items.now }

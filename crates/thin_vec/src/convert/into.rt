@@ -10,12 +10,13 @@ use std::boxed::BoxedSlice;
 use thin_block::{Growth, ThinVecError};
 
 impl<T, A: Allocator, G: Growth> ThinVec<T, A, G> {
-    /// Moves the items, in order, into a `Vec` on `alloc` whose capacity is exactly their number.
-    /// The block of the list is freed. An empty list needs no allocation.
+    /// Moves the items of the list, in order, into a new `Vec` on `alloc`. The capacity of the
+    /// `Vec` is exactly the number of items. The block of the list is freed. An empty list needs no
+    /// allocation.
     ///
     /// # Errors
     ///
-    /// Fails with `OutOfMemory` if `alloc` fails. Then the error holds the list, unchanged, which
+    /// Fails with `OutOfMemory` if `alloc` fails. Then the error holds the unchanged list, which
     /// the caller owns again, and `alloc` is dropped.
     pub fn into_vec(self, alloc: A) -> Result<Vec<T, A>, Rejected<ThinVec<T, A, G>>>
         // On success.
@@ -26,7 +27,7 @@ impl<T, A: Allocator, G: Growth> ThinVec<T, A, G> {
         // When it must succeed.
         ensures succeeds_empty { length self.items ≡ 0 → IsOk result }
 
-        // On failure, the list is returned unchanged.
+        // On failure, the cause is `OutOfMemory`, and the error holds the unchanged list.
         ensures cause { IfErr result (λ refused. refused.cause ≡ ThinVecError.OutOfMemory) }
         ensures value_returned { IfErr result (λ refused. refused.value ≡ self) }
         ensures err_within { IfErr result (λ refused. IsWithin T.row refused.value) }
@@ -40,8 +41,8 @@ impl<T, A: Allocator, G: Growth> ThinVec<T, A, G> {
         }
     }
 
-    // Moves the items, in order, into `vec`, which must be empty and have room for them, and frees
-    // the block of the list. Returns `vec`.
+    // Moves the items of the list, in order, into `vec`, and returns `vec`, which must be empty and
+    // have room for the items. The block of the list is freed.
     fn moved_to(self, mut vec: Vec<T, A>) -> Vec<T, A>
         requires empty { vec.items ≡ [] }
         requires room { length self.items ≤ vec_capacity vec }
@@ -57,12 +58,12 @@ impl<T, A: Allocator, G: Growth> ThinVec<T, A, G> {
         vec
     }
 
-    /// Moves the items, in order, into a boxed slice on `alloc`. The block of the list is freed. An
-    /// empty list needs no allocation.
+    /// Moves the items of the list, in order, into a new boxed slice on `alloc`. The block of the
+    /// list is freed. An empty list needs no allocation.
     ///
     /// # Errors
     ///
-    /// Fails with `OutOfMemory` if `alloc` fails. Then the error holds the list, unchanged, which
+    /// Fails with `OutOfMemory` if `alloc` fails. Then the error holds the unchanged list, which
     /// the caller owns again, and `alloc` is dropped.
     pub fn into_boxed_slice(self, alloc: A) -> Result<BoxedSlice<T, A>, Rejected<ThinVec<T, A, G>>>
         // On success.
@@ -72,7 +73,7 @@ impl<T, A: Allocator, G: Growth> ThinVec<T, A, G> {
         // When it must succeed.
         ensures succeeds_empty { length self.items ≡ 0 → IsOk result }
 
-        // On failure, the list is returned unchanged.
+        // On failure, the cause is `OutOfMemory`, and the error holds the unchanged list.
         ensures cause { IfErr result (λ refused. refused.cause ≡ ThinVecError.OutOfMemory) }
         ensures value_returned { IfErr result (λ refused. refused.value ≡ self) }
         ensures err_within { IfErr result (λ refused. IsWithin T.row refused.value) }
@@ -80,17 +81,17 @@ impl<T, A: Allocator, G: Growth> ThinVec<T, A, G> {
         Ok(self.into_vec(alloc)?.into_boxed_slice())
     }
 
-    /// Moves the items, in order, into an array, if there are exactly `N` of them. Then the block
-    /// of the list is freed. The call allocates nothing.
+    /// If the list has exactly `N` items, moves them, in order, into an array, and frees the block
+    /// of the list. The call allocates nothing.
     ///
-    /// Like every array, the array has to take fewer than 2^63 bytes. If `T` is a concrete type,
-    /// the checker proves this by itself. A function that is generic in `T` needs the precondition
-    /// `N * type_size T.row < 2 ^ 63`, with `type_size` of `Rattle.std.specs.Mem`. `into_vec` and
-    /// `into_iter` have no such condition.
+    /// Like every array, the result must take fewer than 2^63 bytes. If `T` is a concrete type, the
+    /// checker proves this by itself. A function that is generic in `T` needs the precondition
+    /// `N * type_size T.row < 2 ^ 63`, where `type_size` is the one of `Rattle.std.specs.Mem`.
+    /// `into_vec` and `into_iter` have no such condition.
     ///
     /// # Errors
     ///
-    /// Fails if the number of items is not `N`. The error is the list, unchanged, which the caller
+    /// Fails if the number of items is not `N`. The error is the unchanged list, which the caller
     /// owns again.
     pub fn into_array<const N: usize>(mut self) -> Result<[T; N], ThinVec<T, A, G>>
         // On success.
@@ -99,7 +100,7 @@ impl<T, A: Allocator, G: Growth> ThinVec<T, A, G> {
         // When it succeeds.
         ensures variant { IsOk result ↔ (length self.items ≡ N) }
 
-        // On failure, the list is returned unchanged.
+        // On failure, the error is the unchanged list.
         ensures value_returned { IfErr result (λ list. list ≡ self) }
         ensures err_within { IfErr result (λ list. IsWithin T.row list) }
     {
@@ -111,15 +112,15 @@ impl<T, A: Allocator, G: Growth> ThinVec<T, A, G> {
         Ok(items)
     }
 
-    // Moves all items out of the list, as an array. There must be exactly `N` items. The list is
+    // Moves all items out of the list, into an array. There must be exactly `N` items. The list is
     // then empty, and keeps its block.
     fn take_all<const N: usize>(&mut self) -> [T; N]
         requires all { length self.old.items ≡ N }
         ensures value { result ≡ self.old.items }
         ensures items { self.new.items ≡ [] }
     {
-        // This call is only for the prover: its contract says that the number of items fits into a
-        // block.
+        // This call is only for the prover: by the contract of `len`, the number of items is small
+        // enough for a block.
         let _len = self.len();
         let items = self.block.take_array(0);
         self.block.set_len(0);

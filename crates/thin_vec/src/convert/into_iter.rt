@@ -1,4 +1,4 @@
-//! The iterator `IntoIter`, into which a list is converted. It yields the items from either end.
+//! The iterator `IntoIter`, which owns the items of a list and yields them from either end.
 ghost use Rattle.std.specs.Prelude.{◌≡◌, ◌↔◌, ◌^◌, ◌<◌, [], ◌∷◌, ◌++◌, IfErr, IfOk, IsOk, IsSome, Some, length};
 ghost use Rattle.std.specs.Iterator.{YieldsFirst, YieldsLast, item_count};
 ghost use Rattle.std.specs.List.{AllZip};
@@ -14,14 +14,14 @@ use std::iter::FusedIterator;
 use std::marker::{Model, PhantomData};
 use thin_block::{Block, Doubling, Growth, ThinVecError};
 
-/// An iterator that yields the items of a list, from either end. It owns the items that remain, and
-/// the block and the allocator of the list. Each item stays in its slot until it is yielded.
-/// Dropping the iterator drops the items that remain, and frees the block.
+/// An iterator that yields the items of a list, from either end. It owns the items not yet yielded,
+/// and the block and the allocator of the list. Each item stays in its slot until it is yielded.
+/// Dropping the iterator drops the items not yet yielded, and frees the block.
 ///
-/// Contracts see an `IntoIter` as they see a list: its `items` are the items that remain.
+/// Contracts see an `IntoIter` as they see a list: its `items` are the items not yet yielded.
 pub struct IntoIter<T, A: Allocator = Global, G: Growth = Doubling> {
-    // The items that remain are in the slots from `start` up to, but not including, `end`. The
-    // length that is stored in the block is not read again.
+    // The items not yet yielded are in the slots from `start` up to, but not including, `end`. The
+    // length that is stored in the block is not used any more.
     block: Block<T, A>,
     alloc: A,
     start: usize,
@@ -43,8 +43,8 @@ impl<T, A: Allocator, G: Growth> Model for IntoIter<T, A, G> {
 }
 
 impl<T, A: Allocator, G: Growth> ThinVec<T, A, G> {
-    /// Converts the list into an iterator over its items, from either end. The iterator owns the
-    /// items, the block and the allocator. The call allocates nothing, and moves no item.
+    /// Converts the list into an iterator that yields its items from either end. The iterator owns
+    /// the items, the block and the allocator. The call allocates nothing, and moves no item.
     pub fn into_iter(self) -> IntoIter<T, A, G>
         ensures value { result ≡ self }
         ensures small { length result.items < 2 ^ 64 }
@@ -80,14 +80,14 @@ impl<T, A: Allocator, G: Growth> IntoIter<T, A, G> {
     ghost use types.Logic.{sem};
     ghost use Rattle.thin_vec.specs.Lends.{LendsRest};
 
-    /// Returns the number of items that remain.
+    /// Returns the number of items not yet yielded.
     pub fn len(&self) -> usize
         ensures value { result ≡ length self.now.items }
     {
         self.end - self.start
     }
 
-    /// Returns the number of items that remain, as both the lower and the upper bound.
+    /// Returns the number of items not yet yielded, as both the lower and the upper bound.
     pub fn size_hint(&self) -> (usize, Option<usize>)
         ensures value { result ≡ (length self.now.items, Some (length self.now.items)) }
     {
@@ -95,8 +95,7 @@ impl<T, A: Allocator, G: Growth> IntoIter<T, A, G> {
         (len, Some(len))
     }
 
-    /// Removes the first of the items that remain and returns it, or returns `None` if no item
-    /// remains.
+    /// Yields the first item not yet yielded, or returns `None` if all items were yielded.
     pub fn next(&mut self) -> Option<T>
         ensures variant { IsSome result ↔ (0 < length self.old.items) }
         ensures items { self.old.items ≡ option_to_list result ++ self.new.items }
@@ -108,8 +107,7 @@ impl<T, A: Allocator, G: Growth> IntoIter<T, A, G> {
         Some(self.take_first())
     }
 
-    /// Removes the last of the items that remain and returns it, or returns `None` if no item
-    /// remains.
+    /// Yields the last item not yet yielded, or returns `None` if all items were yielded.
     pub fn next_back(&mut self) -> Option<T>
         ensures variant { IsSome result ↔ (0 < length self.old.items) }
         ensures items { self.old.items ≡ self.new.items ++ option_to_list result }
@@ -121,7 +119,7 @@ impl<T, A: Allocator, G: Growth> IntoIter<T, A, G> {
         Some(self.take_last())
     }
 
-    // Removes the first of the items that remain and returns it. At least one item must remain.
+    // Yields the first item not yet yielded. There must be such an item.
     fn take_first(&mut self) -> T
         requires some { 0 < length self.old.items }
         ensures items { self.old.items ≡ result ∷ self.new.items }
@@ -132,7 +130,7 @@ impl<T, A: Allocator, G: Growth> IntoIter<T, A, G> {
         self.block.take(first)
     }
 
-    // Removes the last of the items that remain and returns it. At least one item must remain.
+    // Yields the last item not yet yielded. There must be such an item.
     fn take_last(&mut self) -> T
         requires some { 0 < length self.old.items }
         ensures items { self.old.items ≡ self.new.items ++ result ∷ [] }
@@ -142,15 +140,15 @@ impl<T, A: Allocator, G: Growth> IntoIter<T, A, G> {
         self.block.take(self.end)
     }
 
-    /// Returns the items that remain, in order, as a slice.
+    /// Returns the items not yet yielded, in order, as a slice.
     pub fn as_slice(&self) -> &[T]
         ensures value { result.now ≡ self.now.items }
     {
         self.block.slice(self.start, self.end)
     }
 
-    /// Returns the items that remain, in order, as a mutable slice. What the caller writes to an
-    /// item of the slice is what the iterator then yields.
+    /// Returns the items not yet yielded, in order, as a mutable slice. If the caller writes to an
+    /// item of the slice, the iterator later yields this item as written.
     pub fn as_mut_slice(&mut self) -> &mut [T]
         ensures* writes_back { sem 𝓛
             (LendsRest T.row A.row G.row A.Allocator G.Growth self.entry result) }
@@ -159,7 +157,7 @@ impl<T, A: Allocator, G: Growth> IntoIter<T, A, G> {
         self.block.slice_mut(self.start, self.end)
     }
 
-    // Consumes an iterator of which no item remains, and frees its block.
+    // Consumes an iterator that has yielded all its items, and frees the block.
     pub(crate) fn release(self)
         requires empty { self.items ≡ [] }
     {
@@ -178,9 +176,9 @@ impl<T: Clone, A: Allocator, G: Growth> IntoIter<T, A, G> {
     ghost use Rattle.thin_vec.specs.Cheap.{IsCheap};
     ghost use Rattle.thin_vec.specs.ThinVec.{cost_new};
 
-    /// Makes an iterator on `alloc` over a clone of each item that remains, in order. Its capacity
-    /// is exactly the number of clones. If no item remains, it allocates nothing. This iterator is
-    /// unchanged.
+    /// Makes a new iterator on `alloc`, which yields a clone of each item that this iterator has
+    /// not yet yielded, in order. The capacity of the new iterator is exactly the number of clones.
+    /// If there are no clones, the call allocates nothing. This iterator is unchanged.
     ///
     /// # Errors
     ///
@@ -203,8 +201,9 @@ impl<T: Clone, A: Allocator, G: Growth> IntoIter<T, A, G> {
         // On failure.
         ensures cause { IfErr result (λ cause. cause ≡ ThinVecError.OutOfMemory) }
     {
-        // This call is only for the prover: its contract says that the capacity fits into a block,
-        // and so the number of items does, too.
+        // This call is only for the prover: by the contract of `cap`, the capacity is small enough
+        // for a block. So the number of items, which does not exceed the capacity, is small enough,
+        // too.
         let _room = self.block.cap();
         let list = ThinVec::from_fitting_slice(alloc, self.as_slice())?;
         Ok(list.into_iter())
@@ -252,7 +251,7 @@ impl<T: fmt::Debug, A: Allocator, G: Growth> fmt::Debug for IntoIter<T, A, G> {
 }
 
 impl<T: Drop, A: Allocator, G: Growth> Drop for IntoIter<T, A, G> {
-    // Drops each item that remains, and then frees the block.
+    // Drops the items not yet yielded, and then frees the block.
     fn drop(mut self) {
         while let Some(_item) = self.next() {}
         self.release();

@@ -17,10 +17,10 @@ use thin_block::{Doubling, Growth};
 
 /// An iterator over the items of a range of a list, which yields them from either end.
 ///
-/// When it is dropped, it drops the items that were not yielded, and the list keeps the items
-/// before and after the range. Until then it owns the list's block, and the list is empty and has
-/// no block. So a `Drain` that is leaked leaves an empty list, and the items of the old list are
-/// leaked.
+/// When a `Drain` is dropped, it drops the items that were not yielded, and the list keeps the
+/// items before and after the range. Until then, the `Drain` owns the block of the list, and the
+/// list is empty and has no block. So a `Drain` that is leaked leaves an empty list, and the items
+/// of the old list are leaked.
 pub struct Drain<
     'a,
     T,
@@ -35,8 +35,8 @@ pub struct Drain<
 
 impl<'a, T: Drop, A: Allocator, G: Growth, H: Holds<Inner = OpenBlock<T, A>>> Drop
     for Drain<'a, T, A, G, H> {
-    // Drops the items that were not yielded, and moves the items after the range to its start, as
-    // one run.
+    // Drops the items that were not yielded. Moves the items after the range, as one run, to the
+    // start of the range, and puts the block back into the list.
     #[inline(always)]
     fn drop(self)
         ensures items { self.exit.0.now.items ≡ (H.inner self.entry.holder).front
@@ -48,7 +48,8 @@ impl<'a, T: Drop, A: Allocator, G: Growth, H: Holds<Inner = OpenBlock<T, A>>> Dr
         let Drain { list, holder } = self;
         let mut block = holder.into_inner();
         block.drop_rest();
-        // The list is empty already. This call is for the prover: `close` requires an empty list.
+        // The list is empty already. This call is only for the prover: `close` requires an empty
+        // list.
         list.clear();
         list.close(block);
     }
@@ -62,7 +63,7 @@ impl<T: Drop, A: Allocator, G: Growth> ThinVec<T, A, G> {
     ///
     /// When the iterator is dropped, it drops the items that were not yielded. Then the list has
     /// the items before and after the range, whichever items were yielded. Until then, the list is
-    /// empty and has no block; so it stays empty if the iterator is leaked.
+    /// empty and has no block. So if the iterator is leaked, the list stays empty.
     ///
     /// Neither the call nor the drop allocates memory, and neither can fail. The call moves no
     /// item. The drop moves each item after the range once, or none if the range is empty. The
@@ -76,7 +77,8 @@ impl<T: Drop, A: Allocator, G: Growth> ThinVec<T, A, G> {
         ensures runs { DrainsInOrder result }
         ensures runs_back { DrainsInReverse result }
 
-        // What the list will be once the `Drain` is dropped, by the contract of its `drop`.
+        // Once the `Drain` is dropped, the list has these items, this capacity, this allocator and
+        // this cost.
         ensures kept { drain_kept result ≡ remove_range self.old.items start end }
         ensures capacity { drain_capacity result ≡ self.old.capacity }
         ensures alloc { drain_alloc result ≡ self.old.alloc }
@@ -99,14 +101,14 @@ impl<T: Drop, A: Allocator, G: Growth> ThinVec<T, A, G> {
 impl<'a, T, A: Allocator, G: Growth> Drain<'a, T, A, G> {
     ghost use Rattle.thin_vec.specs.Edits.Drain.{DrainSteps, DrainStepsBack, drain_rest};
 
-    /// Returns how many items were not yet yielded.
+    /// Returns the number of items not yet yielded.
     pub fn len(&self) -> usize
         ensures value { result ≡ length (drain_rest self.now) }
     {
         self.holder.value.rest_len()
     }
 
-    /// Returns how many items were not yet yielded, as both the lower and the upper bound.
+    /// Returns the number of items not yet yielded, as both the lower and the upper bound.
     pub fn size_hint(&self) -> (usize, Option<usize>)
         ensures value { result
             ≡ (length (drain_rest self.now), Some (length (drain_rest self.now))) }
@@ -115,21 +117,21 @@ impl<'a, T, A: Allocator, G: Growth> Drain<'a, T, A, G> {
         (len, Some(len))
     }
 
-    /// Yields the first item that was not yet yielded, or returns `None` if there is none.
+    /// Yields the first item not yet yielded, or returns `None` if all items were yielded.
     pub fn next(&mut self) -> Option<T>
         ensures steps { DrainSteps self.old result self.new }
     {
         self.holder.value.next()
     }
 
-    /// Yields the last item that was not yet yielded, or returns `None` if there is none.
+    /// Yields the last item not yet yielded, or returns `None` if all items were yielded.
     pub fn next_back(&mut self) -> Option<T>
         ensures steps { DrainStepsBack self.old result self.new }
     {
         self.holder.value.next_back()
     }
 
-    /// Returns the items that were not yet yielded, in order.
+    /// Returns the items not yet yielded, in order.
     pub fn as_slice(&self) -> &[T]
         ensures value { result.now ≡ drain_rest self.now }
     {

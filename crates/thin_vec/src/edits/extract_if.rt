@@ -23,9 +23,9 @@ use thin_block::{Doubling, Growth};
 ///
 /// While an `ExtractIf` lives, it owns the block of the list, and the list is empty and has no
 /// block. When it is dropped, it puts the block back. Then the list has every item that was not
-/// yielded: the closure is not called for the items that it has not tested yet, and they are kept.
-/// If an `ExtractIf` is passed to `mem::forget`, the list remains empty and without a block, and
-/// the items and their block are leaked.
+/// yielded. The items not yet tested are kept, and the closure is not called for them. If an
+/// `ExtractIf` is passed to `mem::forget`, the list remains empty and without a block, and the
+/// items and their block are leaked.
 pub struct ExtractIf<
     'a,
     T,
@@ -40,8 +40,8 @@ pub struct ExtractIf<
     ghost from: { IsFrom (H.inner holder).block.alloc list.now.alloc },
 }
 
-/// What an `ExtractIf` owns: the open block, whose middle run has the items that were not tested
-/// yet, and the closure.
+/// What an `ExtractIf` owns: the open block, whose middle run has the items not yet tested, and the
+/// closure.
 pub struct Extracting<T, F, A: Allocator> {
     block: OpenBlock<T, A>,
     picks: Picks<F>,
@@ -69,8 +69,8 @@ impl<T, F: FnMut(&mut T) -> bool> Test<T> for Picks<F> {
 
 impl<'a, T: Drop, F: Drop, A: Allocator, G: Growth, H: Holds<Inner = Extracting<T, F, A>>> Drop
     for ExtractIf<'a, T, F, A, G, H> {
-    // Moves the items that were not tested, and the items after the range, down to the start of the
-    // gap, as one run. Then puts the block back into the list, and drops the closure.
+    // Moves the items not yet tested, and the items after the range, down to the start of the gap,
+    // as one run. Then puts the block back into the list, and drops the closure.
     fn drop(self)
         ensures items { self.exit.0.now.items ≡ items_of (H.inner self.entry.holder).block }
         ensures capacity { self.exit.0.now.capacity ≡ (H.inner self.entry.holder).block.capacity }
@@ -80,7 +80,8 @@ impl<'a, T: Drop, F: Drop, A: Allocator, G: Growth, H: Holds<Inner = Extracting<
         let ExtractIf { list, holder } = self;
         let Extracting { block, picks } = holder.into_inner();
         let Picks { pick } = picks;
-        // The list is empty already. This call tells the prover so: `close` requires an empty list.
+        // The list is empty already. This call is only for the prover: `close` requires an empty
+        // list.
         list.clear();
         list.close(block);
         drop(pick);
@@ -90,8 +91,9 @@ impl<'a, T: Drop, F: Drop, A: Allocator, G: Growth, H: Holds<Inner = Extracting<
 impl<T, F: FnMut(&mut T) -> bool, A: Allocator> Extracting<T, F, A> {
     ghost use Rattle.thin_vec.specs.Edits.ExtractIf.{Extracts};
 
-    // Tests items up to the first that is removed, and returns that item, or `None` if every item
-    // of the middle run is kept. If there is a gap, the kept items are moved to the front.
+    // Tests the items of the middle run, in order, until one is to be removed. Removes that item
+    // and returns it, or returns `None` if all items are kept. The tested items that are kept
+    // become a part of the front; if there is a gap, they are moved down.
     fn next_picked(&mut self) -> Option<T>
         requires callable { F.IsAlwaysCallable self.old.picks.pick }
         ensures extracts { Extracts (CalledAtMut F.FnMut) self.old result self.new }
@@ -108,20 +110,20 @@ impl<T, F: FnMut(&mut T) -> bool, A: Allocator> Extracting<T, F, A> {
 impl<T: Drop, A: Allocator, G: Growth> ThinVec<T, A, G> {
     ghost use Rattle.thin_vec.specs.Edits.ExtractIf.{extract_alloc, extract_callee, extract_capacity, extract_cost, extract_front, extract_gone, extract_lender, extract_rest, extract_tail};
 
-    /// Returns an iterator that removes the items from index `start` up to, but not including,
-    /// `end` for which `pick` returns true. It yields these items in order, as `pick` left them,
-    /// and the caller owns them.
+    /// Returns an iterator that removes those items of a range for which `pick` returns true. The
+    /// range begins at index `start` and ends before index `end`. The iterator yields the removed
+    /// items in order, as `pick` left them, and the caller owns them.
     ///
-    /// `extract_if` itself does not call `pick`. The calls of `next` do: they call `pick` once for
-    /// each item of the range, in order. `pick` may write to the item.
+    /// `extract_if` itself does not call `pick`. The calls of `next` call it once for each item of
+    /// the range, in order. `pick` may write to the item.
     ///
     /// When the `ExtractIf` is dropped, the list has every item that was not yielded, and its old
     /// capacity and allocator. If the `ExtractIf` is dropped before `next` has returned `None`, the
-    /// items that were not tested yet are kept, as with Rust's `Vec::extract_if`.
+    /// items not yet tested are kept, as with Rust's `Vec::extract_if`.
     ///
-    /// No memory is requested. Once the `ExtractIf` is dropped, each item that follows the first
-    /// removed item and is kept has moved once, including the items after the range. No other item
-    /// moves.
+    /// No memory is requested. Each kept item after the first removed item moves once, at the
+    /// latest when the `ExtractIf` is dropped. This includes the items after the range. No other
+    /// item moves.
     ///
     /// The function `bounds` converts a Rust range into `start` and `end`, and checks them.
     pub fn extract_if<F: FnMut(&mut T) -> bool>(
@@ -133,14 +135,16 @@ impl<T: Drop, A: Allocator, G: Growth> ThinVec<T, A, G> {
         requires start_le_end { start ≤ end }
         requires in_bounds { end ≤ length self.old.items }
 
-        // The parts of the `ExtractIf`.
+        // The `ExtractIf` has the items before the range, the items of the range, the items after
+        // the range, and the closure. No item is removed yet.
         ensures front { extract_front result ≡ take start self.old.items }
         ensures rest { extract_rest result ≡ slice_range self.old.items start end }
         ensures tail { extract_tail result ≡ drop end self.old.items }
         ensures gone { extract_gone result ≡ 0 }
         ensures callee { extract_callee result ≡ pick }
 
-        // The list that the `ExtractIf` borrows.
+        // The `ExtractIf` borrows this list, and keeps the capacity, the allocator and the cost of
+        // the list.
         ensures same_reference { extract_lender result ≡ self.entry.ghost_name }
         ensures capacity { extract_capacity result ≡ self.old.capacity }
         ensures alloc { extract_alloc result ≡ self.old.alloc }
@@ -160,8 +164,8 @@ impl<T: Drop, A: Allocator, G: Growth> ThinVec<T, A, G> {
 impl<'a, T, F, A: Allocator, G: Growth> ExtractIf<'a, T, F, A, G> {
     ghost use Rattle.thin_vec.specs.Edits.ExtractIf.{extract_rest};
 
-    /// Returns a lower and an upper bound for the number of items that are still to be yielded: 0,
-    /// and the number of items that were not tested yet.
+    /// Returns a lower and an upper bound for the number of items still to be yielded: 0, and the
+    /// number of items not yet tested.
     pub fn size_hint(&self) -> (usize, Option<usize>)
         ensures value { result ≡ (0, Some (length (extract_rest self.now))) }
     {
@@ -172,9 +176,9 @@ impl<'a, T, F, A: Allocator, G: Growth> ExtractIf<'a, T, F, A, G> {
 impl<'a, T, F: FnMut(&mut T) -> bool, A: Allocator, G: Growth> ExtractIf<'a, T, F, A, G> {
     ghost use Rattle.thin_vec.specs.Edits.ExtractIf.{ExtractSteps, extract_callee};
 
-    /// Calls the closure with the items that were not tested yet, in order, until it returns true.
-    /// Then removes that item and returns it. If the closure returns true for none of them, returns
-    /// `None`, and so does each later call.
+    /// Calls the closure with the items not yet tested, in order, until it returns true for one of
+    /// them. Then removes that item and returns it. If the closure returns true for none of these
+    /// items, this call and each later call return `None`.
     pub fn next(&mut self) -> Option<T>
         requires callable { F.IsAlwaysCallable (extract_callee self.old) }
         ensures steps { ExtractSteps (CalledAtMut F.FnMut) self.old result self.new }

@@ -1,9 +1,10 @@
-//! The steps of `finish` of a `Splice`, which inserts the items of an iterator into a list where a
-//! range was removed. First, it fills the gap that the range left (`fill_gap`). Then it makes room
-//! for as many items as the iterator's size hint says, and fills this room (`insert_hinted`). Last,
-//! it collects the remaining items in a vector, and inserts them from there (`insert_held`).
+//! The steps of `finish`, the method that ends a `Splice`. It inserts the items of an iterator in
+//! the place of a removed range. First, `fill_gap` fills the gap that the range left. Then
+//! `insert_hinted` reserves room for the lower bound of the iterator's size hint, and fills this
+//! room. Last, `insert_held` collects the remaining items in a vector, and moves them from there
+//! into the list.
 //!
-//! These steps are inlined into the caller of `finish`, so that the list and the iterator are not
+//! The steps are inlined into the caller of `finish`, so that the list and the iterator are not
 //! passed through memory from one step to the next.
 ghost use Rattle.std.specs.Prelude.{◌≡◌, ◌+◌, ◌-◌, ◌*◌, ◌<◌, ◌≤◌, [], ◌++◌, ◌∷◌, IfErr, IfOk, IsOk, IsSome, List, MatchOption, None, OnErr, OnOk, OnSome, Some, drop, false, length, take, ℕ};
 ghost use Rattle.std.specs.Iterator.{Drains, IsFinite, Yields, YieldsThen, size};
@@ -27,8 +28,8 @@ use std::iter::Iterator;
 use thin_block::{Growth, ThinVecError};
 
 impl<T, A: Allocator, G: Growth> ThinVec<T, A, G> {
-    // Fills the gap of `block` with the items that `iter` yields, and makes `block` the block of
-    // the list again.
+    // Moves items of `iter` into the gap of `block`, until the gap is full or `iter` ends. Then
+    // puts the block back into the list.
     #[inline(always)]
     fn fill_gap<I: Iterator<Item = T>>(&mut self, mut block: OpenBlock<T, A>, iter: I) -> Filled<I>
         requires empty { self.old.items ≡ [] }
@@ -46,8 +47,9 @@ impl<T, A: Allocator, G: Growth> ThinVec<T, A, G> {
         filled
     }
 
-    // Makes room before the item at `at` for as many items as the size hint of `iter` says, and
-    // fills this room. If the room cannot be made, nothing changes, and `iter` is returned.
+    // Reserves room for the lower bound of the size hint of `iter`, opens a gap of this length
+    // before the item at index `at`, and moves items of `iter` into the gap. If the room cannot be
+    // reserved, nothing changes, and the error holds `iter`.
     #[inline(always)]
     fn insert_hinted<I: Iterator<Item = T>>(
         &mut self,
@@ -75,7 +77,8 @@ impl<T, A: Allocator, G: Growth> ThinVec<T, A, G> {
         ensures cause { IfErr result
             (λ rejected. FailsAtHint G.rule T.row self.new (I.remaining iter) rejected.cause) }
 
-        // In any case. Each item from `at` on moves at most twice, and once if the room is full.
+        // In any case. Each item from index `at` on moves at most twice, or at most once if the
+        // reserved room was filled.
         ensures taken { HasTaken G.rule T.row self.old self.new
             (2 * (length self.old.items - at)) (I.remaining iter) }
         ensures taken_full { IfOk result (λ filled. filled.ended ≡ false
@@ -92,8 +95,8 @@ impl<T, A: Allocator, G: Growth> ThinVec<T, A, G> {
 }
 
 impl<T: Drop, A: Allocator, G: Growth> ThinVec<T, A, G> {
-    // Collects the items that `iter` yields in a vector on `alloc`, and moves them before the item
-    // at `at`. If `iter` yields none, nothing is allocated.
+    // Collects the items that `iter` yields, in a vector on `alloc`, and then inserts them before
+    // the item at index `at`. If `iter` yields no item, nothing is allocated.
     #[inline(always)]
     fn insert_held<I: Iterator<Item = T>>(
         &mut self,
@@ -154,7 +157,8 @@ impl<T: Drop, A: Allocator, G: Growth> ThinVec<T, A, G> {
         Ok(())
     }
 
-    // Moves the items of `held` into spare capacity, before the item at `at`.
+    // Inserts the items of `held` before the item at index `at`. The list must have room for these
+    // items.
     fn insert_vec(&mut self, at: usize, held: Vec<T, A>)
         requires in_bounds { at ≤ length self.old.items }
         requires room { HasRoomFor self.old (length held.items) }
@@ -170,8 +174,8 @@ impl<T: Drop, A: Allocator, G: Growth> ThinVec<T, A, G> {
         self.close(block);
     }
 
-    // Fills the gap of `block`. Then inserts the remaining items of `iter` before the tail: first
-    // as many as the size hint of `iter` says, and then the others.
+    // Fills the gap of `block` with items of `iter`. Then inserts further items of `iter` before
+    // the tail: first as many as the lower bound of the size hint, and then all others.
     #[inline(always)]
     pub(crate) fn finish_before_tail<I: Iterator<Item = T>>(
         &mut self,
@@ -179,18 +183,18 @@ impl<T: Drop, A: Allocator, G: Growth> ThinVec<T, A, G> {
         iter: I,
         alloc: A,
     ) -> Result<(), SpliceRefused<T, I, A>>
-        // The block comes from this list, and has a tail. Its middle run is empty.
+        // `block` is the open block of this list. It has a tail, and its middle run is empty.
         requires some { 0 < length block.tail }
         requires empty { self.old.items ≡ [] }
         requires none { block.rest ≡ [] }
         requires gap_after { block.gap_after ≡ 0 }
         requires from { IsFrom block.alloc self.old.alloc }
 
-        // The iterator may be asked, and is finite.
+        // `next` may be called on `iter`, which yields a finite number of items.
         requires can_next { I.can_next iter }
         requires finite { IsFinite (I.remaining iter) }
 
-        // The facts from which the clauses of `finish` follow.
+        // The clauses of `Splice::finish` follow from this one.
         ensures { IsFinished I.next_gives I.can_next I.remaining G.rule T.row block self.old.alloc
             iter self.new result }
     {
@@ -218,15 +222,15 @@ impl<T: Drop, A: Allocator, G: Growth> ThinVec<T, A, G> {
         }
     }
 
-    // Appends the items that `iter` yields to the front of `block`, as `extend` does. There is no
-    // tail.
+    // Puts `block`, which has no tail, back into the list. Then appends the items that `iter`
+    // yields, as `extend` does.
     pub(crate) fn finish_at_end<I: Iterator<Item = T>>(
         &mut self,
         block: OpenBlock<T, A>,
         iter: I,
         alloc: A,
     ) -> Result<(), SpliceRefused<T, I, A>>
-        // The block comes from this list, and has no tail. Its middle run is empty.
+        // `block` is the open block of this list. It has no tail, and its middle run is empty.
         requires no_tail { block.tail ≡ [] }
         requires within { reach block ≤ block.capacity }
         requires empty { self.old.items ≡ [] }
@@ -234,11 +238,11 @@ impl<T: Drop, A: Allocator, G: Growth> ThinVec<T, A, G> {
         requires gap_after { block.gap_after ≡ 0 }
         requires from { IsFrom block.alloc self.old.alloc }
 
-        // The iterator may be asked, and is finite.
+        // `next` may be called on `iter`, which yields a finite number of items.
         requires can_next { I.can_next iter }
         requires finite { IsFinite (I.remaining iter) }
 
-        // The facts from which the clauses of `finish` follow.
+        // The clauses of `Splice::finish` follow from this one.
         ensures { IsFinished I.next_gives I.can_next I.remaining G.rule T.row block self.old.alloc
             iter self.new result }
     {
@@ -273,8 +277,8 @@ struct Drawn<T, I, A: Allocator> {
     rest: I,
 }
 
-// Makes a vector on `alloc` of `first` and the items that `iter` yields. Stops once the iterator
-// returns `None`, or if there is no memory for an item.
+// Collects `first`, and then the items that `iter` yields, in a vector on `alloc`. Stops when
+// `iter` returns `None`, or when the vector cannot get memory for an item.
 fn draw<T, A: Allocator, I: Iterator<Item = T>>(first: T, iter: I, alloc: A) -> Drawn<T, I, A>
     requires can_next { I.can_next iter }
     requires finite { IsFinite (I.remaining iter) }
@@ -320,8 +324,9 @@ fn draw<T, A: Allocator, I: Iterator<Item = T>>(first: T, iter: I, alloc: A) -> 
     }
 }
 
-// Draws items into the spare capacity of `held`, and then one item more. `held` is passed by value,
-// so that its length can stay in a register.
+// Draws items of `iter` into the spare capacity of `held` until it is full, and then one item more,
+// which becomes `in_hand`. Stops when `iter` returns `None`. `held` is passed by value, so that its
+// length can stay in a register.
 fn draw_spare<T, A: Allocator, I: Iterator<Item = T>>(held: Vec<T, A>, iter: I) -> Drawn<T, I, A>
     requires can_next { I.can_next iter }
     requires finite { IsFinite (I.remaining iter) }

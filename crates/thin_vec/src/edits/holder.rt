@@ -6,7 +6,7 @@
 //! is a type parameter, with the bound `Holds`. The parameter hides the raw pointer.
 ghost use Rattle.std.specs.Prelude.{◌≡◌};
 
-/// A type that holds one value, and can be converted into it.
+/// A type that holds one value, and can be converted into this value.
 pub trait Holds {
     /// The type of the value that is held.
     type Inner;

@@ -20,15 +20,15 @@ impl<T: Clone, A: Allocator, G: Growth> ThinVec<T, A, G> {
     ///
     /// The call needs room for `items.len()` more items, that is, a capacity of at least
     /// `self.len() + items.len()`, even if the range has more items than `items`. The reason is
-    /// that a clone can fail, and the list then has to have its old items. So the old items are
+    /// that a clone can fail, and then the list must still have its old items. So the old items are
     /// kept until the last clone is made, and the clones are made in other slots.
     ///
-    /// Clones for the places of the range are made after the last item of the list, and the others
-    /// in a gap that is made before the items after the range. On success, each item after the
-    /// range moves at most once, and each clone for a place of the range moves there. If a clone
-    /// fails, an item after the range can move up to three times: up, when the gap is made; down to
-    /// the clones in the gap, if the gap was not filled; and down to its old place, once these
-    /// clones are dropped.
+    /// The clones that will fill the places of the range are made after the last item of the list.
+    /// All further clones are made in a gap that is opened directly after the range. On success,
+    /// each item after the range moves at most once, and each clone made at the end of the list
+    /// moves to its place in the range. If a clone fails, an item after the range can move up to
+    /// three times: up, when the gap is made; down to the clones in the gap, if the gap was not
+    /// filled; and down to its old place, once these clones are dropped.
     ///
     /// # Errors
     ///
@@ -74,10 +74,11 @@ impl<T: Clone, A: Allocator, G: Growth> ThinVec<T, A, G> {
         self.replace_reserved_by_clones(start, end, items)
     }
 
-    // Does what `replace_range` does after it has reserved room for the clones in addition to the
-    // old items. First, the clones that do not fit into the places of the range are made, in a gap
-    // directly after the range. Then the other clones are made, after the last item of the list.
-    // When no clone can fail any more, these other clones are moved into the places of the range.
+    // Replaces the items of the range as `replace_range` does, in a list that has room for all
+    // clones in addition to its items. First, the clones that do not fit into the places of the
+    // range are made in a gap directly after the range. Then the other clones are made after the
+    // last item of the list. Once no clone can fail any more, these other clones are moved into the
+    // places of the range.
     fn replace_reserved_by_clones(
         &mut self,
         start: usize,
@@ -123,8 +124,8 @@ impl<T: Clone, A: Allocator, G: Growth> ThinVec<T, A, G> {
         Ok(())
     }
 
-    // Inserts clones of `items` before the item at `at`, into spare capacity. If a clone fails,
-    // drops the clones that were already made, and closes the gap.
+    // Inserts clones of `items` before the item at index `at`, without growing. If a clone fails,
+    // drops the clones already made, so that the list has its old items.
     fn insert_clones_reserved(&mut self, at: usize, items: &[T]) -> Result<(), ThinVecError>
         requires in_bounds { at ≤ length self.old.items }
         requires room { HasRoomFor self.old (length items.now) }
@@ -166,7 +167,8 @@ impl<T: Clone, A: Allocator, G: Growth> ThinVec<T, A, G> {
 }
 
 impl<T: Drop, A: Allocator, G: Growth> ThinVec<T, A, G> {
-    // Drops the items from `start` up to `end`, and moves the items after them down, as one run.
+    // Drops the items from index `start` up to, but not including, `end`, and moves the items after
+    // the range down, as one run.
     fn drop_range(&mut self, start: usize, end: usize)
         requires start_le_end { start ≤ end }
         requires in_bounds { end ≤ length self.old.items }
@@ -182,9 +184,9 @@ impl<T: Drop, A: Allocator, G: Growth> ThinVec<T, A, G> {
         self.close(block);
     }
 
-    // Drops the items from `start` up to `end`, and moves the last `count` items of the list to the
-    // place of the range, as one run. If `count` is less than the length of the range, the other
-    // items after the range are moved down.
+    // Drops the items of the range from `start` up to, but not including, `end`. Moves the last
+    // `count` items of the list into the places of the range, as one run. If some of these places
+    // are not filled, the other items after the range are moved down to close the gap.
     fn replace_by_last(&mut self, start: usize, end: usize, count: usize)
         requires start_le_end { start ≤ end }
         requires few { count ≤ end - start }

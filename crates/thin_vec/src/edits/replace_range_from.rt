@@ -67,7 +67,8 @@ impl<T: Copy, A: Allocator, G: Growth> ThinVec<T, A, G> {
         Ok(())
     }
 
-    // Does what `replace_range_from_copies` does after it has reserved the room.
+    // Replaces the items of the range as `replace_range_from_copies` does, in a list that already
+    // has room for the copies.
     fn replace_reserved_from_copies(&mut self, start: usize, end: usize, items: &[T])
         requires start_le_end { start ≤ end }
         requires in_bounds { end ≤ length self.old.items }
@@ -143,7 +144,8 @@ impl<T: Drop, A: Allocator, G: Growth> ThinVec<T, A, G> {
         Ok(())
     }
 
-    // Does what `replace_range_from_list` does after it has reserved the room.
+    // Replaces the items of the range as `replace_range_from_list` does, in a list that already has
+    // room for the items of `other`.
     fn replace_reserved_from_list(&mut self, start: usize, end: usize, other: &mut ThinVec<T, A, G>)
         requires start_le_end { start ≤ end }
         requires in_bounds { end ≤ length self.old.items }
@@ -167,10 +169,10 @@ impl<T: Drop, A: Allocator, G: Growth> ThinVec<T, A, G> {
         self.close(block);
     }
 
-    // Drops the items from `start` up to `end`, and takes the block out of the list, with a gap in
-    // the place of the range. The gap has at least `count` slots: if the range has fewer than
-    // `count` places, the items after it are moved up, as one run. The list is left empty, without
-    // a block.
+    // Drops the items from index `start` up to, but not including, `end`, and takes the block out
+    // of the list, with a gap in the place of the range. The gap has at least `count` slots: if the
+    // range has fewer places, the items after the range are moved up, as one run. The list is left
+    // empty, without a block.
     fn open_range(&mut self, start: usize, end: usize, count: usize) -> OpenBlock<T, A>
         requires start_le_end { start ≤ end }
         requires in_bounds { end ≤ length self.old.items }

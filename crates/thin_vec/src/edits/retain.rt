@@ -35,8 +35,8 @@ impl<T: Drop, A: Allocator, G: Growth> ThinVec<T, A, G> {
         let Looking { keep: _ } = test;
     }
 
-    /// Keeps the items for which `keep` returns true, as `retain` does, but `keep` may write to the
-    /// items. The list has the kept items as `keep` left them.
+    /// Keeps the items for which `keep` returns true, as `retain` does. Unlike the closure of
+    /// `retain`, `keep` may write to the items. The kept items are in the list as `keep` left them.
     pub fn retain_mut<F: FnMut(&mut T) -> bool>(&mut self, keep: F)
         requires callable { F.IsAlwaysCallable keep }
         ensures retained { IsRetained (CalledAtMut F.FnMut) keep self.old self.new }

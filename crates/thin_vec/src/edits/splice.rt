@@ -18,8 +18,9 @@ use thin_block::{Doubling, Growth, ThinVecError};
 /// A splice that has begun: it yields the items of a range of a list from either end, and holds an
 /// iterator whose items will take their place.
 ///
-/// It has to be ended by a call of `finish`: a program that drops it does not compile. Until then
-/// it owns the list's block, and the list is empty and has no block.
+/// A `Splice` has to be ended by a call of `finish`: a program that drops it does not compile.
+/// Until `finish` is called, the `Splice` owns the block of the list, and the list is empty and has
+/// no block.
 pub struct Splice<
     'a,
     I,
@@ -38,10 +39,12 @@ impl<T, A: Allocator, G: Growth> ThinVec<T, A, G> {
     ghost use Rattle.thin_vec.specs.Edits.Splice.{splice_alloc, splice_block, splice_iter, splice_lender, splice_range, splice_rest};
 
     /// Begins to replace the items with the indices `start..end` by the items of `iter`. The
-    /// `Splice` yields the old items from either end, and its `finish` places the new ones.
+    /// `Splice` yields the old items from either end, and its method `finish` puts the items of
+    /// `iter` in their place.
     ///
-    /// The call allocates nothing, moves no item, and draws no item of `iter`. It cannot fail. The
-    /// function `bounds(start, end, len)` of this crate checks a range that may be out of bounds.
+    /// The call allocates nothing, moves no item, and draws no item of `iter`. The call cannot
+    /// fail. The function `bounds(start, end, len)` of this crate checks a range that may be out of
+    /// bounds.
     pub fn splice<I: Iterator<Item = T>>(
         &mut self,
         start: usize,
@@ -51,13 +54,14 @@ impl<T, A: Allocator, G: Growth> ThinVec<T, A, G> {
         requires start_le_end { start ≤ end }
         requires in_bounds { end ≤ length self.old.items }
 
-        // The items that the `Splice` yields, the number of places of the range, and the iterator
-        // whose items will take these places.
+        // The `Splice` yields the items of the range. It has the number of places of the range, and
+        // the iterator whose items will take these places.
         ensures rest { splice_rest result ≡ slice_range self.old.items start end }
         ensures range { splice_range result ≡ end - start }
         ensures iter { splice_iter result ≡ iter }
 
-        // What the list will be without the range.
+        // The `Splice` has the items before the range, the items after the range, and the capacity,
+        // the allocator and the cost of the list.
         ensures front { (splice_block result).front ≡ take start self.old.items }
         ensures tail { (splice_block result).tail ≡ drop end self.old.items }
         ensures capacity { (splice_block result).capacity ≡ self.old.capacity }
@@ -79,14 +83,14 @@ impl<T, A: Allocator, G: Growth> ThinVec<T, A, G> {
 impl<'a, T, I, A: Allocator, G: Growth> Splice<'a, I, T, A, G> {
     ghost use Rattle.thin_vec.specs.Edits.Splice.{SpliceSteps, SpliceStepsBack, splice_rest};
 
-    /// Returns how many items of the range were not yet yielded.
+    /// Returns the number of items of the range not yet yielded.
     pub fn len(&self) -> usize
         ensures value { result ≡ length (splice_rest self.now) }
     {
         self.holder.value.rest_len()
     }
 
-    /// Returns how many items of the range were not yet yielded, as both the lower and the upper
+    /// Returns the number of items of the range not yet yielded, as both the lower and the upper
     /// bound.
     pub fn size_hint(&self) -> (usize, Option<usize>)
         ensures value { result
@@ -96,16 +100,14 @@ impl<'a, T, I, A: Allocator, G: Growth> Splice<'a, I, T, A, G> {
         (len, Some(len))
     }
 
-    /// Yields the first item of the range that was not yet yielded, or returns `None` if there is
-    /// none.
+    /// Yields the first item of the range not yet yielded, or returns `None` if all were yielded.
     pub fn next(&mut self) -> Option<T>
         ensures steps { SpliceSteps self.old result self.new }
     {
         self.holder.value.next()
     }
 
-    /// Yields the last item of the range that was not yet yielded, or returns `None` if there is
-    /// none.
+    /// Yields the last item of the range not yet yielded, or returns `None` if all were yielded.
     pub fn next_back(&mut self) -> Option<T>
         ensures steps { SpliceStepsBack self.old result self.new }
     {
@@ -124,9 +126,9 @@ impl<
     ghost use Rattle.thin_vec.specs.Edits.Splice.{FailsAsExtend, HasPlacesFor, IsStopCause, Stopped, splice_block, splice_iter, splice_left, splice_range, splice_replaced};
 
     /// Drops the items of the range that were not yielded, and puts the items of the iterator in
-    /// the place of the range. It calls `next` until it first returns `None`, and not again after
-    /// that, so the iterator must not be endless. Afterwards, the list has the items before the
-    /// range, the items of the iterator, and the items after the range.
+    /// the place of the range. `next` of the iterator is called until it first returns `None`, and
+    /// not again after that. So the iterator must not be endless. Afterwards, the list has the
+    /// items before the range, the items of the iterator, and the items after the range.
     ///
     /// If items follow the range, `finish` takes three steps:
     ///
@@ -145,7 +147,7 @@ impl<
     ///
     /// Each item of the iterator moves into the list once, and each item after the range at most
     /// twice. Steps 2 and 3 each grow the list at most once, and each growth copies the items of
-    /// the list, as usual. What the vector of step 3 costs is not counted. If the iterator can
+    /// the list, as usual. The cost of the vector in step 3 is not counted. If the iterator can
     /// yield no more items than the range has places, `finish` allocates nothing.
     ///
     /// # Errors
@@ -168,16 +170,18 @@ impl<
     ///
     /// In cases 1, 2, 3 and 5, the `cause` is `CapacityOverflow` if the growth rule gives no
     /// capacity for the length that the list needed, and `OutOfMemory` if the allocator of the list
-    /// failed. In case 4, it is `OutOfMemory`. In case 5, `next` must not be called on `rest`.
+    /// failed. In case 4, the `cause` is `OutOfMemory`. In case 5, `next` must not be called on
+    /// `rest`.
     ///
-    /// Rust's `Vec` does all this when a `Splice` is dropped; here it is a call, since it can fail.
+    /// Rust's `Vec` does all this when a `Splice` is dropped. Here it needs a call, because it can
+    /// fail.
     #[inline(always)]
     pub fn finish(self, alloc: A) -> Result<(), SpliceRefused<T, I, A>>
         requires can_next { I.can_next (splice_iter self) }
         requires finite { IsFinite (I.remaining (splice_iter self)) }
 
-        // On success. (`self.exit.0.now` is the list after the call: the one that the first field
-        // of the splice borrows.)
+        // On success. `self.exit.0.now` is the list after the call, which the first field of the
+        // `Splice` borrows.
         ensures items { OnOk result ((xs : List T) × Drains I.next_gives (splice_iter self.entry) xs
             × (self.exit.0.now.items ≡ splice_replaced self.entry xs)) }
         ensures runs { OnOk result (WholeRun I.next_gives (splice_iter self.entry)
@@ -187,8 +191,9 @@ impl<
         ensures succeeds { HasPlacesFor self.entry (size (I.remaining (splice_iter self.entry)))
             → IsOk result }
 
-        // On failure, no item is lost. If items follow the range (`before_tail`), its places are
-        // filled. If none follow (`without_tail`), the list lacks only the range, or is full.
+        // On failure, no item is lost. If items follow the range, all places of the range are
+        // filled (`before_tail`). If no item follows the range, the list lacks only the range, or
+        // is full (`without_tail`).
         ensures placed { IfErr result (λ error. (xs : List T)
             × (self.exit.0.now.items ≡ splice_replaced self.entry xs)
             × Stopped I.next_gives I.can_next I.remaining (splice_iter self.entry) xs error) }
@@ -211,14 +216,16 @@ impl<
         let Splice { list, holder, iter } = self;
         let mut block = holder.into_inner();
         block.drop_rest();
-        // The list is empty already. This call is for the prover: `close` requires an empty list.
+        // The list is empty already. This call is only for the prover: `close` requires an empty
+        // list.
         list.clear();
         let answer = if block.has_tail() {
             list.finish_before_tail(block, iter, alloc)
         } else {
             list.finish_at_end(block, iter, alloc)
         };
-        // This call is only for the prover: its contract says that the list is within bounds.
+        // This call is only for the prover: by the contract of `len`, the list satisfies
+        // `IsWithin`.
         let _len = list.len();
         answer
     }

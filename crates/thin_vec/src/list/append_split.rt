@@ -34,7 +34,8 @@ impl<T, A: Allocator, G: Growth> ThinVec<T, A, G> {
         ensures err { OnErr result (self.new ≡ self.old) }
         ensures other_err { OnErr result (other.new ≡ other.old) }
 
-        // In any case. The capacity and the cause of a failure are as for `reserve(other.len())`.
+        // In any case. The new capacity and the cause of a failure are those of a call of
+        // `reserve(other.len())`.
         ensures reserves { Reserves G.rule T.row (length other.old.items) self.old self.new result }
         ensures keeps { Keeps T.row self.old self.new }
         ensures other_within { IsWithin T.row other.old × IsWithin T.row other.new }
@@ -48,8 +49,8 @@ impl<T, A: Allocator, G: Growth> ThinVec<T, A, G> {
     }
 
     /// Moves the items from index `at` on, in order, to a new list on `alloc`, and returns the new
-    /// list. Its capacity is exactly the number of these items. This list keeps the first `at`
-    /// items and its capacity. If `at` is the length, the call needs no allocation.
+    /// list. The capacity of the new list is exactly the number of these items. This list keeps its
+    /// first `at` items and its capacity. If `at` is the length, the call needs no allocation.
     ///
     /// # Errors
     ///
@@ -69,7 +70,7 @@ impl<T, A: Allocator, G: Growth> ThinVec<T, A, G> {
         // When it must succeed.
         ensures succeeds { at ≡ length self.old.items → IsOk result }
 
-        // On failure, the list is unchanged.
+        // On failure, the cause is `OutOfMemory`, and the list is unchanged.
         ensures cause { IfErr result (λ cause. cause ≡ ThinVecError.OutOfMemory) }
         ensures err { OnErr result (self.new ≡ self.old) }
 
@@ -83,8 +84,8 @@ impl<T, A: Allocator, G: Growth> ThinVec<T, A, G> {
     }
 
     /// Moves all items of `other` to the end of this list, in order, without growing. Afterwards,
-    /// `other` is empty and has its old capacity. This list must have room for the items, as it has
-    /// after `reserve`. So the call cannot fail, and returns no `Result`.
+    /// `other` is empty and has its old capacity. This list must have room for the items; `reserve`
+    /// makes such room. So the call cannot fail, and returns no `Result`.
     ///
     /// This method is our own: neither Rust's `Vec` nor the Rust crate thin-vec has it.
     pub fn append_reserved(&mut self, other: &mut ThinVec<T, A, G>)
@@ -100,7 +101,7 @@ impl<T, A: Allocator, G: Growth> ThinVec<T, A, G> {
     }
 
     // Moves the items of `other` from index `start` on to the end of this list, as one run. This
-    // list must have room for them.
+    // list must have room for these items.
     fn append_from(&mut self, other: &mut ThinVec<T, A, G>, start: usize)
         requires in_bounds { start ≤ length other.old.items }
         requires room { HasRoomFor self.old (length other.old.items - start) }

@@ -1,5 +1,5 @@
-//! How the capacity of a list grows. One function, `capacity_for`, asks the growth rule for each
-//! new capacity, and one function, `grow_to`, makes each growth.
+//! How the capacity of a list grows: only `capacity_for` calls the growth rule, and only `grow_to`
+//! grows a list.
 ghost use Rattle.std.specs.Prelude.{◌≡◌, ◌+◌, ◌<◌, ◌≤◌, [], IfErr, IfOk, IfSome, IsErrOf, IsFalse, IsOk, IsTrue, None, OnErr, OnOk, Some, length};
 ghost use Rattle.thin_block.specs.Capacity.{Fits};
 ghost use Rattle.thin_block.specs.Cost.{growing};
@@ -16,8 +16,8 @@ impl<T, A: Allocator, G: Growth> ThinVec<T, A, G> {
     ghost use Rattle.thin_vec.specs.ThinVec.{HasRoomFor, IsCause, IsWithin, capacity_for, cost_at, cost_new, exact_for};
 
     /// Reserves room for at least `additional` more items. If there is not enough room, the list
-    /// grows to the capacity that the growth rule chooses, which is at least twice the old one.
-    /// Otherwise, nothing changes.
+    /// grows to the capacity that the growth rule chooses, which is at least twice the old
+    /// capacity. Otherwise, nothing changes.
     ///
     /// A growth may move the block to another address, which copies every item.
     ///
@@ -56,7 +56,7 @@ impl<T, A: Allocator, G: Growth> ThinVec<T, A, G> {
     /// becomes the length plus `additional`. Otherwise, nothing changes.
     ///
     /// A list that grows only by this call may copy all its items at each call. `reserve` avoids
-    /// this, because it at least doubles the capacity.
+    /// this: whenever it grows the list, it at least doubles the capacity.
     ///
     /// # Errors
     ///
@@ -96,19 +96,20 @@ impl<T, A: Allocator, G: Growth> ThinVec<T, A, G> {
     }
 
     // Reserves room for exactly `capacity` items in a list that has no block. Unlike
-    // `reserve_exact`, it does not test for spare capacity first.
+    // `reserve_exact`, does not test for spare capacity first.
     #[tactic(auto, using(thin_block::proofs::CapacityLemmas::exact))]
     pub(crate) fn reserve_first(&mut self, capacity: usize) -> Result<(), ThinVecError>
         requires none { self.old.capacity ≡ 0 }
         requires within { IsWithin T.row self.old }
 
-        // Whether the call fails, and with which error.
+        // The call succeeds if `capacity` is 0, and fails with `CapacityOverflow` if `capacity` is
+        // too large. Any other failure is `OutOfMemory`.
         ensures succeeds_empty { capacity ≡ 0 → IsOk result }
         ensures overflow { exact_capacity T.row 0 capacity ≡ None
             → IsErrOf result ThinVecError.CapacityOverflow }
         ensures cause { IfErr result (IsCause (exact_capacity T.row 0 capacity)) }
 
-        // What the list is after the call.
+        // On success, only the capacity and the cost change. On failure, nothing changes.
         ensures changes { self.new ≡ record self.old {
           capacity = self.new.capacity;
           cost = self.new.cost;
@@ -129,10 +130,10 @@ impl<T, A: Allocator, G: Growth> ThinVec<T, A, G> {
         self.grow_to(capacity)
     }
 
-    // Reserves room for at least `additional` more items, with the same contract as `reserve`. It
-    // is meant for a run of items. If the length of the run is known at compile time, as the
-    // length of a literal is, the test for room is one comparison. (For one item, the test in
-    // `reserve` is one comparison, too.)
+    // Reserves room for at least `additional` more items, with the same contract as `reserve`. This
+    // function is meant for several items. If their number is known at compile time, as the length
+    // of a literal is, the test for room is one comparison. (For one item, the test in `reserve` is
+    // one comparison, too.)
     #[tactic(auto, using(thin_block::proofs::CapacityLemmas::ruled))]
     pub(crate) fn reserve_run(&mut self, additional: usize) -> Result<(), ThinVecError>
         // On success.
@@ -157,8 +158,8 @@ impl<T, A: Allocator, G: Growth> ThinVec<T, A, G> {
     }
 
     // Returns whether there is room for `additional` more items. The sum of the length and
-    // `additional` is computed only if `additional` is at most `isize::MAX`. It cannot overflow,
-    // because the length is at most `isize::MAX`, too.
+    // `additional` is computed only if `additional` is at most `isize::MAX`. The sum cannot
+    // overflow, because the length is at most `isize::MAX`, too.
     fn has_room_for(&self, additional: usize) -> bool
         ensures within { IsWithin T.row self.now }
         ensures room { IsTrue result → HasRoomFor self.now additional }
@@ -172,16 +173,18 @@ impl<T, A: Allocator, G: Growth> ThinVec<T, A, G> {
         len + additional <= cap
     }
 
-    // Grows the list for `additional` more items, for which there must be too little room. This
-    // part of `reserve` is a function of its own, marked as cold, because most calls find room.
+    // Grows the list so that it has room for `additional` more items. The list must not have this
+    // room before the call. This part of `reserve` is a separate function, marked as cold, because
+    // most calls of `reserve` find enough room.
     #[cold]
     fn grow_for(&mut self, additional: usize) -> Result<(), ThinVecError>
         requires more { self.old.capacity < length self.old.items + additional }
 
-        // Whether the call fails with `CapacityOverflow`.
+        // The call fails with `CapacityOverflow` if and only if the growth rule chooses no
+        // capacity.
         ensures overflow { TellsOverflow (capacity_for G.rule T.row self.old additional) result }
 
-        // What the list is after the call.
+        // On success, only the capacity and the cost change. On failure, nothing changes.
         ensures changes { self.new ≡ record self.old {
           capacity = self.new.capacity;
           cost = self.new.cost;
@@ -201,8 +204,8 @@ impl<T, A: Allocator, G: Growth> ThinVec<T, A, G> {
     }
 
     // Returns the capacity that the growth rule chooses for `additional` more items, or `None` if
-    // it chooses none. There must be too little room for these items. No other function of the list
-    // asks the growth rule.
+    // the rule chooses none. There must be too little room for these items. No other function of
+    // the list calls the growth rule.
     #[tactic(auto, using(thin_block::proofs::CapacityLemmas::ruled))]
     fn capacity_for(&self, additional: usize) -> Option<usize>
         requires more { self.now.capacity < length self.now.items + additional }
@@ -217,8 +220,9 @@ impl<T, A: Allocator, G: Growth> ThinVec<T, A, G> {
         }
     }
 
-    // Grows the list to the capacity `cap`. Every growth is made by this function. It is inlined,
-    // as `Block::grow` is, so that the first growth of a new list needs no test.
+    // Grows the list to the capacity `cap`. No other function grows a list. This function is
+    // inlined, as `Block::grow` is, so that growing a new list needs no test for an old block at
+    // run time.
     #[inline(always)]
     pub(crate) fn grow_to(&mut self, cap: usize) -> Result<(), ThinVecError>
         requires larger { self.old.capacity < cap }
@@ -245,9 +249,9 @@ impl<T, A: Allocator, G: Growth> ThinVec<T, A, G> {
         self.block.grow(&self.alloc, cap)
     }
 
-    // Makes an empty list whose capacity is exactly `capacity`, for which `fits` must return true.
-    // At capacity 0, the list has no block. Every call that makes a list of an exact capacity uses
-    // this function, except `from_iter`, which uses `reserve_first`.
+    // Makes an empty list whose capacity is exactly `capacity`. `fits` must return true for
+    // `capacity`. If `capacity` is 0, the list has no block. All methods that make a list of an
+    // exact capacity call this function, except `from_iter`, which calls `reserve_first`.
     pub(crate) fn with_fitting_capacity(
         alloc: A,
         capacity: usize,
@@ -284,8 +288,8 @@ impl<T, A: Allocator> ThinVec<T, A> {
     ghost use Rattle.thin_vec.specs.ThinVec.{IsCause, IsWithin, cost_new};
     ghost use Rattle.thin_vec.specs.Cheap.{IsCheap};
 
-    /// Makes an empty list with room for exactly `capacity` items. If `capacity` is 0, it allocates
-    /// nothing.
+    /// Makes an empty list with room for exactly `capacity` items. If `capacity` is 0, the call
+    /// allocates nothing.
     ///
     /// # Errors
     ///

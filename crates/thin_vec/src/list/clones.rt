@@ -27,7 +27,7 @@ impl<T: Clone, A: Allocator, G: Growth> ThinVec<T, A, G> {
     /// - `OutOfMemory`: there is not enough spare capacity, and the allocator failed. The list is
     ///   unchanged.
     /// - `OutOfMemory`: a clone failed. The clones already made are dropped, and the list has its
-    ///   old items. If it has grown, it keeps the new capacity.
+    ///   old items. If the list has grown, it keeps the new capacity.
     pub fn extend_from_slice(&mut self, items: &[T]) -> Result<(), ThinVecError>
         // On success.
         ensures items { OnOk result
@@ -40,13 +40,14 @@ impl<T: Clone, A: Allocator, G: Growth> ThinVec<T, A, G> {
         ensures succeeds { HasRoomFor self.old (length items.now) → All T.is_infallible items.now
             → IsOk result }
 
-        // On failure, the items are as before.
+        // On failure, the items are unchanged.
         ensures err_items { OnErr result (self.new.items ≡ self.old.items) }
         ensures err { All T.is_infallible items.now → OnErr result (self.new ≡ self.old) }
         ensures err_cost { OnErr result ((self.new ≡ self.old)
             ⊎ CostsUpToClone T.is_infallible items.now self.old self.new) }
 
-        // In any case. The capacity and any `CapacityOverflow` are as for `reserve(items.len())`.
+        // In any case. The new capacity, and whether the call fails with `CapacityOverflow`, are
+        // the same as for a call of `reserve(items.len())`.
         ensures reserves { Reserves G.rule T.row (length items.now) self.old self.new result }
         ensures keeps { Keeps T.row self.old self.new }
     {
@@ -54,9 +55,9 @@ impl<T: Clone, A: Allocator, G: Growth> ThinVec<T, A, G> {
         self.extend_from_slice_reserved(items)
     }
 
-    /// Makes a list on `alloc` that has a clone of each item, in order. The new list has the same
-    /// growth rule, and its capacity is exactly the number of items. The clone of an empty list
-    /// allocates nothing. For items that are `Copy`, `clone_copies` is faster.
+    /// Makes a list of clones of the items, in order, on `alloc`. The new list has the same growth
+    /// rule, and its capacity is exactly the number of items. The clone of an empty list allocates
+    /// nothing. For items that are `Copy`, `clone_copies` is faster.
     ///
     /// # Errors
     ///
@@ -81,8 +82,8 @@ impl<T: Clone, A: Allocator, G: Growth> ThinVec<T, A, G> {
         ThinVec::from_fitting_slice(alloc, self.as_slice())
     }
 
-    // Makes a list on `alloc` that has a clone of each item of `items`, in order. Its capacity is
-    // exactly the number of items, for which `fits` must return true.
+    // Makes a list of clones of `items`, in order, on `alloc`. The capacity of the list is exactly
+    // the number of items. `fits` must return true for this number.
     pub(crate) fn from_fitting_slice(
         alloc: A,
         items: &[T],
@@ -114,7 +115,7 @@ impl<T: Clone, A: Allocator, G: Growth> ThinVec<T, A, G> {
     }
 
     /// Appends a clone of each item of `items`, in order, without growing. The list must have room
-    /// for the clones, as it has after `reserve`.
+    /// for the clones; `reserve` makes such room.
     ///
     /// This method is our own: neither Rust's `Vec` nor the Rust crate thin-vec has it.
     ///
@@ -135,7 +136,7 @@ impl<T: Clone, A: Allocator, G: Growth> ThinVec<T, A, G> {
         // When it must succeed.
         ensures succeeds { All T.is_infallible items.now → IsOk result }
 
-        // On failure, the items are as before.
+        // On failure, the cause is `OutOfMemory`, and the items are unchanged.
         ensures cause { IfErr result (λ cause. cause ≡ ThinVecError.OutOfMemory) }
         ensures err_items { OnErr result (self.new.items ≡ self.old.items) }
         ensures err_cost { OnErr result (StopsAtClone T.is_infallible items.now self.old.cost
@@ -153,8 +154,8 @@ impl<T: Clone, A: Allocator, G: Growth> ThinVec<T, A, G> {
         Ok(())
     }
 
-    // Appends clones of `items`, in order, until a clone fails, and returns the number of clones.
-    // The list must have room for a clone of every item.
+    // Appends clones of `items`, in order, until a clone fails, and returns the number of clones
+    // made. The list must have room for a clone of each item.
     fn push_clones_reserved(&mut self, items: &[T]) -> usize
         requires room { HasRoomFor self.old (length items.now) }
         ensures in_bounds { result ≤ length items.now }
@@ -187,7 +188,7 @@ impl<T: Clone, A: Allocator, G: Growth> ThinVec<T, A, G> {
     /// - `OutOfMemory`: there is not enough spare capacity, and the allocator failed. The list is
     ///   unchanged.
     /// - `OutOfMemory`: a clone failed. The clones already made are dropped, and the list has its
-    ///   old items. If it has grown, it keeps the new capacity.
+    ///   old items. If the list has grown, it keeps the new capacity.
     pub fn extend_from_within(&mut self, start: usize, end: usize) -> Result<(), ThinVecError>
         requires start_le_end { start ≤ end }
         requires in_bounds { end ≤ length self.old.items }
@@ -204,7 +205,7 @@ impl<T: Clone, A: Allocator, G: Growth> ThinVec<T, A, G> {
         ensures succeeds { HasRoomFor self.old (end - start)
             → All T.is_infallible (slice_range self.old.items start end) → IsOk result }
 
-        // On failure, the items are as before.
+        // On failure, the items are unchanged.
         ensures err_items { OnErr result (self.new.items ≡ self.old.items) }
         ensures err { All T.is_infallible (slice_range self.old.items start end)
             → OnErr result (self.new ≡ self.old) }
@@ -212,7 +213,8 @@ impl<T: Clone, A: Allocator, G: Growth> ThinVec<T, A, G> {
             ⊎ CostsUpToClone T.is_infallible (slice_range self.old.items start end)
             self.old self.new) }
 
-        // In any case. The capacity and any `CapacityOverflow` are as for `reserve(end - start)`.
+        // In any case. The new capacity, and whether the call fails with `CapacityOverflow`, are
+        // the same as for a call of `reserve(end - start)`.
         ensures reserves { Reserves G.rule T.row (end - start) self.old self.new result }
         ensures keeps { Keeps T.row self.old self.new }
     {
@@ -228,7 +230,7 @@ impl<T: Clone, A: Allocator, G: Growth> ThinVec<T, A, G> {
         requires in_bounds { end ≤ length self.old.items }
         requires room { HasRoomFor self.old (end - start) }
 
-        // On success, which is certain if no clone can fail.
+        // The call succeeds if no clone can fail. On success, the clones are appended.
         ensures succeeds { All T.is_infallible (slice_range self.old.items start end)
             → IsOk result }
         ensures items { OnOk result (AppendsClones T.is_clone self.old.items self.new.items
@@ -243,7 +245,7 @@ impl<T: Clone, A: Allocator, G: Growth> ThinVec<T, A, G> {
           cost = self.new.cost;
         } }
 
-        // On failure, the items are as before.
+        // On failure, the items are unchanged.
         ensures err_items { OnErr result (self.new.items ≡ self.old.items) }
         ensures refused { OnErr result (StopsAtClone T.is_infallible
             (slice_range self.old.items start end) self.old.cost self.new.cost) }
@@ -261,17 +263,16 @@ impl<T: Clone, A: Allocator, G: Growth> ThinVec<T, A, G> {
     }
 
     // Appends clones of the items from index `start` up to, but not including, `end`, in order,
-    // until a clone fails, and returns the number of clones. The list must have room for a clone of
-    // each of these items. The items are read from the list that is filled, so the length is stored
-    // after each clone.
+    // until a clone fails, and returns the number of clones made. The list must have room for all
+    // these clones. The items are read from the same list to which the clones are appended, so the
+    // stored length is updated after each clone.
     fn push_clones_within(&mut self, start: usize, end: usize) -> usize
         requires start_le_end { start ≤ end }
         requires in_bounds { end ≤ length self.old.items }
         requires room { HasRoomFor self.old (end - start) }
         requires within { IsWithin T.row self.old }
 
-        // What the list is after the call: clones of the first `result` items of the range were
-        // appended.
+        // The call appends clones of the first `result` items of the range.
         ensures in_bounds { result ≤ end - start }
         ensures items { AppendsClones T.is_clone self.old.items self.new.items
             (take result (slice_range self.old.items start end)) }
@@ -281,7 +282,7 @@ impl<T: Clone, A: Allocator, G: Growth> ThinVec<T, A, G> {
           cost = moving result self.old.cost;
         } }
 
-        // If some clones are missing, the clone of the next item can fail.
+        // If `result` is less than the length of the range, the clone of the next item can fail.
         ensures refused { result < end - start → HoldsAt (λ x. ¬ (T.is_infallible x))
             (slice_range self.old.items start end) result }
 

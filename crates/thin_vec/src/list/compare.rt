@@ -1,6 +1,6 @@
 //! Comparing, hashing and printing lists. A list is compared, hashed and printed as the slice of
-//! its items: its capacity and its cost have no effect. The traits `Emptied` and `MadeWith`
-//! make empty lists.
+//! its items: its capacity and its cost have no effect. The file also implements the traits
+//! `Emptied` and `MadeWith`, which make empty lists.
 ghost use Rattle.std.specs.Cmp.{on_equiv, on_per, on_po, on_total};
 ghost use Rattle.std.specs.Cmp.Lexicographic.{lists_agrees, lists_equiv, lists_per, lists_po, lists_ties, lists_total, pointwise, slice_cmp, slice_partial_cmp};
 ghost use Rattle.std.specs.Hash as fed;
@@ -66,7 +66,7 @@ impl<T: Hash, A: Allocator, G: Growth> Hash for ThinVec<T, A, G> {
 }
 
 impl<T: fmt::Debug, A: Allocator, G: Growth> fmt::Debug for ThinVec<T, A, G> {
-    // Prints the list as the slice of its items is printed.
+    // Prints the list in the same way as the slice of its items.
     fn fmt<W: fmt::Write>(&self, f: &mut fmt::Formatter<W>) -> fmt::Result {
         self.as_slice().fmt(f)
     }

@@ -33,7 +33,8 @@ impl<T: Copy, A: Allocator, G: Growth> ThinVec<T, A, G> {
         // On failure, the list is unchanged.
         ensures err { OnErr result (self.new ≡ self.old) }
 
-        // In any case. The capacity and the cause of a failure are as for `reserve(items.len())`.
+        // In any case. The new capacity and the cause of a failure are those of a call of
+        // `reserve(items.len())`.
         ensures reserves { Reserves G.rule T.row (length items.now) self.old self.new result }
         ensures keeps { Keeps T.row self.old self.new }
     {
@@ -45,9 +46,9 @@ impl<T: Copy, A: Allocator, G: Growth> ThinVec<T, A, G> {
         Ok(())
     }
 
-    /// Makes a list on `alloc` that has a copy of each item, in order. The new list has the same
-    /// growth rule, and its capacity is exactly the number of items. The copy of an empty list
-    /// allocates nothing. The items are copied as one run, which is faster than `clone`.
+    /// Makes a list of copies of the items, in order, on `alloc`. The new list has the same growth
+    /// rule, and its capacity is exactly the number of items. The copy of an empty list allocates
+    /// nothing. The items are copied as one run, which is faster than `clone`.
     ///
     /// This method is our own: neither Rust's `Vec` nor the Rust crate thin-vec has it.
     ///
@@ -74,7 +75,7 @@ impl<T: Copy, A: Allocator, G: Growth> ThinVec<T, A, G> {
     }
 
     /// Appends a copy of each item of `items`, in order, without growing. The list must have room
-    /// for the items, as it has after `reserve`. So the call cannot fail, and returns no `Result`.
+    /// for the items; `reserve` makes such room. So the call cannot fail, and returns no `Result`.
     ///
     /// This method is our own: neither Rust's `Vec` nor the Rust crate thin-vec has it.
     pub fn extend_from_copies_reserved(&mut self, items: &[T])

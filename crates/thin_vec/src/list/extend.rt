@@ -1,4 +1,4 @@
-//! The calls that add the items of an iterator to a list.
+//! The methods that add the items of an iterator to a list.
 ghost use Rattle.std.specs.Prelude.{◌≡◌, ◌+◌, ◌-◌, ◌<◌, ◌≤◌, List, ◌++◌, IfErr, IfOk, IsOk, IsSome, MatchOption, None, OnErr, OnOk, OnSome, length};
 ghost use Rattle.std.specs.Iterator.Runs.{SomeRun, WholeRun};
 ghost use Rattle.std.specs.Iterator.{Drains, IsFinite, YieldsThen, size};
@@ -20,12 +20,12 @@ use std::mem;
 use thin_block::{Block, Growth, ThinVecError};
 
 impl<T, A: Allocator, G: Growth> ThinVec<T, A, G> {
-    /// Appends the items that `iter` yields before its first `None`, after which the iterator is
-    /// not asked again.
+    /// Appends the items that `iter` yields before its first `None`. After this `None`, `next` is
+    /// not called again.
     ///
-    /// First, it asks `iter` for its size hint, once, and reserves room for the lower bound. Then
-    /// it moves items into the spare capacity, and pushes each further one. So it cannot fail if
-    /// there is room for as many items as the iterator may yield.
+    /// First, the call asks `iter` for its size hint, once, and reserves room for the lower bound.
+    /// Then it moves items into the spare capacity, and pushes each further item. So the call
+    /// cannot fail if there is room for all items that the iterator may yield.
     ///
     /// # Errors
     ///
@@ -34,8 +34,9 @@ impl<T, A: Allocator, G: Growth> ThinVec<T, A, G> {
     ///
     /// - The room for the lower bound cannot be reserved. Then the list is unchanged, `in_hand` is
     ///   `None`, and `rest` is the whole iterator.
-    /// - A further item cannot be pushed. Then the list keeps the items that were placed, and it is
-    ///   full; `in_hand` is the item without room, and `rest` yields the items after it.
+    /// - A further item cannot be pushed. Then the list keeps the items that were placed, and is
+    ///   full; `in_hand` is the item that could not be pushed, and `rest` yields the items after
+    ///   this item.
     pub fn extend<I: Iterator<Item = T>>(&mut self, iter: I) -> Result<(), ExtendRefused<T, I>>
         requires can_next { I.can_next iter }
         requires finite { IsFinite (I.remaining iter) }
@@ -135,13 +136,13 @@ impl<T, A: Allocator, G: Growth> ThinVec<T, A, G> {
         }
     }
 
-    // Moves the items that `iter` yields into the spare capacity, and then draws one item more if
-    // the iterator has not ended. Returns the iterator and that item.
+    // Moves items of `iter` into the spare capacity until it is full. If `iter` has not ended, then
+    // draws one item more. Returns the iterator, and this item if there is one.
     fn extend_reserved<I: Iterator<Item = T>>(&mut self, iter: I) -> (I, Option<T>)
         requires can_next { I.can_next iter }
         requires finite { IsFinite (I.remaining iter) }
 
-        // What the iterator yielded, and what the list is after the call.
+        // The call appends the items that the iterator yielded, and counts one move for each.
         ensures items { (xs : List T) × (self.new.items ≡ self.old.items ++ xs)
             × YieldsThen I.next_gives iter xs result.1 result.0 }
         ensures changes { self.new ≡ record self.old {
@@ -174,8 +175,8 @@ impl<T, A: Allocator, G: Growth> ThinVec<T, A, G> {
         (rest, extra)
     }
 
-    // Moves the items that `iter` yields into the spare capacity, and stores the length once. The
-    // `end` of the result is the new length.
+    // Moves items of `iter` into the spare capacity, until it is full or `iter` ends. Stores the
+    // length only once. The field `end` of the result is the new length.
     fn fill_spare<I: Iterator<Item = T>>(&mut self, iter: I) -> Filled<I>
         requires can_next { I.can_next iter }
         requires finite { IsFinite (I.remaining iter) }
@@ -200,12 +201,12 @@ impl<T, A: Allocator, G: Growth> ThinVec<T, A, G> {
 }
 
 impl<T, A: Allocator> ThinVec<T, A> {
-    /// Makes a list on `alloc` of the items that `iter` yields before its first `None`, after which
-    /// the iterator is not asked again.
+    /// Makes a list on `alloc` of the items that `iter` yields before its first `None`. After this
+    /// `None`, `next` is not called again.
     ///
-    /// First, it asks `iter` for its size hint, once, and makes a block with exactly as many places
-    /// as the lower bound says. Then it moves items into the places, and pushes each further one.
-    /// So it cannot fail if the iterator yields no item.
+    /// First, the call asks `iter` for its size hint, once, and makes a block whose capacity is
+    /// exactly the lower bound. Then it moves items into the block until it is full, and pushes
+    /// each further item. So the call cannot fail if the iterator can yield no item.
     ///
     /// # Errors
     ///
@@ -214,8 +215,9 @@ impl<T, A: Allocator> ThinVec<T, A> {
     ///
     /// - The first block cannot be made. Then `list` is a new list, `in_hand` is `None`, and `rest`
     ///   is the whole iterator.
-    /// - A further item cannot be pushed. Then `list` has the items that were placed, and it is
-    ///   full; `in_hand` is the item without room, and `rest` yields the items after it.
+    /// - A further item cannot be pushed. Then `list` has the items that were placed, and is full;
+    ///   `in_hand` is the item that could not be pushed, and `rest` yields the items after this
+    ///   item.
     pub fn from_iter<I: Iterator<Item = T>>(
         alloc: A,
         iter: I,

@@ -75,8 +75,8 @@ impl<T, A: Allocator, G: Growth> IndexMut<usize> for ThinVec<T, A, G> {
         ensures found { slice_get self.old.items index ≡ Some result.now }
         ensures within { IsWithin T.row self.old }
     {
-        // This call is only for the prover: its contract gives the bounds that the clause `within`
-        // states.
+        // This call is only for the prover: the contract of `len` gives the bounds that the clause
+        // `within` states.
         let _len = self.block.len();
         self.block.slot_mut(index)
     }
@@ -86,7 +86,7 @@ impl<T, A: Allocator, G: Growth> ThinVec<T, A, G> {
     /// Returns a mutable reference to the item at `index`, or `None` if there is no such item. What
     /// the caller writes through the reference is written to the item of the list.
     ///
-    /// A list of the Rust crate thin-vec has this method through its slice.
+    /// A list of the Rust crate thin-vec has this method because it dereferences to a slice.
     pub fn get_mut(&mut self, index: usize) -> Option<&mut T>
         ensures* writes_back { sem 𝓛
             (LendsGet T.row A.row G.row A.Allocator G.Growth self.entry index result) }

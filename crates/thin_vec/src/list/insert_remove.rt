@@ -15,9 +15,9 @@ use thin_block::{Growth, ThinVecError};
 impl<T, A: Allocator, G: Growth> ThinVec<T, A, G> {
     ghost use Rattle.thin_vec.specs.ThinVec.{HasRoomFor, IsWithin, capacity_for};
 
-    /// Inserts `value` at `index`, which is at most the length, and moves the items from `index` on
-    /// back by one place. The list then owns `value`. If there is no spare capacity, the list first
-    /// grows to the capacity that the growth rule chooses.
+    /// Inserts `value` at `index`, which must be at most the length. The items from `index` on are
+    /// moved up by one place. The list then owns `value`. If there is no spare capacity, the list
+    /// first grows to the capacity that the growth rule chooses.
     ///
     /// # Errors
     ///
@@ -40,7 +40,8 @@ impl<T, A: Allocator, G: Growth> ThinVec<T, A, G> {
         ensures err { OnErr result (self.new ≡ self.old) }
         ensures value_returned { IfErr result (λ error. error.value ≡ value) }
 
-        // In any case. The capacity and the cause of a failure are as for `reserve(1)`.
+        // In any case. The new capacity and the cause of a failure are those of a call of
+        // `reserve(1)`.
         ensures reserves { Reserves G.rule T.row 1 self.old self.new (causes result) }
         ensures keeps { Keeps T.row self.old self.new }
     {
@@ -51,9 +52,9 @@ impl<T, A: Allocator, G: Growth> ThinVec<T, A, G> {
         Ok(())
     }
 
-    /// Inserts `value` at `index`, which is at most the length, without growing. The items from
-    /// `index` on are moved back by one place, and the list then owns `value`. The list must have
-    /// room for one more item, as it has after `reserve(1)`. So the call cannot fail, and returns
+    /// Inserts `value` at `index`, which must be at most the length, without growing. The items
+    /// from `index` on are moved up by one place. The list then owns `value`. The list must have
+    /// room for one more item; `reserve(1)` makes such room. So the call cannot fail, and returns
     /// no `Result`.
     ///
     /// This method is our own: neither Rust's `Vec` nor the Rust crate thin-vec has it.
@@ -70,9 +71,10 @@ impl<T, A: Allocator, G: Growth> ThinVec<T, A, G> {
         self.block.put_and_store(index, value, len + 1);
     }
 
-    /// Appends `value`, which the list then owns, and returns a mutable reference to it. What the
-    /// caller writes through the reference is written to the item of the list. If there is no spare
-    /// capacity, the list first grows to the capacity that the growth rule chooses.
+    /// Appends `value`, which the list then owns, and returns a mutable reference to `value` in the
+    /// list. What the caller writes through the reference is written to the item of the list. If
+    /// there is no spare capacity, the list first grows to the capacity that the growth rule
+    /// chooses.
     ///
     /// Rust's `Vec` has a method of this name, and the Rust crate thin-vec has none.
     ///
@@ -84,7 +86,8 @@ impl<T, A: Allocator, G: Growth> ThinVec<T, A, G> {
     /// - `CapacityOverflow`: the new capacity would be too large.
     /// - `OutOfMemory`: the allocator failed.
     pub fn push_mut(&mut self, value: T) -> Result<&mut T, Rejected<T>>
-        // On success. `writes_back` also says that the list is unchanged on failure.
+        // On success, `value` is appended. `writes_back` also says that the list is unchanged on
+        // failure.
         ensures* writes_back { sem 𝓛
             (LendsAdded T.row A.row G.row A.Allocator G.Growth self.entry
             (λ x. self.old.items ++ x ∷ []) 1 result) }
@@ -105,10 +108,11 @@ impl<T, A: Allocator, G: Growth> ThinVec<T, A, G> {
         Ok(&mut self[len])
     }
 
-    /// Inserts `value` at `index`, which is at most the length, and returns a mutable reference to
-    /// it. The items from `index` on are moved back by one place, and the list then owns `value`.
-    /// What the caller writes through the reference is written to the item of the list. If there is
-    /// no spare capacity, the list first grows to the capacity that the growth rule chooses.
+    /// Inserts `value` at `index`, which must be at most the length, and returns a mutable
+    /// reference to `value` in the list. The items from `index` on are moved up by one place. The
+    /// list then owns `value`. What the caller writes through the reference is written to the item
+    /// of the list. If there is no spare capacity, the list first grows to the capacity that the
+    /// growth rule chooses.
     ///
     /// Rust's `Vec` has a method of this name, and the Rust crate thin-vec has none.
     ///
@@ -122,7 +126,8 @@ impl<T, A: Allocator, G: Growth> ThinVec<T, A, G> {
     pub fn insert_mut(&mut self, index: usize, value: T) -> Result<&mut T, Rejected<T>>
         requires in_bounds { index ≤ length self.old.items }
 
-        // On success. `writes_back` also says that the list is unchanged on failure.
+        // On success, `value` is inserted. `writes_back` also says that the list is unchanged on
+        // failure.
         ensures* writes_back { sem 𝓛
             (LendsAdded T.row A.row G.row A.Allocator G.Growth self.entry
             (insert self.old.items index) (length self.old.items - index + 1) result) }
@@ -142,7 +147,7 @@ impl<T, A: Allocator, G: Growth> ThinVec<T, A, G> {
         Ok(&mut self[index])
     }
 
-    /// Removes the item at `index` and returns it. The items after it are moved forward by one
+    /// Removes the item at `index` and returns it. The items after `index` are moved down by one
     /// place, in order. The capacity does not change.
     pub fn remove(&mut self, index: usize) -> T
         requires in_bounds { index < length self.old.items }
@@ -177,10 +182,10 @@ impl<T, A: Allocator, G: Growth> ThinVec<T, A, G> {
         value
     }
 
-    /// Removes the last item and returns it, if `predicate` returns true for it. Otherwise, the
-    /// item stays in the list, with what `predicate` has written to it, and the call returns
-    /// `None`. `predicate` is called once, or not at all if the list is empty. The capacity does
-    /// not change.
+    /// Calls `predicate` with the last item. If `predicate` returns true, the item is removed and
+    /// returned. Otherwise, the item stays in the list as `predicate` left it, and the call returns
+    /// `None`. If the list is empty, `predicate` is not called, and the call returns `None`. The
+    /// capacity does not change.
     ///
     /// Rust's `Vec` has a method of this name, and the Rust crate thin-vec has none.
     pub fn pop_if<P: FnOnce(&mut T) -> bool>(&mut self, predicate: P) -> Option<T>

@@ -15,9 +15,9 @@ impl<T: Clone, A: Allocator, G: Growth> ThinVec<T, A, G> {
     ghost use Rattle.thin_vec.specs.ThinVec.{HasRoomFor, IsWithin};
 
     /// Changes the length to `len`. If the list is longer, the items from index `len` on are
-    /// dropped. If it is shorter, clones of `value` are appended, and `value` itself as the last
-    /// item. If no item is appended, `value` is dropped. If there is not enough spare capacity, the
-    /// list first grows to the capacity that the growth rule chooses.
+    /// dropped. If the list is shorter, clones of `value` are appended, and then `value` itself as
+    /// the last item. If no item is appended, `value` is dropped. If there is not enough spare
+    /// capacity, the list first grows to the capacity that the growth rule chooses.
     ///
     /// # Errors
     ///
@@ -28,7 +28,7 @@ impl<T: Clone, A: Allocator, G: Growth> ThinVec<T, A, G> {
     /// - `OutOfMemory`: there is not enough spare capacity, and the allocator failed. The list is
     ///   unchanged.
     /// - `OutOfMemory`: a clone failed. The clones already made are dropped, and the list has its
-    ///   old items. If it has grown, it keeps the new capacity.
+    ///   old items. If the list has grown, it keeps the new capacity.
     pub fn resize(&mut self, len: usize, value: T) -> Result<(), ThinVecError>
         // On success.
         ensures items { OnOk result (IsResized T.is_clone self.old.items len value self.new.items) }
@@ -43,14 +43,14 @@ impl<T: Clone, A: Allocator, G: Growth> ThinVec<T, A, G> {
         ensures succeeds_by_one { len ≡ length self.old.items + 1 → HasRoomFor self.old 1
             → IsOk result }
 
-        // On failure, the items are as before.
+        // On failure, the items are unchanged.
         ensures err_items { OnErr result (self.new.items ≡ self.old.items) }
         ensures err { T.is_infallible value → OnErr result (self.new ≡ self.old) }
         ensures err_cost { OnErr result ((self.new ≡ self.old) ⊎ CostsUpToClone T.is_infallible
             (replicate (len - length self.old.items - 1) value) self.old self.new) }
 
-        // In any case. The capacity and any `CapacityOverflow` are as for `reserve` with the number
-        // of added items.
+        // In any case. The new capacity, and whether the call fails with `CapacityOverflow`, are
+        // the same as for a call of `reserve` with the number of new items.
         ensures reserves { Reserves G.rule T.row (len - length self.old.items) self.old self.new
             result }
         ensures keeps { Keeps T.row self.old self.new }
@@ -64,13 +64,14 @@ impl<T: Clone, A: Allocator, G: Growth> ThinVec<T, A, G> {
         self.resize_reserved(value, len - old)
     }
 
-    // Appends `count` items, which are clones of `value` and then `value` itself. The list must
-    // have room for them. If a clone fails, the clones already made and `value` are dropped.
+    // Appends `count - 1` clones of `value`, and then `value` itself. The list must have room for
+    // these items. If a clone fails, the clones already made and `value` are dropped.
     fn resize_reserved(&mut self, value: T, count: usize) -> Result<(), ThinVecError>
         requires some { 0 < count }
         requires room { HasRoomFor self.old count }
 
-        // On success, which is certain if no clone can fail, or if no clone is made.
+        // The call succeeds if no clone can fail, or if no clone is made. On success, the items are
+        // appended.
         ensures succeeds { T.is_infallible value → IsOk result }
         ensures succeeds_by_one { count ≡ 1 → IsOk result }
         ensures items { OnOk result
@@ -86,7 +87,7 @@ impl<T: Clone, A: Allocator, G: Growth> ThinVec<T, A, G> {
           cost = self.new.cost;
         } }
 
-        // On failure, the items are as before.
+        // On failure, the items are unchanged.
         ensures err_items { OnErr result (self.new.items ≡ self.old.items) }
         ensures refused { OnErr result
             (StopsAtClone T.is_infallible (replicate (count - 1) value) self.old.cost
@@ -106,7 +107,7 @@ impl<T: Clone, A: Allocator, G: Growth> ThinVec<T, A, G> {
     }
 
     // Appends up to `count` clones of `value`, until a clone fails, and returns the number of
-    // clones. The list must have room for `count` clones.
+    // clones made. The list must have room for `count` clones.
     fn push_repeated_reserved(&mut self, value: &T, count: usize) -> usize
         requires room { HasRoomFor self.old count }
         ensures in_bounds { result ≤ count }
@@ -130,9 +131,9 @@ impl<T: Drop, A: Allocator, G: Growth> ThinVec<T, A, G> {
     ghost use Rattle.thin_vec.specs.ThinVec.{HasRoomFor, IsWithin};
 
     /// Changes the length to `len`. If the list is longer, the items from index `len` on are
-    /// dropped. If it is shorter, the results of `make` are appended: `make` is called once for
-    /// each new item, in order. If there is not enough spare capacity, the list first grows to the
-    /// capacity that the growth rule chooses.
+    /// dropped. If the list is shorter, the results of `make` are appended: `make` is called once
+    /// for each new item, in order. If there is not enough spare capacity, the list first grows to
+    /// the capacity that the growth rule chooses.
     ///
     /// Rust's `Vec` has a method of this name, and the Rust crate thin-vec has none.
     ///
@@ -158,8 +159,8 @@ impl<T: Drop, A: Allocator, G: Growth> ThinVec<T, A, G> {
         // On failure, the list is unchanged.
         ensures err { OnErr result (self.new ≡ self.old) }
 
-        // In any case. The capacity and the cause of a failure are as for `reserve` with the number
-        // of added items.
+        // In any case. The new capacity and the cause of a failure are those of a call of `reserve`
+        // with the number of new items.
         ensures reserves { Reserves G.rule T.row (len - length self.old.items) self.old self.new
             result }
         ensures keeps { Keeps T.row self.old self.new }
@@ -174,7 +175,8 @@ impl<T: Drop, A: Allocator, G: Growth> ThinVec<T, A, G> {
         Ok(())
     }
 
-    // Appends the results of `count` calls of `make`, in order. The list must have room for them.
+    // Appends the results of `count` calls of `make`, in order. The list must have room for `count`
+    // more items.
     fn push_results_reserved<F: FnMut() -> T>(&mut self, count: usize, make: F)
         requires room { HasRoomFor self.old count }
         requires callable { F.IsAlwaysCallable make }

@@ -51,8 +51,8 @@ impl<T, A: Allocator, G: Growth> ThinVec<T, A, G> {
         self.shrink_block(wanted)
     }
 
-    /// Shrinks the capacity to the length. If the list is full, nothing changes. If it is empty,
-    /// its block is freed, and the cost that contracts see becomes 0.
+    /// Shrinks the capacity to the length. If the list is full, nothing changes. If the list is
+    /// empty, its block is freed, and the cost that contracts see becomes 0.
     ///
     /// # Errors
     ///
@@ -108,7 +108,7 @@ impl<T, A: Allocator, G: Growth> ThinVec<T, A, G> {
         Ok(())
     }
 
-    // Frees the block of an empty list, which then has capacity 0 and no cost.
+    // Frees the block of an empty list. The capacity and the cost of the list are then 0.
     fn give_block_back(&mut self)
         requires empty { self.old.items ≡ [] }
         ensures changes { self.new ≡ record self.old { items = []; capacity = 0; cost = no_cost } }

@@ -29,8 +29,8 @@ pub(crate) trait PairTest<T> {
 impl<T, A: Allocator> OpenBlock<T, A> {
     ghost use Rattle.thin_vec.specs.OpenBlock.Dedup.{IsPairAskedAt, IsLastAsked, IsNextAsked};
 
-    // Tests the item at index `k` of the middle run against the item before it. Both stay where
-    // they are.
+    // Tests the item at index `k` of the middle run against the item before it. Both items stay
+    // where they are.
     pub(crate) fn test_pair<J: PairTest<T>>(&mut self, k: usize, test: &mut J) -> bool
         requires some { 0 < k }
         requires in_bounds { k < length self.old.rest }
@@ -143,10 +143,11 @@ impl<T: Drop, A: Allocator> OpenBlock<T, A> {
         self.dedup_last(test);
     }
 
-    // Tests the items of the middle run, of which there are two or more, up to the first that is
-    // removed. Drops that item, and moves the items before it to the front. The first item is taken
-    // out of the block before its test: the block cannot lend it and the last item of the front
-    // together, because there are empty slots between the two.
+    // Tests the items of the middle run, in order, up to the first that is removed. Drops that
+    // item, and moves the items before it to the front. The middle run must have at least two
+    // items. The first of them is taken out of the block before its test. The reason is that the
+    // block cannot lend this item and the last item of the front at the same time, because empty
+    // slots lie between the two items.
     fn dedup_two<J: PairTest<T>>(&mut self, test: &mut J)
         requires some { 0 < length self.old.front }
         requires two { 1 < length self.old.rest }
@@ -199,7 +200,8 @@ impl<T: Drop, A: Allocator> OpenBlock<T, A> {
     }
 }
 
-// Tests the item in the slot `i + 1` against the item in the slot `i`. Both stay where they are.
+// Tests the item in the slot `i + 1` against the item in the slot `i`. Both items stay where they
+// are.
 fn test_neighbours<T, A: Allocator, J: PairTest<T>>(
     block: &mut Block<T, A>,
     i: usize,

@@ -15,8 +15,8 @@ use std::mem;
 use thin_block::{Block, Growth};
 
 impl<T, A: Allocator> OpenBlock<T, A> {
-    // Moves the items that `iter` yields into the gap. Stops if `iter` returns `None`, or if the
-    // gap is full. The field `end` of the result is the length that the front has afterwards.
+    // Moves items of `iter` into the gap, until the gap is full or `iter` returns `None`. The field
+    // `end` of the result is the new length of the front.
     pub(crate) fn fill<I: Iterator<Item = T>>(&mut self, iter: I) -> Filled<I>
         requires can_next { I.can_next iter }
         requires finite { IsFinite (I.remaining iter) }

@@ -8,7 +8,7 @@ use std::alloc::Allocator;
 use std::mem;
 use thin_block::Block;
 
-// From this number of items on, moving them as one run is faster than moving them one by one.
+// Moving at least this number of items as one run is faster than moving them one by one.
 const MANY: usize = 8;
 
 /// A test of one item. It decides whether the item is kept, and may write to it.
@@ -72,8 +72,8 @@ impl<T, A: Allocator> OpenBlock<T, A> {
         self.rest_start += 1;
     }
 
-    // Moves the first `k` items of the middle run to the front: `MANY` and more as one run, fewer
-    // one by one, and two without a loop.
+    // Moves the first `k` items of the middle run to the front: as one run if `k` is at least
+    // `MANY`, and otherwise one by one. Two items are moved without a loop.
     #[inline(always)]
     pub(crate) fn move_down(&mut self, k: usize)
         requires in_bounds { k ≤ length self.old.rest }
@@ -119,8 +119,9 @@ impl<T, A: Allocator> OpenBlock<T, A> {
         self.rest_start += k;
     }
 
-    // Returns whether the middle run has two or more items. There is a gap, so `rest_end` is not 0.
-    // The comparison has this form so that `rest_end - 1` stays in a register during a loop.
+    // Returns whether the middle run has two or more items. There must be a gap, so that `rest_end`
+    // is not 0. The comparison has this form so that `rest_end - 1` stays in a register during a
+    // loop.
     pub(crate) fn has_two(&self) -> bool
         requires gap { 0 < self.now.gap }
         ensures value { IsTrue result ↔ (1 < length self.now.rest) }
@@ -153,8 +154,8 @@ impl<T, A: Allocator> OpenBlock<T, A> {
     ghost use Rattle.thin_vec.specs.OpenBlock.Sift.{Advances};
 
     // Tests the items of the middle run up to the first that is to be removed, and returns whether
-    // there is one. That item is then the first of the middle run. The items before it become a
-    // part of the front. If there is a gap, they are moved down.
+    // there is such an item. The items before that item become a part of the front; if there is a
+    // gap, they are moved down. The item to be removed is then the first of the middle run.
     pub(crate) fn advance<J: Test<T>>(&mut self, test: &mut J) -> bool
         requires ready { J.ready test.old }
         ensures advances { Advances J.tests test.old self.old test.new self.new }
@@ -258,8 +259,9 @@ impl<T: Drop, A: Allocator> OpenBlock<T, A> {
         self.sift_last(test);
     }
 
-    // Tests the items of the middle run, of which there are two or more, up to the first that is
-    // removed. Drops that item, and moves the items before it to the front.
+    // Tests the items of the middle run, in order, up to the first that is removed. Drops that
+    // item, and moves the items before it to the front. The middle run must have at least two
+    // items.
     fn sift_two<J: Test<T>>(&mut self, test: &mut J)
         requires two { 1 < length self.old.rest }
         requires gap { 0 < self.old.gap }

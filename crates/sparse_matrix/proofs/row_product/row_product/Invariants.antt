@@ -1,4 +1,5 @@
--- The total is the sum over the entries visited so far, or `u64::MAX` if the sum is greater.
+-- `total` is the sum of the products for the entries visited so far, or `u64::MAX` if this sum is
+-- greater.
 use Rattle.std.proofs.Common.{◌≡◌, ◌*◌, ◌-◌, ◌^◌, map, min, slice_index, sum, take}
 use Rattle.sparse_matrix.proofs.row_product.row_product.Given as goal
 

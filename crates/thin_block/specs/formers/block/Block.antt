@@ -49,27 +49,26 @@ module _ (g : Former {0}) where
   slot_count None n = n
   slot_count (Some a) n = g.count a n
 
-  -- prepends the values of X that a slot contains to a row
+  -- prepends to a row the values of X that a slot contains
   abbrev pub slot_put : (X : Type 0) (o : Option (g.Of X)) (n : Count) → Row X n
       → Row X (slot_count (on_slot (g.shape X) o) n)
   slot_put X None n t = t
   slot_put X (Some y) n t = g.put X y n t
 
-  -- takes a slot of the shape a from a row: the first values of the row are those that the slot
-  -- contains
+  -- takes a slot of the shape a from a row: the slot contains the first values of the row
   abbrev pub slot_get : (X : Type 0) (a : Option g.Shape) (n : Count) → Row X (slot_count a n)
       → Option (g.Of X) × Row X n
   slot_get X None n v = (None, v)
   slot_get X (Some a) n v = let r : g.Of X × Row X n = g.get X a n v in (Some r.0, r.1)
 
-  -- taking a slot from a row to which its values were prepended returns that slot and the rest of
-  -- the row
+  -- if the values in a slot are prepended to a row, then taking a slot of the same shape returns
+  -- that slot and the old row
   pub slot_get-put : (X : Type 0) (o : Option (g.Of X)) (n : Count) (t : Row X n)
       → slot_get X (on_slot (g.shape X) o) n (slot_put X o n t) ≡ (o, t)
   slot_get-put X None n t = refl
   slot_get-put X (Some y) n t = λ i. (Some (g.get-put X y n t i).0, (g.get-put X y n t i).1)
 
-  -- prepending the values of a slot that was taken from a row restores the row
+  -- if a slot is taken from a row, then prepending the values in the slot restores the row
   pub slot_put-get : (X : Type 0) (a : Option g.Shape) (n : Count) (v : Row X (slot_count a n))
       → ◌≡◌ {A = (b : Option g.Shape) × Row X (slot_count b n)} (
         on_slot (g.shape X) (slot_get X a n v).0,
@@ -111,8 +110,8 @@ module _ {g : Former {0}} (w : Weighed g) where
   slot_weight X μ None = 0
   slot_weight X μ (Some y) = w.weight X μ y
 
-  -- the depth of a row to which the values in a slot were prepended is the maximum of the depth of
-  -- the slot and the depth of the row
+  -- if the values in a slot are prepended to a row, then the depth of the result is the maximum of
+  -- the depth of the slot and the depth of the row
   pub slot_puts : (X : Type 0) (μ : X → ℕ) (o : Option (g.Of X)) (n : Count) (t : Row X n)
       → deepest μ (slot_count g (on_slot (g.shape X) o) n) (slot_put g X o n t) ≡ max
       (slot_weight X μ o) (deepest μ n t)
@@ -124,8 +123,8 @@ module _ {g : Former {0}} (w : Weighed g) where
   w_slot = record { weight = slot_weight; puts = slot_puts }
 
 module _ {X Y Z : Type 0} (d : Block X Z) where
-  -- `Fits ys`: the block d may hold the slots ys. They are at least as many as its length, and
-  -- there is a slot if and only if d has an allocation.
+  -- `Fits ys`: the block d may have ys as its slots. This means that the length of ys is at least
+  -- the length of d, and that ys is non-empty if and only if d has an allocation.
   abbrev pub Fits : List (Option Y) → Type 0
   Fits ys = (d.len ≤ length ys) × (is_some d.alloc ≡ any ys)
 
@@ -142,17 +141,17 @@ module _ {X Y Z : Type 0} (d : Block X Z) where
     sound = sound;
   }
 
-  -- if the slots ys are as many as those of the block d, then d may hold ys
+  -- if ys has the same number of slots as the block d, then d may have ys as its slots
   pub fits : (ys : List (Option Y)) → length ys ≡ length d.slots → Fits ys
   fits ys e = (let le = d.sound.0 in omega (arith, e, le), d.sound.1 ∙ sym (any_same d.slots ys e))
 
-  -- if the slots ys and zs are equal, two proofs that the block d may hold them are equal
+  -- if ys and zs are equal, then each proof of `Fits ys` equals each proof of `Fits zs`
   pub Fits-along : (ys zs : List (Option Y)) (e : ys ≡ zs) (p : Fits ys) (q : Fits zs)
       → PathP (λ i. Fits (e i)) p q
   Fits-along ys zs e = is_prop→PathP (λ i. Fits (e i))
       (λ i p q j. (le_prop p.0 q.0 j, Coded-set coded_bool _ _ p.1 q.1 j))
 
-  -- if ys and zs are equal, the blocks with the slots ys and zs are equal
+  -- if ys and zs are equal, then the block d with the slots ys equals the block d with the slots zs
   abbrev pub holding_along : (ys zs : List (Option Y)) (e : ys ≡ zs) (p : Fits ys) (q : Fits zs)
       → holding ys p ≡ holding zs q
   holding_along ys zs e p q = λ i. holding (e i) (Fits-along ys zs e p q i)
@@ -163,22 +162,22 @@ mapped h d = holding d (map (on_slot h) d.slots)
     (fits d (map (on_slot h) d.slots) (length-map d.slots (on_slot h)))
 
 module _ (g : Former {0}) (Z : Type 0) where
-  -- taking slots from a row yields as many slots as the list a has shapes
+  -- if slots whose shapes are listed in a are taken from a row, then the number of slots is the
+  -- length of a
   pub length_got : (X : Type 0) (a : List (Option g.Shape)) (n : Count)
       (v : Row X (list_count (slot g) a n)) → length (list_get (slot g) X a n v).0 ≡ length a
   length_got X [] n v = refl
   length_got X (a ∷ as') n v =
       ap suc (length_got X as' n ((slot g).get X a (list_count (slot g) as' n) v).1)
 
-  -- takes a block of the shape a from a row: the first values of the row are those that the block
-  -- contains
+  -- takes a block of the shape a from a row: the block contains the first values of the row
   abbrev pub got : (X : Type 0) (a : Block g.Shape Z) (n : Count)
       → Row X (list_count (slot g) a.slots n) → Block (g.Of X) Z × Row X n
   got X a n v = let r : List (Option (g.Of X)) × Row X n = list_get (slot g) X a.slots n v in
       (holding a r.0 (fits a r.0 (length_got X a.slots n v)), r.1)
 
-  -- taking a block from a row to which its values were prepended returns that block and the rest of
-  -- the row
+  -- if the values in a block are prepended to a row, then taking a block of the same shape returns
+  -- that block and the old row
   pub got-put : (X : Type 0) (d : Block (g.Of X) Z) (n : Count) (t : Row X n)
       → got X (mapped (g.shape X) d) n ((list (slot g)).put X d.slots n t) ≡ (d, t)
   got-put X d n t = λ i. (
@@ -187,7 +186,7 @@ module _ (g : Former {0}) (Z : Type 0) where
     ((list (slot g)).get-put X d.slots n t i).1,
   )
 
-  -- prepending the values of a block that was taken from a row restores the row
+  -- if a block is taken from a row, then prepending the values in the block restores the row
   pub put-got : (X : Type 0) (a : Block g.Shape Z) (n : Count)
       (v : Row X (list_count (slot g) a.slots n))
       → ◌≡◌ {A = (b : Block g.Shape Z) × Row X (list_count (slot g) b.slots n)} (
@@ -249,7 +248,7 @@ the_empty Z z = record {
   sound = (omega arith, refl);
 }
 
--- under the former `this`, where each item is itself a value, the values in a row of slots are the
+-- if each item is itself a value (the former `this`), then the values in a row of slots are the
 -- items that the slots hold
 pub items_listed : (X : Type 0) (xs : List (Option X))
     → listed _ (children (list (slot this)) X xs) ≡ items_in xs
@@ -261,13 +260,13 @@ items_listed X (Some x ∷ xs) = ap (λ l. x ∷ l) (items_listed X xs)
 abbrev pub the_items : (Z X : Type 0) → Block X Z → List X
 the_items Z X d = items_in d.slots
 
--- under the former `this`, where each item is itself a value, the values in a block are its items
+-- if each item is itself a value (the former `this`), then the values in a block are its items
 pub the_items_listed : (Z X : Type 0) (d : Block X Z)
     → listed _ (children (the_former this Z) X d) ≡ the_items Z X d
 the_items_listed Z X d = items_listed X d.slots
 
--- if h keeps the code of each item, then mapping h over a list keeps the code of the list
--- (`ThinVec` uses this)
+-- if h does not change the code of any item, then mapping h over a list does not change the code of
+-- the list (`ThinVec` uses this)
 pub codes_of : {X Y : Type 0} (c : X → Gv) (c' : Y → Gv) (h : X → Y) → ((x : X) → c' (h x) ≡ c x)
     → (xs : List X) → code_l c' (map h xs) ≡ code_l c xs
 codes_of = codes_placed
@@ -333,8 +332,8 @@ module _ (R R' : RattleType) (h : R.Denot → R'.Denot) (a : Alike R R' h) where
       (places_lent_placed xs b (o + 16) i)
 
 module _ (A : RattleType) (G : Ghosts A.Denot) (R R' : RattleType) (h : R.Denot → R'.Denot) where
-  -- if items have the same memory as their images under h, then the same is true of blocks of these
-  -- items
+  -- if each item has the same memory as its image under h, then each block of such items has the
+  -- same memory as its image under h
   pub the_places : Alike R R' h → Alike (C.the_row R A G) (C.the_row R' A G)
       ((the_former this A.Denot).map R.Denot R'.Denot h)
   the_places a = record {
@@ -346,13 +345,13 @@ module _ (A : RattleType) (G : Ghosts A.Denot) (R R' : RattleType) (h : R.Denot 
         (block_lent_placed R R' h a d.at d.len d.slots d.alloc i) κ;
   }
 
-  -- if h keeps the codes of items, a slot has the same code as its image under h
+  -- if h does not change the code of any item, then a slot has the same code as its image under h
   slot_recoded : Recodes R R' h → (x : Option R.Denot) → (coded_option R'.coded).code (on_slot h x)
       ≡ (coded_option R.coded).code x
   slot_recoded e None = refl
   slot_recoded e (Some x) = second (e x)
 
-  -- if h keeps the codes of items, a block has the same code as its image under h
+  -- if h does not change the code of any item, then a block has the same code as its image under h
   pub the_codes_placed : Recodes R R' h → Recodes (C.the_row R A G) (C.the_row R' A G)
       ((the_former this A.Denot).map R.Denot R'.Denot h)
   the_codes_placed e d =

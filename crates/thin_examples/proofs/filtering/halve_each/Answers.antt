@@ -1,5 +1,5 @@
--- `halve_each`: the closure of `dedup_by` halves the later number and compares it with the one kept
--- before it. So the numbers left are `dedup` of the halves.
+-- `halve_each`: the closure of `dedup_by` halves the later number and compares the half with the
+-- number kept before it. So the numbers left are `dedup` of the halves.
 use Rattle.std.proofs.Common.{◌/◌, refl, rules}
 use Rattle.std.specs.Prelude.{◌==◌}
 use Rattle.thin_examples.proofs.DedupLemmas.{deduped_mapped}

@@ -1,4 +1,5 @@
--- Eight numbers have an exact capacity, so the list cannot overflow.
+-- `room_for_eight`: a block for eight numbers is small enough to be allocated, so the capacity
+-- cannot overflow.
 use Rattle.std.proofs.Common.{arith}
 use Rattle.thin_vec.proofs.FewLemmas.{few_items}
 use Rattle.thin_examples.proofs.growing.room_for_eight.Goals as goal

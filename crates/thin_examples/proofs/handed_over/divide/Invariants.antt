@@ -1,5 +1,6 @@
--- `divide`, in this order: `odd` has the odd numbers yielded so far, and `even` has the even ones.
--- Both have room for all numbers that remain.
+-- `divide`, in this order: `odd` has its old items, followed by the odd numbers yielded so far.
+-- `even` has its old items, followed by the even numbers yielded so far. Each of the two lists has
+-- room for all numbers not yielded yet.
 use Rattle.std.proofs.Common.{◌≡◌, ◌+◌, ◌%◌, ◌==◌, ◌++◌, ◌≤◌, length}
 use Rattle.std.specs.Prelude.{filter, not}
 use Rattle.thin_examples.proofs.handed_over.divide.Given as goal

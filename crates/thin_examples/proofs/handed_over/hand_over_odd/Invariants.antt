@@ -1,5 +1,5 @@
--- `hand_over_odd`, in this order: exactly the numbers that were taken out so far were appended to
--- `other`, and `other` has room for all other numbers of the range.
+-- `hand_over_odd`, in this order: exactly the numbers extracted so far were appended to `other`.
+-- `other` has room for its old items and for all numbers of the range.
 use Rattle.std.proofs.Common.{◌+◌, ◌%◌, ◌==◌, ◌≤◌, length}
 use Rattle.thin_vec.specs.Edits.ExtractIf.{extract_rest}
 use Rattle.thin_vec.proofs.EditLemmas.{IsExtracting}

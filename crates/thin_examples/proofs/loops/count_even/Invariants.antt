@@ -1,4 +1,5 @@
--- `count_even`: `count` is the number of even numbers before the present one.
+-- `count_even`: `count` is the number of even numbers before the current number, and is at most the
+-- index of the current number.
 use Rattle.std.proofs.Common.{◌≡◌, ◌%◌, ◌==◌, ◌≤◌, length, take}
 use Rattle.std.specs.Prelude.{filter}
 use Rattle.thin_examples.proofs.loops.count_even.Given as goal

@@ -1,4 +1,5 @@
--- Seven rows have an exact capacity, so the table cannot overflow.
+-- `for_a_week`: a block for seven rows is small enough to be allocated, so the capacity cannot
+-- overflow.
 use Rattle.std.proofs.Common.{arith}
 use Rattle.thin_vec.proofs.FewLemmas.{few_items}
 use Rattle.thin_examples.proofs.sparse_counts.for_a_week.Goals as goal

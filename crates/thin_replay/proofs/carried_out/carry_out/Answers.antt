@@ -1,9 +1,10 @@
--- The answers for `carry_out`: a run of one command has one reply.
+-- The answers for `carry_out`. They follow from the fact that a run of one command has exactly one
+-- reply.
 use Rattle.std.proofs.Common.{◌≡◌, [], ◌∷◌, ap, arith, ◌++◌, ◌∙◌}
 use Rattle.thin_replay.proofs.RunLemmas.{headline-one, one_reply}
 use Rattle.thin_replay.proofs.carried_out.carry_out.Goals as goal
 
--- `pop` returns `Some`, because there is one reply
+-- the precondition of `unwrap` holds: `pop` returns `Some`, because there is exactly one reply
 pub unwrap-requires : goal.unwrap-requires
 unwrap-requires g c =
     let one : c.push.new.self.items ≡ c.args.command ∷ [] =
@@ -15,7 +16,7 @@ unwrap-requires g c =
           c.in-Ok-run.ensures.ok,
     ))
 
--- the main theorem holds for the popped reply, because it is the only one
+-- the main theorem (`Headline`) holds for the popped reply, because there is no other reply
 pub returns-in-Ok-run-clause-ok : goal.returns-in-Ok-run-clause-ok
 returns-in-Ok-run-clause-ok g c =
     let one : c.push.new.self.items ≡ c.args.command ∷ [] =

@@ -4,11 +4,11 @@ use Rattle.thin_replay.proofs.WordsLemmas.{zip-all, zip-next}
 use Rattle.thin_replay.specs.Words.{Spells}
 use Rattle.thin_replay.proofs.words.list_of.Goals as goal
 
--- before the first iteration, no word was parsed, and there are no items
+-- before the first iteration, no word has been parsed, and there are no items
 pub loop-word-init : goal.loop-word-init
 loop-word-init c = rw c.new-list.ensures.new.items tt
 
--- an iteration parses the next word, and pushes its number
+-- each iteration preserves the invariant: it parses the next word, and pushes the number
 pub loop-word-preserved : goal.loop-word-preserved
 loop-word-preserved c =
     let grown : c.push.new.self.items ≡ c.loop-word.list.items ++ c.in_ok-item_of.field-0 ∷ [] =
@@ -18,7 +18,7 @@ loop-word-preserved c =
     (record { ref_ptr = (0, 0); now = [] }) c.loop-word.list.items c.in_ok-item_of.field-0
     c.loop-word-test.true c.loop-word.invariant (search rules))
 
--- after the last iteration, all words were parsed
+-- when the loop ends, all words have been parsed, so the items are the numbers of all words
 pub returns : goal.returns
 returns c = record {
   items = zip-all (λ w n. Spells w.now n) c.args.words.now c.loop-word.word-index

@@ -4,11 +4,11 @@ use Rattle.thin_replay.proofs.WordsLemmas.{zip-all, zip-next}
 use Rattle.thin_replay.specs.Words.{IsStep}
 use Rattle.thin_replay.proofs.words.steps_of.Goals as goal
 
--- before the first iteration, no letter was parsed, and there are no steps
+-- before the first iteration, no letter has been parsed, and there are no steps
 pub loop-letter-init : goal.loop-letter-init
 loop-letter-init c = rw c.new-steps.ensures.items tt
 
--- an iteration parses the next letter, and pushes its step
+-- each iteration preserves the invariant: it parses the next letter, and pushes the step
 pub loop-letter-preserved : goal.loop-letter-preserved
 loop-letter-preserved c =
     rw c.in_ok-push.ensures.items
@@ -16,7 +16,7 @@ loop-letter-preserved c =
     c.loop-letter.steps.items c.in_ok-step_of.field-0 c.loop-letter-test.true
     c.loop-letter.invariant (search rules))
 
--- after the last iteration, all letters were parsed
+-- when the loop ends, all letters have been parsed, so there is one step for each letter
 pub returns : goal.returns
 returns c = record {
   steps = inr (rw (← c.as_bytes-letters.ensures.value)

@@ -5,7 +5,8 @@ use Rattle.std.proofs.lemmas.List.Sorted.{answers_always}
 use Rattle.thin_rows.proofs.EntriesLemmas.{searched}
 use Rattle.thin_rows.proofs.row.place.Goals as goal
 
--- the closure returns the column of an entry
+-- the search returns the index of the entry of the column, or the index at which such an entry
+-- would be inserted
 pub returns : goal.returns
 returns g c =
     let told = c.binary_search_by_key.ensures in

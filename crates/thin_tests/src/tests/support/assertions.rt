@@ -33,7 +33,7 @@ pub fn assert_len<T, A: Allocator, G: Growth>(rt: &impl Abort, list: &ThinVec<T,
     assert_eq!(rt; list.len(), len);
 }
 
-/// Asserts that the list has these items and this capacity.
+/// Asserts that the list has the items `items` and the capacity `capacity`.
 pub fn assert_list<A: Allocator, G: Growth>(
     rt: &impl Abort,
     list: &ThinVec<i32, A, G>,
@@ -46,7 +46,8 @@ pub fn assert_list<A: Allocator, G: Growth>(
     assert_same(rt, (list.as_slice(), list.capacity()), (items, capacity));
 }
 
-/// Asserts how many requests were made, and how many blocks are allocated and not freed.
+/// Asserts that `requests` requests for memory were made, and that `blocks` blocks are allocated
+/// and not yet freed.
 pub fn assert_counts(rt: &impl Abort, refusing: &Refusing<Global>, requests: u64, blocks: u64) {
     let counts = (refusing.requests(), refusing.blocks());
     assert_same(rt, counts, (requests, blocks));

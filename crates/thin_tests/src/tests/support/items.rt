@@ -7,14 +7,14 @@ use std::process::Abort;
 use thin_testing::Refusing;
 use thin_vec::{Growth, ThinVec};
 
-/// Returns an allocator that refuses the request with this number, or none if `number` is 0. It is
-/// leaked, so that no test has to own it.
+/// Returns an allocator that refuses the request with the number `number`, or no request if
+/// `number` is 0. The allocator is leaked, so that no test has to own it.
 pub fn refusing_nth(rt: &impl Abort, alloc: Global, number: u64) -> &'static Refusing<Global> {
     let refusing = Refusing::new(alloc, number);
     Box::leak(Box::new(alloc, refusing).ok().expect(rt, "memory"))
 }
 
-/// Returns a list of these items, without spare room.
+/// Returns a list of `items`, without spare capacity.
 pub fn list_of<T: Copy + Drop, A: Allocator>(
     rt: &impl Abort,
     alloc: A,

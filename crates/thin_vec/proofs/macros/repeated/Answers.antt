@@ -1,6 +1,6 @@
--- `repeated` resizes a new list, which has no items and no block. So the capacity is the one ruled
--- for `count` items, and the call fails with `CapacityOverflow` if and only if there is no such
--- capacity.
+-- `repeated` resizes a new list, which has no items and no block. So the new capacity is the one
+-- that the growth rule names for `count` items, and the call fails with `CapacityOverflow` if and
+-- only if the rule names none.
 use Rattle.std.proofs.Common.{arith, ◌∙◌}
 use Rattle.thin_vec.proofs.list.ClonesLemmas.{new_lists}
 use Rattle.thin_vec.proofs.macros.repeated.Goals as goal

@@ -1,5 +1,5 @@
--- Each turn of the loop puts a clone of the next item into the next slot. If the clone fails, the
--- item is one whose clone can fail.
+-- Each turn of the loop puts a clone of the next item into the next slot. If a clone fails, the
+-- item that was cloned is one whose clones can fail.
 use Rattle.thin_block.specs.Block.{seen}
 use Rattle.thin_vec.proofs.list.ExtendLemmas.{put-more}
 use Rattle.std.proofs.lemmas.Grind.{common_steps}

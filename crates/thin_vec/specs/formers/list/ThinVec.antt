@@ -1,6 +1,6 @@
--- The former of `ThinVec`: how a type may contain lists of itself. A list is determined by its
--- items, and by values that contain no items. Whether the items lie in the first slots depends only
--- on which slots are filled, as `specs/Shapes.antt` proves.
+-- The former of `ThinVec` tells the prover why a type may contain lists of itself. A list is
+-- determined by its items, and by values that contain no items. Whether the items are in the first
+-- slots depends only on which slots are filled, as `specs/Shapes.antt` proves.
 use Rattle.std.specs.Prelude.{◌≡◌, ℕ, ◌-◌, List, [], ◌∷◌, Option, length, map}
 use Rattle.std.specs.declared.option.Option.TheVariants.{Some, None}
 use mathlib.Core.Path.{refl, sym, ap, ◌∙◌}
@@ -123,8 +123,8 @@ items_in-held X [] = refl
 items_in-held X (None ∷ s) = items_in-held X s
 items_in-held X (Some x ∷ s) = λ i. (one_more (items_in-held X s i).0, (x, (items_in-held X s i).1))
 
--- if the codes a and b are equal, so are the codes of two pairs that have a and b as first parts,
--- and the same second part c
+-- if the codes a and b are equal, then the code of the pair of a and c equals the code of the pair
+-- of b and c
 first : {a b c : Gv} → a ≡ b → gcons a c ≡ gcons b c
 first {c = c} e = λ i. gcons (e i) c
 
@@ -141,8 +141,8 @@ module _ (Z Q : RattleType) (G : AllocatorGhosts Z.Denot) (K : GrowthGhosts Q.De
   }
 
   module _ (R S : RattleType) (h : R.Denot → S.Denot) where
-    -- if the memory of items is the same as the memory of their images under `h`, then this is so
-    -- for lists of these items
+    -- if each item has the same memory as its image under `h`, then each list has the same memory
+    -- as the list of the images of its items
     pub the_places : Alike R S h → Alike (C.the_row R Z Q G K) (C.the_row S Z Q G K)
         ((the_former this Z.Denot Q.Denot).map R.Denot S.Denot h)
     the_places a = view_places (fields Z.Denot Q.Denot) (the_former this Z.Denot Q.Denot)
@@ -166,7 +166,8 @@ module _ (Z Q : RattleType) (G : AllocatorGhosts Z.Denot) (K : GrowthGhosts Q.De
           ((refl, (λ n. refl, λ n. refl)), ((refl, (λ n. refl, λ n. refl)), tt)),
         ))
 
-    -- if `h` keeps the codes of items, a list has the same code as its image
+    -- if each item has the same code as its image under `h`, then each list has the same code as
+    -- the list of the images of its items
     pub the_codes_placed : Recodes R S h → Recodes (C.the_row R Z Q G K) (C.the_row S Z Q G K)
         ((the_former this Z.Denot Q.Denot).map R.Denot S.Denot h)
     the_codes_placed e d = first (block.codes_of R.coded.code S.coded.code h e d.items)

@@ -1,5 +1,5 @@
--- The entries of the row of `other` that the loop has visited are added, and nothing else has
--- changed.
+-- The loop in `add_row` has added the entries that it visited in the row of `other`, and has
+-- changed nothing else in the matrix.
 use Rattle.std.proofs.Common.{◌≡◌, ◌≢◌, ℕ, length}
 use Rattle.thin_rows.specs.Table.{row_of}
 use Rattle.sparse_matrix.specs.Numbers.{added, number_at}

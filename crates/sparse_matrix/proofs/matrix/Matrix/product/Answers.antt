@@ -1,4 +1,5 @@
--- The sum over the entries of a row is the sum over all columns.
+-- `row_product` sums over the entries of a row only. This sum equals the sum over all columns,
+-- `dot`.
 use Rattle.std.proofs.Common.{◌≡◌, ℕ, ◌<◌, ◌-◌, ◌^◌, ap, arith, length, min, slice_index, slice_index_or, ◌∙◌}
 use Rattle.std.proofs.lemmas.Grind.{common_steps, elements}
 use Rattle.thin_rows.specs.Table.{row_of}

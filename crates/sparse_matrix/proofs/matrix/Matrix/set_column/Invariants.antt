@@ -1,5 +1,5 @@
--- The entries of the row of `other` that the loop has visited are written, and nothing else has
--- changed.
+-- The loop in `set_column` has written the entries that it visited in the row of `other`, and has
+-- changed nothing else in the matrix.
 use Rattle.std.proofs.Common.{◌≡◌, ◌≢◌, ℕ, length}
 use Rattle.thin_rows.specs.Table.{row_of}
 use Rattle.sparse_matrix.specs.Numbers.{number_at}

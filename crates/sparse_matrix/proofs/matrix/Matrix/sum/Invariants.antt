@@ -1,4 +1,5 @@
--- The rows computed so far are the sums of the rows of both matrices, and the other rows are zeros.
+-- Each row that the loop in `sum` has computed is the sum of the same rows of both matrices. All
+-- other rows of the result are zeros.
 use Rattle.std.proofs.Common.{◌≡◌, ℕ, ◌<◌, ◌≤◌, length}
 use Rattle.sparse_matrix.specs.Numbers.{added, number_at}
 use Rattle.sparse_matrix.proofs.matrix.Matrix.sum.Given as goal

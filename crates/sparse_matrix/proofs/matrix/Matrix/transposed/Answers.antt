@@ -1,5 +1,6 @@
--- After the loop, all columns are written. Beyond them, the numbers of both matrices are 0, since
--- this matrix has no further rows.
+-- After the loop in `transposed`, each row of this matrix is written to a column of the result. For
+-- all greater indices both numbers in the clause are 0: the result has only zeros there, and this
+-- matrix has no such row.
 use Rattle.std.proofs.Common.{◌≡◌, arith, inl, inr, length, sym, ◌∙◌}
 use Rattle.std.proofs.lemmas.Bool.{cases_lt}
 use Rattle.sparse_matrix.proofs.NumberLemmas.{no_row}

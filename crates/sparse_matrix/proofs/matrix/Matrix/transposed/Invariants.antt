@@ -1,4 +1,5 @@
--- The columns written so far are the rows of this matrix, and the other columns are zeros.
+-- Each column of the result that the loop has written is the row of this matrix with the same
+-- index. All other columns of the result are zeros.
 use Rattle.std.proofs.Common.{◌≡◌, ℕ, ◌<◌, ◌≤◌, length}
 use Rattle.sparse_matrix.specs.Numbers.{number_at}
 use Rattle.sparse_matrix.proofs.matrix.Matrix.transposed.Given as goal

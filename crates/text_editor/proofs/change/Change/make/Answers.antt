@@ -1,5 +1,5 @@
--- `make`: the change that it appends to `back` undoes the change that it carries out, and fits the
--- new text.
+-- `make` appends a change to `back`. This change fits the new text, and undoes the change that
+-- `make` carried out.
 use Rattle.std.proofs.Common.{◌≡◌, arith}
 use Rattle.text_editor.proofs.ChangesLemmas.{AllFit-last, comes_in, takes_back, texts_of-last}
 use Rattle.text_editor.specs.Changes.{changed}

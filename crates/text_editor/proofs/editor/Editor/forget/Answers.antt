@@ -1,5 +1,5 @@
--- `forget`: after the oldest changes are removed, the past has the first texts of the old past, one
--- for each remaining change.
+-- `forget` removes the oldest changes. The texts that the remaining changes produce are the first
+-- `count` texts of the old past, or all of them if there are fewer.
 use Rattle.std.proofs.Common.{◌≡◌, ℕ, ◌-◌, ap, arith, drop, length, rules, sym, take, ◌∙◌}
 use Rattle.std.proofs.lemmas.List.{take_all}
 use Rattle.text_editor.proofs.ChangesLemmas.{AllFit-drop, length-texts_of, texts_of-drop}

@@ -1,5 +1,5 @@
--- Since the columns of the entries are strictly increasing, the entries are those of the map that
--- they represent.
+-- The stored entries are in strictly increasing order of their columns. So the stored list is the
+-- list of the entries of the map.
 use Rattle.std.proofs.Common.{nat_cmp, ap, sym, ◌∙◌}
 use Rattle.std.specs.FinMap.{entries, entries-from_sorted}
 use Rattle.thin_rows.proofs.row.Row.entries.Goals as goal

@@ -1,4 +1,4 @@
--- The map has as many columns as the list has entries.
+-- The length of the map is the number of entries in the list.
 use Rattle.std.proofs.Common.{sym, ap, ◌∙◌}
 use Rattle.std.specs.FinMap.{len}
 use Rattle.thin_rows.proofs.RowLemmas.{len_is}

@@ -1,5 +1,5 @@
--- After the entry of the column is overwritten, or a new entry is inserted at its index, the
--- entries represent the map with the value inserted.
+-- `set` overwrites the entry of the column, or inserts a new entry. Afterwards the entries
+-- represent the old map with the value inserted at the column.
 use Rattle.std.proofs.Common.{inl, inr, ◌≡◌, ◌+◌, sym, ap, ◌∙◌, length, length-set, arith, refl, Some}
 use Rattle.std.proofs.lemmas.Bool.{cases_lt, false≢true}
 use Rattle.std.specs.FinMap.{len}
@@ -40,7 +40,7 @@ returns-in-Ok-clause-columns g c =
     rw (c.replace-column.ensures.after, ← c.self.view_is)
     (set_is row.items c.self.invariant.rising c.args.column c.in-Ok.at place c.args.value)
 
--- if the column had no entry, inserting one at the index found keeps the invariant of the row
+-- if the column had no entry, inserting an entry at the index found keeps the invariant of the row
 pub invariant_of-self-in-Err : goal.invariant_of-self-in-Err
 invariant_of-self-in-Err g c =
     let row = c.self.inside.entries in
@@ -63,7 +63,8 @@ returns-in-Err-insert-clause-succeeds g c some =
     rw (← c.self.view_is, get_gap row.items c.self.invariant.rising c.args.column c.in-Err.at gap)
     at some
 
--- if an insertion failed, the list was full, so its capacity was the number of entries
+-- If the insertion fails, the cause is `CapacityOverflow` if and only if there is no ruled capacity
+-- for one more entry. The list was full, so its capacity was the number of entries.
 pub returns-in-Err-insert-clause-overflow : goal.returns-in-Err-insert-clause-overflow
 returns-in-Err-insert-clause-overflow g c =
     let row = c.self.inside.entries in

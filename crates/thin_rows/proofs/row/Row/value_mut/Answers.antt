@@ -1,5 +1,5 @@
--- The borrowed entry keeps its column, so the value that is written is the map's value at this
--- column.
+-- The borrowed entry keeps its column. So a value that is written through the borrow becomes the
+-- map's value at this column.
 use Rattle.std.proofs.Common.{◌≡◌, Some, nat_cmp, length-set, refl, sym, ap, ◌∙◌}
 use Rattle.std.proofs.lemmas.Option.{get_or_from_slice_get}
 use Rattle.std.specs.FinMap.{entries-from_sorted}
@@ -14,7 +14,8 @@ index_mut-requires g c =
     ) at
     c.requires.place).in_bounds
 
--- the borrowed entry has the column `column`
+-- the row keeps its invariant whatever value is written through the borrow, since the borrowed
+-- entry keeps its column
 pub invariant_of-self-lent : goal.invariant_of-self-lent
 invariant_of-self-lent g c w =
     let row = c.self.inside.entries in

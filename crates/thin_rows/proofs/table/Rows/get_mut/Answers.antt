@@ -1,5 +1,5 @@
--- The borrowed row is the row of the table, and writing it back unchanged does not change the
--- table.
+-- `get_mut` borrows the row of the table at the index `row`. Writing this row back unchanged does
+-- not change the table.
 use Rattle.std.proofs.Common.{◌≡◌, ap, slice_index_or, slice_set, sym, ◌∙◌}
 use Rattle.std.proofs.lemmas.List.{set-get_or}
 use Rattle.std.proofs.lemmas.Option.{get_or_from_slice_get}
@@ -9,8 +9,8 @@ use borrow.Follows.Closed.{read_of}
 use Rattle.thin_rows.specs.Table.{value_at}
 use Rattle.thin_rows.proofs.table.Rows.get_mut.Goals as goal
 
--- the borrowed row is the one at the index `row`, and writing it back unchanged does not change the
--- rows
+-- if there is an entry, the returned reference borrows the value of the table at `row` and
+-- `column`, and nothing else changes
 pub returns : goal.returns
 returns g c =
     let rows = c.self.inside.rows.items in

@@ -1,5 +1,5 @@
--- On failure, the row has not changed, so the table has not changed either; the cause is the one
--- that `set` of the row returns.
+-- If `set` fails, the row has not changed, so the table has not changed either. The cause of the
+-- error is the one that `set` of the row returns.
 use Rattle.std.proofs.Common.{◌≡◌, ◌+◌, subst, ℕ, List, OnErr, Result, Ok, Err, Some, slice_get, slice_set, sym, ap, ◌∙◌}
 use Rattle.std.proofs.lemmas.List.{set-get_or}
 use Rattle.std.proofs.lemmas.Option.{get_or_from_slice_get}

@@ -1,6 +1,6 @@
 -- After the loop, the table has all its rows. The type of the items in the contract of
--- `with_capacity` has the size and the alignment of `row_type`, so the exact capacities are the
--- same.
+-- `with_capacity` has the size and the alignment of `row_type`, so `exact_capacity` is the same for
+-- both types.
 use Rattle.std.proofs.Common.{◌≡◌, ◌∙◌, ap, arith, refl, replicate}
 use Rattle.std.specs.FinMap as map
 use Rattle.thin_rows.proofs.RowTypeLemmas.{error_tells, made_tells}

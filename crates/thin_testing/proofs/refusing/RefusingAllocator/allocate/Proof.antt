@@ -51,7 +51,7 @@ use Rattle.thin_testing.specs.contracts.refusing.RefusingAllocator.allocate.Key 
 use Rattle.thin_testing.proofs.refusing.RefusingAllocator.allocate.Statement as stated
 use Rattle.thin_testing.proofs.refusing.RefusingAllocator.allocate.Code as code
 
--- the statements of a body after the first n
+-- `after n b` is the body b without its first n statements
 abbrev after : ℕ → Body → Body
 after zero b = b
 after (suc n) (seq _ b) = after n b
@@ -106,8 +106,8 @@ module _ (Z : Al) {M : Type 1} {𝓤 : Ura M} (𝓛 : Logic 𝓤) (at_mem : Memo
     abbrev Post : Val → SProp 𝓤
     Post = (walk_of 𝓛 (ended Z) (stayed Z) held).post bound
 
-    -- the postcondition holds for an error, whether the request was refused or the inner allocator
-    -- failed
+    -- the postcondition holds if `allocate` returns an error, whether the request was refused or
+    -- the inner allocator failed
     refused : Sq 𝓛 (‵ (flft κ₁ q₁) ∷ (‵ (flft κ₂ q₂) ⊛ ‵ ftrue) ∷ [])
         (prop (Post (answer_val false 0 0)))
     refused =
@@ -138,8 +138,8 @@ module _ (Z : Al) {M : Type 1} {𝓤 : Ura M} (𝓛 : Logic 𝓤) (at_mem : Memo
         fsplit ! $ use1 𝓛 (‵ (hidden_shr Row κ₁ r.now.counts c.0 c.1)) (id⊢ 𝓤 _) $
         shr_dup ! Row the_row_laws.shr_laws r.now.counts c.0 c.1 κ₁ $
         keep ! (0 ∷ 7 ∷ 3 ∷ 8 ∷ 1 ∷ []) $
-        -- the resources at this point: [the counts; κ₁'s token; the inner allocator; κ₂'s token;
-        -- the counts again]
+        -- enters the body of `allocate`, in this context: [the shared counts; the token of κ₁; the
+        -- inner allocator; the token of κ₂; the shared counts once more]
         enter ! 𝓣.C 𝓣.Λ (here Z) vs _ $
         alloc_all ! (λ l. pass_all ! refl
         ((tt, tt), ((tt, record { fits = fn }), ((tt, record { fits = fa }), tt))) $

@@ -48,7 +48,7 @@ use Rattle.thin_testing.specs.contracts.refusing.RefusingAllocator.grow.Key as k
 use Rattle.thin_testing.proofs.refusing.RefusingAllocator.grow.Statement as stated
 use Rattle.thin_testing.proofs.refusing.RefusingAllocator.grow.Code as code
 
--- the statements of a body after the first n
+-- `after n b` is the body b without its first n statements
 abbrev after : ℕ → Body → Body
 after zero b = b
 after (suc n) (seq _ b) = after n b
@@ -122,18 +122,21 @@ module _ (Z : Al) (X : RattleType) {M : Type 1} {𝓤 : Ura M} (𝓛 : Logic �
     abbrev block : Ptr → Fml
     block x = block_with_items (token Z r.now.inner) (param 1 X) x len old xs
 
-    -- the addresses of the inner allocator and of the counts, which are fields of the `Refusing`
+    -- p is the address of the inner allocator, and c is the address of the counts; both are fields
+    -- of the `Refusing`
     abbrev p : ℕ × ℕ
     p = (r.ref_ptr.0, r.ref_ptr.1 + up (align (α Z)) 0)
 
     abbrev c : ℕ × ℕ
     c = (r.ref_ptr.0, r.ref_ptr.1 + up 8 (up (align (α Z)) 0 + size (α Z)))
 
-    -- the block that the caller owns after the given answer
+    -- `left b o y` is the block that the caller owns after a call with the answer y, if the old
+    -- block was at the offset o of the allocation b
     abbrev left : ℕ → ℕ → Answer.Denot → Fml
     left b o = left_by Z X (Grows X) 𝓛 at_mem run κ κT q qT p r.now.inner b o len old new xs
 
-    -- the postcondition holds for each answer, whether the request was refused or passed on
+    -- the postcondition holds for every answer of `grow`, whether the request was refused or passed
+    -- on to the inner allocator
     ends : (b o : ℕ) (y : Bool) (b' o' : ℕ)
         → Sq 𝓛 (‵ (left b o (result_of y b' o')) ∷ ‵ (flft κ q) ∷ ‵ (flft κT qT) ∷ ‵ (flft ρ s)
         ∷ []) (prop (Post (block_ptr b o) (answer_val y b' o')))
@@ -144,7 +147,8 @@ module _ (Z : Al) (X : RattleType) {M : Type 1} {𝓤 : Ura M} (𝓛 : Logic �
         use0 𝓛 (‵ (Answer.own_val (result_of y b' o') (answer_val y b' o' ∷ [])))
         (result_own 𝓛 y b' o') $ nothing ! $ nothing ! $ fjoin ! $ nothing ! $ fjoin ! $
         nothing ! $ fjoin ! $ nothing ! $ fjoin ! $ nothing ! $ fjoin ! $ join ! $
-        -- the resources at this point: [the result; the block; the tokens of κ, κT and ρ]
+        -- joins these resources into the postcondition: [the result; the block; the token of κ; the
+        -- token of κT; the token of ρ]
         nothing ! $ move ! (4 ∷ 0 ∷ []) $ join ! $ move ! (4 ∷ 0 ∷ []) $ join ! $
         move ! (3 ∷ 0 ∷ []) $ join ! $ join ! $ done !
 
@@ -172,8 +176,8 @@ module _ (Z : Al) (X : RattleType) {M : Type 1} {𝓤 : Ura M} (𝓛 : Logic �
         use1 𝓛 (‵ (seen Z κ p h)) (id⊢ 𝓤 _) $ move ! (1 ∷ []) $ fsplit ! $
         use1 𝓛 (‵ (hidden_shr Row κ r.now.counts c.0 c.1)) (id⊢ 𝓤 _) $
         keep ! (0 ∷ 8 ∷ 2 ∷ 10 ∷ 6 ∷ 9 ∷ []) $
-        -- the resources at this point: [the counts; κ's token; the inner allocator; the block; the
-        -- tokens of κT and ρ]
+        -- enters the body of `grow`, in this context: [the shared counts; the token of κ; the inner
+        -- allocator; the block; the token of κT; the token of ρ]
         enter ! 𝓣.C 𝓣.Λ (here Z X) (vs x) _ $
         alloc_all ! (λ l. pass_all ! refl (
           (tt, tt),

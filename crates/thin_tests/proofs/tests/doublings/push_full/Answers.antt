@@ -1,4 +1,5 @@
--- The growth rule gives the new capacity, and the new capacity gives the cost of the growth.
+-- The new capacity follows from the growth rule, and the cost of the growth follows from the new
+-- capacity.
 use Rattle.std.proofs.Common.{arith}
 use Rattle.thin_block.proofs.CapacityLemmas.{doubling_first, doubling_next}
 use Rattle.thin_vec.proofs.ThinVecLemmas.{costs}

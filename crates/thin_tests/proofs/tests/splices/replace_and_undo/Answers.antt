@@ -1,4 +1,5 @@
--- If the removed range replaces the numbers, the list has its old items again.
+-- The second splice puts the removed items back in place of the numbers, so the list has its old
+-- items again.
 use Rattle.std.proofs.Common.{◌+◌, ◌++◌, ◌∙◌, ap, drop, length, take}
 use Rattle.std.specs.Prelude.{slice_range}
 use Rattle.thin_tests.proofs.SpliceLemmas.{on_ok, put_back}

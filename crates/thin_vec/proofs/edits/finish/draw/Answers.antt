@@ -1,5 +1,6 @@
--- Each turn of the loop pushes the next item, and then the items for which the vector has spare
--- capacity. The item that `draw_spare` draws after these is the next item of the following turn.
+-- Each turn of the loop pushes the item `next`, and then items of the iterator into the spare
+-- capacity of the vector. If `draw_spare` draws one more item, this item is `next` in the following
+-- turn.
 use Rattle.std.proofs.Common.{[], ◌++◌, ◌∷◌, ◌∙◌, ap, arith, length, refl, subst}
 use Rattle.std.proofs.lemmas.List.{append-nil, length_push}
 use Rattle.std.specs.Iterator.{YieldsThen}

@@ -1,5 +1,5 @@
--- The items of `held`, followed by the item `next`, are the item `first`, followed by the items
--- that the iterator has yielded.
+-- The vector `held`, followed by the item `next`, consists of the item `first` and the items that
+-- the iterator has yielded so far.
 use Rattle.std.proofs.Common.{[], ◌≡◌, ◌+◌, ◌≤◌, List, ◌++◌, ◌∷◌, length}
 use Rattle.std.specs.Iterator.{IsFinite, Yields, size}
 use Rattle.thin_vec.proofs.edits.finish.draw.Given as goal

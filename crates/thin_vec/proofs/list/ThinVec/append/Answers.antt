@@ -1,5 +1,6 @@
 -- `append` reserves room for `other.len()` more items, and `other.len()` is the number of items of
--- `other`. So its capacity and its error are those of a call of `reserve` for this number.
+-- `other`. So the capacity after `append`, and the error, are those of a call of `reserve` for this
+-- number.
 use Rattle.std.proofs.Common.{Ok, arith, ap, sym, ◌∙◌}
 use denote.Param.{param}
 use Rattle.thin_vec.specs.ThinVec.{capacity_for}

@@ -1,5 +1,5 @@
--- `append_from` moves the items of `other` from `start` on. Afterwards `other` has its first
--- `start` items, and this list has its old items followed by the moved ones.
+-- `append_from` moves the items of `other` from index `start` on to the end of the list. Afterwards
+-- `other` has its first `start` items, and the list has its old items followed by the moved items.
 use Rattle.std.proofs.Common.{◌-◌, ◌++◌, ◌∙◌, ap, arith, drop, length, take, rules}
 use Rattle.thin_block.proofs.BlockLemmas.{then-len}
 use Rattle.thin_block.specs.Slots.{items_in}

@@ -1,5 +1,5 @@
--- The test of `dedup` is stateless. So the items left are `dedup` of the old ones, `unlike` tells
--- which items stay, and no more items are left than before.
+-- The test of `dedup` is stateless. So the items left are `dedup` of the old items, `unlike` tells
+-- which items stay, and the list does not become longer.
 use Rattle.std.proofs.Common.{ap, ◌∙◌}
 use Rattle.thin_block.specs.Cost.{moving}
 use Rattle.thin_vec.specs.Edits.Retain.{moved_down}

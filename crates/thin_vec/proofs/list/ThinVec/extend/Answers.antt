@@ -1,6 +1,5 @@
--- `extend` first reserves room for as many items as the size hint says, and then calls
--- `extend_unhinted`. Its capacity, its cost and the cause of a failure follow from the contracts of
--- these two steps.
+-- `extend` first reserves room for the size hint of the iterator, and then calls `extend_unhinted`.
+-- The capacity, the cost and the cause of a failure follow from the contracts of these two steps.
 use Rattle.std.proofs.lemmas.Grind.{common_steps}
 use Rattle.std.proofs.Common.{◌≡◌, ◌++◌, ◌∙◌, Err, ap, arith, length, subst}
 use Rattle.std.proofs.lemmas.List.{append-nil}

@@ -1,5 +1,5 @@
--- In the contract of `extend_from_copies`, the item type is a `Copy` type; in that of
--- `reserve_run`, it is not known to be one. Both types have the same size and alignment, so the two
+-- The contract of `extend_from_copies` knows that the item type is `Copy`, and the contract of
+-- `reserve_run` does not. The size and the alignment of an item are the same in both, so both
 -- contracts name the same capacity and the same error.
 use Rattle.std.proofs.Common.{◌+◌, Ok, length, refl}
 use Rattle.thin_block.proofs.CapacityLemmas.{ruled-at}

@@ -1,5 +1,5 @@
--- The list holds its old items, followed by the items that the iterator has yielded. Its capacity
--- is the old one or a ruled one.
+-- The list holds its old items, followed by the items that the iterator has yielded so far. Its
+-- capacity is the old capacity or a ruled capacity.
 use Rattle.std.proofs.Common.{◌≡◌, ◌+◌, ◌≤◌, List, ◌++◌, length}
 use Rattle.std.specs.Iterator.{IsFinite, Yields, size}
 use denote.Param.{param}

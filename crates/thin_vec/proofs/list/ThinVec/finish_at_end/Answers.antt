@@ -22,7 +22,7 @@ left g c =
     c.close.ensures.changes
     ∙ closed-left c.args.block c.args.self.now c.requires.none c.requires.no_tail
 
--- what is left of the open block and the list after `extend` satisfy `HasTaken`
+-- `HasTaken` holds for what is left of the open block (`left_of`) and for the list after `extend`
 taken : (g : _) (c : After-extend g)
     → HasTaken g.G.Growth.rule (param 0 g.row.T) (left_of c.args.block c.args.self.now.alloc)
     c.extend.new.self (2 * length c.args.block.tail) (g.I.Iterator.remaining c.args.iter)
@@ -38,7 +38,7 @@ taken g c =
     } in
     subst (λ z. HasTaken g.G.Growth.rule (param 0 g.row.T) z w n more) (left g c) now
 
--- the capacity after `extend` satisfies `IsExtended` for what is left of the open block
+-- the capacity after `extend` satisfies `IsExtended` for the list that is left of the open block
 ruled : (g : _) (c : After-extend g)
     → IsExtended g.G.Growth.rule (param 0 g.row.T) (left_of c.args.block c.args.self.now.alloc)
     c.extend.new.self.capacity (length c.extend.new.self.items)

@@ -9,7 +9,7 @@ use Rattle.thin_vec.proofs.list.ClonesLemmas.{not-all}
 use Rattle.thin_vec.proofs.edits.ReplaceRangeLemmas.{at-most-if, at-most-le, at-most-more, if-le, put-and-gone}
 use Rattle.thin_vec.proofs.list.ThinVec.insert_clones_reserved.Goals as goal
 
--- after `close`, the items of the list are the old ones with the placed clones inserted at `at`
+-- after `close`, the items of the list are the old items with the placed clones inserted at `at`
 closed : (g : _) (c : goal.After-drop_range g) → c.close.new.self.items
     ≡ replace_range c.args.self.now.items c.args.at c.args.at
     c.fill_from_clones-placed.ensures.front.0

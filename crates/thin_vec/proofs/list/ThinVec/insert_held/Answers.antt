@@ -1,6 +1,6 @@
 -- `draw` collects the items of the iterator in a vector. If there is memory for all of them, and
--- room for them in the list, `insert_vec` inserts them. Otherwise the error returns the vector, and
--- the item for which it has no room, if there is one.
+-- room for them in the list, `insert_vec` inserts them. Otherwise the error returns the vector and,
+-- if the vector had no room for the last item drawn, that item.
 use Rattle.std.proofs.Common.{Err, ◌++◌, drop, take, inl, inr, ◌≡◌, ◌-◌, ◌<◌, ◌∙◌, ap, arith, length, refl, subst, sym}
 use Rattle.std.proofs.lemmas.Bool.{cases_lt, false≢true}
 use Rattle.std.specs.Option.{option_len}
@@ -13,7 +13,7 @@ use Rattle.thin_block.proofs.Outcomes.{err-same}
 use Rattle.thin_vec.proofs.list.ThinVec.insert_held.Goals.{In-Err}
 use Rattle.thin_vec.proofs.list.ThinVec.insert_held.Goals as goal
 
--- room is reserved for as many items as are held
+-- the number of items for which room is reserved is the number of items held
 count : (g : _) (c : In-Err g) → c.len.result ≡ length c.draw-held.result.held.items
 count g c = c.len.ensures ∙ c.draw-held.result.held.ok.0
 

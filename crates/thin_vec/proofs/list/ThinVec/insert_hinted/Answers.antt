@@ -23,8 +23,8 @@ wide g c = record {
   cost = c.open_wide-block.ensures.other_cost;
 }
 
--- if opening, filling and closing the gap took at most n further moves, the old list and the new
--- one satisfy `HasTaken` with n further moves
+-- if opening and closing the gap took at most n moves, the old list and the new one satisfy
+-- `HasTaken` with at most n moves of old items
 taken : (g : _) (c : After-fill_gap g) (n : _)
     → c.fill_gap.ensures.filled.1.cost.0 + (length c.reserve.new.self.items - c.args.at) ≤ n
     → HasTaken g.G.Growth.rule (param 0 g.row.T) c.args.self.now c.fill_gap.new.self n

@@ -1,7 +1,6 @@
 -- `replace_range_from_copies` reserves room for the items that do not fit into the places of the
--- range. In its contract the item type is a `Copy` type, and in that of `reserve` it is not known
--- to be one; both have the same size and alignment, so the capacity and the error are those of
--- `reserve`.
+-- range. The contract of `reserve` does not know that the item type is `Copy`, but the size and the
+-- alignment of an item are the same. So the capacity and the error are those of `reserve`.
 use Rattle.std.proofs.Common.{◌≡◌, ◌+◌, ◌-◌, ◌∙◌, Ok, ap, arith, length, refl}
 use denote.Param.{copied}
 use Rattle.thin_block.proofs.CapacityLemmas.{ruled-at}

@@ -1,6 +1,6 @@
 -- `replace_range_from_list` reserves room for the items that do not fit into the places of the
--- range. So its capacity and its error are those of a call of `reserve` for the number of these
--- items.
+-- range. So the capacity afterwards, and the error, are those of a call of `reserve` for the number
+-- of these items.
 use Rattle.std.proofs.Common.{◌≡◌, ◌-◌, Ok, ap, arith, length}
 use denote.Param.{param}
 use Rattle.thin_vec.specs.ThinVec.{capacity_for}

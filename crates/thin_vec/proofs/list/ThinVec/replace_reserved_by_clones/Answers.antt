@@ -1,6 +1,6 @@
--- The clones are first put directly after the range and at the end of the list. If a clone fails,
--- all clones are dropped and the old items are left; otherwise `replace_by_last` moves the clones
--- at the end of the list into the places of the range.
+-- Some clones are first inserted directly after the range, and the others are appended to the list.
+-- If a clone fails, all clones are dropped and the old items are left; otherwise `replace_by_last`
+-- moves the appended clones into the places of the range.
 use Rattle.std.proofs.Common.{if◌then◌else◌, ◌≡◌, ◌+◌, ◌-◌, ◌≤◌, ◌++◌, ◌∙◌, ap, arith, eqb, length, length-append, subst, sym}
 use Rattle.std.proofs.lemmas.List.Elements.{length_all_zip}
 use Rattle.std.specs.List.{AllZip}

@@ -1,5 +1,5 @@
--- If each clone of `value` equals `value`, the clones and `value` itself are `count` times `value`.
--- If a clone fails, `truncate` drops the clones made, so the items are the old ones.
+-- If each clone of `value` equals `value`, the appended items are `count` repetitions of `value`.
+-- If a clone fails, `truncate` drops the clones made, so only the old items are left.
 use Rattle.std.proofs.Common.{arith}
 use Rattle.thin_vec.proofs.list.ClonesLemmas.{equal-repeated}
 use Rattle.std.proofs.lemmas.Grind.{common_steps}

@@ -1,6 +1,6 @@
 -- If the list does not become longer, its capacity does not change. Otherwise `reserve` makes the
--- capacity the ruled one for the items that are added, and `push_results_reserved` does not change
--- the capacity.
+-- capacity the ruled capacity for the added items, and `push_results_reserved` does not change it
+-- again.
 use Rattle.std.proofs.Common.{Ok, ◌-◌, ap, arith, subst, sym, ◌∙◌}
 use denote.Param.{param}
 use Rattle.thin_vec.specs.List.Capacity.{Reserves}

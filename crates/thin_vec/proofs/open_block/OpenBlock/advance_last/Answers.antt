@@ -7,7 +7,7 @@ use Rattle.thin_vec.proofs.RetainLemmas.{asked-count, moving-after, moving-none,
 use Rattle.std.proofs.lemmas.Grind.{common_steps}
 use Rattle.thin_vec.proofs.open_block.OpenBlock.advance_last.Goals as goal
 
--- if there is no item, nothing changes
+-- if the middle run is empty, `Advances` holds: nothing changes
 pub returns-then-rest_len-eq0-clause-advances : goal.returns-then-rest_len-eq0-clause-advances
 returns-then-rest_len-eq0-clause-advances g c =
     let R = g.J.Test.tests in
@@ -24,7 +24,7 @@ returns-then-rest_len-eq0-clause-advances g c =
       };
     }
 
--- if the item stays, it is moved to the front
+-- if the only item of the middle run stays, `Advances` holds: the item is moved to the front
 pub returns-then-test-clause-advances : goal.returns-then-test-clause-advances
 returns-then-test-clause-advances g c =
     let R = g.J.Test.tests in
@@ -45,7 +45,8 @@ returns-then-test-clause-advances g c =
       });
     }
 
--- if the item is to be removed, it is left in the middle run, as the test left it
+-- if the only item of the middle run is to be removed, `Advances` holds: the item is left in the
+-- middle run, as the test left it
 pub returns-clause-advances : goal.returns-clause-advances
 returns-clause-advances g c =
     let R = g.J.Test.tests in

@@ -1,5 +1,5 @@
--- `Advances` holds in each of three cases: the first item is to be removed, the second item is, or
--- both stay and form one run with the items after them that stay.
+-- `Advances` holds in each of three cases: the first item is to be removed, the second item is to
+-- be removed, or both items stay and form one run with the items after them that stay.
 use Rattle.std.proofs.Common.{◌≡◌, ◌++◌, ◌∙◌, ap, arith, drop, rules, sym, take}
 use Rattle.std.proofs.lemmas.List.{append-nil}
 use Rattle.thin_block.specs.Cost.{moving}
@@ -7,7 +7,7 @@ use Rattle.thin_vec.proofs.RetainLemmas.{moving-after, moving-none, one-stays, r
 use Rattle.std.proofs.lemmas.Grind.{common_steps}
 use Rattle.thin_vec.proofs.open_block.OpenBlock.advance_two.Goals as goal
 
--- if the first item is to be removed, no item moves
+-- if the first item is to be removed, `Advances` holds: no item moves
 pub returns-then-not-test-clause-advances : goal.returns-then-not-test-clause-advances
 returns-then-not-test-clause-advances g c =
     let R = g.J.Test.tests in
@@ -27,7 +27,8 @@ returns-then-not-test-clause-advances g c =
       });
     }
 
--- if the first item stays and the second is to be removed, the first item is moved to the front
+-- if the first item stays and the second is to be removed, `Advances` holds: the first item is
+-- moved to the front
 pub returns-then-not-test-2-clause-advances : goal.returns-then-not-test-2-clause-advances
 returns-then-not-test-2-clause-advances g c =
     let R = g.J.Test.tests in
@@ -50,8 +51,8 @@ returns-then-not-test-2-clause-advances g c =
       });
     }
 
--- if both items stay, they are moved to the front, together with the items after them, up to the
--- first one to be removed
+-- if both items stay, `Advances` holds: all items before the first one to be removed are moved to
+-- the front
 pub returns-clause-advances : goal.returns-clause-advances
 returns-clause-advances g c =
     let R = g.J.Test.tests in

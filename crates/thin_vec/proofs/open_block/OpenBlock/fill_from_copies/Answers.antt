@@ -1,5 +1,5 @@
 -- `copy_in` puts the copies into the slots directly after the front. So the copies are added to the
--- front, and the gap is shorter by as many slots.
+-- front, and the gap becomes shorter by one slot for each copy.
 use Rattle.thin_block.specs.Cost.{moving}
 use Rattle.std.proofs.Common.{◌≡◌, ◌+◌, ◌-◌, ◌++◌, ◌∙◌, ap, arith, length, refl}
 use Rattle.thin_vec.specs.OpenBlock.{open_of}

@@ -7,7 +7,8 @@ use Rattle.thin_block.specs.Cost.{moving}
 use Rattle.thin_vec.proofs.RetainLemmas.{moving-more}
 use Rattle.thin_vec.proofs.open_block.OpenBlock.move_down.Goals as goal
 
--- if `done` items have been moved to the front before a turn, `done + 1` have been moved after it
+-- if `done` items have been moved to the front before a turn, `done + 1` items have been moved
+-- after that turn
 pub loop-done-preserved : goal.loop-done-preserved
 loop-done-preserved g c =
     let n = c.loop-done.done in

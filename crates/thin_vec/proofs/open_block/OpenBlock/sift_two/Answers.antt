@@ -5,14 +5,14 @@ use Rattle.std.proofs.lemmas.Bool.{false≢true}
 use Rattle.thin_vec.proofs.RetainLemmas.{advanced-count, advanced-ends, advanced-goes, none-left}
 use Rattle.thin_vec.proofs.open_block.OpenBlock.sift_two.Goals as goal
 
--- if `advance_two` returns true, the next item is removed
+-- if `advance_two` returns true, `Sifts` holds: the next item is removed
 pub returns-then-advance_two-clause-sifts : goal.returns-then-advance_two-clause-sifts
 returns-then-advance_two-clause-sifts g c =
     advanced-goes g.J.Test.tests c.args.test.now c.advance_two.new.test c.args.self.now
     c.advance_two.new.self c.requires.gap c.advance_two.ensures.advances c.take_first.result
     c.take_first.new.self c.take_first.ensures.rest c.take_first.ensures.changes
 
--- if `advance_two` returns false, no item is removed, and none is left to test
+-- if `advance_two` returns false, `Sifts` holds: no item is removed, and none is left to test
 pub returns-else-advance_two-clause-sifts : goal.returns-else-advance_two-clause-sifts
 returns-else-advance_two-clause-sifts g c =
     advanced-ends g.J.Test.tests c.args.test.now c.advance_two.new.test c.args.self.now
@@ -20,14 +20,14 @@ returns-else-advance_two-clause-sifts g c =
     (none-left c.advance_two.new.self.rest
     (λ some. false≢true (sym c.if-advance_two.false ∙ c.advance_two.ensures.goes.1 some)))
 
--- if an item is removed, fewer items are left to test
+-- if an item is removed, fewer items are left to test than before
 pub returns-then-advance_two-clause-less : goal.returns-then-advance_two-clause-less
 returns-then-advance_two-clause-less g c =
     let few = advanced-count g.J.Test.tests c.args.test.now c.advance_two.new.test c.args.self.now
     c.advance_two.new.self c.requires.gap c.advance_two.ensures.advances in
     omega (arith, few, ap length c.take_first.ensures.rest)
 
--- if no item is removed, no item is left to test, and there were at least two
+-- if no item is removed, no item is left to test, and at least two were left before
 pub returns-else-advance_two-clause-less : goal.returns-else-advance_two-clause-less
 returns-else-advance_two-clause-less g c =
     let none = none-left c.advance_two.new.self.rest

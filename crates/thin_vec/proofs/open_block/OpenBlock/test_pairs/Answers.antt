@@ -1,5 +1,5 @@
 -- The first item of the middle run stays without a test, and each turn of the loop tests the next
--- one. If this item stays, the run of items that stay is one item longer; if it is to be removed,
+-- item. If this item stays, the run of items that stay is one item longer; if it is to be removed,
 -- the run ends before it.
 use Rattle.std.proofs.Common.{arith, refl, rules}
 use Rattle.thin_vec.proofs.edits.DedupLemmas.{pair-goes, pair-more, pair-start}

@@ -1,6 +1,6 @@
--- The contract of `from_copies` is generic in the item type, and names the capacity for a type of
--- the same size and alignment as `u8`. So this is the capacity for items of type `u8`, and both
--- calls fail with the same error.
+-- `from_str` calls `from_copies`, whose contract names the capacity for a generic item type of the
+-- same size and alignment as `u8`. This is also the capacity for items of type `u8`, so `from_str`
+-- fails with the same error as `from_copies`.
 use Rattle.std.proofs.Common.{◌∙◌, ap, length, refl, arith}
 use Rattle.std.specs.Borrow.{u8}
 use Rattle.thin_block.proofs.CapacityLemmas.{exact-at}
@@ -8,8 +8,8 @@ use Rattle.thin_block.specs.Growth.{exact_capacity}
 use Rattle.thin_vec.proofs.list.ReservesLemmas.{tells-same}
 use Rattle.thin_vec.proofs.convert.bytes.ThinVec+u8+A.from_str.Goals as goal
 
--- the item type in the contract of `from_copies` has the size and the alignment of `u8`, and the
--- items passed to it are the bytes of the text
+-- `from_str` fails with `CapacityOverflow` if and only if a block for exactly the bytes of the text
+-- would be too large to be allocated
 pub returns-clause-overflow : goal.returns-clause-overflow
 returns-clause-overflow g c =
     tells-same _ _ _ _ (exact-at _ u8 0 (length c.as_bytes.result.now) refl refl

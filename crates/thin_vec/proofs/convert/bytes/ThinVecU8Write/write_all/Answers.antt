@@ -1,13 +1,14 @@
--- The contract of `reserve_run` is generic in the item type, and names the capacity for a type of
--- the same size and alignment as `u8`. So this is the capacity for items of type `u8`, and if there
--- is none, the call fails.
+-- `write_all` calls `reserve_run`, whose contract names the capacity for a generic item type of the
+-- same size and alignment as `u8`. This is also the capacity for items of type `u8`. If there is
+-- none, the call fails.
 use Rattle.std.proofs.Common.{◌+◌, ◌∙◌, Some, ap, length, refl, sym}
 use Rattle.std.specs.Borrow.{u8}
 use Rattle.thin_block.proofs.CapacityLemmas.{ruled-at}
 use Rattle.thin_block.proofs.Outcomes.{none-some}
 use Rattle.thin_vec.proofs.convert.bytes.ThinVecU8Write.write_all.Goals as goal
 
--- the item type in the contract of `reserve_run` has the size and the alignment of `u8`
+-- if `write_all` succeeds, the new capacity is the one ruled for the old bytes and the bytes
+-- written
 pub returns-clause-capacity : goal.returns-clause-capacity
 returns-clause-capacity g c =
     ruled-at u8 _ c.args.self.now.capacity (length c.args.self.now.items + length c.args.buf.now)

@@ -1,5 +1,5 @@
--- In the contract of `from_copies`, the item type is a `Copy` type; in that of `with_capacity`, it
--- is not known to be one. Both types have the same size and alignment, so both calls fail with
+-- The item type of `from_copies` is known to be `Copy`, and the item type in the contract of
+-- `with_capacity` is not. Both types have the same size and alignment, so both calls fail with
 -- `CapacityOverflow` for the same lengths.
 use Rattle.std.proofs.Common.{length, refl}
 use Rattle.thin_block.proofs.CapacityLemmas.{exact-at}

@@ -1,5 +1,5 @@
--- The number of items not yet yielded is at most the capacity, and the capacity fits. So a capacity
--- of that number fits too, as `from_fitting_slice` requires.
+-- The number of items not yet yielded is at most the capacity, and the capacity fits. So this
+-- number fits as a capacity too, as `from_fitting_slice` requires.
 use Rattle.std.proofs.Common.{ap, arith, length}
 use denote.Param.{param}
 use Rattle.thin_block.proofs.CapacityLemmas.{fits-less}

@@ -1,5 +1,5 @@
--- The last item that is left lies in the slot before `end`. `take_last` empties this slot and
--- decreases `end` by 1, so the other items are left.
+-- The last item not yet yielded is in the slot before `end`. `take_last` empties this slot and
+-- decreases `end` by 1, so all other items remain.
 use Rattle.std.proofs.Common.{◌-◌, ◌<◌, ◌≤◌, ◌∷◌, ◌++◌, [], ap, sym, ◌∙◌, arith, length, take, refl, rules}
 use Rattle.thin_block.specs.Slots.{items_in}
 use Rattle.thin_vec.proofs.convert.IntoIterLemmas.{Walking, last-item, settle-last, walked-filled}
