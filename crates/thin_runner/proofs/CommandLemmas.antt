@@ -18,8 +18,8 @@ module _ {T A : Type 0} where
   abbrev pub grown : Thin T A → ℕ → List T → ℕ → Thin T A
   grown v c xs m = record v { items = xs; capacity = c; cost = moving m (cost_at v c) }
 
-  -- if w has the items xs, the allocator of v and the cost of v after a change to the capacity of w
-  -- and m moves, then w is `grown v w.capacity xs m`
+  -- if w has the items xs and the allocator of v, and its cost is that of v at the capacity of w,
+  -- plus m moves, then w is `grown v w.capacity xs m`
   pub is-grown : (v w : Thin T A) (xs : List T) (m : ℕ) → w.items ≡ xs → w.cost
       ≡ moving m (cost_at v w.capacity) → w.alloc ≡ v.alloc → w ≡ grown v w.capacity xs m
   is-grown v w xs m items cost alloc = λ i. record {

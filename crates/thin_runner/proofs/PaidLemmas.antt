@@ -164,8 +164,8 @@ module _ {T : Type 0} where
       omega (arith, ap length a.1, length-append xs a.0, count)
 
 module _ {T A G J : Type 0} (here : Setting T A J) (law : KeepsLaw here.rule) where
-  -- if the list v has room for its items, and the command is neither `ReserveExact` nor
-  -- `ShrinkToFit`, then the change from v to w by the command is paid for (`IsPaid`)
+  -- if the items of v fit into its capacity, and the command is neither `ReserveExact` nor
+  -- `ShrinkToFit`, then the change that the command makes from v to w is paid for (`IsPaid`)
   pub step-paid : (v w : Thin T A) (command : Command T A G) (reply : Reply T A G)
       → KeepsCheap command → length v.items ≤ v.capacity → Steps here v command reply w
       → IsPaid v w
@@ -246,8 +246,8 @@ module _ {T A G J : Type 0} (here : Setting T A J) (law : KeepsLaw here.rule) wh
   step-paid v w (Splice i j steps xs lower) (Refused cause) keeps room s = same-paid v w room s.1.2
   step-paid v w command reply keeps room s = absurd s.1
 
-  -- if the list v has room for its items, and no command is `ReserveExact` or `ShrinkToFit`, then
-  -- the change from v to w by the run is paid for (`IsPaid`)
+  -- if the items of v fit into its capacity, and no command is `ReserveExact` or `ShrinkToFit`,
+  -- then the change that the run makes from v to w is paid for (`IsPaid`)
   pub runs-paid : (v w : Thin T A) (commands : List (Command T A G)) (replies : List (Reply T A G))
       → All KeepsCheap commands → length v.items ≤ v.capacity → Runs here v commands replies w
       → IsPaid v w

@@ -26,15 +26,13 @@ use Rattle.thin_runner.proofs.HintedLemmas.{yields-claim, yields-items}
 some-none : {T : Type 0} {x : T} → Some x ≡ None → ⊥
 some-none e = cc
 
--- Let `MatchOption` state P for `None` and Q for an o that has a value. If o has a value, then Q
--- holds.
+-- if o has a value, then `MatchOption o P (λ _. Q)` implies Q
 pub at-some-in-hand : {X : Type 0} (P Q : Type 0) (o : Option X) → MatchOption o P (λ _. Q)
     → IsSome o → Q
 at-some-in-hand P Q (Some x) q some = q
 at-some-in-hand P Q None p some = absurd (false≢true some)
 
--- Let `MatchOption` state P for `None` and Q for an o that has a value. If o is `None`, then P
--- holds.
+-- if o is `None`, then `MatchOption o P (λ _. Q)` implies P
 pub at-no-in-hand : {X : Type 0} (P Q : Type 0) (o : Option X) → MatchOption o P (λ _. Q)
     → o ≡ None → P
 at-no-in-hand P Q (Some x) q none = absurd (some-none none)

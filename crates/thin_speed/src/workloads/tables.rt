@@ -42,8 +42,8 @@ pub fn set_all<C: Table>(alloc: Global, size: usize, times: usize) -> Outcome {
     Ok(sum)
 }
 
-/// Makes a table with `size` entries, and reads all of them, in an order that is neither that of
-/// the rows nor that of the writes, `times` times.
+/// Makes a table with `size` entries, and then reads all entries `times` times. They are read in an
+/// order that is neither that of the rows nor that of the writes.
 ///
 /// # Errors
 ///
