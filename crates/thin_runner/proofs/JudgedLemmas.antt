@@ -186,8 +186,8 @@ module _ {T J : Type 0} (E : T → T → Bool) (j : J) where
   abbrev pub tells : J → T → T → Bool × T × T × J
   tells j later kept = (E later kept, later, kept, j)
 
-  -- If k is the item kept before xs, then `dedup_from` returns the items that the test E keeps. For
-  -- each item of xs, `unlike_from` returns whether E keeps the item.
+  -- If k is the item kept before xs, then `dedup_from` returns k and the items of xs that the test
+  -- E keeps. For each item of xs, `unlike_from` returns whether E keeps the item.
   dedup-last : (k : T) (xs : List T) → Leaves (unlike_from E k xs) (dedup_from E k xs)
       (asked_last tells j k xs)
   dedup-last k [] = (refl, refl)

@@ -22,7 +22,8 @@ module _ {T A G J : Type 0} (here : Setting T A J) where
     pub appended : after ≡ before ++ replies
     -- If each clone equals its source, and no call failed, then the items are the fold of
     -- `items_after` over the commands. The replies, as `seen` shows them, are the scan of the
-    -- commands with `reply_to`. Both functions compute with plain sequences of items.
+    -- commands with `reply_to`. The functions `items_after` and `reply_to` compute with plain
+    -- sequences of items.
     pub plain : ClonesEqual here.clones → All IsGranted replies
         → (new.items ≡ fold (items_after here) old.items commands)
         × (map seen replies ≡ scan (items_after here) (reply_to here) old.items commands)

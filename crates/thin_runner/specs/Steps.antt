@@ -115,7 +115,8 @@ module _ {T A G J : Type 0} (here : Setting T A J) where
       × StopsBetween here.rule here.R old a b xs.items held.items lower cause in_hand rest new
   Does old (Splice a b steps xs lower) (Refused cause) new =
       (0 < length steps.items) × (cause ≡ OutOfMemory) × (new ≡ old)
-  -- the commands that filter: `Retain`, `RetainMut`, `Dedup`, `DedupBy` and `DedupByKey`
+  -- `Retain`, `RetainMut`, `Dedup`, `DedupBy` and `DedupByKey` leave the items that their verdicts
+  -- keep
   Does old command Done new =
       MatchOption (answered here old.items command) ⊥ (λ verdicts. new ≡ sifted old verdicts)
   Does old command reply new = ⊥

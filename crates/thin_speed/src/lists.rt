@@ -122,8 +122,8 @@ pub trait Numbers: List<u64> {
     ) -> Result<(), AllocError>;
 
     /// Replaces the items from `start` up to, but not including, `end` with copies of `items`. Does
-    /// nothing if this is not a range of the list. This method is not inlined, so the compiler
-    /// cannot use the lengths that a caller passes.
+    /// nothing if this is not a range of the list. This method is not inlined, so its code cannot
+    /// be specialised to the lengths that a caller passes.
     fn replace(&mut self, start: usize, end: usize, items: &[u64]) -> Result<(), AllocError>;
 
     /// Replaces the middle half of the list with the numbers below `end`, by `splice` with an

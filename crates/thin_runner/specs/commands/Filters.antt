@@ -10,8 +10,9 @@ use Rattle.thin_runner.specs.declared.command.Command.{Command}
 use Rattle.thin_runner.specs.declared.command.Command.TheVariants.{Retain, RetainMut, Dedup, DedupBy, DedupByKey}
 
 module _ {T J : Type 0} where
-  -- Whether two items, `later` and `kept`, have the same key, then the items as `key` leaves them,
-  -- and the judge's next state. The key of `later` is computed first.
+  -- Compares two items, `later` and `kept`, by their keys. The result is whether the keys are
+  -- equal, both items as `key` leaves them, and the judge's next state. The key of `later` is
+  -- computed first.
   abbrev pub same_key : (J → T → ℕ × T × J) → J → T → T → Bool × T × T × J
   same_key key j later kept =
       let a = key j later in let b = key a.2 kept in (a.0 == b.0, a.1, b.1, b.2)

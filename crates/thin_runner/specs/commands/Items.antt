@@ -23,8 +23,8 @@ module _ {T A : Type 0} where
       ¬ (HasRoomFor old k) × ((named ≡ None) ↔ (cause ≡ CapacityOverflow)) × (new ≡ old)
 
 module _ {T A J : Type 0} (here : Setting T A J) where
-  -- the capacity becomes the one that the growth rule requires for k more items (`capacity_for`),
-  -- and then the items become xs, with m moves
+  -- The capacity becomes the one that the growth rule requires for k more items (`capacity_for`).
+  -- Then the items are replaced by xs, which counts m moves.
   abbrev pub Grows : Thin T A → ℕ → List T → ℕ → Thin T A → Type 0
   Grows old k xs m new = (capacity_for here.rule here.R old k ≡ Some new.capacity)
       × (new ≡ edited (at_capacity old new.capacity) xs m)

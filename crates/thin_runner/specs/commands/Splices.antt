@@ -20,7 +20,7 @@ module _ {T A : Type 0} (old : Thin T A) (a b : ℕ) where
   cut = record old { items = remove_range old.items a b }
 
   -- Placing `most` items needs no new memory. Either the range has at least `most` items, or no
-  -- item follows the range, and the list has room for `most` items once the range is removed.
+  -- item follows the range and the list without the range has room for `most` items.
   abbrev pub HasPlacesFor : ℕ → Type 0
   HasPlacesFor most = (most ≤ b - a) ⊎ ((b ≡ length old.items) × HasRoomFor cut most)
 

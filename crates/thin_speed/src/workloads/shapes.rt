@@ -45,7 +45,7 @@ pub fn refill<L: List<T>, T: Drop, S: Source<T>>(
     Ok(())
 }
 
-/// Makes a list, and then `times` times fills it again and does the work `W` on it.
+/// Makes a list, and then refills it and does the work `W` on it, `times` times.
 ///
 /// # Errors
 ///
