@@ -14,7 +14,7 @@ pub fn mixed(sum: u64, number: u64) -> u64 {
     sum.wrapping_mul(31).wrapping_add(number)
 }
 
-/// An item of a list, from which sums are computed.
+/// An item of a list. It has a number, which is mixed into sums.
 pub trait Item: Drop {
     /// Returns a number that is computed from the item, to be mixed into sums.
     fn number(&self) -> u64;
