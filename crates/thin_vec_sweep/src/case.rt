@@ -97,7 +97,7 @@ impl<T: Sample, G: Ruled> Case<T, G> {
     }
 
     /// Returns the length plus `additional`, or the present capacity if it is greater. Returns
-    /// `None` if this overflows the greatest capacity.
+    /// `None` if a block cannot have this capacity.
     pub fn exact(&self, additional: usize) -> Option<usize> {
         let want = self.items.len().checked_add(additional)?;
         fitting::<T>(want.max(self.capacity))

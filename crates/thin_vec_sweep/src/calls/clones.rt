@@ -79,8 +79,8 @@ impl<T: Sample, G: Ruled> Call<T, G> for ResizeWith {
     }
 }
 
-// Calls `resize_with`. The closure returns the items of `made` in reverse order, and counts each of
-// its calls in `closure_calls`.
+// Calls `resize_with`. The closure returns the items of `made`, the last one first, and counts its
+// calls in `closure_calls`.
 fn resize_with<T: Sample, G: Ruled, R: Abort>(
     rt: &R,
     list: &mut List<T, G>,

@@ -171,7 +171,7 @@ fn letters<R: Abort>(rt: &R, global: Global, letter: &str, count: usize) -> Stri
     text
 }
 
-// Returns the bytes as numbers.
+// Returns each byte as a `u64`.
 fn numbers_of<R: Abort>(rt: &R, global: Global, bytes: &[u8]) -> Vec<u64, Global> {
     let mut numbers = Vec::new(global);
     for byte in bytes {
@@ -215,8 +215,8 @@ impl<T: Sample> Call<T, Doubling> for WithCapacity {
     }
 }
 
-/// Calls `thin_vec![alloc => x; k]` and `thin_vec![in alloc; x; k]`, where k is the length of the
-/// shape.
+/// Calls `thin_vec![alloc => x; k]` and `thin_vec![in alloc; x; k]` with the length of the shape as
+/// k.
 pub struct Repeated {}
 
 impl<T: Sample> Call<T, Doubling> for Repeated {

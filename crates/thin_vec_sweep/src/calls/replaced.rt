@@ -16,9 +16,9 @@ const COUNTS: usize = 7;
 // On lists of at most 6 items, each range is replaced by each tried number of new items.
 const EACH_COUNT: Cases = [COUNTS; 7];
 
-// Returns how many new items replace the range: 2 or 9 more than the range has, none, one, one less
-// than the range has, exactly its length, or one more. On a list of more than 40 items, only the
-// first two numbers are tried, and both make the list longer.
+// Returns how many new items replace the range in a case. Seven numbers are tried, from 0 to the
+// length of the range plus 9. On a list of more than 40 items, only the two greatest of these
+// numbers are tried. Both make the list longer.
 fn count_for(range: Ranged) -> usize {
     let width = range.width();
     match range.number % COUNTS {
