@@ -64,9 +64,9 @@ pub fn assert_same_items<T: Sample, R: Abort>(rt: &R, at: &At, items: &[T], numb
     assert_same(rt, at, "first item that differs", difference, None);
 }
 
-/// Asserts the number of items that are not yet dropped: it is `items` if the ledger counts the
-/// items of type `T`. Also asserts the number of allocated blocks: one for each of the `items`
-/// items if each item owns a block, and one for the list if `capacity` is not 0.
+/// If the ledger counts items of type `T`, asserts that `items` items are not yet dropped. Also
+/// asserts the number of allocated blocks: one for each of the `items` items if each item owns a
+/// block, and one for the list if `capacity` is not 0.
 pub fn assert_live<T: Sample, R: Abort>(
     rt: &R,
     at: &At,

@@ -56,8 +56,8 @@ pub struct Case<T: Drop, G: Ruled> {
 }
 
 impl<T: Sample, G: Ruled> Case<T, G> {
-    /// Makes a case with a list of the shape `at.shape`. Its items are made from the numbers 1, 2,
-    /// and so on.
+    /// Makes a case with a list of the shape `at.shape`. The items of the list are made from the
+    /// numbers 1, 2, and so on.
     pub fn new<R: Abort>(rt: &R, ledger: &'static Ledger, at: At) -> Case<T, G> {
         ledger.begin(0);
         let list = filled(rt, ledger, at.shape, 1);
@@ -117,9 +117,9 @@ impl<T: Sample, G: Ruled> Case<T, G> {
         if self.is_left_out { 1 } else { self.requests }
     }
 
-    /// Returns how a call must end that first changes the capacity of the list to `capacity`, or
-    /// fails if this is `None`, and then makes `clones` clones. Sets the capacity that the list
-    /// must have, and how many requests and clones the call must make.
+    /// Returns how a call must end that first changes the capacity of the list to `capacity`, and
+    /// then makes `clones` clones. If `capacity` is `None`, the capacity overflows. Sets the
+    /// capacity that the list must have, and how many requests and clones the call must make.
     pub fn growth(&mut self, capacity: Option<usize>, clones: usize) -> Verdict {
         let Some(capacity) = capacity else {
             return Verdict::Overflow;
@@ -205,8 +205,8 @@ impl<T: Sample, G: Ruled> Case<T, G> {
         assert_same(rt, &self.at, "answer", answer, verdict.answer());
     }
 
-    /// Checks a call that adds the item of `number` at `index`. If the call succeeded, adds the
-    /// number to the reference. If the call failed, asserts that it returned the item.
+    /// Checks a call that adds the item made from `number` at `index`. If the call succeeded, adds
+    /// the number to the reference. If the call failed, asserts that it returned the item.
     pub fn put<R: Abort>(
         &mut self,
         rt: &R,

@@ -14,7 +14,7 @@ pub const SHAPES: usize = 110;
 pub const SHORT: usize = 107;
 
 /// The number of the first of the two longest shapes, which have 100,000 items. Only some sweeps
-/// use them.
+/// use these two shapes.
 pub const LONGEST: usize = SHAPES;
 
 /// How many shapes there are, counting the two longest.
@@ -130,8 +130,8 @@ impl Shape {
         }
     }
 
-    /// Returns how many cases are tried of a call that works on all items of the list. On a list of
-    /// at most 6 items, `cases` tells how many.
+    /// Returns the number of cases that are tried for a call on all items of the list. If the list
+    /// has at most 6 items, this number is taken from `cases`.
     pub fn cases(self, cases: &Cases) -> usize {
         cases.get(self.length).copied().unwrap_or(self.some())
     }
@@ -142,7 +142,7 @@ impl Shape {
         self.alone(if self.is_long() { 2 } else { 20 })
     }
 
-    /// Returns how many cases are tried of a call that works on the items of a range. If the list
+    /// Returns the number of cases that are tried for a call on the items of a range. If the list
     /// has at most 6 items, each case is tried on each range.
     pub fn ranged_cases(self, cases: &Cases) -> usize {
         if self.length >= cases.len() {
@@ -182,8 +182,8 @@ impl Shape {
         self.some_range(0, number)
     }
 
-    // Returns the tried range with the number `range` on a list of more than 6 items, and `number`
-    // as the number of the case.
+    // Returns the tried range with the number `range`, on a list of more than 6 items. `number` is
+    // the number of the case on this range.
     fn some_range(self, range: usize, number: usize) -> Ranged {
         let length = self.length;
         let (start, end) = match range {

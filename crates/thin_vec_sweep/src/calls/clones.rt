@@ -37,9 +37,9 @@ impl<T: Sample, G: Ruled> Call<T, G> for Resize {
     }
 }
 
-// Returns the new length that `argument` stands for, and how many items it adds to the list. The
-// first arguments stand for the tried indices, which add no item. Each later argument adds one of
-// the tried numbers of new items.
+// Returns the new length that `argument` stands for, and how many items the list gains. The first
+// arguments stand for the tried indices, with which the list gains no item. With each later
+// argument, the list gains one of the tried numbers of new items.
 fn length(shape: Shape, argument: usize) -> (usize, usize) {
     match argument.checked_sub(shape.indices()) {
         None => (shape.index(argument), 0),

@@ -32,7 +32,7 @@ impl<T: Sample + Ord + Hash + Debug, G: Ruled> Call<T, G> for Compare {
     }
 }
 
-// Returns the second list, with which the list of the case is compared.
+// Returns the list with which the list of the case is compared. `argument` tells how it differs.
 fn other<T: Sample, G: Ruled, R: Abort>(rt: &R, case: &Case<T, G>, argument: usize) -> List<T, G> {
     let length = case.at.shape.length;
     let length = match argument {

@@ -13,8 +13,8 @@ use thin_vec::Rejected;
 // The number from which the new item is made.
 const FRESH: u64 = 70_000;
 
-// The number from which an item is made that is passed to `push_mut` or `insert_mut`. The caller
-// then swaps this item with the new item.
+// The number from which the item passed to `push_mut` or `insert_mut` is made. This item is then
+// swapped with the new item.
 const PASSED: u64 = 71_000;
 
 /// Calls `push`.

@@ -62,8 +62,8 @@ struct Plan {
 }
 
 impl Plan {
-    // Returns the plan of the case with this argument. `finish` reads the size hint after it has
-    // filled the places of the range. One of the tried size hints is exact at that moment.
+    // Returns the plan of the case with this argument. One of the tried size hints is exact when
+    // `finish` reads it, which is after the places of the range are filled.
     fn new<T: Sample, G: Ruled, R: Abort>(rt: &R, case: &Case<T, G>, argument: usize) -> Plan {
         let shape = case.at.shape;
         let range = shape.ranged_case(&cases(shape), argument);
@@ -189,8 +189,8 @@ fn hold<T: Sample, G: Ruled>(case: &mut Case<T, G>, count: usize) -> usize {
     count
 }
 
-/// Calls `splice` on each tried range, takes some steps, and calls `finish`. The iterator has each
-/// tried number of new items and each tried size hint.
+/// Calls `splice` on each tried range, takes some steps, and calls `finish`. Each tried number of
+/// new items is combined with each tried size hint.
 pub struct Spliced {}
 
 impl<T: Sample, G: Ruled> Call<T, G> for Spliced {

@@ -27,8 +27,9 @@ impl<T: Numbered<A>, A: Allocator + Copy, G: Ruled> Model<T, A, G> {
 
     // Makes room for the new items that replace the range of `order`, and returns whether this
     // succeeded. If there are no items after the range, room is made for the size hint, and then
-    // for one item after another. If there are items after the range, room is made once for the
-    // size hint and once for all items, unless the range has more items than replace it.
+    // for one new item after another. If there are items after the range, room is made once for the
+    // size hint and once for all new items. In this case, no room is made if the range has more
+    // items than the order has new items.
     fn make_rooms(&mut self, order: Order) -> bool {
         let len = self.items.len();
         let gap = order.to.saturating_sub(order.at);
@@ -45,7 +46,7 @@ impl<T: Numbered<A>, A: Allocator + Copy, G: Ruled> Model<T, A, G> {
     }
 
     // Replaces the range by the first `placed` new items of the order. Returns the reply, which
-    // returns the other new items.
+    // contains the other new items.
     fn fill(
         &mut self,
         alloc: A,
