@@ -1,4 +1,4 @@
--- How many items growth has copied after pushes and pops alone.
+-- Bounds on the number of items that growth copies in a run of pushes and pops.
 use Rattle.std.proofs.Common.{◌≡◌, ℕ, zero, suc, ◌+◌, ◌*◌, ◌<◌, ◌≤◌, List, [], ◌∷◌, length, arith, ap, ◌∙◌, refl, subst, inl, inr}
 use Rattle.std.proofs.lemmas.Bool.{cases_lt}
 use Rattle.std.proofs.lemmas.List.{length-append, length_push}
@@ -19,8 +19,8 @@ use Rattle.thin_runner.specs.declared.command.Reply.{Reply}
 use Rattle.thin_runner.specs.declared.command.Reply.TheVariants.{Done, Item, Returned, OutOfRange}
 use Rattle.thin_runner.proofs.PaidLemmas.{step-paid}
 
--- the list v is amortised for m pushes: it is cheap, it has room for its items, which are at most
--- m, and growth has copied fewer than 2m items, or none
+-- The list v is amortised for m pushes if it is cheap, its items fit into its capacity, it has at
+-- most m items, and growth has copied no item or fewer than 2m items.
 pub record IsAmortised {T A : Type 0} (m : ℕ) (v : Thin T A) : Type 0 where
   pub cheap : IsCheap v
   pub room : length v.items ≤ v.capacity
@@ -48,8 +48,8 @@ module _ {T A : Type 0} where
     copied = inr (ap (λ c. c.grown) new.cost);
   }
 
-  -- if a list is amortised for m pushes, and m is not 0, then growth has copied fewer than 2m
-  -- items: this is the field `amortised` of the main theorem
+  -- if the list w is amortised for m pushes and m is not 0, then growth has copied fewer than 2m
+  -- items, as the field `amortised` of the main theorem states
   pub copied-run : (w : Thin T A) (m : ℕ) → IsAmortised (0 + m) w → 0 < m → w.cost.grown < 2 * m
   copied-run w m a some = below a.copied
     where
@@ -60,22 +60,23 @@ module _ {T A : Type 0} where
   same-amortised : (m : ℕ) (v w : Thin T A) → IsAmortised m v → w ≡ v → IsAmortised (m + 0) w
   same-amortised m v w a same = let e : m + 0 ≡ m = omega arith in rw (same, e) a
 
--- if a cheap list of capacity c, which is at most m, grows and copies c items, then growth has
--- copied fewer than 2 * (m + 1) items in total
+-- if the cost k is cheap at the capacity c, and c is at most m, then the items copied so far and c
+-- more items are fewer than 2 * (m + 1)
 copied-growing : (c m : ℕ) (k : Cost) → IsCheapAt c k → c ≤ m → k.grown + c < 2 * (m + 1)
 copied-growing zero m k h few = let z = h.none refl in omega (arith, z.1)
 copied-growing (suc c) m k h few =
     let copied : k.grown < suc c = h.grown (omega arith) in omega (arith, copied, few)
 
--- if nothing more is copied, the bound on the copied items also holds after `more` further pushes
+-- if the number g of copied items is 0 or less than 2m, and g' equals g, then g' is 0 or less than
+-- 2 * (m + `more`)
 copied-kept : (m more : ℕ) {g g' : ℕ} → (g < 2 * m) ⊎ (g ≡ 0) → g' ≡ g
     → (g' < 2 * (m + more)) ⊎ (g' ≡ 0)
 copied-kept m more (inl few) same = inl (omega (arith, few, same))
 copied-kept m more (inr none) same = inr (same ∙ none)
 
 module _ {T A G J : Type 0} (here : Setting T A J) (law : KeepsLaw here.rule) where
-  -- if a list is amortised for m pushes, it is amortised for m + 1 pushes after a push that
-  -- succeeds, and for m pushes after a pop or a push that fails
+  -- If a list is amortised for m pushes, then after a successful push it is amortised for m + 1
+  -- pushes. After a failed push or after a pop, it is amortised for m pushes.
   step-amortised : (m : ℕ) (v w : Thin T A) (command : Command T A G) (reply : Reply T A G)
       → IsPushOrPop command → IsAmortised m v → Steps here v command reply w
       → IsAmortised (m + accepted (command ∷ []) (reply ∷ [])) w
@@ -117,7 +118,8 @@ module _ {T A G J : Type 0} (here : Setting T A J) (law : KeepsLaw here.rule) wh
   step-amortised m v w Pop reply only a s = absurd s.1
   step-amortised m v w command reply only a s = absurd only
 
-  -- the sum of `accepted` over the single commands and their replies is `accepted` for all of them
+  -- the number of successful pushes of a run (`accepted`) is the sum of `accepted` over its
+  -- commands, each taken alone
   accepted-counted : (commands : List (Command T A G)) (replies : List (Reply T A G))
       → counted (λ c r. accepted (c ∷ []) (r ∷ [])) commands replies ≡ accepted commands replies
   accepted-counted (Push x ∷ commands) (Done ∷ replies) =

@@ -13,13 +13,13 @@ some-items [] none = absurd (none refl)
 some-items (x ∷ xs) none = omega arith
 
 module _ {T A : Type 0} where
-  -- the list v at the capacity c and with the items xs; its cost includes this change of capacity,
-  -- and m moves
+  -- The list v with the items xs and the capacity c. Its cost is that of v, plus the cost of the
+  -- change of capacity, plus m moves.
   abbrev pub grown : Thin T A → ℕ → List T → ℕ → Thin T A
   grown v c xs m = record v { items = xs; capacity = c; cost = moving m (cost_at v c) }
 
-  -- a list w is `grown v w.capacity xs m` if its items are xs, its allocator is that of v, and its
-  -- cost is that of v at the capacity of w, plus m moves
+  -- if w has the items xs and the allocator of v, and its cost is that of v at the capacity of w,
+  -- plus m moves, then w is `grown v w.capacity xs m`
   pub is-grown : (v w : Thin T A) (xs : List T) (m : ℕ) → w.items ≡ xs → w.cost
       ≡ moving m (cost_at v w.capacity) → w.alloc ≡ v.alloc → w ≡ grown v w.capacity xs m
   is-grown v w xs m items cost alloc = λ i. record {
@@ -30,9 +30,10 @@ module _ {T A : Type 0} where
   }
 
   module _ (rule : Rule) where
-    -- if a call that clones fails, and leaves the items and the allocator unchanged, then either
-    -- nothing changed, or the capacity is the one that the rule requires for k more items, and a
-    -- source could not be cloned, after one move for each source before it
+    -- If a failed call that clones `sources` turned v into w and changed neither the items nor the
+    -- allocator, then either w is v, or it differs as follows. The capacity of w is the one that
+    -- the rule requires for k more items. A source could not be cloned, and each source before it
+    -- counts one move.
     pub refuses-clone : (R : RattleType) (k : ℕ) {infallible : T → Type 0} {sources : List T}
         {v w : Thin T A} → w.items ≡ v.items → w.alloc ≡ v.alloc
         → (w ≡ v) ⊎ (capacity_for rule R v k ≡ Some w.capacity)

@@ -6,8 +6,8 @@ use Rattle.thin_runner.specs.Hinted.{HintedSteps, hinted_claim, hinted_items}
 use Rattle.thin_runner.specs.declared.hinted.Hinted.{Hinted}
 
 module _ {T A : Type 0} where
-  -- if calls of `next` yielded xs, the items left before the calls are xs, followed by the items
-  -- left after them
+  -- if calls of `next` yielded the items xs, then the items left before the calls are xs, followed
+  -- by the items left after the calls
   pub yields-items : (s t : Hinted T A) (xs : List T) → Yields (HintedSteps {T = T} {A = A}) s xs t
       → hinted_items s ≡ xs ++ hinted_items t
   yields-items s t [] e = ap hinted_items e

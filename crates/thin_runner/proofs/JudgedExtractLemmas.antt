@@ -1,4 +1,5 @@
--- Calls of `next` on an `ExtractIf` whose closure returns what a judge decides.
+-- Lemmas about an `ExtractIf` whose closure returns what a judge decides: what its calls of `next`
+-- return, and which list is left.
 use Rattle.std.proofs.Common.{◌≡◌, ℕ, zero, suc, ◌+◌, ◌-◌, ◌≤◌, ◌==◌, Bool, true, false, List, [], ◌∷◌, ◌++◌, Option, None, Some, length, take, drop, refl, arith, ap, subst, sym, ◌∙◌, append_assoc}
 use Rattle.std.proofs.Math.Dec.{eqb-suc-zero}
 use Rattle.std.proofs.lemmas.List.{append-nil, length-append, length-drop, length-map, length-take}
@@ -15,13 +16,14 @@ use Rattle.thin_runner.specs.commands.Ranges.{walked}
 use Rattle.thin_runner.specs.declared.command.Step.TheVariants.{Front}
 
 module _ {T : Type 0} where
-  -- the answer for the item that a call of `next` returned: the item is not kept. If the call
-  -- returned `None`, there is no answer
+  -- The verdict on the item that a call of `next` returned: the item is not kept. If the call
+  -- returned `None`, there is no verdict.
   abbrev pub goes : Option T → Verdicts T
   goes None = []
   goes (Some x) = (false, x) ∷ []
 
-  -- what k calls of `next` return: the items xs in order, and then `None`
+  -- the results of k calls of `next` if the items to extract are xs: the items in order, and then
+  -- `None`
   abbrev pub handed_out : ℕ → List T → List (Option T)
   handed_out k xs = walked xs (replicate k Front)
 
@@ -57,8 +59,9 @@ module _ {T : Type 0} where
   few-goes None = refl
   few-goes (Some x) = refl
 
-  -- the moves for the answers a followed by the answers b are the moves for a, plus those for b,
-  -- or, if a removes an item, plus one for each item that b keeps
+  -- Let the verdicts a be followed by the verdicts b. If a removes no item, the moves for both are
+  -- the moves for a plus the moves for b. If a removes an item, they are the moves for a plus one
+  -- move for each item that b keeps.
   pub moves-append : (a b : Verdicts T) → moved_down (flags_of (a ++ b))
       ≡ moved_down (flags_of a) + (if length (left_at false a) == 0 then moved_down
       (flags_of b) else trues (flags_of b))
@@ -76,12 +79,11 @@ module _ {S T J : Type 0} (R : S → T → Bool → S → T → Type 0) (judge_o
   none-left j zero = refl
   none-left j (suc k) = refl
 
-  -- let a call of `next` return `item`, and leave the items `rest` to be tested and the closure in
-  -- the state t; k calls may follow
+  -- let a call of `next` return `item`, and leave the items `rest` untested and the closure in the
+  -- state t, and let k be the number of calls that may follow
   module _ (t : S) (k : ℕ) (item : Option T) (rest : List T) where
-    -- if a call of `next` keeps the items `kept`, then the answers of this call and of k more calls
-    -- say that these items are kept and that `item` is extracted, and continue with the answers of
-    -- the k calls
+    -- If a call of `next` keeps the items `kept`, then the verdicts of this call and k more calls
+    -- begin with those that keep `kept` and extract `item`. The verdicts of the k calls follow.
     pub extracts-by : (s : S) (xs kept : List T) → ExtractsNext R s xs item t kept rest
         → extracting ask (judge_of s) (suc k) xs
         ≡ stay kept ++ (goes item ++ extracting ask (judge_of t) k rest)
@@ -120,8 +122,8 @@ module _ {S T J : Type 0} (R : S → T → Bool → S → T → Type 0) (judge_o
         answered true by m = let wrong = m.0 in absurd (none-some (sym none ∙ wrong))
         answered false by m = by m.0 m.1
 
-    -- what `handed_out` computes for a call of `next` and the k calls after it is `item`, followed
-    -- by what it computes for these k calls
+    -- the results that `handed_out` computes for a call of `next` and k more calls are `item`,
+    -- followed by the results that it computes for the k calls
     pub handed-by : (s : S) (xs kept : List T) → ExtractsNext R s xs item t kept rest
         → handed_out (suc k) (left_at false (extracting ask (judge_of s) (suc k) xs))
         ≡ item ∷ handed_out k (left_at false (extracting ask (judge_of t) k rest))
@@ -141,8 +143,8 @@ module _ {S T J : Type 0} (R : S → T → Bool → S → T → Type 0) (judge_o
             ∙ ap (left_at false) (none-left (judge_of t) k) in
             subst (λ l. handed_out (suc k) l ≡ None ∷ handed_out k l) (sym empty) refl
 
--- counting m moves, and then k more if an item was extracted before (`gone` is not 0), costs the
--- same as counting all these moves at once
+-- adding m moves to a cost, and then k more moves if `gone` is not 0, gives the same cost as adding
+-- all these moves at once
 charged : (gone m k : ℕ) (c : Cost)
     → (if gone == 0 then moving m c else moving k (moving m c))
     ≡ moving (m + (if gone == 0 then 0 else k)) c
@@ -154,20 +156,21 @@ charged (suc gone) m k c =
 
 -- the state of an extraction between two calls of `next`
 pub record Stand (T : Type 0) : Type 0 where
-  -- the answers for the items that are still to be tested
+  -- the verdicts on the items that are not yet tested
   pub left : Verdicts T
-  -- the items at the front of the list: those before the range, and those kept so far
+  -- the items at the front of the list: the items before the range, and then the items of the range
+  -- kept so far
   pub front : List T
   -- the number of items yielded so far
   pub out : ℕ
   -- the cost so far
   pub paid : Cost
 
--- let `asked` be the answers for all items of the range of an extraction, `start` the items before
+-- let `asked` be the verdicts on all items of the range of an extraction, `start` the items before
 -- the range, and `before` the cost before the first call of `next`
 module _ {T : Type 0} (asked : Verdicts T) (start : List T) (before : Cost) where
-  -- `at` is a state of the extraction: the one after some calls of `next`. `done` are the answers
-  -- for the items tested so far
+  -- `at` is the state of the extraction after some number of calls of `next`, which gave the
+  -- verdicts `done`
   pub record IsExtracting (at : Stand T) : Type 0 where
     pub done : Verdicts T
     pub split : asked ≡ done ++ at.left
@@ -175,9 +178,8 @@ module _ {T : Type 0} (asked : Verdicts T) (start : List T) (before : Cost) wher
     pub out : at.out ≡ length (left_at false done)
     pub paid : at.paid ≡ moving (moved_down (flags_of done)) before
 
-  -- if the next answers, `now`, keep k items, and no item is removed before the last of these, then
-  -- the cost for all answers, including `now`, is the cost so far, plus k moves if an item was
-  -- extracted before
+  -- Let the next verdicts, `now`, keep k items and remove no item before the last of these. Then
+  -- the cost after `now` is the cost so far, plus k moves if an item was extracted before `now`.
   paid-next : (at : Stand T) (h : IsExtracting at) (now : Verdicts T) (k : ℕ)
       → moved_down (flags_of now) ≡ 0 → trues (flags_of now) ≡ k
       → (if at.out == 0 then at.paid else moving k at.paid)
@@ -190,8 +192,7 @@ module _ {T : Type 0} (asked : Verdicts T) (start : List T) (before : Cost) wher
       before)
       ∙ ap (λ m. moving m before) (sym (moves-append h.done now))))
 
-  -- the state before the first call of `next`, when no item has been tested, is a state of the
-  -- extraction
+  -- if `at` is the state before the first call of `next`, then `IsExtracting` holds for `at`
   pub extracting-none : (at : Stand T) → at.left ≡ asked → at.front ≡ start → at.out ≡ 0
       → at.paid ≡ before → IsExtracting at
   extracting-none at all same none free =
@@ -204,8 +205,8 @@ module _ {T : Type 0} (asked : Verdicts T) (start : List T) (before : Cost) wher
       }
 
   module _ (at next : Stand T) where
-    -- if a call of `next` in a state of the extraction keeps the items `kept` and returns `item`,
-    -- the state after the call is a state of the extraction too
+    -- if `IsExtracting` holds for the state `at`, and a call of `next` keeps the items `kept`,
+    -- returns `item` and leads to the state `next`, then `IsExtracting` holds for `next`
     pub extracting-step : (kept : List T) (item : Option T) → IsExtracting at
         → at.left ≡ stay kept ++ (goes item ++ next.left) → next.front ≡ at.front ++ kept
         → next.out ≡ at.out + length (option_to_list item)
@@ -242,12 +243,12 @@ module _ {T : Type 0} (asked : Verdicts T) (start : List T) (before : Cost) wher
           paid = charge ∙ paid-next at h now (length kept) still moved;
         }
 
--- let w be the list after an extraction from the list v, of the range from index a up to b, with
--- the answers `asked`
+-- let w be the list v after an extraction from the items from index a up to b, and let `asked` be
+-- the verdicts on these items
 module _ {T A : Type 0} (v w : Thin T A) (a b : ℕ) (asked : Verdicts T) where
-  -- w is v with these items: those at the front, those of the range that were not tested (`rest`),
-  -- and those after the range (`tail`). If an item was yielded, each item of `rest` and `tail`
-  -- counts one move
+  -- The items of w are the items at the front, then `rest` (the items of the range that were not
+  -- tested), and then `tail` (the items after the range). If an item was extracted, each item of
+  -- `rest` and `tail` counts one move. The capacity and the allocator are those of v.
   pub record IsLeft (at : Stand T) (rest tail : List T) : Type 0 where
     pub items : w.items ≡ at.front ++ (rest ++ tail)
     pub cost : w.cost ≡ (if at.out == 0 then at.paid else moving (length rest
@@ -255,8 +256,8 @@ module _ {T A : Type 0} (v w : Thin T A) (a b : ℕ) (asked : Verdicts T) where
     pub capacity : w.capacity ≡ v.capacity
     pub alloc : w.alloc ≡ v.alloc
 
-  -- if an extraction from v has ended and leaves the list w, then w is v with only the items that
-  -- the answers keep (`sifted`)
+  -- if the extraction from v has ended and left the list w, then w is v with only the items that
+  -- the verdicts keep (`sifted`)
   pub extracting-ends : (at : Stand T) (rest tail : List T)
       → IsExtracting asked (take a v.items) v.cost at → at.left ≡ stay rest → tail ≡ drop b v.items
       → IsLeft at rest tail → w ≡ sifted v (around v.items a b asked)
@@ -296,7 +297,7 @@ module _ {T A : Type 0} (v w : Thin T A) (a b : ℕ) (asked : Verdicts T) where
         cost = paid i;
       }
 
--- an extraction keeps at most as many items as there were before it
+-- an extraction does not increase the number of items
 module _ {T J : Type 0} (ask : J → T → Bool × T × J) where
   stay-length : (xs : List T) → length (stay xs) ≡ length xs
   stay-length xs = length-map xs (λ (x : T). (true, x))
@@ -307,8 +308,8 @@ module _ {T J : Type 0} (ask : J → T → Bool × T × J) where
   extracting-length j (suc k) (x ∷ xs) =
       ap suc (extracting-length (ask j x).2 (if (ask j x).0 then k else suc k) xs)
 
-  -- if k calls extract items from index a up to b of xs, the number of items that are kept is at
-  -- most the number of items of xs
+  -- if k calls of `next` extract items of xs from index a up to b, then the number of items that
+  -- are kept is at most the length of xs
   pub few-extracted : (j : J) (k : ℕ) (xs : List T) (a b : ℕ) → a ≤ b → b ≤ length xs
       → length (left_at true (around xs a b (extracting ask j k (slice_range xs a b)))) ≤ length xs
   few-extracted j k xs a b order within =

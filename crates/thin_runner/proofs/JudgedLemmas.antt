@@ -1,5 +1,5 @@
--- Closures that return what a judge decides, and the list that they leave if a method such as
--- `retain` calls them for its items.
+-- Lemmas about closures that return what a judge decides, and about the lists that methods such as
+-- `retain` leave if they call such a closure.
 use Rattle.std.proofs.Common.{◌≡◌, ℕ, suc, ◌≤◌, ◌==◌, length, refl, arith, List, [], ◌∷◌, Bool, true, false, ap, subst, ◌∙◌}
 use denote.MutBor.{MutBor}
 use denote.Param.Members.{Mut}
@@ -14,14 +14,15 @@ use Rattle.thin_runner.specs.commands.Filters.{asked, asked_last, asked_pairs, s
 
 module _ {S T J : Type 0} (R : S → T → Bool → S → T → Type 0) (judge_of : S → J)
     (ask : J → T → Bool × T × J) where
-  -- the state of the closure contains a judge, and each call returns what this judge decides
+  -- the closure has a judge in its state, and each call of the closure returns what this judge
+  -- decides
   abbrev pub AsksJudge : Type 0
   AsksJudge = (s : S) (x : T) (b : Bool) (u : S) (y : T) → R s x b u y
       → (b, y, judge_of u) ≡ ask (judge_of s) x
 
 module _ {S T J : Type 0} (R : S → T → Bool → S → T → Type 0) (judge_of : S → J)
     (ask : J → T → Bool × T × J) (told : AsksJudge R judge_of ask) where
-  -- if the closure was called for each item of xs, in order, then its answers are those of the
+  -- if the closure was called for each item of xs, in order, then its verdicts are those of the
   -- judge
   pub asked-by : (s t : S) (xs : List T) (verdicts : Verdicts T) → Asked R s xs verdicts t
       → verdicts ≡ asked ask (judge_of s) xs
@@ -41,20 +42,20 @@ module _ {S T J : Type 0} (R : S → T → Bool → S → T → Type 0) (judge_o
       let cost = r.1.cost ∙ ap (λ a. moving (moved_down (flags_of a)) v.cost) same in
       λ i. record { items = items i; capacity = capacity i; alloc = alloc i; cost = cost i }
 
--- a definition for lists whose items are compared, each with the last item kept before it
+-- the list that is left if each item is compared with the last item kept before it
 module _ {T : Type 0} where
-  -- let b hold the first item, which is kept, and the answers for the later items: ys are all the
-  -- kept items, and `flags` say for each later item whether it is kept
+  -- The pair b has the first item, which is kept, and the verdicts on the later items. ys are all
+  -- items that are kept, and `flags` tell which of the later items are kept.
   abbrev pub Leaves : List Bool → List T → T × Verdicts T → Type 0
   Leaves flags ys b = (flags ≡ flags_of b.1) × (ys ≡ b.0 ∷ left_at true b.1)
 
--- let a closure compare two items, with a judge in its state, and return what this judge decides
+-- let a closure compare two items and return what the judge in its state decides
 module _ {S T J : Type 0} (R : S → T → T → Bool → S → T → T → Type 0) (judge_of : S → J)
     (same : J → T → T → Bool × T × T × J)
     (told : (s : S) (x k : T) (b : Bool) (u : S) (x' k' : T) → R s x k b u x' k'
     → (b, x', k', judge_of u) ≡ same (judge_of s) x k) where
-  -- if each item of xs was compared with the last item kept before it, which was k at first, then
-  -- the flags and the kept items are as the judge decides
+  -- if each item of xs was compared with the last item kept before it, starting with the kept item
+  -- k, then the flags and the kept items are as the judge decides
   pub asked-last-by : (s t : S) (k : T) (xs : List T) (flags : List Bool) (ys : List T)
       → AskedLast R s k xs flags ys t → Leaves flags ys (asked_last same (judge_of s) k xs)
   asked-last-by s t k [] flags ys a = (a.0, a.1)
@@ -94,14 +95,14 @@ module _ {S T J : Type 0} (R : S → T → T → Bool → S → T → T → Type
       let cost = r.1.cost ∙ ap (λ m. moving m v.cost) by.0 in
       λ i. record { items = by.1 i; capacity = capacity i; alloc = alloc i; cost = cost i }
 
--- let a closure on one item have a judge in its state, and return the key that this judge computes
+-- let a closure return the key that the judge in its state computes for an item
 module _ {F T A J : Type 0} (g : Mut F (MutBor T × Unit {0}) (ℕ × (MutBor T × Unit {0})))
     (judge_of : F → J) (key : J → T → ℕ × T × J)
     (told : (f : F) (x : T) (k : ℕ) (f' : F) (x' : T) → CalledAtMut g f x k f' x'
     → (k, x', judge_of f') ≡ key (judge_of f) x) where
-  -- if `dedup_by_key`, with a closure that asks the judge, turns v into w, then w is v with only
-  -- the items that the judge keeps (`sifted`); of two items, the key of the later one is computed
-  -- first
+  -- If `dedup_by_key`, with a closure that asks the judge, turns v into w, then w is v with only
+  -- the items that the judge keeps (`sifted`). Of two compared items, the key of the later one is
+  -- computed first.
   pub deduped-by-keys : (f : F) (v w : Thin T A)
       → IsDedupedBy (ComparesKeys g (λ a b. a == b)) f v w → w.capacity ≡ v.capacity
       → w.alloc ≡ v.alloc → w ≡ sifted v (asked_pairs (same_key key) (judge_of f) v.items)
@@ -121,32 +122,32 @@ module _ {T J : Type 0} (look : J → T → Bool × J) where
   abbrev pub looks : J → T → Bool × T × J
   looks j x = let a = look j x in (a.0, x, a.1)
 
-  -- if a call returned what `look` decides, and did not change the item, then it returned what
-  -- `looks` decides
+  -- if a call returned the decision of `look`, and the item did not change, then the decision, the
+  -- item and the new state are what `looks` returns
   pub looked : (j u : J) (x y : T) (b : Bool) → (b, u) ≡ look j x → y ≡ x → (b, y, u) ≡ looks j x
   looked j u x y b told same = ap (λ z. (b, z, u)) same ∙ ap (λ a. (a.0, x, a.1)) told
 
--- a filter keeps at most as many items as there were before it
+-- a filter does not increase the number of items
 module _ {T : Type 0} where
-  -- the number of kept items is at most the number of answers
+  -- the number of kept items is at most the number of verdicts
   pub few-left : (verdicts : Verdicts T) → length (left_at true verdicts) ≤ length verdicts
   few-left [] = omega arith
   few-left ((true, x) ∷ verdicts) = omega (arith, few-left verdicts)
   few-left ((false, x) ∷ verdicts) = omega (arith, few-left verdicts)
 
-  -- the results of comparing x with the kept item k, from the results a for the items after x: if b
-  -- is true, x is removed; otherwise x is kept, and becomes the last kept item
+  -- the results a for the items after x, extended by the result for x, which was compared with the
+  -- kept item k: x is removed if b is true, and kept otherwise
   abbrev next : Bool → T → T → T × Verdicts T → T × Verdicts T
   next b x k a = if b then (a.0, (false, x) ∷ a.1) else (k, (true, a.0) ∷ a.1)
 
-  -- comparing one more item adds one answer
+  -- comparing one more item adds one verdict
   one-answer : (b : Bool) (x k : T) (a : T × Verdicts T)
       → length (next b x k a).1 ≡ suc (length a.1)
   one-answer true x k a = refl
   one-answer false x k a = refl
 
 module _ {T J : Type 0} where
-  -- if each item of xs is tested, there is one answer for each
+  -- if each item of xs is tested, there is one verdict for each item
   pub asked-length : (ask : J → T → Bool × T × J) (j : J) (xs : List T) → length (asked ask j xs)
       ≡ length xs
   asked-length ask j [] = refl
@@ -157,8 +158,8 @@ module _ {T J : Type 0} where
       → length (left_at true (asked ask j xs)) ≤ length xs
   few-asked ask j xs = omega (arith, few-left (asked ask j xs), asked-length ask j xs)
 
-  -- if each item of xs is compared with the last item kept before it, there is one answer for each
-  -- item; `pairs-length` states the same if the first item is kept without a comparison
+  -- If each item of xs is compared with the last item kept before it, there is one verdict for each
+  -- item. `pairs-length` states the same for lists whose first item is kept without a comparison.
   last-length : (same : J → T → T → Bool × T × T × J) (j : J) (k : T) (xs : List T)
       → length (asked_last same j k xs).1 ≡ length xs
   last-length same j k [] = refl
@@ -178,15 +179,15 @@ module _ {T J : Type 0} where
       → length (left_at true (asked_pairs same j xs)) ≤ length xs
   few-pairs same j xs = omega (arith, few-left (asked_pairs same j xs), pairs-length same j xs)
 
--- the items that `dedup` leaves by the stateless test E are those that the test keeps
+-- `dedup` with the stateless test E leaves the same items as a judge that decides by E
 module _ {T J : Type 0} (E : T → T → Bool) (j : J) where
-  -- the test E as a function of the judge's state: it returns what E says, and changes neither the
-  -- items nor the state
+  -- the stateless test E in the form of a method of a judge: it returns what E returns, and changes
+  -- neither the items nor the state
   abbrev pub tells : J → T → T → Bool × T × T × J
   tells j later kept = (E later kept, later, kept, j)
 
-  -- if k is the item kept before xs, `dedup_from` returns the items that are kept by the test E,
-  -- and `unlike_from` returns a flag for each item of xs, which says whether it is kept
+  -- If k is the item kept before xs, then `dedup_from` returns k and the items of xs that the test
+  -- E keeps. For each item of xs, `unlike_from` returns whether E keeps the item.
   dedup-last : (k : T) (xs : List T) → Leaves (unlike_from E k xs) (dedup_from E k xs)
       (asked_last tells j k xs)
   dedup-last k [] = (refl, refl)
@@ -201,8 +202,8 @@ module _ {T J : Type 0} (E : T → T → Bool) (j : J) where
       told by true = let h = by k in (ap (λ l. false ∷ l) h.0, h.1)
       told by false = let h = by x in (ap (λ l. true ∷ l) h.0, ap (λ l. k ∷ l) h.1)
 
-  -- `dedup` returns the items of xs that are kept by the test E, and `unlike` returns flags with as
-  -- many moves
+  -- `dedup` returns the items of xs that the test E keeps, and the flags of `unlike` give the same
+  -- number of moves as the verdicts of E
   pub dedup-pairs : (xs : List T)
       → (moved_down (unlike E xs) ≡ moved_down (flags_of (asked_pairs tells j xs)))
       × (dedup E xs ≡ left_at true (asked_pairs tells j xs))

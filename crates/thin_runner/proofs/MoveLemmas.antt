@@ -28,22 +28,25 @@ few-repeats : {T : Type 0} (k : ℕ) (x : T) → length (replicate (k - 1) x) �
 few-repeats k x = omega (arith, length-replicate (k - 1) x)
 
 module _ {T A : Type 0} (v w : Thin T A) where
-  -- if the count of moves did not change, it is at most k more than before
+  -- if w is the list u, and u counts the same number of moves as v, then w counts at most k more
+  -- moves than v
   same-moves : (u : Thin T A) (k : ℕ) → w ≡ u → u.cost.moves ≡ v.cost.moves
       → w.cost.moves ≤ v.cost.moves + k
   same-moves u k e same = omega (arith, ap (λ z. z.cost.moves) e, same)
 
-  -- an edit that counts m moves adds at most m moves
+  -- if w is the list v with the items xs and m more moves (`edited`), then w counts at most m more
+  -- moves than v
   edited-moves : (xs : List T) (m : ℕ) → w ≡ edited v xs m → w.cost.moves ≤ v.cost.moves + m
   edited-moves xs m e = omega (arith, ap (λ z. z.cost.moves) e)
 
-  -- the growth before an edit counts no moves, so an edit of m moves adds at most m moves
+  -- if w is the list v after growth, with the items xs and m more moves (`grown`), then w counts at
+  -- most m more moves than v, since growth counts no moves
   grown-moves : (xs : List T) (m : ℕ) → w ≡ grown v w.capacity xs m
       → w.cost.moves ≤ v.cost.moves + m
   grown-moves xs m e = omega (arith, ap (λ z. z.cost.moves) e, cost_at-moves v w.capacity)
 
   module _ (rule : Rule) (R : RattleType) (a b : ℕ) where
-    -- a splice that placed at most k items added at most k moves, and 2 for each item after the
+    -- a splice that placed at most k items adds at most k moves, plus 2 for each item after the
     -- range
     spliced-moves : (placed : List T) (most k : ℕ) → Replaces rule R v a b placed most w
         → length placed ≤ k → w.cost.moves ≤ v.cost.moves + (2 * (length v.items - b) + k)
@@ -58,8 +61,8 @@ module _ {T A : Type 0} (v w : Thin T A) where
           few,
         )
 
-    -- a splice that failed added at most one move for each item of its iterator, and 2 for each
-    -- item after the range
+    -- a failed splice adds at most one move for each item of its iterator, plus 2 for each item
+    -- after the range
     stopped-moves : (xs held : List T) (lower : ℕ) (cause : ThinVecError) (in_hand : Option T)
         (rest : Hinted T A) → StopsBetween rule R v a b xs held lower cause in_hand rest w
         → w.cost.moves ≤ v.cost.moves + (2 * (length v.items - b) + length xs)
@@ -91,7 +94,7 @@ module _ {T A J : Type 0} (here : Setting T A J) (v w : Thin T A) where
       stopped (inr s) = omega (arith, few, s.1, grown-moves v w v.items s.0 s.3.1)
 
 module _ {T A G J : Type 0} (here : Setting T A J) where
-  -- a command adds at most as many moves as `may_move` says for the command and its reply
+  -- the number of moves that a command adds is at most `may_move` of the command and its reply
   pub step-moves : (v w : Thin T A) (command : Command T A G) (reply : Reply T A G)
       → Steps here v command reply w
       → w.cost.moves ≤ v.cost.moves + may_move here v.items command reply
@@ -153,7 +156,8 @@ module _ {T A G J : Type 0} (here : Setting T A J) where
   step-moves v w (Splice a b steps xs lower) (Refused cause) s = same-moves v w v 0 s.1.2 refl
   step-moves v w command reply s = absurd s.1
 
-  -- a run adds at most as many moves as the sum of the bounds for its commands (`run_may_move`)
+  -- the number of moves that a run adds is at most the sum of the bounds for its commands
+  -- (`run_may_move`)
   pub runs-moves : (v w : Thin T A) (commands : List (Command T A G))
       (replies : List (Reply T A G)) (run : Runs here v commands replies w)
       → w.cost.moves ≤ v.cost.moves + run_may_move here v w commands replies run

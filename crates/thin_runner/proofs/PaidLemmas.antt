@@ -1,5 +1,5 @@
--- A run without `ReserveExact` and `ShrinkToFit` keeps a cheap list cheap, and copies at most as
--- many items as its capacity grows by.
+-- A run without `ReserveExact` and `ShrinkToFit` keeps a cheap list cheap. The number of items that
+-- growth copies during the run is at most the increase of the capacity.
 use Rattle.std.proofs.Common.{◌≡◌, ℕ, suc, ◌+◌, ◌-◌, ◌^◌, ◌<◌, ◌≤◌, List, [], ◌∷◌, ◌++◌, Some, None, length, arith, ap, sym, subst, ◌∙◌, refl, inl, inr}
 use Rattle.std.proofs.lemmas.Bool.{cases_lt}
 use Rattle.std.proofs.lemmas.List.{length-append, length-set, length_push, length-drop, length-take}
@@ -28,7 +28,8 @@ use Rattle.thin_runner.specs.declared.command.Command.TheVariants.{Push, Pop, In
 use Rattle.thin_runner.specs.declared.command.Reply.{Reply}
 use Rattle.thin_runner.specs.declared.command.Reply.TheVariants.{Answers, Done, Item, List as Made, Other, Returned, Refused, Stopped, OutOfRange}
 
--- if two costs count the same blocks and the same copied items, and one is cheap, so is the other
+-- if two costs count the same number of blocks and of copied items, and one of them is cheap at the
+-- capacity c, then the other is cheap at c too
 cheap-same : (c : ℕ) (k k' : Cost) → k'.blocks ≡ k.blocks → k'.grown ≡ k.grown
     → IsCheapAt c k → IsCheapAt c k'
 cheap-same c k k' blocks grown h = record {
@@ -40,15 +41,16 @@ cheap-same c k k' blocks grown h = record {
       omega (arith, same, b);
 }
 
--- the change from v to w is paid for: it keeps a cheap list cheap, growth has copied at most as
--- many items as the capacity has grown by, and w has room for its items
+-- The change from v to w is paid for if three things hold. If v is cheap, then w is cheap. The
+-- number of items that growth copied is at most the increase of the capacity. The items of w fit
+-- into its capacity.
 pub record IsPaid {T A : Type 0} (v w : Thin T A) : Type 0 where
   pub cheap : IsCheap v → IsCheap w
   pub copied : w.cost.grown + v.capacity ≤ v.cost.grown + w.capacity
   pub room : length w.items ≤ w.capacity
 
 module _ {T A : Type 0} where
-  -- if v has room for its items, the change from v to v itself is paid for
+  -- if the items of v fit into its capacity, then leaving v unchanged is paid for
   pub none-paid : (v : Thin T A) → length v.items ≤ v.capacity → IsPaid v v
   none-paid v room = record { cheap = λ c. c; copied = omega arith; room = room }
 
@@ -65,8 +67,8 @@ module _ {T A : Type 0} (v w : Thin T A) (room : length v.items ≤ v.capacity) 
   same-paid : w ≡ v → IsPaid v w
   same-paid e = subst (IsPaid v) (sym e) (none-paid v room)
 
-  -- if the capacity, the blocks and the copied items are those of v, and no item is added, the
-  -- change from v to w is paid for
+  -- if the list u, which equals w, has the capacity of v, counts the same blocks and copied items,
+  -- and has at most the number of items of v, then the change from v to w is paid for
   kept-paid : (u : Thin T A) → w ≡ u → u.capacity ≡ v.capacity
       → u.cost.blocks ≡ v.cost.blocks → u.cost.grown ≡ v.cost.grown
       → length u.items ≤ length v.items → IsPaid v w
@@ -81,8 +83,9 @@ module _ {T A : Type 0} (v w : Thin T A) (room : length v.items ≤ v.capacity) 
 
 module _ {T A J : Type 0} (here : Setting T A J) (law : KeepsLaw here.rule) (v w : Thin T A)
     (room : length v.items ≤ v.capacity) where
-  -- if the growth rule requires the capacity of w for n more items, w has the cost of this growth,
-  -- and at most n items are added, then the change from v to w is paid for
+  -- if the capacity of w is the one that the growth rule requires for n more items, w counts the
+  -- blocks and copied items of this growth, and at most n items are added, then the change from v
+  -- to w is paid for
   ruled-paid : (u : Thin T A) (n : ℕ) → capacity_for here.rule here.R v n ≡ Some w.capacity
       → w ≡ u → u.cost.blocks ≡ (cost_at v w.capacity).blocks
       → u.cost.grown ≡ (cost_at v w.capacity).grown
@@ -105,8 +108,8 @@ module _ {T A J : Type 0} (here : Setting T A J) (law : KeepsLaw here.rule) (v w
         ];
       }
 
-  -- if a call that clones fails, for lack of room for n more items or because of a clone, then the
-  -- change from v to w is paid for
+  -- if a call that clones fails, either because there is no room for n more items or because a
+  -- clone fails, then the change from v to w is paid for
   refused-paid : (n : ℕ) (sources : List T) (cause : ThinVecError)
       → RefusesClone here v n sources cause w → IsPaid v w
   refused-paid n sources cause r = stopped r.2
@@ -161,8 +164,8 @@ module _ {T : Type 0} where
       omega (arith, ap length a.1, length-append xs a.0, count)
 
 module _ {T A G J : Type 0} (here : Setting T A J) (law : KeepsLaw here.rule) where
-  -- if the list v has room for its items, and the command is neither `ReserveExact` nor
-  -- `ShrinkToFit`, then the change from v to w by the command is paid for (`IsPaid`)
+  -- if the items of v fit into its capacity, and the command is neither `ReserveExact` nor
+  -- `ShrinkToFit`, then the change that the command makes from v to w is paid for (`IsPaid`)
   pub step-paid : (v w : Thin T A) (command : Command T A G) (reply : Reply T A G)
       → KeepsCheap command → length v.items ≤ v.capacity → Steps here v command reply w
       → IsPaid v w
@@ -243,8 +246,8 @@ module _ {T A G J : Type 0} (here : Setting T A J) (law : KeepsLaw here.rule) wh
   step-paid v w (Splice i j steps xs lower) (Refused cause) keeps room s = same-paid v w room s.1.2
   step-paid v w command reply keeps room s = absurd s.1
 
-  -- if the list v has room for its items, and no command is `ReserveExact` or `ShrinkToFit`, then
-  -- the change from v to w by the run is paid for (`IsPaid`)
+  -- if the items of v fit into its capacity, and no command is `ReserveExact` or `ShrinkToFit`,
+  -- then the change that the run makes from v to w is paid for (`IsPaid`)
   pub runs-paid : (v w : Thin T A) (commands : List (Command T A G)) (replies : List (Reply T A G))
       → All KeepsCheap commands → length v.items ≤ v.capacity → Runs here v commands replies w
       → IsPaid v w

@@ -27,11 +27,12 @@ use Rattle.thin_runner.proofs.JudgedLemmas.{dedup-pairs}
 use Rattle.thin_runner.proofs.WalkLemmas.{last-of}
 use Rattle.thin_runner.proofs.WeakerClonesLemmas.{zip-weaker}
 
--- `Some x ≡ None` implies any B; so a reply with a cause is not granted
+-- `Some x ≡ None` is false, so it implies any B: a reply that has a cause of failure is not granted
 refused : {X B : Type 0} (x : X) → Some x ≡ None → B
 refused x e = cc
 
--- the test of a range is true if and only if the range from a up to b is in bounds for n items
+-- the Boolean test of the range from a up to b is true if and only if the range is in bounds for n
+-- items
 range-decides : (a b n : ℕ) → Decides (nat_le a b && nat_le b n) ((a ≤ b) × (b ≤ n))
 range-decides a b n = (
   (λ e. let both = and_parts (nat_le a b) (nat_le b n) e in
@@ -54,7 +55,8 @@ module _ {T A G : Type 0} where
   in_range-decides xs command = ((λ e. tt), (λ e. refl))
 
 module _ {T : Type 0} where
-  -- a pop returns the last item, or `None` if there is none, and leaves the items before it
+  -- if a pop of xs returns o and leaves ys, then o is the last item of xs (`None` if xs is empty),
+  -- and ys are the items before it
   popped : (xs ys : List T) (o : Option T) → (IsSome o ↔ (0 < length xs))
       → xs ≡ ys ++ option_to_list o
       → (o ≡ slice_get xs (length xs - 1)) × (ys ≡ take (length xs - 1) xs)
@@ -69,7 +71,8 @@ module _ {T : Type 0} where
   popped [] ys None some e = (refl, sym (e ∙ append-nil ys))
   popped (x ∷ xs) ys None some e = absurd (false≢true (some.1 (omega arith)))
 
-  -- if each clone equals its source, and ys are clones of xs, item by item, then ys is xs
+  -- if each clone equals its source, and the items of ys are clones of the items of xs, in order,
+  -- then ys equals xs
   zip-equal : {clones : T → T → Type 0} → ClonesEqual clones → (xs ys : List T)
       → AllZip clones xs ys → ys ≡ xs
   zip-equal {clones} equal xs ys z =
@@ -82,8 +85,8 @@ module _ {T : Type 0} where
   each-equal equal x [] e = refl
   each-equal equal x (y ∷ ys) e = λ i. equal x y e.0 i ∷ each-equal equal x ys e.1 i
 
-  -- if each clone equals its source, a resize to the length k leaves the first k items, and as many
-  -- copies of x as are needed for the length k
+  -- if each clone equals its source, then a resize of xs to the length k leaves the first k items
+  -- of xs, followed by enough copies of x to reach the length k
   resized : (clones : T → T → Type 0) → ClonesEqual clones → (xs : List T) (k : ℕ) (x : T)
       (ys : List T) → IsResized clones xs k x ys → ys ≡ take k xs ++ replicate (k - length xs) x
   resized clones equal xs k x ys r = elim (cases_lt (length xs) k) [
@@ -110,8 +113,8 @@ module _ {T : Type 0} where
       ap (λ (t : List T). (t ++ ys) ++ drop (length xs) xs) (take-length xs)
       ∙ (ap (λ (t : List T). (xs ++ ys) ++ t) (drop-length xs) ∙ append-nil (xs ++ ys))
 
-  -- if the items of a range are tested, and the items around it are kept, then the items left are
-  -- the list with the range replaced by its kept items
+  -- if only the items of a range of xs are tested, then the items left are xs with the range
+  -- replaced by the items of the range that are kept
   left-around : (xs : List T) (a b : ℕ) (verdicts : Verdicts T)
       → left_at true (around xs a b verdicts) ≡ replace_range xs a b (left_at true verdicts)
   left-around xs a b verdicts =
@@ -123,8 +126,8 @@ module _ {T : Type 0} where
       ∙ ((λ i. before ++ (kept ++ left_at-stay after i)) ∙ sym (append_assoc before kept after)))
 
 module _ {T A G J : Type 0} (here : Setting T A J) (equal : ClonesEqual here.clones) where
-  -- if each clone equals its source, `granted` computes the reply to each command that is in range
-  -- and does not fail, and the items after it
+  -- if each clone equals its source, then `granted` computes the reply and the resulting items for
+  -- a command that is in range and does not fail
   does-granted : (v w : Thin T A) (command : Command T A G) (reply : Reply T A G)
       → IsGranted reply → Does here v command reply w
       → (seen reply, w.items) ≡ granted here v.items command
@@ -184,8 +187,8 @@ module _ {T A G J : Type 0} (here : Setting T A J) (equal : ClonesEqual here.clo
       λ j. (yields (d.0 j), d.1.items j)
   does-granted v w command reply ok d = absurd d
 
-  -- if each clone equals its source, `plain_step` computes, for each command that does not fail,
-  -- the reply and the resulting items of the list
+  -- if each clone equals its source, then `plain_step` computes the reply and the resulting items
+  -- for a command that does not fail
   step-plain : (v w : Thin T A) (command : Command T A G) (reply : Reply T A G)
       → IsGranted reply → Steps here v command reply w
       → (seen reply, w.items) ≡ plain_step here v.items command
@@ -201,9 +204,9 @@ module _ {T A G J : Type 0} (here : Setting T A J) (equal : ClonesEqual here.clo
       ∙ sym (cond-true (in_range v.items command) (granted here v.items command)
       (says (OutOfRange command), v.items) inside)
 
-  -- if each clone equals its source, and no call of a run fails, then its items are the fold of
-  -- `items_after` over the commands, and its replies, as `seen` shows them, are the scan with
-  -- `reply_to`
+  -- If each clone equals its source, and no call of the run fails, then the items after the run are
+  -- the fold of `items_after` over the commands. The replies, as `seen` shows them, are the scan of
+  -- the commands with `reply_to`.
   pub run-plain : (v w : Thin T A) (commands : List (Command T A G)) (replies : List (Reply T A G))
       → All IsGranted replies → Runs here v commands replies w
       → (w.items ≡ fold (items_after here) v.items commands)

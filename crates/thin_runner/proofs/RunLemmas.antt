@@ -1,5 +1,5 @@
--- How a run is extended by a command, how two runs are joined, and what a run keeps because each of
--- its steps keeps it.
+-- Lemmas about runs: a run can be extended by a command, two runs can be joined, and a run
+-- preserves each property that all its steps preserve.
 use Rattle.std.proofs.Common.{◌≡◌, ℕ, ◌+◌, List, [], ◌∷◌, ◌++◌, append_assoc, ap, arith, refl, subst, sym, ◌∙◌}
 use Rattle.std.proofs.lemmas.List.{append-nil}
 use Rattle.std.proofs.lemmas.List.Elements.{All-head, All-tail}
@@ -18,8 +18,8 @@ module _ {T A G : Type 0} (count : Command T A G → Reply T A G → ℕ) where
   counted commands replies = 0
 
 module _ {T A G J : Type 0} (here : Setting T A J) where
-  -- all commands except those in `left` have run and turned the list `old` into `new`, and their
-  -- replies were appended to the replies `before`
+  -- The commands `commands`, except those in `left` at the end, have run and turned the list `old`
+  -- into `new`. Their replies were appended to `before`, which gave `after`.
   pub record HasRun (old : Thin T A) (commands left : List (Command T A G))
       (before after : List (Reply T A G)) (new : Thin T A) : Type 0 where
     pub done : List (Command T A G)
@@ -28,8 +28,8 @@ module _ {T A G J : Type 0} (here : Setting T A J) where
     pub appended : after ≡ before ++ replies
     pub ran : Runs here old done replies new
 
-  -- if all commands are left, and no reply was appended, then no command has run, and the list has
-  -- not changed
+  -- if all commands are left, and no reply was appended, then `HasRun` holds for the unchanged
+  -- list: no command has run
   pub HasRun-none : (old : Thin T A) (commands left : List (Command T A G))
       (before after : List (Reply T A G)) → left ≡ commands → after ≡ before
       → HasRun old commands left before after old
@@ -53,11 +53,11 @@ module _ {T A G J : Type 0} (here : Setting T A J) where
   )
   runs-append old mid new commands more replies further first second = absurd first
 
-  -- let a step turn the list `mid` into `new`
+  -- let a command turn the list `mid` into `new`, and get the reply `reply`
   module _ (mid new : Thin T A) (command : Command T A G) (reply : Reply T A G)
       (stepped : Steps here mid command reply new) where
-    -- if the command of the step from `mid` to `new` is the first of those that were left, and its
-    -- reply is appended, then one more command has run
+    -- If the command is the first of those that are left after a run to `mid`, and its reply is
+    -- appended to the replies, then `HasRun` holds with one more command and with the list `new`.
     pub HasRun-push : {old : Thin T A} {commands left left' : List (Command T A G)}
         {before after after' : List (Reply T A G)} → HasRun old commands left before after mid
         → left ≡ command ∷ left' → after' ≡ after ++ reply ∷ []
@@ -74,15 +74,15 @@ module _ {T A G J : Type 0} (here : Setting T A J) where
               (new, (stepped, refl));
         }
 
-  -- let `Holds` be a property of a number and a list. Each step whose command satisfies `Only`
-  -- keeps it, if the number grows by `count` of the command and its reply
+  -- Let `Holds` be a property of a number and a list. Let each step whose command satisfies `Only`
+  -- preserve it, with the number increased by `count` of the command and its reply.
   module _ (Holds : ℕ → Thin T A → Type 0) (Only : Command T A G → Type 0)
       (count : Command T A G → Reply T A G → ℕ)
       (step : (n : ℕ) (v w : Thin T A) (command : Command T A G) (reply : Reply T A G)
       → Only command → Holds n v → Steps here v command reply w
       → Holds (n + count command reply) w) where
-    -- a run whose commands satisfy `Only` keeps the property `Holds`, if the number grows by the
-    -- sum of `count` over the run
+    -- if all commands of a run satisfy `Only`, then the run preserves `Holds`, with the number n
+    -- increased by the sum of `count` over the run
     pub runs-keep : (n : ℕ) (v w : Thin T A) (commands : List (Command T A G))
         (replies : List (Reply T A G)) → All Only commands → Holds n v
         → Runs here v commands replies w → Holds (n + counted count commands replies) w

@@ -1,4 +1,4 @@
--- How much spare capacity pushes and pops alone leave under `Doubling`.
+-- A bound on the capacity after a run of pushes and pops if the growth rule is `Doubling`.
 use Rattle.std.proofs.Common.{◌≡◌, ℕ, ◌+◌, ◌*◌, ◌≤◌, max, List, [], ◌∷◌, Some, length, arith, ap, subst, inl, inr, All, ◌∙◌}
 use Rattle.std.proofs.lemmas.Bool.{cases_lt}
 use Rattle.std.proofs.lemmas.List.{length_push}
@@ -15,9 +15,9 @@ use Rattle.thin_runner.specs.declared.command.Command.TheVariants.{Push, Pop}
 use Rattle.thin_runner.specs.declared.command.Reply.{Reply}
 use Rattle.thin_runner.specs.declared.command.Reply.TheVariants.{Done, Item, Returned, OutOfRange}
 
--- if `mid` is at most the largest of `before`, 4 and `2 * long`, and `after` is at most the largest
--- of `mid`, 4 and `2 * rest`, and `long` is at most `rest`, then `after` is at most the largest of
--- `before`, 4, `2 * len` and `2 * rest`
+-- Joins the bound for a first step and the bound for the later steps into a bound for both. The
+-- capacities are `before`, `mid` (after the first step) and `after`. The lengths are `len` before
+-- and `long` after the first step, and `rest` is the greatest length after it.
 slack-join : (before mid after len long rest : ℕ) → mid ≤ max before (max 4 (2 * long))
     → after ≤ max mid (max 4 (2 * rest)) → long ≤ rest
     → after ≤ max before (max 4 (2 * max len rest))

@@ -26,13 +26,13 @@ use Rattle.thin_runner.proofs.HintedLemmas.{yields-claim, yields-items}
 some-none : {T : Type 0} {x : T} → Some x ≡ None → ⊥
 some-none e = cc
 
--- let P hold if o is `None`, and let Q hold if o has a value: if o has a value, Q holds
+-- if o has a value, then `MatchOption o P (λ _. Q)` implies Q
 pub at-some-in-hand : {X : Type 0} (P Q : Type 0) (o : Option X) → MatchOption o P (λ _. Q)
     → IsSome o → Q
 at-some-in-hand P Q (Some x) q some = q
 at-some-in-hand P Q None p some = absurd (false≢true some)
 
--- let P hold if o is `None`, and let Q hold if o has a value: if o is `None`, P holds
+-- if o is `None`, then `MatchOption o P (λ _. Q)` implies P
 pub at-no-in-hand : {X : Type 0} (P Q : Type 0) (o : Option X) → MatchOption o P (λ _. Q)
     → o ≡ None → P
 at-no-in-hand P Q (Some x) q none = absurd (some-none none)
@@ -45,13 +45,13 @@ no-items (x ∷ xs) none = absurd (omega (arith, none))
 
 module _ {T A : Type 0} (s : Hinted T A) (placed : List T)
     (error : SpliceRefused T (Hinted T A) A) where
-  -- `finish` failed with the error after it had placed the items `placed` of the `Hinted` s
+  -- `finish` placed the items `placed` of the `Hinted` s, and then failed with `error`
   abbrev pub Broke : Type 0
   Broke = Stopped (HintedSteps {T = T} {A = A}) (can_next-default (Hinted T A) T) hinted_count s
       placed error
 
-  -- the items placed by a failed `finish`, those held, the one in hand and those of `rest` are
-  -- together, in this order, all items of s
+  -- if `finish` failed, then the items that it placed, the held items, the item in hand and the
+  -- items of `rest`, in this order, are all items of s
   pub stopped-items : Broke → hinted_items s ≡ placed
       ++ (error.held.items ++ (option_to_list error.in_hand ++ hinted_items error.rest))
   stopped-items (inl gave) =
@@ -76,7 +76,8 @@ module _ {T A : Type 0} (s : Hinted T A) (placed : List T)
   stopped-claim (inr ended) =
       ended.2.2.1 ∙ yields-claim s ended.2.0 (placed ++ error.held.items) ended.2.1
 
-  -- if items are held and none is in hand, the iterator has ended, so no item is left in `rest`
+  -- if a failed `finish` holds items and has no item in hand, then the iterator has ended, so no
+  -- item is left in `rest`
   pub stopped-ended : Broke → error.in_hand ≡ None → 0 < length error.held.items
       → hinted_items error.rest ≡ []
   stopped-ended (inl gave) none some = absurd (omega (arith, ap length (gave.1 none), some))
@@ -93,7 +94,7 @@ module _ {T A : Type 0} (old : Thin T A) (a b : ℕ) where
     pub cost : block.cost ≡ old.cost
 
   module _ (block : Open T A) (alloc : A) (is : IsOpened block alloc) where
-    -- the list that the open block has without the range is `cut old a b`
+    -- the open block without the items of its range, as a list, is `cut old a b`
     pub left-is : left_of block alloc ≡ cut old a b
     left-is = λ i. record {
       items = is.front i ++ is.tail i;
@@ -117,8 +118,8 @@ module _ {T A : Type 0} (old : Thin T A) (a b : ℕ) where
         subst (λ (v : Thin T A). CostsAdding v new (2 * (length old.items - b))) left-is
         (subst (λ (n : ℕ). CostsAdding (left_of block alloc) new (2 * n)) tail-count cost)
 
-    -- if the limit `left` of the iterator is `most`, then `IsExtended` for the list of the open
-    -- block and `left` implies `IsExtended` for `cut old a b` and `most`
+    -- Let `left`, the limit of the iterator, be `most`. If `IsExtended` holds for the list of the
+    -- open block and the limit `left`, then it holds for `cut old a b` and the limit `most`.
     pub ruled : (rule : Rule) (R : RattleType) (new : Thin T A) (most : ℕ) (left : Count)
         → left ≡ at_most most
         → IsExtended rule R (left_of block alloc) new.capacity (length new.items) left
@@ -129,8 +130,8 @@ module _ {T A : Type 0} (old : Thin T A) (a b : ℕ) where
         subst (λ (n : Count). of (cut old a b) n) count
         (subst (λ (v : Thin T A). of v left) left-is is_ruled)
 
-    -- if the limit `size` of the iterator is `most`, and `cut old a b` has room for `most` more
-    -- items, then the list of the open block has room for `size` more items
+    -- if `size` equals `most`, and `cut old a b` has room for `most` more items, then the list of
+    -- the open block has room for `size` more items
     pub room-left : (most size : ℕ) → size ≡ most → HasRoomFor (cut old a b) most
         → HasRoomFor (left_of block alloc) size
     room-left most size count room =
@@ -160,22 +161,22 @@ module _ {T A : Type 0} (old : Thin T A) where
   cut-end = λ i. record old { items = take-append-drop (length old.items) old.items i }
 
   -- if the list `old` without the empty range at its end has room for `most` more items, then `old`
-  -- has room for them
+  -- has room for `most` more items
   room-end : (most : ℕ) → HasRoomFor (cut old (length old.items) (length old.items)) most
       → HasRoomFor old most
   room-end most = subst (λ (v : Thin T A). HasRoomFor v most) cut-end
 
-  -- if `HasPlacesFor` holds for the empty range at the end, then `most` is 0, or the list has room
-  -- for `most` more items; so P holds if it follows in both cases
+  -- If `HasPlacesFor` holds for the empty range at the end, then `most` is 0, or the list has room
+  -- for `most` more items. So P holds if each of these two cases implies P.
   pub places-end : (P : Type 0) (most : ℕ) → (most ≡ 0 → P) → (HasRoomFor old most → P)
       → HasPlacesFor old (length old.items) (length old.items) most → P
   places-end P most none fits (inl few) = none (omega (arith, few))
   places-end P most none fits (inr room) = fits (room-end most room.1)
 
--- items that are added after those of a list replace the empty range at its end
+-- appending items to a list is replacing the empty range at its end
 module _ {T A : Type 0} (rule : Rule) (R : RattleType) (old new : Thin T A) where
-  -- what the contract of `extend` says of the list `new`, to which the items `placed` were added,
-  -- if the iterator could yield at most `most` items
+  -- The list `new` is `old` after an `extend` that appended the items `placed`, with an iterator
+  -- that could yield at most `most` items. The fields are clauses of the contract of `extend`.
   pub record IsFilled (placed : List T) (most : ℕ) : Type 0 where
     pub items : new.items ≡ old.items ++ placed
     pub capacity : IsLoose rule R old.capacity new.capacity
@@ -186,8 +187,8 @@ module _ {T A : Type 0} (rule : Rule) (R : RattleType) (old new : Thin T A) wher
     pub cheap : IsCheap old → IsCheap new
     pub alloc : new.alloc ≡ old.alloc
 
-  -- if `extend` added the items `placed`, they replace the empty range at the end, as `finish`
-  -- would state it
+  -- if `extend` appended the items `placed`, then these items replace the empty range at the end of
+  -- the list (`Replaces`)
   pub replaces-end : {placed : List T} {most : ℕ} → IsFilled placed most
       → Replaces rule R old (length old.items) (length old.items) placed most new
   replaces-end {placed} {most} f =

@@ -1,4 +1,4 @@
--- What the steps return if the first of them takes an item from the back.
+-- What steps return if the first step takes an item from the back.
 use Rattle.std.proofs.Common.{◌≡◌, ◌-◌, List, [], ◌∷◌, ◌++◌, Option, None, Some, ap, arith, length, refl, subst, sym, take, ◌∙◌}
 use Rattle.std.proofs.Math.Seq.{take-append_seam}
 use Rattle.std.proofs.lemmas.List.{length_push}
@@ -14,9 +14,9 @@ module _ {T : Type 0} where
   last-of [] x = refl
   last-of (y ∷ xs) x = last-of xs x
 
-  -- if `item` is the last item of xs, and ys are the items before it (or `item` is `None`, and both
-  -- lists are empty), then a step from the back, followed by `steps`, returns `item`, followed by
-  -- what `steps` return on ys
+  -- Let `item` be the last item of xs and ys the items before it, or let `item` be `None` and both
+  -- lists be empty. Then a step from the back of xs, followed by `steps`, returns `item`, followed
+  -- by what `steps` return on ys.
   walked-last : (xs ys : List T) (item : Option T)
       → MatchOption item ((xs ≡ []) × (ys ≡ [])) (λ x. xs ≡ ys ++ x ∷ [])
       → (steps : List Step) → walked xs (Back ∷ steps) ≡ item ∷ walked ys steps
@@ -31,7 +31,7 @@ module _ {T : Type 0} where
       ∙ take-append_seam ys (x ∷ []) in
       λ i. last i ∷ walked (others i) steps
 
-  -- what `walked-last` states for `Back` holds for each step that is equal to `Back`
+  -- `walked-last` also holds for any step that equals `Back`
   pub walked-back : (xs ys : List T) (item : Option T) (step : Step) → step ≡ Back
       → MatchOption item ((xs ≡ []) × (ys ≡ [])) (λ x. xs ≡ ys ++ x ∷ [])
       → (steps : List Step) → walked xs (step ∷ steps) ≡ item ∷ walked ys steps

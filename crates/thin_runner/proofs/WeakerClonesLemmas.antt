@@ -1,5 +1,5 @@
--- A run is also a run of any setting whose clone relation is weaker. So if each clone equals its
--- source, equality may take the place of the clone relation.
+-- If the clone relation of a setting is replaced by a weaker relation, each run is still a run. So
+-- if each clone equals its source, the clone relation may be replaced by equality.
 use Rattle.std.proofs.Common.{◌≡◌, ℕ, List, [], ◌∷◌}
 use Rattle.std.specs.List.{AllZip}
 use Rattle.thin_vec.specs.List.Clones.{ClonesEqual, IsResized}
@@ -14,13 +14,15 @@ use Rattle.thin_runner.specs.declared.command.Reply.TheVariants.{Done, List as M
 
 module _ {T : Type 0} (clones like : T → T → Type 0)
     (weaker : (x y : T) → clones x y → like x y) where
-  -- if ys are clones of xs, item by item, they are clones by the weaker relation `like` too
+  -- if the items of ys are clones of the items of xs, in order, then they are also clones by the
+  -- weaker relation `like`
   pub zip-weaker : (xs ys : List T) → AllZip clones xs ys → AllZip like xs ys
   zip-weaker [] [] z = tt
   zip-weaker (x ∷ xs) (y ∷ ys) z = (weaker x y z.0, zip-weaker xs ys z.1)
   zip-weaker xs ys z = absurd z
 
-  -- a list that is resized with clones is also resized with clones by the weaker relation `like`
+  -- if ys is the list xs resized with clones of x, then these clones are also clones by the weaker
+  -- relation `like`
   resized-weaker : (xs ys : List T) (n : ℕ) (x : T) → IsResized clones xs n x ys
       → IsResized like xs n x ys
   resized-weaker xs ys n x r = record {
@@ -31,7 +33,7 @@ module _ {T : Type 0} (clones like : T → T → Type 0)
 
 module _ {T A G J : Type 0} (here : Setting T A J) (like : T → T → Type 0)
     (weaker : (x y : T) → here.clones x y → like x y) where
-  -- a step is also a step of the setting with the weaker relation
+  -- each step is also a step of the setting whose clone relation is the weaker relation `like`
   pub step-weaker : (old new : Thin T A) (command : Command T A G) (reply : Reply T A G)
       → Steps here old command reply new
       → Steps (record here { clones = like }) old command reply new
@@ -44,7 +46,7 @@ module _ {T A G J : Type 0} (here : Setting T A J) (like : T → T → Type 0)
       (s.0, (zip-weaker here.clones like weaker old.items copy.items s.1.0, s.1.1, s.1.2))
   step-weaker old new command reply s = s
 
-  -- a run is also a run of the setting with the weaker relation
+  -- each run is also a run of the setting whose clone relation is the weaker relation `like`
   pub run-weaker : (old new : Thin T A) (commands : List (Command T A G))
       (replies : List (Reply T A G)) → Runs here old commands replies new
       → Runs (record here { clones = like }) old commands replies new
@@ -57,7 +59,8 @@ module _ {T A G J : Type 0} (here : Setting T A J) (like : T → T → Type 0)
 -- if each clone equals its source, a run is also a run of the setting whose clone relation is
 -- equality
 module _ {T A G J : Type 0} (here : Setting T A J) (equal : ClonesEqual here.clones) where
-  -- the run with equality as the clone relation has the same lists and the same replies
+  -- if equality replaces the clone relation, each run is still a run, with the same lists and
+  -- replies
   pub run-equal : (old new : Thin T A) (commands : List (Command T A G))
       (replies : List (Reply T A G)) → Runs here old commands replies new
       → Runs (record here { clones = λ x y. y ≡ x }) old commands replies new

@@ -17,12 +17,13 @@ module _ {T A G J : Type 0} (here : Setting T A J) where
   -- and the replies `before` into `after`
   pub record Headline (old : Thin T A) (commands : List (Command T A G))
       (before after : List (Reply T A G)) (new : Thin T A) : Type 0 where
-    -- the run appended its replies to the replies that were there before
+    -- `replies` are the replies of the run, which were appended to `before`
     pub replies : List (Reply T A G)
     pub appended : after ≡ before ++ replies
-    -- if each clone equals its source, and no call failed, then the items are the fold of
-    -- `items_after` over the commands, and the replies, as `seen` shows them, are the scan with
-    -- `reply_to`: two functions on sequences, with one equation for each command
+    -- If each clone equals its source, and no call failed, then the items are the fold of
+    -- `items_after` over the commands. The replies, as `seen` shows them, are the scan of the
+    -- commands with `reply_to`. The functions `items_after` and `reply_to` compute with plain
+    -- sequences of items.
     pub plain : ClonesEqual here.clones → All IsGranted replies
         → (new.items ≡ fold (items_after here) old.items commands)
         × (map seen replies ≡ scan (items_after here) (reply_to here) old.items commands)
@@ -31,16 +32,17 @@ module _ {T A G J : Type 0} (here : Setting T A J) where
     pub allowed : Runs here old commands replies new
     -- the items fit into the capacity, and a block of that capacity is small enough to be allocated
     pub within : IsWithin here.R new
-    -- if no command is `ReserveExact` or `ShrinkToFit`, a cheap list stays cheap, and a new list is
-    -- cheap. A list of a capacity c other than 0 is cheap if growth has copied fewer than c items,
-    -- and has allocated at most as many blocks as c has binary digits
+    -- If no command is `ReserveExact` or `ShrinkToFit`, a cheap list stays cheap. A list of a
+    -- capacity c other than 0 is cheap if growth has copied fewer than c items, and the number of
+    -- blocks that were allocated is at most the number of binary digits of c. Every new list is
+    -- cheap.
     pub stays_cheap : All KeepsCheap commands → IsCheap old → IsCheap new
-    -- if no command is `ReserveExact` or `ShrinkToFit`, growth has copied at most as many items as
-    -- the capacity has grown by, whatever the list was before
+    -- if no command is `ReserveExact` or `ShrinkToFit`, the number of items that growth copied
+    -- during the run is at most the increase of the capacity, even if the old list was not cheap
     pub copied : All KeepsCheap commands
         → new.cost.grown + old.capacity ≤ old.cost.grown + new.capacity
-    -- if the list was new, all commands are pushes and pops, and m pushes succeeded (at least one),
-    -- then fewer than 2m items were copied
+    -- if the list was new, all commands are pushes and pops, and m pushes succeeded, where m is at
+    -- least 1, then growth has copied fewer than 2m items
     pub amortised : All IsPushOrPop commands → IsNew old old.alloc
         → 0 < accepted commands replies → new.cost.grown < 2 * accepted commands replies
     -- if the growth rule is `Doubling`, and all commands are pushes and pops, then the capacity is
@@ -49,7 +51,7 @@ module _ {T A G J : Type 0} (here : Setting T A J) where
     pub slack : here.rule ≡ doubling → All IsPushOrPop commands
         → new.capacity
         ≤ max old.capacity (max 4 (2 * peak here old new commands replies allowed))
-    -- not counting copies by growth, the number of items moved is at most the sum of the bounds
-    -- (`may_move`) for the commands and their replies
+    -- the number of items that the run moved, not counting copies by growth, is at most the sum of
+    -- the bounds (`may_move`) for the commands and their replies
     pub moves : new.cost.moves
         ≤ old.cost.moves + run_may_move here old new commands replies allowed

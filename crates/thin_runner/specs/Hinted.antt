@@ -13,8 +13,8 @@ module _ {T A : Type 0} where
   abbrev pub hinted_claim : Hinted T A → ℕ
   hinted_claim h = h.lower
 
-  -- the limit that the iterator states for the number of items to come: the number of items left
-  -- plus the claimed lower bound
+  -- the limit that the iterator states for the number of items it may still yield: the number of
+  -- items left plus the claimed lower bound
   abbrev pub hinted_count : Hinted T A → Count
   hinted_count h = at_most (hinted_claim h + length (hinted_items h))
 

@@ -1,5 +1,5 @@
--- A run in which no call fails, as functions on sequences: the items after each command, and the
--- reply to it.
+-- Functions on sequences that describe a run in which no call fails: they compute the items after
+-- each command, and the reply to the command.
 use Rattle.std.specs.Prelude.{◌-◌, Bool, true, false, ◌&&◌, List, [], ◌∷◌, ◌++◌, Option, None, drop, if◌then◌else◌, insert, length, nat_le, nat_lt, remove, replicate, slice_get, slice_range, slice_set, take}
 use Rattle.std.specs.List.{dedup, remove_range, replace_range, swap_remove}
 use Rattle.std.specs.Option.{option_map_or, unwrap_or}
@@ -21,13 +21,13 @@ pub data Seen (T A G : Type 0) : Type 0 where
   yields : List (Option T) → Seen T A G
 
 module _ {T A G : Type 0} where
-  -- the part of the given reply that the main theorem determines
+  -- the part of a reply that the main theorem determines
   abbrev pub seen : Reply T A G → Seen T A G
   seen (Answers answers) = yields answers.items
   seen reply = says reply
 
-  -- true if the index or the range of the command is in bounds for the items xs. Always true for a
-  -- command with neither an index nor a range
+  -- true if the index or the range of the command is in bounds for the items xs, or if the command
+  -- has neither an index nor a range
   abbrev pub in_range : List T → Command T A G → Bool
   in_range xs (Insert i v) = nat_le i (length xs)
   in_range xs (Remove i) = nat_lt i (length xs)
@@ -41,7 +41,7 @@ module _ {T A G : Type 0} where
 
 module _ {T A G J : Type 0} (here : Setting T A J) where
   -- the reply to a command that is in range and does not fail, and the items that the command
-  -- leaves of xs
+  -- leaves if xs are the items before it
   abbrev pub granted : List T → Command T A G → Seen T A G × List T
   granted xs (Push v) = (says Done, xs ++ v ∷ [])
   granted xs Pop = let last = length xs - 1 in (says (Item (slice_get xs last)), take last xs)
@@ -75,8 +75,9 @@ module _ {T A G J : Type 0} (here : Setting T A J) where
   -- all other commands filter the items
   granted xs command = (says Done, left_at true (unwrap_or (answered here xs command) []))
 
-  -- the reply to a command that does not fail, and the items that the command leaves of xs. If the
-  -- command is out of range, the reply returns it, and the items do not change
+  -- The reply to a command that does not fail, and the items that the command leaves if xs are the
+  -- items before it. If the command is out of range, the reply returns the command, and the items
+  -- do not change.
   abbrev pub plain_step : List T → Command T A G → Seen T A G × List T
   plain_step xs command =
       if in_range xs command then granted xs command else (says (OutOfRange command), xs)

@@ -32,18 +32,18 @@ module _ {T A G : Type 0} where
   KeepsCheap command = Unit {0}
 
 module _ {T A G J : Type 0} (here : Setting T A J) where
-  -- the commands, one after another, may turn the list `old` into `new` with these replies, one
-  -- reply for each command. `mid` is the list after the first command
+  -- The commands, one after another, may turn the list `old` into `new` and get the replies, one
+  -- for each command. `mid` is the list after the first command.
   abbrev pub Runs : Thin T A → List (Command T A G) → List (Reply T A G) → Thin T A → Type 0
   Runs old [] [] new = new ≡ old
   Runs old (command ∷ commands) (reply ∷ replies) new =
       (mid : Thin T A) × (Steps here old command reply mid × Runs mid commands replies new)
   Runs old commands replies new = ⊥
 
-  -- an upper bound on the number of items that a command with this reply moves in a list of the
-  -- items xs, not counting copies by growth. For a command that filters, it is the number of kept
-  -- items that change their place. A command that fails half way, or because a clone fails, may
-  -- move fewer items
+  -- An upper bound on the number of items that a command moves in a list with the items xs if the
+  -- command gets this reply, not counting copies by growth. For a command that filters, the bound
+  -- is the number of kept items that change their place. A command that fails half way, or because
+  -- a clone fails, may move fewer items.
   abbrev pub may_move : List T → Command T A G → Reply T A G → ℕ
   may_move xs command (OutOfRange back) = 0
   may_move xs (Push v) Done = 1
@@ -62,8 +62,8 @@ module _ {T A G J : Type 0} (here : Setting T A J) where
   may_move xs (Splice a b steps ys lower) reply = 2 * (length xs - b) + length ys.items
   may_move xs command reply = moved_down (flags_of (unwrap_or (answered here xs command) []))
 
-  -- the sum of `may_move` over the commands of a run and their replies, each applied to the items
-  -- before that command
+  -- the sum of `may_move` over the commands of a run, each with its reply and with the items that
+  -- the list has before the command
   abbrev pub run_may_move : (old new : Thin T A) (commands : List (Command T A G))
       (replies : List (Reply T A G)) → Runs old commands replies new → ℕ
   run_may_move old new (command ∷ commands) (reply ∷ replies) run =

@@ -1,5 +1,5 @@
--- The setting of a run: what is known of the item type, the growth rule and the judge, and the
--- allocator and the judge that were passed to `run`.
+-- The setting of a run: the properties of the item type, the functions of the judge, the growth
+-- rule, and the allocator and the judge that were passed to `run`.
 use Rattle.std.specs.Prelude.{Bool}
 use Rattle.std.specs.Borrow.{RattleType}
 use Rattle.thin_vec.specs.Growth.{Rule}
@@ -17,11 +17,12 @@ pub record Setting (T A J : Type 0) : Type 1 where
   pub judging : Judging T J
   pub rule : Rule
   pub R : RattleType
-  -- the allocator for what commands make, and the judge with which each command begins
+  -- the allocator for the lists and vectors that commands make, and the judge with which each
+  -- command begins
   pub alloc : A
   pub judge : J
 
--- the setting that consists of these parts
+-- the setting whose fields have these values
 abbrev pub setting : {T A J : Type 0} → (T → T → Type 0) → (T → Type 0) → (T → T → Bool)
     → Judging T J → Rule → RattleType → A → J → Setting T A J
 setting clones infallible eq judging rule R alloc judge =

@@ -22,8 +22,8 @@ use Rattle.thin_runner.specs.declared.command.Reply.TheVariants.{Answers, Done, 
 use Rattle.thin_runner.specs.declared.command.Step.TheVariants.{Front}
 
 module _ {T A G : Type 0} where
-  -- the index or the range of the command is in bounds for the items xs. Always true for a command
-  -- with neither an index nor a range
+  -- the index or the range of the command is in bounds for the items xs, or the command has neither
+  -- an index nor a range
   abbrev pub IsInRange : List T → Command T A G → Type 0
   IsInRange xs (Insert i v) = i ≤ length xs
   IsInRange xs (Remove i) = i < length xs
@@ -36,7 +36,7 @@ module _ {T A G : Type 0} where
   IsInRange xs command = Unit {0}
 
 module _ {T A G J : Type 0} (here : Setting T A J) where
-  -- the command, which is in range, may turn the list `old` into `new`, with this reply
+  -- a command that is in range may turn the list `old` into `new` and get this reply
   abbrev pub Does : Thin T A → Command T A G → Reply T A G → Thin T A → Type 0
   Does old (Push v) Done new = Grows here old 1 (old.items ++ v ∷ []) 1 new
   Does old (Push v) (Returned w cause) new =
@@ -115,13 +115,14 @@ module _ {T A G J : Type 0} (here : Setting T A J) where
       × StopsBetween here.rule here.R old a b xs.items held.items lower cause in_hand rest new
   Does old (Splice a b steps xs lower) (Refused cause) new =
       (0 < length steps.items) × (cause ≡ OutOfMemory) × (new ≡ old)
-  -- the commands that filter: `Retain`, `RetainMut`, `Dedup`, `DedupBy` and `DedupByKey`
+  -- `Retain`, `RetainMut`, `Dedup`, `DedupBy` and `DedupByKey` leave the items that their verdicts
+  -- keep
   Does old command Done new =
       MatchOption (answered here old.items command) ⊥ (λ verdicts. new ≡ sifted old verdicts)
   Does old command reply new = ⊥
 
-  -- the command may turn the list `old` into `new`, with this reply. A command that is out of range
-  -- is returned in the reply, and does not change the list
+  -- The command may turn the list `old` into `new` and get this reply. If the command is out of
+  -- range, the reply returns the command, and the list does not change.
   abbrev pub Steps : Thin T A → Command T A G → Reply T A G → Thin T A → Type 0
   Steps old command (OutOfRange back) new =
       (back ≡ command) × ¬ (IsInRange old.items command) × (new ≡ old)

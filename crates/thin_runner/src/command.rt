@@ -70,9 +70,9 @@ pub enum Command<T, A: Allocator = Global, G: Growth = Doubling> {
     /// no memory for the answers.
     Drain(usize, usize, Vec<Step, A>),
     /// Calls `extract_if` on the items from the first index up to, but not including, the second,
-    /// with the method `take` of the judge. Calls `next` as often as the third number says, and
-    /// drops the `ExtractIf`. The reply is `Answers`, or `Refused` if there is no memory for the
-    /// answers.
+    /// with the method `take` of the judge. The third number is how often `next` is called before
+    /// the `ExtractIf` is dropped. The reply is `Answers`, or `Refused` if there is no memory for
+    /// the answers.
     ExtractIf(usize, usize, usize),
     /// Calls `splice` on the items from the first index up to, but not including, the second, takes
     /// the steps in order, and calls `finish`. The new items come from an iterator that yields the
@@ -106,8 +106,8 @@ pub enum Reply<T, A: Allocator = Global, G: Growth = Doubling> {
         answers: Vec<Option<T>, A>,
         /// The cause of the failure.
         cause: ThinVecError,
-        /// The items that were taken from the iterator, but for which the list had no room, except
-        /// `in_hand`.
+        /// The items that were taken from the iterator but did not fit into the list. The item
+        /// `in_hand` is not among them.
         held: Vec<T, A>,
         /// The last item that was taken from the iterator, if there was no room for it.
         in_hand: Option<T>,

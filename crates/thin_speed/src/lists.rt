@@ -90,7 +90,7 @@ pub trait Numbers: List<u64> {
     fn extend_filtered(&mut self, items: &[u64]) -> Result<(), AllocError>;
 
     /// Appends the first half of `items`, and then the second half, by two calls of `extend`. The
-    /// iterators of the two calls have the same type, so both calls are of one function.
+    /// two iterators have the same type, so both calls run the same instance of `extend`.
     fn extend_twice(&mut self, items: &[u64]) -> Result<(), AllocError>;
 
     /// Appends copies of `items`.
@@ -122,8 +122,8 @@ pub trait Numbers: List<u64> {
     ) -> Result<(), AllocError>;
 
     /// Replaces the items from `start` up to, but not including, `end` with copies of `items`. Does
-    /// nothing if this is not a range of the list. This method is not inlined, so its code does not
-    /// depend on the lengths.
+    /// nothing if this is not a range of the list. This method is not inlined, so its code cannot
+    /// be specialised to the lengths that a caller passes.
     fn replace(&mut self, start: usize, end: usize, items: &[u64]) -> Result<(), AllocError>;
 
     /// Replaces the middle half of the list with the numbers below `end`, by `splice` with an

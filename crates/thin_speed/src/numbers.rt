@@ -14,13 +14,13 @@ pub fn mixed(sum: u64, number: u64) -> u64 {
     sum.wrapping_mul(31).wrapping_add(number)
 }
 
-/// An item of a list, from which sums are computed.
+/// An item of a list. It has a number, which is mixed into sums.
 pub trait Item: Drop {
-    /// Returns a number of the item, which is mixed into sums.
+    /// Returns a number that is computed from the item, to be mixed into sums.
     fn number(&self) -> u64;
 }
 
-/// Returns the number of the item in the middle, or 0 if there is no item, plus the length.
+/// Returns the length of `items`, plus the number of the item in the middle if there is one.
 pub fn seen<T: Item>(items: &[T]) -> u64 {
     let middle = match items.get(items.len() / 2) {
         Some(item) => item.number(),
@@ -110,7 +110,7 @@ pub trait Source<T: Drop> {
     fn item(alloc: Global, number: usize) -> Result<T, AllocError>;
 }
 
-/// Makes the items 0, 1, 2 and so on, each without the bits that its type has no room for.
+/// Makes the items 0, 1, 2 and so on, each cut to the width of the item type.
 pub struct InTurn;
 
 impl Source<u8> for InTurn {
@@ -158,7 +158,7 @@ impl Source<u64> for Turned {
     }
 }
 
-/// Makes each number twice in turn: 0, 0, 1, 1, 2 and so on.
+/// Makes each number twice: 0, 0, 1, 1, 2 and so on.
 pub struct Pairs;
 
 impl Source<u64> for Pairs {

@@ -1,20 +1,20 @@
-//! Which case is running (`At`), and the assertions that print this if they fail.
+//! The assertions of the sweeps. An assertion that fails prints which case was running (`At`).
 use crate::ledger::{Counts, Ledger, count};
 use crate::samples::Sample;
 use crate::shapes::Shape;
 use std::fmt::Debug;
 use std::process::Abort;
 
-/// The call, the shape, the argument and the refused request of a case. An assertion that fails
-/// prints them.
+/// Identifies the running case of a sweep: the call, the shape of the list, the argument, and the
+/// refused request. An assertion that fails prints all of them.
 #[derive(Debug, Clone, Copy)]
 pub struct At {
     pub call: &'static str,
     pub shape: Shape,
     pub argument: usize,
-    /// The number of the request that is refused, or 0 if none is.
+    /// The number of the request that the allocator refuses, or 0 if it refuses none.
     pub refused: u64,
-    /// The counts, in which each comparison is counted.
+    /// The counts of the test, to which each comparison is added.
     pub counts: &'static Counts,
 }
 
@@ -64,8 +64,9 @@ pub fn assert_same_items<T: Sample, R: Abort>(rt: &R, at: &At, items: &[T], numb
     assert_same(rt, at, "first item that differs", difference, None);
 }
 
-/// Asserts that `items` items are not yet dropped, and how many blocks are allocated: one for each
-/// of these items, if each owns one, and one for the list, if its capacity is not 0.
+/// If the ledger counts items of type `T`, asserts that `items` items are not yet dropped. Also
+/// asserts the number of allocated blocks: one for each of the `items` items if each item owns a
+/// block, and one for the list if `capacity` is not 0.
 pub fn assert_live<T: Sample, R: Abort>(
     rt: &R,
     at: &At,
@@ -83,8 +84,8 @@ pub fn assert_live<T: Sample, R: Abort>(
     assert_same(rt, at, "blocks that are not freed", out, blocks);
 }
 
-// Returns the first index at which the item is not the one that is made from the number at this
-// index.
+// Compares each item with the number at the same index. Returns the first index at which the item
+// is not made from the number.
 fn first_difference<T: Sample>(items: &[T], numbers: &[u64]) -> Option<usize> {
     let mut index: usize = 0;
     for (item, number) in items.iter().zip(numbers.iter()) {

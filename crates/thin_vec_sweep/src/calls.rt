@@ -1,4 +1,4 @@
-//! The calls that are swept, in groups. Some groups are for all item types, and some only for types
+//! The groups of calls that the tests sweep. Some groups accept all item types, and some only types
 //! with certain traits.
 pub mod arrays;
 pub mod clones;
@@ -51,7 +51,7 @@ use std::process::Abort;
 use thin_testing::Ruled;
 use thin_vec::{Doubling, PowerBytes};
 
-/// Sweeps the calls for which a list may grow.
+/// Sweeps the calls that may grow a list.
 pub fn every_growth<T: Sample, G: Ruled, R: Abort>(rt: &R, scope: &Scope) {
     sweep::<Push, T, G, R>(rt, scope);
     sweep::<PushMut, T, G, R>(rt, scope);
@@ -86,7 +86,7 @@ pub fn every_edit<T: Sample, G: Ruled, R: Abort>(rt: &R, scope: &Scope) {
     sweep::<TryTake, T, G, R>(rt, scope);
 }
 
-/// Sweeps the calls that replace a range, and those that append several items to spare room.
+/// Sweeps the calls that replace a range, and the calls that append several items to spare room.
 pub fn every_replacing<T: Sample, G: Ruled, R: Abort>(rt: &R, scope: &Scope) {
     sweep::<ReplaceRange, T, G, R>(rt, scope);
     sweep::<ReplaceRangeFromList, T, G, R>(rt, scope);
@@ -94,15 +94,14 @@ pub fn every_replacing<T: Sample, G: Ruled, R: Abort>(rt: &R, scope: &Scope) {
     sweep::<AppendSlice<ExtendFromSliceReserved>, T, G, R>(rt, scope);
 }
 
-/// Sweeps the variants of the calls of `every_replacing` that copy the items instead of cloning or
-/// moving them.
+/// Sweeps the calls of `every_replacing` in their variants that copy the items, instead of cloning
+/// or moving them.
 pub fn every_replacing_by_copies<T: Sample + Copy, G: Ruled, R: Abort>(rt: &R, scope: &Scope) {
     sweep::<ReplaceRangeFromCopies, T, G, R>(rt, scope);
     sweep::<AppendSlice<ExtendFromCopiesReserved>, T, G, R>(rt, scope);
 }
 
-/// Sweeps the calls that ask a closure which items stay, and the calls that remove the items of a
-/// range.
+/// Sweeps the calls that remove items by a test, and the calls that remove the items of a range.
 pub fn every_filter<T: Sample, G: Ruled, R: Abort>(rt: &R, scope: &Scope) {
     sweep::<Retain, T, G, R>(rt, scope);
     sweep::<RetainMut, T, G, R>(rt, scope);
@@ -114,7 +113,7 @@ pub fn every_filter<T: Sample, G: Ruled, R: Abort>(rt: &R, scope: &Scope) {
     sweep::<Extracted, T, G, R>(rt, scope);
 }
 
-/// Sweeps the calls that only read the items, that overwrite single items, or that clone them.
+/// Sweeps the calls that read the items, overwrite single items, or clone all items.
 pub fn every_reading<T: Sample, G: Ruled, R: Abort>(rt: &R, scope: &Scope) {
     sweep::<Read, T, G, R>(rt, scope);
     sweep::<Index, T, G, R>(rt, scope);
@@ -128,9 +127,8 @@ pub fn every_reading<T: Sample, G: Ruled, R: Abort>(rt: &R, scope: &Scope) {
     sweep::<IntoIterClone, T, G, R>(rt, scope);
 }
 
-/// Sweeps the calls that make a list, and two calls of traits of `std` that take an iterator
-/// (`collect`, and `extend` of the trait `Extend`). They are swept only under the growth rule
-/// `Doubling`.
+/// Sweeps the calls that make a list (`collect` is one of them), and the method `extend` of the
+/// trait `Extend` of `std`. All these calls are swept only under the growth rule `Doubling`.
 pub fn every_making<T: Sample, R: Abort>(rt: &R, scope: &Scope) {
     sweep::<New, T, Doubling, R>(rt, scope);
     sweep::<WithCapacity, T, Doubling, R>(rt, scope);
@@ -157,7 +155,7 @@ pub fn every_comparing<T: Sample + Ord + Hash + Debug, R: Abort>(rt: &R, scope: 
     sweep::<Print, T, PowerBytes, R>(rt, scope);
 }
 
-/// Sweeps the calls that only a list of bytes has.
+/// Sweeps the calls that exist only for lists of bytes.
 pub fn every_call_of_bytes<R: Abort>(rt: &R, scope: &Scope) {
     every_writing::<Doubling, R>(rt, scope);
     every_writing::<PowerBytes, R>(rt, scope);

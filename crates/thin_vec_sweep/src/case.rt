@@ -1,5 +1,5 @@
-//! One case of a sweep: a list of some shape, and its reference, which is made of a `Vec` and a
-//! number.
+//! One case of a sweep: a list, and a reference with which the list is compared. The reference is
+//! made of a `Vec`, which has a number for each item, and of the capacity.
 use crate::assertions::{At, assert_live, assert_same, assert_same_item, assert_same_items};
 use crate::ledger::Ledger;
 use crate::samples::Sample;
@@ -17,16 +17,16 @@ pub type List<T, G> = ThinVec<T, &'static Refusing<Global>, G>;
 #[derive(Debug, Clone, Copy, PartialEq, Eq)]
 pub enum Verdict {
     Done,
-    /// The call fails because the capacity would overflow. It makes no request.
+    /// The call fails because the capacity would overflow. No request is refused.
     Overflow,
-    /// The call fails because the allocator does. Nothing changes.
+    /// The call fails because a request for a block of items is refused.
     NoRoom,
-    /// The call fails because the clone of an item does. The clones made before are dropped.
+    /// The call fails because cloning an item fails. The clones that were already made are dropped.
     NoClone,
 }
 
 impl Verdict {
-    /// Returns what the call must return.
+    /// Returns the result that a call with this verdict must return.
     pub fn answer(self) -> Result<(), ThinVecError> {
         match self {
             Verdict::Done => Ok(()),
@@ -36,14 +36,14 @@ impl Verdict {
     }
 }
 
-/// A list, and what it must be after the call, with the requests and clones that the call must
-/// make.
+/// A list, the items and the capacity that it must have after the call, and how many requests and
+/// clones the call must make.
 #[derive(Drop)]
 pub struct Case<T: Drop, G: Ruled> {
     pub at: At,
     pub ledger: &'static Ledger,
     pub list: List<T, G>,
-    /// The number of each item that the list must have after the call.
+    /// The numbers of the items that the list must have after the call, in order.
     pub items: Vec<u64, Global>,
     /// The capacity that the list must have after the call.
     pub capacity: usize,
@@ -56,7 +56,8 @@ pub struct Case<T: Drop, G: Ruled> {
 }
 
 impl<T: Sample, G: Ruled> Case<T, G> {
-    /// Makes a list of the shape that `at` names. Its items are numbered from 1 on.
+    /// Makes a case with a list of the shape `at.shape`. The items of the list are made from the
+    /// numbers 1, 2, and so on.
     pub fn new<R: Abort>(rt: &R, ledger: &'static Ledger, at: At) -> Case<T, G> {
         ledger.begin(0);
         let list = filled(rt, ledger, at.shape, 1);
@@ -78,14 +79,15 @@ impl<T: Sample, G: Ruled> Case<T, G> {
         T::nth(rt, self.ledger, number)
     }
 
-    /// Begins the call: resets the counts of requests and clones, and from now on refuses the
-    /// request with the number `at.refused`.
+    /// Prepares the call: resets the counts of requests and clones. From then on, the allocator
+    /// refuses the request with the number `at.refused`.
     pub fn begin(&self) {
         self.ledger.begin(self.at.refused);
     }
 
-    /// Returns the capacity that the growth rule names for `additional` more items, or `None` if it
-    /// overflows.
+    /// Returns the capacity that a call must give the list to make room for `additional` more
+    /// items. This is the present capacity if it suffices, and otherwise the capacity that the
+    /// growth rule names. Returns `None` if the capacity overflows.
     pub fn ruled(&self, additional: usize) -> Option<usize> {
         let want = self.items.len().checked_add(additional)?;
         if want <= self.capacity {
@@ -94,30 +96,30 @@ impl<T: Sample, G: Ruled> Case<T, G> {
         fitting::<T>(G::expected_capacity(T::SIZE, self.capacity, want))
     }
 
-    /// Returns the capacity that has room for exactly `additional` more items, or `None` if it
-    /// overflows.
+    /// Returns the length plus `additional`, or the present capacity if it is greater. Returns
+    /// `None` if a block cannot have this capacity.
     pub fn exact(&self, additional: usize) -> Option<usize> {
         let want = self.items.len().checked_add(additional)?;
         fitting::<T>(want.max(self.capacity))
     }
 
-    /// Returns whether the capacity fits but takes more memory than there is. If so, the call is
-    /// left out, except in the case in which its first request is refused.
+    /// Returns whether the call must be left out, because `capacity` fits but takes too much
+    /// memory. A call whose first request is refused takes no memory, so it is not left out.
     pub fn is_too_much(&mut self, capacity: Option<usize>) -> bool {
         let is_great = capacity.is_some_and(|capacity| capacity > 1_000_000);
         self.is_left_out = is_great && self.at.refused != 1 && T::LIMIT < isize::MAX as usize;
         self.is_left_out
     }
 
-    /// Returns how many requests the call made. A call that was left out counts one, so that the
-    /// case in which its first request is refused is run too.
+    /// Returns how many requests the call made. For a call that was left out, returns 1, so that
+    /// the case in which the first request is refused is still run.
     pub fn requests_in_turn(&self) -> u64 {
         if self.is_left_out { 1 } else { self.requests }
     }
 
-    /// Returns how a call must end if it changes the list's capacity to `capacity` by one request,
-    /// and then makes `clones` clones. Sets the capacity that the list must have, and how many
-    /// requests and clones the call must make.
+    /// Returns how a call must end that first changes the capacity of the list to `capacity`, and
+    /// then makes `clones` clones. If `capacity` is `None`, the capacity overflows. Sets the
+    /// capacity that the list must have, and how many requests and clones the call must make.
     pub fn growth(&mut self, capacity: Option<usize>, clones: usize) -> Verdict {
         let Some(capacity) = capacity else {
             return Verdict::Overflow;
@@ -130,8 +132,9 @@ impl<T: Sample, G: Ruled> Case<T, G> {
         verdict
     }
 
-    /// Returns whether a growth to this capacity succeeds, if the call may make several growths.
-    /// Counts its request, and sets the list's capacity if it succeeds.
+    /// Returns whether a growth of the list to `capacity` must succeed. Counts the request of the
+    /// growth, and sets the capacity of the reference if the growth succeeds. This is for calls
+    /// that may grow the list several times.
     pub fn grows(&mut self, capacity: Option<usize>) -> bool {
         let Some(capacity) = capacity else {
             return false;
@@ -143,15 +146,14 @@ impl<T: Sample, G: Ruled> Case<T, G> {
         true
     }
 
-    /// Returns whether the next request of the call is granted, if the call may make several
-    /// requests. Counts the request.
+    /// Counts one more request of the call, and returns whether the allocator grants it.
     pub fn granted(&mut self) -> bool {
         self.requests = self.requests.saturating_add(1);
         self.requests != self.at.refused
     }
 
-    /// Returns how a growth to this capacity must end, if the call may make several growths. If the
-    /// list has this capacity already, no request is made.
+    /// Returns how a growth of the list to `capacity` must end. If the list already has this
+    /// capacity, no request is made. This is for calls that may grow the list several times.
     pub fn further_growth(&mut self, capacity: Option<usize>) -> Verdict {
         let Some(wanted) = capacity else {
             return Verdict::Overflow;
@@ -163,8 +165,8 @@ impl<T: Sample, G: Ruled> Case<T, G> {
         }
     }
 
-    /// Returns how a call must end if it makes another list, or a `Vec`, of this capacity, and then
-    /// `clones` clones.
+    /// Returns how a call must end that allocates another list or a `Vec` with this capacity, and
+    /// then makes `clones` clones.
     pub fn fresh(&mut self, capacity: Option<usize>, clones: usize) -> Verdict {
         match capacity {
             Some(capacity) => self.verdict(u64::from(capacity != 0), clones),
@@ -172,7 +174,7 @@ impl<T: Sample, G: Ruled> Case<T, G> {
         }
     }
 
-    // Returns how a call must end if it requests `blocks` blocks and then makes `clones` clones.
+    // Returns how a call must end that requests `blocks` blocks and then makes `clones` clones.
     // Sets how many requests and clones the call must make.
     fn verdict(&mut self, blocks: u64, clones: usize) -> Verdict {
         let refused = self.at.refused;
@@ -192,7 +194,8 @@ impl<T: Sample, G: Ruled> Case<T, G> {
         }
     }
 
-    /// Asserts that the call returned what it must return.
+    /// Asserts that `answer`, which the call returned, is the result that a call with this verdict
+    /// must return.
     pub fn assert_answer<R: Abort>(
         &self,
         rt: &R,
@@ -202,8 +205,8 @@ impl<T: Sample, G: Ruled> Case<T, G> {
         assert_same(rt, &self.at, "answer", answer, verdict.answer());
     }
 
-    /// Checks a call that puts an item at `index`: either the item is in the list, or the call
-    /// returned it. Puts the number into the reference if the call succeeded.
+    /// Checks a call that adds the item made from `number` at `index`. If the call succeeded, adds
+    /// the number to the reference. If the call failed, asserts that it returned the item.
     pub fn put<R: Abort>(
         &mut self,
         rt: &R,
@@ -226,7 +229,7 @@ impl<T: Sample, G: Ruled> Case<T, G> {
         }
     }
 
-    /// Asserts that an item that a call returned is the item that is made from `number`.
+    /// Asserts that `item` is the item that is made from `number`.
     pub fn assert_item<R: Abort>(&self, rt: &R, item: &T, number: u64) {
         assert_same(
             rt,
@@ -237,14 +240,12 @@ impl<T: Sample, G: Ruled> Case<T, G> {
         );
     }
 
-    /// Asserts that a call returned the item that is made from `number`, or none if `number` is
-    /// `None`.
+    /// Asserts that `item` is the item that is made from `number`, or that both are `None`.
     pub fn assert_item_or_none<R: Abort>(&self, rt: &R, item: Option<T>, number: Option<u64>) {
         assert_same_item(rt, &self.at, item, number);
     }
 
-    /// Appends `count` numbers from `first` on to those of the list's items, if the call did not
-    /// fail.
+    /// If the call succeeded, appends the `count` numbers from `first` on to the reference.
     pub fn add<R: Abort>(&mut self, rt: &R, first: u64, count: usize, verdict: Verdict) {
         if verdict == Verdict::Done {
             let mut new = numbers(rt, self.ledger, first, count);
@@ -275,9 +276,9 @@ impl<T: Sample, G: Ruled> Case<T, G> {
         );
     }
 
-    /// Checks a list whose items the call moved to another list. Asserts that it is empty now, or
-    /// unchanged if the call failed, and that it still has its block. The list had this shape, and
-    /// its items were numbered from `first` on.
+    /// Checks a list whose items a call moves to another list. If the call succeeded, the list must
+    /// be empty and keep its capacity. If the call failed, the list must be unchanged. Before the
+    /// call, the list had this shape, and its items were made from the numbers from `first` on.
     pub fn assert_moved_from<R: Abort>(
         &self,
         rt: &R,
@@ -295,8 +296,8 @@ impl<T: Sample, G: Ruled> Case<T, G> {
         self.assert_list(rt, list, numbers.as_slice(), capacity);
     }
 
-    /// Checks a call that makes a second list. Asserts that the second list has the items that are
-    /// made from `numbers`, and this capacity.
+    /// Checks a call that makes a second list. If the call succeeded, the second list must have the
+    /// items that are made from `numbers`, and this capacity.
     pub fn assert_second_list<H: Growth, R: Abort>(
         &self,
         rt: &R,
@@ -314,8 +315,8 @@ impl<T: Sample, G: Ruled> Case<T, G> {
         }
     }
 
-    /// Takes the list and the numbers of its items out of the case. Leaves an empty list without a
-    /// block.
+    /// Returns the list of the case and the numbers of its items. Leaves an empty list without a
+    /// block in the case.
     pub fn take(&mut self) -> (List<T, G>, Vec<u64, Global>) {
         self.capacity = 0;
         let list = mem::replace(&mut self.list, ThinVec::ruled(&self.ledger.alloc));
@@ -323,16 +324,16 @@ impl<T: Sample, G: Ruled> Case<T, G> {
         (list, items)
     }
 
-    /// Replaces the list of the case, which is empty. The new list must have these items and this
-    /// capacity.
+    /// Replaces the empty list of the case by `list`, which must have the items that are made from
+    /// the numbers in `items`, and this capacity.
     pub fn set(&mut self, list: List<T, G>, items: Vec<u64, Global>, capacity: usize) {
         self.list = list;
         self.items = items;
         self.capacity = capacity;
     }
 
-    /// Asserts that the list has the items and the capacity that it must have, that the call made
-    /// the requests and clones that it must make, and that no other item or block is left.
+    /// Checks the list after the call: its items, its capacity, and how many requests and clones
+    /// the call made. Also asserts that there are no other items or blocks.
     pub fn check<R: Abort>(&self, rt: &R) {
         let requests = self.ledger.alloc.requests();
         assert_same(rt, &self.at, "requests", requests, self.requests);
@@ -344,7 +345,7 @@ impl<T: Sample, G: Ruled> Case<T, G> {
         assert_live::<T, R>(rt, &self.at, self.ledger, self.items.len(), self.capacity);
     }
 
-    /// Ends the case, and counts it. Asserts that all its items are dropped and all its blocks are
+    /// Drops the case, and counts it. Asserts that all its items are dropped and all its blocks are
     /// freed.
     pub fn end<R: Abort>(self, rt: &R) {
         let at = self.at;
@@ -355,7 +356,7 @@ impl<T: Sample, G: Ruled> Case<T, G> {
     }
 }
 
-/// Returns a list of this shape, whose items are numbered from `first` on.
+/// Returns a list of this shape. Its items are made from the numbers from `first` on.
 pub fn filled<T: Sample, G: Ruled, R: Abort>(
     rt: &R,
     ledger: &'static Ledger,
@@ -373,7 +374,7 @@ pub fn filled<T: Sample, G: Ruled, R: Abort>(
     list
 }
 
-/// Returns `count` items, numbered from `first` on.
+/// Returns `count` items, which are made from the numbers from `first` on.
 pub fn source<T: Sample, R: Abort>(
     rt: &R,
     ledger: &'static Ledger,
@@ -394,7 +395,7 @@ pub fn put<R: Abort>(rt: &R, numbers: &mut Vec<u64, Global>, number: u64) {
     numbers.push(number).ok().expect(rt, "memory");
 }
 
-/// Returns `count` numbers from `first` on.
+/// Returns the `count` numbers from `first` on.
 pub fn numbers<R: Abort>(
     rt: &R,
     ledger: &'static Ledger,
@@ -409,7 +410,8 @@ pub fn numbers<R: Abort>(
     numbers
 }
 
-// Returns the capacity if a block of this capacity fits, and `None` otherwise.
+// Returns `capacity` if it is at most the greatest capacity for items of type `T`, and `None`
+// otherwise.
 fn fitting<T: Sample>(capacity: usize) -> Option<usize> {
     if capacity <= T::LIMIT {
         Some(capacity)

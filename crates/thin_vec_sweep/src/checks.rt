@@ -18,14 +18,16 @@ use std::alloc::Global;
 use std::process::Abort;
 use thin_vec::Doubling;
 
-// Resizing by k items makes k requests if there is no spare room: one for the block, and one for
-// each clone but the last. So there are k + 1 cases, but at most 50: one without a refusal, and one
-// for each request. Resizing by 0 items is tried twice, and by 1 to 9, 17 and 100 items once each.
+// Checks the counts of a sweep of `Resize` on two shapes. If there is no spare room, adding k items
+// makes k requests: one for the block, and one for each of the k - 1 clones (the last of the k
+// items is the passed value itself). So there are k + 1 cases, but at most 50: one without a
+// refusal, and one for each refused request. Adding 0 items is tried twice, and adding 1 to 9, 17
+// and 100 items once each.
 //
 // An empty list without a block has 2 + (2 + .. + 10) + 18 + 50 = 124 cases. In (1 + .. + 9) + 17 +
-// 49 = 111 of them, a request is refused. If the empty list has room for one item, resizing by one
-// item makes no request: 123 cases, with 110 refusals. Each case makes ten comparisons: one of the
-// answer, seven by `check`, and two by `end`.
+// 49 = 111 of these cases, a request is refused. If the empty list has one empty slot, adding one
+// item makes no request, so there are 123 cases, with 110 refusals. Each case makes ten
+// comparisons: one of the answer, seven by `check`, and two by `end`.
 #[test]
 fn small_sweep_runs_each_case(rt: HostRuntime) {
     let ledger = Ledger::new(&rt, rt.alloc());
@@ -37,7 +39,7 @@ fn small_sweep_runs_each_case(rt: HostRuntime) {
     assert_eq!(rt; ledger.counted(), (247, 221, 2470));
 }
 
-// Returns a scope of the lists of one and of two items, with up to four slots of spare room.
+// Returns a scope of the shapes with one or two items and with zero to four empty slots.
 fn few<R: Abort>(rt: &R, alloc: Global) -> Scope {
     Scope {
         ledger: Ledger::new(rt, alloc),
@@ -45,8 +47,8 @@ fn few<R: Abort>(rt: &R, alloc: Global) -> Scope {
     }
 }
 
-// How many cases, refusals and comparisons each list of calls makes on the shapes of `few`. A new
-// call changes the line of the list that it is in, and no other line.
+// How many cases, refusals and comparisons each group of calls makes on the shapes of `few`. Adding
+// a call to a group changes only the line of this group.
 const COUNTS: [(u64, u64, u64); 12] = [
     // every_growth
     (6334, 2380, 81767),
@@ -118,7 +120,7 @@ fn each_call_makes_expected_number_of_comparisons(rt: HostRuntime) {
     assert_eq!(rt; counts, COUNTS);
 }
 
-// Returns a case of two counted items, with room for one more.
+// Returns a case whose list has two counted items, and room for one more.
 fn two_items<R: Abort>(rt: &R, alloc: Global) -> Case<Counted, Doubling> {
     let ledger = Ledger::new(rt, alloc);
     let shape = Shape {
@@ -135,7 +137,8 @@ fn two_items<R: Abort>(rt: &R, alloc: Global) -> Case<Counted, Doubling> {
     Case::new(rt, ledger, at)
 }
 
-// Returns a list that owns a block, in addition to the list of the case.
+// Returns an empty list that owns a block. A check of the case finds this block in addition to the
+// block of the case.
 fn block<R: Abort>(rt: &R, case: &Case<Counted, Doubling>) -> List<Counted, Doubling> {
     let shape = Shape {
         length: 0,

@@ -1,5 +1,5 @@
-//! An iterator whose size hint may differ from the number of items that it has, and which counts
-//! the calls of its methods.
+//! An iterator whose size hint may differ from the number of its items. It counts the calls of
+//! `next` and of `size_hint`.
 ghost use Rattle.std.specs.Prelude.{◌+◌, length};
 ghost use Rattle.std.specs.Iterator.{at_most};
 
@@ -7,8 +7,8 @@ use crate::ledger::{Ledger, count};
 use crate::samples::Counted;
 
 /// An iterator that yields its items in reverse order, and then `None` forever. Its size hint is
-/// always `(lower, None)`, however many items are left. The iterator is also a counted item, until
-/// it is dropped.
+/// always `(lower, None)`, however many items are left. The ledger counts the iterator itself as
+/// one item until the iterator is dropped.
 #[derive(Drop)]
 pub struct Claims<T> {
     items: Vec<T>,
@@ -29,7 +29,8 @@ impl<T> Claims<T> {
         }
     }
 
-    /// Returns the items that were not yielded. The last of them would have been yielded next.
+    /// Returns the items that were not yet yielded. The last of these items would have been yielded
+    /// next.
     pub fn into_items(self) -> Vec<T> {
         let Claims {
             items,

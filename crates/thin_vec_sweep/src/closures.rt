@@ -1,4 +1,5 @@
-//! What the closure that is passed to a call returns, and which items it was called with.
+//! The results that the closures of the sweeps return, and checks of the items with which the
+//! closures are called.
 use crate::assertions::{At, assert_same};
 use crate::ledger::count;
 use crate::samples::Sample;
@@ -6,13 +7,13 @@ use crate::shapes::Cases;
 use std::cell::Cell;
 use std::process::Abort;
 
-/// For each k from 0 to 6: how many patterns of results there are for a closure that is called with
-/// k items, which is 2 ^ k.
+/// For each k from 0 to 6: the number of patterns of results (2 ^ k) for a closure that is called
+/// with k items.
 pub const PATTERNS: Cases = [1, 2, 4, 8, 16, 32, 64];
 
 /// Returns whether the item at `index`, of `count` items, stays by the pattern with the number
-/// `pattern`. If there are at most 6 items, the binary digits of `pattern` tell which items are
-/// removed (digit 1).
+/// `pattern`. If there are at most 6 items, each binary digit of `pattern` stands for one item: the
+/// digit 1 removes the item.
 pub fn stays(count: usize, pattern: usize, index: usize) -> bool {
     if count < PATTERNS.len() {
         return pattern >> (index % 64) & 1 == 0;
@@ -31,7 +32,7 @@ pub fn stays(count: usize, pattern: usize, index: usize) -> bool {
     }
 }
 
-/// Returns the number that the item at `index` has before the call.
+/// Returns the number from which the item at `index` is made before the call.
 pub fn number_at(index: usize) -> u64 {
     (index as u64).saturating_add(1)
 }
@@ -43,7 +44,7 @@ pub struct ClosureCalls {
 }
 
 impl ClosureCalls {
-    /// Returns the counts of a closure that was not called yet.
+    /// Returns the counts of a closure that has not yet been called.
     pub fn new() -> ClosureCalls {
         ClosureCalls {
             asked: Cell::new(0),
@@ -51,7 +52,8 @@ impl ClosureCalls {
         }
     }
 
-    /// Counts one call of the closure. Returns the number of this call, from 0 on.
+    /// Counts one call of the closure, and returns the number of this call. The first call has the
+    /// number 0.
     pub fn next(&self) -> usize {
         let number = self.asked.get();
         self.asked.set(number.saturating_add(1));

@@ -1,4 +1,5 @@
-//! The counts of a test: requests, blocks, items and clones, and how much the test has done.
+//! The counts of a test: requests, blocks, items and clones, and how many cases and comparisons the
+//! test has made.
 use std::alloc::Global;
 use std::cell::Cell;
 use std::process::Abort;
@@ -15,27 +16,27 @@ pub struct Counts {
     pub comparisons: Cell<u64>,
 }
 
-/// The allocator of a test's lists, and what the test counts.
+/// The allocators of a test, and the counts of the test.
 pub struct Ledger {
     /// The allocator of every list of the test, and of every item that owns a block.
     pub alloc: Refusing<Global>,
     /// The allocator for everything else in the test.
     pub global: Global,
-    /// How many counted items were made and not yet dropped.
+    /// How many counted items have been made and not yet dropped.
     pub standing: Cell<u64>,
-    /// How many clones of counted items were made since `begin`.
+    /// How many clones of counted items were made since the last call of `begin`.
     pub clones: Cell<u64>,
-    /// How often `next` of an iterator was called since `begin`.
+    /// How often `next` of an iterator was called since the last call of `begin`.
     pub asked: Cell<u64>,
-    /// How often `size_hint` of an iterator was called since `begin`.
+    /// How often `size_hint` of an iterator was called since the last call of `begin`.
     pub hinted: Cell<u64>,
-    /// How much the test has done since it began.
+    /// How many cases, refusals and comparisons the test has made since it began.
     pub counts: Counts,
 }
 
 impl Ledger {
-    /// Returns a ledger in which all counts are 0. It is leaked, so that it lives until the test
-    /// ends.
+    /// Returns a ledger in which all counts are 0. The ledger is leaked, so that it lives until the
+    /// test ends.
     pub fn new<R: Abort>(rt: &R, alloc: Global) -> &'static Ledger {
         let ledger = Ledger {
             alloc: Refusing::new(alloc, 0),
@@ -53,8 +54,9 @@ impl Ledger {
         Box::leak(Box::new(alloc, ledger).ok().expect(rt, "memory"))
     }
 
-    /// Resets the counts of requests, of clones and of calls of an iterator. From now on, refuses
-    /// the request with this number, or none if `refused` is 0.
+    /// Resets the counts of requests, of clones and of calls of an iterator. From then on, the
+    /// allocator of the lists refuses the request with the number `refused`, or none if `refused`
+    /// is 0.
     pub fn begin(&self, refused: u64) {
         self.alloc.refuse(refused);
         self.clones.set(0);
@@ -62,8 +64,8 @@ impl Ledger {
         self.hinted.set(0);
     }
 
-    /// Counts a case that has ended. The case made `requests` requests. Also counts a refusal if
-    /// the refused request is among them.
+    /// Counts a case that has ended and that made `requests` requests. Also counts a refusal if
+    /// `refused` is the number of one of these requests.
     pub fn count_case(&self, refused: u64, requests: u64) {
         count(&self.counts.cases);
         if 0 < refused && refused <= requests {

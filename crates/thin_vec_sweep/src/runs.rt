@@ -1,5 +1,6 @@
-//! Random and hand-written runs of commands. Each command is run by the runner (`step`) and by the
-//! model, which is the specification written as a program, and both results are compared.
+//! Random and hand-written runs of commands. Except in `long.rt`, each command is run both by the
+//! runner (`step`) and by the model, which is the specification written as a program. The two
+//! results are compared.
 mod commands;
 mod compared;
 mod judges;

@@ -10,8 +10,8 @@ use std::process::Abort;
 use thin_testing::Refusing;
 use thin_vec::ThinVec;
 
-/// A type of items that are made from numbers. An item tells which number it was made from, as far
-/// as the type has enough different values.
+/// A type of items that are made from numbers. The number can be read from an item if the type has
+/// enough different values.
 pub trait Sample: Clone + Drop + PartialEq {
     /// Whether the ledger counts the items and their clones.
     const IS_COUNTED: bool;
@@ -22,15 +22,15 @@ pub trait Sample: Clone + Drop + PartialEq {
     /// How many bytes an item takes.
     const SIZE: usize;
 
-    /// The greatest capacity that fits, worked out by hand. The size of a block is 16 bytes plus
-    /// its items, rounded up to its alignment, and must be at most `isize::MAX`. The alignment of a
-    /// block is that of an item, but at least 8.
+    /// The greatest capacity that a block can have, worked out by hand. The size of a block is 16
+    /// bytes plus the size of its items, rounded up to the alignment of the block, and must be at
+    /// most `isize::MAX`. The alignment of a block is that of an item, but at least 8.
     const LIMIT: usize;
 
     /// Makes an item from `number`.
     fn nth<R: Abort>(rt: &R, ledger: &'static Ledger, number: u64) -> Self;
 
-    /// Returns the number that the item was made from, or what the type keeps of it.
+    /// Returns the number from which the item was made, or what the type keeps of this number.
     fn kept_number(&self) -> u64;
 
     /// Returns what `kept_number` must return for the item that is made from `number`.
@@ -88,7 +88,7 @@ impl Sample for i32 {
 
     const LIMIT: usize = 2_305_843_009_213_693_946;
 
-    // Every second item is negative.
+    // Makes a negative item from an odd number.
     fn nth<R: Abort>(_rt: &R, _ledger: &'static Ledger, number: u64) -> i32 {
         let magnitude = (number % 2_147_483_647) as i32;
         if number % 2 == 0 {
@@ -167,7 +167,7 @@ impl Sample for [u64; 64] {
         words
     }
 
-    // The first and the last word must be equal.
+    // Returns the first word if the last word is equal to it, and `u64::MAX` otherwise.
     fn kept_number(&self) -> u64 {
         if self[0] == self[63] {
             self[0]
@@ -188,7 +188,7 @@ pub struct Counted {
 }
 
 impl Counted {
-    /// Makes an item, which is counted until it is dropped.
+    /// Makes an item. The ledger counts it until it is dropped.
     pub fn new(ledger: &'static Ledger, number: u64) -> Counted {
         count(&ledger.standing);
         Counted { ledger, number }
@@ -241,7 +241,7 @@ impl Sample for Counted {
     }
 }
 
-/// A list as an item. Each of its clones makes a request to the ledger's allocator.
+/// A list that is used as an item. Cloning it makes a request to the ledger's allocator.
 pub type Inner = ThinVec<u64, &'static Refusing<Global>>;
 
 impl Sample for Inner {

@@ -1,4 +1,4 @@
-//! The shapes of the lists that are swept: their length and their spare room.
+//! The shapes of the swept lists. A shape is a length and a number of empty slots.
 
 /// How many items a list has, and how many empty slots.
 #[derive(Debug, Clone, Copy)]
@@ -7,21 +7,22 @@ pub struct Shape {
     pub spare: usize,
 }
 
-/// How many shapes there are without the two longest.
+/// How many shapes there are, not counting the two longest.
 pub const SHAPES: usize = 110;
 
-/// How many shapes have at most 40 items. These shapes are the first ones.
+/// How many shapes have at most 40 items. These shapes have the lowest numbers.
 pub const SHORT: usize = 107;
 
 /// The number of the first of the two longest shapes, which have 100,000 items. Only some sweeps
-/// use them.
+/// use these two shapes.
 pub const LONGEST: usize = SHAPES;
 
-/// How many shapes there are with the two longest.
+/// How many shapes there are, counting the two longest.
 pub const ALL: usize = LONGEST + 2;
 
-// How many items are added to a list in the different cases. `FEW` is for lists of up to 4 items,
-// `SOME` for up to 40, `MANY` for up to 10,000, and `MOST` for the longest.
+// The numbers of items that are added to a list in different cases: `FEW` for lists of up to 4
+// items, `SOME` for up to 40 items, `MANY` for up to 10,000 items, and `MOST` for the longest
+// lists.
 const FEW: [usize; 12] = [0, 1, 2, 3, 4, 5, 6, 7, 8, 9, 17, 100];
 
 const SOME: [usize; 4] = [0, 1, 9, 50];
@@ -30,14 +31,14 @@ const MANY: [usize; 2] = [1, 300];
 
 const MOST: [usize; 2] = [1, 100_000];
 
-/// For each k from 0 to 6: how many cases there are of a call on k items. All of them are tried on
-/// lists and ranges of at most 6 items.
+/// For each k from 0 to 6: how many cases there are of a call on k items. On lists and ranges of at
+/// most 6 items, all of these cases are tried.
 pub type Cases = [usize; 7];
 
-// How many ranges are tried of a list of more than 6 items.
+// How many ranges are tried on a list of more than 6 items.
 const RANGES: usize = 4;
 
-/// A range of a list, and the number of a case of a call on the items of this range.
+/// A range of a list, and the number of one of the cases that are tried on this range.
 #[derive(Clone, Copy)]
 pub struct Ranged {
     pub start: usize,
@@ -54,8 +55,8 @@ impl Ranged {
 
 impl Shape {
     /// Returns the shape with the number `number`. The shapes are, in order: 0 to 4 items with 0 to
-    /// 4 empty slots, 0 to 40 items with 0 and 1 empty slots, some thousand items, and the longest
-    /// with 1 and 0 empty slots.
+    /// 4 empty slots, 0 to 40 items with 0 or 1 empty slots, three shapes of 2,000 to 10,000 items,
+    /// and 100,000 items with 1 or 0 empty slots.
     pub fn nth(number: usize) -> Shape {
         if number < 25 {
             return Shape {
@@ -95,7 +96,7 @@ impl Shape {
         self.length > 40
     }
 
-    // Returns whether each index and each count of `FEW` is tried.
+    // Returns whether the list is so short that each index, and each number in `FEW`, is tried.
     fn is_small(self) -> bool {
         self.length < 5
     }
@@ -107,7 +108,7 @@ impl Shape {
         if self.is_long() { 2 } else { 50 }
     }
 
-    /// Returns how many indices of the list are tried. They are from 0 up to its length.
+    /// Returns how many of the indices from 0 to the length are tried.
     pub fn indices(self) -> usize {
         if self.is_small() {
             self.length.saturating_add(1)
@@ -116,7 +117,7 @@ impl Shape {
         }
     }
 
-    /// Returns one of the indices that are tried, by its number.
+    /// Returns the tried index with the number `number`.
     pub fn index(self, number: usize) -> usize {
         if self.is_small() {
             return number;
@@ -129,20 +130,20 @@ impl Shape {
         }
     }
 
-    /// Returns how many cases of a call on all items are tried. `cases` has how many there are for
-    /// up to 6 items.
+    /// Returns the number of cases that are tried for a call on all items of the list. If the list
+    /// has at most 6 items, this number is taken from `cases`.
     pub fn cases(self, cases: &Cases) -> usize {
         cases.get(self.length).copied().unwrap_or(self.some())
     }
 
-    // Returns how many cases are tried on a list of more than 6 items. If there is spare room,
-    // there are none.
+    // Returns how many cases are tried on a list of more than 6 items. This is 0 if there is spare
+    // room.
     fn some(self) -> usize {
         self.alone(if self.is_long() { 2 } else { 20 })
     }
 
-    /// Returns how many cases of a call on the items of a range are tried. If the list has at most
-    /// 6 items, each case is tried on each range.
+    /// Returns the number of cases that are tried for a call on the items of a range. If the list
+    /// has at most 6 items, each case is tried on each range.
     pub fn ranged_cases(self, cases: &Cases) -> usize {
         if self.length >= cases.len() {
             return self.some().saturating_mul(RANGES);
@@ -159,8 +160,8 @@ impl Shape {
         self.length.saturating_add(1).saturating_sub(width)
     }
 
-    /// Returns a range, and the number of a case on the items of this range. `number` is the number
-    /// of the two together.
+    /// Returns the range and the case that `number` stands for. Each pair of a tried range and a
+    /// case on this range has a number.
     pub fn ranged_case(self, cases: &Cases, number: usize) -> Ranged {
         if self.length >= cases.len() {
             return self.some_range(number % RANGES, number / RANGES);
@@ -181,7 +182,8 @@ impl Shape {
         self.some_range(0, number)
     }
 
-    // Returns one of the ranges that are tried if there are more than 6 items.
+    // Returns the tried range with the number `range`, on a list of more than 6 items. `number` is
+    // the number of the case on this range.
     fn some_range(self, range: usize, number: usize) -> Ranged {
         let length = self.length;
         let (start, end) = match range {
@@ -193,13 +195,13 @@ impl Shape {
         Ranged { start, end, number }
     }
 
-    /// Returns `arguments`, or 0 if there is spare room. It is for calls for which the spare room
-    /// does not matter.
+    /// Returns `arguments` if there is no spare room, and 0 otherwise. This is for calls for which
+    /// the spare room does not matter.
     pub fn alone(self, arguments: usize) -> usize {
         if self.spare == 0 { arguments } else { 0 }
     }
 
-    /// Returns how many numbers of added items are tried.
+    /// Returns how many different numbers of added items are tried.
     pub fn counts(self) -> usize {
         if self.is_small() {
             12
@@ -210,7 +212,7 @@ impl Shape {
         }
     }
 
-    /// Returns one of the numbers of added items that are tried, by its position.
+    /// Returns the tried number of added items at the position `number`.
     pub fn count(self, number: usize) -> usize {
         let count = if self.is_small() {
             FEW.get(number)

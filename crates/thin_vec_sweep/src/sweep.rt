@@ -1,4 +1,5 @@
-//! How a call is swept: over each shape, each argument and each request that can be refused.
+//! How a call is swept: it is made on lists of each shape, with each argument, and with each
+//! request refused in turn.
 use crate::assertions::At;
 use crate::case::Case;
 use crate::ledger::Ledger;
@@ -8,7 +9,7 @@ use std::ops::Range;
 use std::process::Abort;
 use thin_testing::Ruled;
 
-/// What a test sweeps: its lists, and where it counts.
+/// The shapes of the lists that a test sweeps, and the counts of the test.
 #[derive(Drop)]
 pub struct Scope {
     /// The counts of the test.
@@ -27,13 +28,14 @@ pub trait Call<T: Sample, G: Ruled> {
         1
     }
 
-    /// Makes the call on the list of the case and the same edit on its reference, and compares what
-    /// the call returns. The caller of `run` compares the lists afterwards.
+    /// Makes the call on the list of the case, makes the same edit on the reference, and checks
+    /// what the call returned. The caller of `run` then compares the list with the reference.
     fn run<R: Abort>(rt: &R, case: &mut Case<T, G>, argument: usize);
 }
 
-/// Sweeps a call. This function and `case` are never inlined. Otherwise, all calls of an item type
-/// would become one function, and the compiler would take far longer.
+/// Sweeps the call `C` over the shapes of the scope. This function and `case` are never inlined.
+/// Otherwise, the sweeps of all calls for an item type would become one function, and compilation
+/// would take far longer.
 #[inline(never)]
 pub fn sweep<C: Call<T, G>, T: Sample, G: Ruled, R: Abort>(rt: &R, scope: &Scope) {
     for number in scope.shapes.start..scope.shapes.end {

@@ -16,8 +16,8 @@ use std::process::Abort;
 use thin_testing::{Fourfold, Ruled, Threefold};
 use thin_vec::{Doubling, PowerBytes};
 
-// Returns a scope of all shapes but the longest. If each item owns a block, the scope has only the
-// shapes of at most 40 items.
+// Returns a scope of all shapes except the two longest. If each item owns a block, the scope has
+// only the shapes of at most 40 items.
 fn all<T: Sample, R: Abort>(rt: &R, alloc: Global) -> Scope {
     let shapes = if T::OWNS_BLOCK { SHORT } else { SHAPES };
     Scope {
@@ -34,7 +34,7 @@ fn short<R: Abort>(rt: &R, alloc: Global) -> Scope {
     }
 }
 
-// Returns a scope of only the longest shapes, of 100,000 items.
+// Returns a scope of only the two longest shapes, which have 100,000 items.
 fn longest<R: Abort>(rt: &R, alloc: Global) -> Scope {
     Scope {
         ledger: Ledger::new(rt, alloc),
@@ -50,7 +50,7 @@ fn assert_swept<R: Abort>(rt: &R, scope: &Scope, cases: u64, refusals: u64) {
     assert!(rt; is_swept, "cases, refusals, comparisons: {counted:?}");
 }
 
-// Sweeps the calls for which a list of `T` may grow, under the growth rule `G`.
+// Sweeps the calls that may grow a list of `T`, under the growth rule `G`.
 fn growths<T: Sample, G: Ruled, R: Abort>(rt: &R, alloc: Global) {
     let scope = all::<T, R>(rt, alloc);
     every_growth::<T, G, R>(rt, &scope);
@@ -65,7 +65,8 @@ fn edits<T: Sample, G: Ruled, R: Abort>(rt: &R, alloc: Global) {
     assert_swept(rt, &scope, 20_000, 400);
 }
 
-// Sweeps the calls that read a list of `T`, that make one, and that convert it to an array.
+// Sweeps the calls that read or make a list of `T`, and the conversions between such lists and
+// arrays.
 fn readings<T: Sample, R: Abort>(rt: &R, alloc: Global)
     requires small { 6 * type_size T.row < 2 ^ 63 }
 {
@@ -76,7 +77,7 @@ fn readings<T: Sample, R: Abort>(rt: &R, alloc: Global)
     assert_swept(rt, &scope, 10_000, 1_000);
 }
 
-// Sweeps the same calls as `readings`, and those that copy the items of a list.
+// Sweeps the same calls as `readings`, and the calls that copy the items of a list.
 fn readings_and_copies<T: Sample + Copy, R: Abort>(rt: &R, alloc: Global)
     requires small { 6 * type_size T.row < 2 ^ 63 }
 {

@@ -4,8 +4,8 @@ use crate::shapes::Cases;
 /// For each k from 0 to 6: how many walks of at most k + 1 steps there are over k items.
 pub const WALKS: Cases = [3, 7, 15, 31, 63, 127, 255];
 
-// From which end each step is taken if there are more than 6 items: one bit for each step. The bit
-// 1 is the back.
+// The ends from which the steps over more than 6 items are taken, in four variants. Each bit stands
+// for one step: 1 is the back, and 0 is the front.
 const ENDS: [u64; 4] = [0x5555_5555_5555_5555, u64::MAX, 0, 0xcccc_cccc_cccc_cccc];
 
 /// A sequence of steps. Each step is from the front or from the back.
@@ -13,14 +13,15 @@ const ENDS: [u64; 4] = [0x5555_5555_5555_5555, u64::MAX, 0, 0xcccc_cccc_cccc_ccc
 pub struct Walk {
     /// How many steps there are.
     pub steps: usize,
-    // Which steps are from the back: one bit for each step, and 1 is the back.
+    // The end from which each step is taken. Each bit stands for one step: 1 is the back, and 0 is
+    // the front.
     ends: u64,
 }
 
 impl Walk {
-    /// Returns the walk with the number `number` over `count` items. Over at most 6 items, each
-    /// walk of up to `count + 1` steps has a number: its binary digits after the first one are the
-    /// steps.
+    /// Returns the walk with the number `number` over `count` items. Over at most 6 items, the
+    /// steps are the binary digits of `number + 1` after the first digit, so that each walk of up
+    /// to `count + 1` steps has a number.
     pub fn nth(count: usize, number: usize) -> Walk {
         if count >= WALKS.len() {
             return Walk {
@@ -52,8 +53,8 @@ impl Walk {
     }
 }
 
-/// Returns how many steps a walk over more than 6 items has. There are five such lengths, with the
-/// numbers from 0 to 4.
+/// Returns one of the five numbers of steps that are tried over `count` items, if `count` is
+/// greater than 6. `number`, from 0 to 4, tells which one.
 pub fn some_steps(count: usize, number: usize) -> usize {
     match number {
         0 => count / 2,
@@ -64,7 +65,7 @@ pub fn some_steps(count: usize, number: usize) -> usize {
     }
 }
 
-/// The range of the items that remain after some steps from either end.
+/// The range of the items that remain after steps from either end.
 #[derive(Drop)]
 pub struct Remaining {
     start: usize,
@@ -80,8 +81,8 @@ impl Remaining {
         }
     }
 
-    /// Returns the number of the item that a step must yield, from the back or from the front, and
-    /// removes it from the range. `numbers` are the numbers of all items.
+    /// Returns the number of the item that a step must yield, and removes the item from the range.
+    /// The step is from the back if `is_back` is true. `numbers` are the numbers of all items.
     pub fn take(&mut self, is_back: bool, numbers: &[u64]) -> Option<u64> {
         if self.start >= self.end {
             return None;

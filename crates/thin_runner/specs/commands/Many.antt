@@ -8,9 +8,9 @@ use Rattle.thin_runner.specs.Setting.{Setting}
 use Rattle.thin_runner.specs.commands.Items.{Grows}
 
 module _ {T A J : Type 0} (here : Setting T A J) where
-  -- a call that needs room for k more items and clones `sources` failed, and the items do not
+  -- A call that clones `sources` and needs room for k more items failed, and the items did not
   -- change. Either nothing else changed, or there was room for k more items (perhaps after growth)
-  -- and the clone of the source at index `at` failed, after one move for each source before it
+  -- and the clone of the source at index `at` failed, after one move for each source before it.
   abbrev pub RefusesClone : Thin T A → ℕ → List T → ThinVecError → Thin T A → Type 0
   RefusesClone old k sources cause new =
       ((capacity_for here.rule here.R old k ≡ None) ↔ (cause ≡ CapacityOverflow))

@@ -4,7 +4,7 @@ use Rattle.thin_vec.specs.Cost.{moving}
 use Rattle.thin_vec.specs.ThinVec.{Thin, cost_new}
 
 module _ {T A : Type 0} where
-  -- a new list of the items xs with the allocator a, whose capacity is the number of its items
+  -- a new list with the items xs, the allocator a, and a capacity that is equal to its length
   abbrev pub made : A → List T → Thin T A
   made a xs = record {
     items = xs;

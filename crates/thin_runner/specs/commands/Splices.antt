@@ -15,20 +15,20 @@ use Rattle.thin_vec.specs.declared.ThinVecError.TheVariants.{CapacityOverflow, O
 use Rattle.thin_runner.specs.declared.hinted.Hinted.{Hinted}
 
 module _ {T A : Type 0} (old : Thin T A) (a b : ℕ) where
-  -- the list `old` without the items from index a up to b, with no move counted
+  -- the list `old` without the items from index a up to b, and with an unchanged cost
   abbrev pub cut : Thin T A
   cut = record old { items = remove_range old.items a b }
 
-  -- placing `most` items needs no new memory: the range has at least `most` items, or no item
-  -- follows the range, and there is room for `most` items once the range is removed
+  -- Placing `most` items needs no new memory. Either the range has at least `most` items, or no
+  -- item follows the range and the list without the range has room for `most` items.
   abbrev pub HasPlacesFor : ℕ → Type 0
   HasPlacesFor most = (most ≤ b - a) ⊎ ((b ≡ length old.items) × HasRoomFor cut most)
 
 module _ {T A : Type 0} (rule : Rule) (R : RattleType) (old : Thin T A) (a b : ℕ) where
-  -- the items `placed` took the places of the items from index a up to b; the iterator could yield
-  -- at most `most` items. Each placed item was moved once, and each item after the range at most
-  -- twice. The capacity did not change, or it is one that the rule chooses for at most the final
-  -- number of items, or for a hint of at most `most`
+  -- The items `placed` took the places of the items from index a up to b. They came from an
+  -- iterator that could yield at most `most` items. Each placed item was moved once, and each item
+  -- after the range at most twice. The capacity did not change, or it is one that the rule chooses,
+  -- either for at most the final number of items or for a hint of at most `most` items.
   pub record Replaces (placed : List T) (most : ℕ) (new : Thin T A) : Type 0 where
     pub items : new.items ≡ (take a old.items ++ placed) ++ drop b old.items
     pub capacity : IsLoose rule R old.capacity new.capacity
@@ -39,11 +39,11 @@ module _ {T A : Type 0} (rule : Rule) (R : RattleType) (old : Thin T A) (a b : �
     pub cheap : IsCheap old → IsCheap new
     pub alloc : new.alloc ≡ old.alloc
 
-  -- a splice or an `extend` failed, after it had placed some of the items xs, or none. No item is
-  -- lost: the others are in `held`, in `in_hand` and in `rest`. If items are held and none is in
-  -- hand, the iterator has ended. If items follow the range, all its places are filled. If no item
-  -- follows the range, no item is held; then, if an item is in hand, the list is full, and if none
-  -- is in hand, nothing was placed
+  -- A splice or an `extend` failed after it had placed the items `placed` (perhaps none). No item
+  -- is lost: the other items of xs are in `held`, in `in_hand` and in `rest`. If items are held and
+  -- none is in hand, the iterator has ended. If items follow the range, all places of the range are
+  -- filled. If no item follows the range, no item is held. In that case, the list is full if an
+  -- item is in hand, and nothing was placed if none is in hand.
   pub record StopsBetween (xs held : List T) (lower : ℕ) (cause : ThinVecError)
       (in_hand : Option T) (rest : Hinted T A) (new : Thin T A) : Type 0 where
     pub placed : List T
@@ -51,11 +51,12 @@ module _ {T A : Type 0} (rule : Rule) (R : RattleType) (old : Thin T A) (a b : �
     pub claim : rest.lower ≡ lower
     pub filled : Replaces placed (lower + length xs) new
     pub no_room : ¬ (HasPlacesFor old a b (lower + length xs))
-    -- if no item is held or in hand, the list has no room for the hint, and could not grow for it
+    -- if no item is held and none is in hand, then the list has no room for a size hint that `rest`
+    -- may have, and growth for this hint failed with `cause`
     pub by_hint : held ≡ [] → in_hand ≡ None
         → FailsAtHint rule R new (at_most (rest.lower + length (into_iter_items rest.items))) cause
     -- if items are held and none is in hand, the cause is an overflow if and only if the rule has
-    -- no capacity for that many more items
+    -- no capacity for the items of the list and the held items
     pub by_held : 0 < length held → in_hand ≡ None
         → (cause ≡ CapacityOverflow) ↔ (capacity_for rule R new (length held) ≡ None)
     -- if an item is in hand and items follow the range, there was no memory to hold the item

@@ -13,8 +13,8 @@ use std::alloc::Allocator;
 use thin_vec::{Drain, Growth, ThinVec, ThinVecError};
 
 impl<T: Clone + Eq, A: Allocator + Copy, G: Growth, J: Judge<T>> Setting<T, A, G, J> {
-    // Drains the range. It first reserves room for what the steps return; without steps, this
-    // allocates nothing.
+    // Drains the range. First reserves room for the results of the steps, which allocates nothing
+    // if there are no steps.
     pub(crate) fn drain(
         self,
         list: &mut ThinVec<T, A, G>,
@@ -39,8 +39,8 @@ impl<T: Clone + Eq, A: Allocator + Copy, G: Growth, J: Judge<T>> Setting<T, A, G
         Reply::Answers(answers)
     }
 
-    // Extracts items of the range. It first reserves room for what the calls of `next` return; if
-    // `count` is 0, this allocates nothing.
+    // Extracts items of the range. First reserves room for the results of the calls of `next`,
+    // which allocates nothing if `count` is 0.
     pub(crate) fn extract_if(
         self,
         list: &mut ThinVec<T, A, G>,

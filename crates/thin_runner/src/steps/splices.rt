@@ -14,8 +14,8 @@ use std::alloc::Allocator;
 use thin_vec::{Growth, Splice, SpliceRefused, ThinVec, ThinVecError};
 
 impl<T: Clone + Eq, A: Allocator + Copy, G: Growth, J: Judge<T>> Setting<T, A, G, J> {
-    // Replaces the items of the range by `items`. It first reserves room for what the steps return;
-    // without steps, this allocates nothing.
+    // Replaces the items of the range by `items`. First reserves room for the results of the steps,
+    // which allocates nothing if there are no steps.
     pub(crate) fn splice(
         self,
         list: &mut ThinVec<T, A, G>,

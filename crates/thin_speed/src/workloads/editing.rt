@@ -61,7 +61,7 @@ pub fn run_editing<F: Family>(
     }
 }
 
-/// Inserts a number at the front, and pops the last one.
+/// Inserts a number at the front, and pops the last item.
 pub struct InsertFirst;
 
 impl<L: Numbers> Work<L, u64> for InsertFirst {
@@ -94,7 +94,8 @@ impl<L: Numbers, const IN_MIDDLE: bool> Work<L, u64> for Remove<IN_MIDDLE> {
     }
 }
 
-/// Fills a list, and removes the item in the middle until the list is empty, `times` times.
+/// Fills a list, and empties it by removing the item in the middle again and again, with
+/// `swap_remove`. Repeats this `times` times.
 ///
 /// # Errors
 ///
@@ -157,7 +158,7 @@ impl<L: Numbers, const START: usize, const END: usize> Work<L, u64> for DrainFew
 }
 
 /// Replaces the two items from `START` up to, but not including, `END` with one item or with two.
-/// If it inserts only one, it pushes another one.
+/// If it inserts only one item, it also pushes one.
 pub struct SpliceFew<C, const START: usize, const END: usize> {
     count: PhantomData<C>,
 }
@@ -174,7 +175,7 @@ impl<L: Numbers, C: Count, const START: usize, const END: usize> Work<L, u64>
     }
 }
 
-/// Replaces the first item with three numbers, and pops two.
+/// Replaces the first item with three numbers, and pops two items.
 pub struct SpliceMore;
 
 impl<L: Numbers> Work<L, u64> for SpliceMore {
@@ -185,7 +186,7 @@ impl<L: Numbers> Work<L, u64> for SpliceMore {
     }
 }
 
-/// Replaces two items with four, at one of two indices in turn, and pops two.
+/// Replaces two items with four, starting at the indices 5 and 6 in turn, and pops two items.
 pub struct ReplaceMore;
 
 impl<L: Numbers> Work<L, u64> for ReplaceMore {
@@ -225,8 +226,8 @@ fn pop_two<L: Numbers>(list: &mut L, sum: u64) -> u64 {
     sum
 }
 
-/// Replaces the middle half of a list with as many numbers as the list has items, from an iterator
-/// whose size hint is exact.
+/// Replaces the middle half of a list of `size` items with `size` numbers, from an iterator whose
+/// size hint is exact.
 pub struct SpliceHinted;
 
 impl<L: Numbers> Work<L, u64> for SpliceHinted {
@@ -237,8 +238,8 @@ impl<L: Numbers> Work<L, u64> for SpliceHinted {
     }
 }
 
-/// Replaces the middle half of a list with as many numbers as the list has items, from an iterator
-/// whose size hint has the lower bound 0.
+/// Replaces the middle half of a list of `size` items with `size` numbers, from an iterator whose
+/// size hint has the lower bound 0.
 pub struct SpliceUnhinted;
 
 impl<L: Numbers> Work<L, u64> for SpliceUnhinted {

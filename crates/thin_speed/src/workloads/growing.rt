@@ -155,7 +155,7 @@ impl<L: Numbers> Make<L> for ExtendUnhinted {
     }
 }
 
-/// Extends a new list by the even numbers of a slice, which a filter yields.
+/// Extends a new list by the items of a filter, which yields the even numbers of a slice.
 pub struct ExtendFilter;
 
 impl<L: Numbers> Make<L> for ExtendFilter {
@@ -167,7 +167,8 @@ impl<L: Numbers> Make<L> for ExtendFilter {
     }
 }
 
-/// Extends a new list with enough capacity by the two halves of a slice, in two calls of `extend`.
+/// Makes a list with enough capacity, and extends it by the two halves of a slice, in two calls of
+/// `extend`.
 pub struct ExtendTwice;
 
 impl<L: Numbers> Make<L> for ExtendTwice {

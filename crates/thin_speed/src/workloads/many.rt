@@ -86,8 +86,8 @@ fn items_of<L: List<u64>>(lists: &[L]) -> u64 {
     sum
 }
 
-/// Makes a list of `size` styles, each a list of at most four rules, and counts those that equal
-/// the style before them. Repeats this `times` times.
+/// Makes a list of `size` styles, each a list of at most four rules, and counts the styles that are
+/// equal to the style before them. Repeats this `times` times.
 ///
 /// # Errors
 ///
@@ -118,7 +118,7 @@ fn style<S: List<u32>>(alloc: Global, number: usize) -> Result<S, AllocError> {
     Ok(style)
 }
 
-// Returns how many styles equal the style before them.
+// Returns the number of styles that are equal to the style before them.
 fn repeated<S: List<u32>>(styles: &[S]) -> u64 {
     let mut same = 0u64;
     for at in 1..styles.len() {

@@ -5,9 +5,9 @@ use std::alloc::{AllocError, Global};
 
 /// The work that a workload does on a list again and again.
 pub trait Work<L, T> {
-    /// Does the work once. Returns `sum` after mixing the items that it removes into it.
+    /// Does the work once. Returns `sum` after mixing the removed items into it.
     ///
-    /// In `refilled`, `number` is the length of the list. In `repeated`, `number` is how often the
+    /// `refilled` passes the length of the list as `number`, and `repeated` passes how often the
     /// work was done before.
     ///
     /// # Errors
@@ -45,7 +45,7 @@ pub fn refill<L: List<T>, T: Drop, S: Source<T>>(
     Ok(())
 }
 
-/// Makes a list, and then `times` times fills it again and does the work `W` on it.
+/// Makes a list, and then refills it and does the work `W` on it, `times` times.
 ///
 /// # Errors
 ///
@@ -97,8 +97,8 @@ pub fn repeated<L: Numbers, W: Work<L, u64>>(alloc: Global, size: usize, times: 
 
 /// The way in which a workload makes a new list.
 pub trait Make<L> {
-    /// Makes a new list of the length `size`, or a new list from the items of `source`, which has
-    /// the length `size`.
+    /// Makes a new list, either of the length `size` or from the items of `source`, whose length is
+    /// `size`.
     ///
     /// # Errors
     ///

@@ -42,8 +42,8 @@ pub fn set_all<C: Table>(alloc: Global, size: usize, times: usize) -> Outcome {
     Ok(sum)
 }
 
-/// Makes a table with `size` entries, and reads all of them, in an order that is neither that of
-/// the rows nor that of the writes, `times` times.
+/// Makes a table with `size` entries, and then reads all entries `times` times. They are read in an
+/// order that is neither that of the rows nor that of the writes.
 ///
 /// # Errors
 ///
@@ -61,8 +61,8 @@ pub fn get_all<C: Table>(alloc: Global, size: usize, times: usize) -> Outcome {
     Ok(sum)
 }
 
-// Makes a table with an entry at each of the first `size` places, row by row, if `size` is not a
-// multiple of 7919. The entries are not written in the order of the places.
+// Makes a table with an entry at each of the first `size` places, counted row by row. This needs a
+// `size` that is not a multiple of 7919. The entries are not written in the order of the places.
 #[inline(never)]
 fn filled_table<C: Table>(alloc: Global, size: usize) -> Result<C, AllocError> {
     let mut table = C::with_rows(alloc, size / 30 + 1)?;

@@ -1,4 +1,5 @@
-//! Sweeps of lists that are written out, and of conversions between lists and arrays.
+//! Sweeps of the macro `thin_vec!` with a list of items, and of the conversions between lists and
+//! arrays.
 ghost use Rattle.std.specs.Mem.{type_size};
 ghost use Rattle.std.specs.Prelude.{◌*◌, ◌<◌, ◌^◌};
 
@@ -14,8 +15,8 @@ use std::process::Abort;
 use thin_testing::Refusing;
 use thin_vec::{Doubling, ThinVec, ThinVecError, thin_vec};
 
-/// Calls `thin_vec![alloc => x, y]` and `thin_vec![in alloc; x, y]`, with as many items as the
-/// shape has, from one to three.
+/// Makes a list of one, two or three items by `thin_vec![alloc => x, y]` and by
+/// `thin_vec![in alloc; x, y]`. The number of items is the length of the shape.
 pub struct Listed {}
 
 impl<T: Sample> Call<T, Doubling> for Listed {
@@ -46,7 +47,8 @@ impl<T: Sample> Call<T, Doubling> for Listed {
     }
 }
 
-// Writes out a list of the first `count` of the items, from one to three.
+// Returns a list of the first `count` of the items `x`, `y` and `z`, made by
+// `thin_vec![alloc => ..]`. `count` is 1, 2 or 3.
 fn written_out<T: Sample>(
     alloc: &'static Refusing<Global>,
     count: usize,
@@ -61,7 +63,7 @@ fn written_out<T: Sample>(
     }
 }
 
-// Does the same as `written_out`, but by the form of the macro with `in`.
+// Returns the same list as `written_out`, but made by `thin_vec![in alloc; ..]`.
 fn written_out_in<T: Sample>(
     alloc: &'static Refusing<Global>,
     count: usize,
@@ -108,8 +110,8 @@ fn arrays<T: Sample, const N: usize, R: Abort>(rt: &R, ledger: &'static Ledger)
     }
 }
 
-// Runs one case: a list of N items becomes an array, and the array becomes a list again. If the
-// list has another length, `into_array` must return it.
+// Runs one case. If the list has N items, it must become an array, and the array must become a list
+// again. If the list has another length, `into_array` must return it unchanged.
 fn array<T: Sample, const N: usize, R: Abort>(rt: &R, ledger: &'static Ledger, at: At)
     requires small { N * type_size T.row < 2 ^ 63 }
 {
@@ -119,7 +121,8 @@ fn array<T: Sample, const N: usize, R: Abort>(rt: &R, ledger: &'static Ledger, a
     case.end(rt);
 }
 
-// Makes both calls on the list of the case, and checks what they return.
+// Calls `into_array` on the list of the case, and `from_array` on the array that it becomes. Checks
+// what both calls return.
 fn become_array<T: Sample, const N: usize, R: Abort>(rt: &R, case: &mut Case<T, Doubling>)
     requires small { N * type_size T.row < 2 ^ 63 }
 {
@@ -143,8 +146,9 @@ fn become_array<T: Sample, const N: usize, R: Abort>(rt: &R, case: &mut Case<T, 
     }
 }
 
-// Converts the list to an array of N items, and the array back to a list. Returns the list, if
-// there still is one, whether it became an array, and whether the conversion back succeeded.
+// Converts the list to an array of N items, and the array back to a list. Returns the list (or
+// `None` if the conversion back failed), whether the list became an array, and the result of the
+// conversion back.
 fn there_and_back<T: Sample, A: Allocator, const N: usize, R: Abort>(
     rt: &R,
     at: &At,

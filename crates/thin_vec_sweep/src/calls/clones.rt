@@ -1,4 +1,5 @@
-//! Sweeps of `extend_from_within` and `resize`, which clone an item, and of `resize_with`.
+//! Sweeps of `resize` and `extend_from_within`, which clone items, and of `resize_with`, which
+//! calls a closure for each new item.
 use crate::case::{Case, List, Verdict, numbers, source};
 use crate::closures::{ClosureCalls, number_at};
 use crate::samples::Sample;
@@ -8,11 +9,11 @@ use std::process::Abort;
 use thin_testing::Ruled;
 use thin_vec::ThinVecError;
 
-// The number of the first item that is added.
+// The number from which the first new item is made.
 const FRESH: u64 = 80_000;
 
-/// Calls `resize` with each index as the new length, and with some new lengths that are greater
-/// than the old one.
+/// Calls `resize` with each tried index as the new length, and with the old length plus each tried
+/// number of new items.
 pub struct Resize {}
 
 impl<T: Sample, G: Ruled> Call<T, G> for Resize {
@@ -36,8 +37,9 @@ impl<T: Sample, G: Ruled> Call<T, G> for Resize {
     }
 }
 
-// Returns the new length, and by how much it is greater than the old one. The new lengths are each
-// index, and the old length plus each tried number of new items.
+// Returns the new length that `argument` stands for, and how many items the list gains. The first
+// arguments stand for the tried indices, with which the list gains no item. With each later
+// argument, the list gains one of the tried numbers of new items.
 fn length(shape: Shape, argument: usize) -> (usize, usize) {
     match argument.checked_sub(shape.indices()) {
         None => (shape.index(argument), 0),
@@ -48,8 +50,8 @@ fn length(shape: Shape, argument: usize) -> (usize, usize) {
     }
 }
 
-/// Calls `resize_with`, with the new lengths of `Resize`. The closure owns a vector, and returns
-/// the items of this vector in reverse order.
+/// Calls `resize_with` with the same new lengths as `Resize`. The closure owns a vector; each call
+/// of the closure removes and returns the last item of this vector.
 pub struct ResizeWith {}
 
 impl<T: Sample, G: Ruled> Call<T, G> for ResizeWith {
@@ -77,8 +79,8 @@ impl<T: Sample, G: Ruled> Call<T, G> for ResizeWith {
     }
 }
 
-// Calls `resize_with`. The closure returns the items of `made` in reverse order, and counts each of
-// its calls in `closure_calls`.
+// Calls `resize_with`. The closure returns the items of `made`, the last one first, and counts its
+// calls in `closure_calls`.
 fn resize_with<T: Sample, G: Ruled, R: Abort>(
     rt: &R,
     list: &mut List<T, G>,
@@ -92,14 +94,14 @@ fn resize_with<T: Sample, G: Ruled, R: Abort>(
     })
 }
 
-// Appends the numbers of `more` new items to the reference, in reverse order.
+// Appends the numbers of `more` new items to `case.items`, the last number first.
 fn add_from_last<T: Sample, G: Ruled, R: Abort>(rt: &R, case: &mut Case<T, G>, more: usize) {
     let mut new = numbers(rt, case.ledger, FRESH, more);
     new.reverse();
     case.items.append(&mut new).expect(rt, "memory");
 }
 
-// Each range of at most 6 items is tried once.
+// How often each range of a list of at most 6 items is tried: once.
 const EACH_RANGE: Cases = [1; 7];
 
 /// Calls `extend_from_within` with each range of a list of at most 6 items, and with four ranges of

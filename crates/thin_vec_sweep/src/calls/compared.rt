@@ -1,5 +1,5 @@
-//! Sweeps of comparing, hashing and printing a list. Each result must be that of the slice of the
-//! items.
+//! Sweeps of the calls that compare, hash or print a list. Each result must be the same as for the
+//! slice of the items.
 use crate::assertions::{At, assert_same};
 use crate::case::{Case, List, filled};
 use crate::samples::Sample;
@@ -12,8 +12,8 @@ use std::hash::{DefaultHasher, Hash, Hasher};
 use std::process::Abort;
 use thin_testing::Ruled;
 
-/// Compares the list with a second list, whose spare room is different. The second list has the
-/// same items, or a different last item, or one item fewer, or one item more.
+/// Compares the list of the case with a second list, which has the same items, a different last
+/// item, one item fewer, or one item more. Also hashes the list of the case.
 pub struct Compare {}
 
 impl<T: Sample + Ord + Hash + Debug, G: Ruled> Call<T, G> for Compare {
@@ -32,7 +32,7 @@ impl<T: Sample + Ord + Hash + Debug, G: Ruled> Call<T, G> for Compare {
     }
 }
 
-// Returns the list that the list of the case is compared with.
+// Returns the list with which the list of the case is compared. `argument` tells how it differs.
 fn other<T: Sample, G: Ruled, R: Abort>(rt: &R, case: &Case<T, G>, argument: usize) -> List<T, G> {
     let length = case.at.shape.length;
     let length = match argument {
@@ -49,7 +49,8 @@ fn other<T: Sample, G: Ruled, R: Abort>(rt: &R, case: &Case<T, G>, argument: usi
     other
 }
 
-// Asserts that two lists are equal, and ordered, as their slices are.
+// Asserts that `==`, `partial_cmp` and `cmp` have the same results for two lists as for their
+// slices.
 fn same_order<T: Sample + Ord, G: Ruled, R: Abort>(
     rt: &R,
     at: &At,
@@ -74,7 +75,7 @@ fn hash<H: Hash>(value: &H) -> u64 {
     hasher.finish()
 }
 
-/// Prints the list, and the iterator that it becomes, by `{:?}` and `{:#?}`.
+/// Prints the list, and then the iterator that `into_iter` makes from it, by `{:?}` and `{:#?}`.
 pub struct Print {}
 
 impl<T: Sample + Debug, G: Ruled> Call<T, G> for Print {
@@ -109,12 +110,12 @@ impl<T: Sample + Debug, G: Ruled> Call<T, G> for Print {
     }
 }
 
-// Returns the texts of an iterator over the items of this slice, in one line and in several lines.
+// Returns the texts that an `IntoIter` over these items must print by `{:?}` and `{:#?}`.
 fn iter_text<D: Debug, R: Abort>(rt: &R, global: Global, items: &D) -> String {
     text(rt, global, &Told { items })
 }
 
-// A slice that is printed as an iterator over its items is printed.
+// A slice that is printed in the form in which an `IntoIter` over the same items must be printed.
 #[derive(Drop)]
 struct Told<'a, D> {
     items: &'a D,
@@ -126,7 +127,7 @@ impl<D: Debug> Debug for Told<'_, D> {
     }
 }
 
-// Returns the texts of `{:?}` and of `{:#?}`, with a space between them.
+// Returns the text of `value` by `{:?}`, a space, and the text of `value` by `{:#?}`.
 fn text<D: Debug, R: Abort>(rt: &R, global: Global, value: &D) -> String {
     format!(in global; "{value:?} {value:#?}").expect(rt, "memory")
 }

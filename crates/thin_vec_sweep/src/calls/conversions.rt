@@ -1,5 +1,4 @@
-//! Sweeps of the calls that make a list from other types, and of those that convert a list to other
-//! types.
+//! Sweeps of the calls that make a list, and of the calls that convert a list to another type.
 use crate::case::{Case, List, Verdict, numbers, put};
 use crate::samples::Sample;
 use crate::shapes::Shape;
@@ -11,10 +10,10 @@ use std::process::Abort;
 use thin_testing::{Refusing, Ruled};
 use thin_vec::{Doubling, Rejected, ThinVec, ThinVecError, thin_vec};
 
-// The number of a new item.
+// The number from which a new item is made.
 const FRESH: u64 = 70_000;
 
-// The allocator of a case.
+// The type of the allocator of a case.
 type Lender = &'static Refusing<Global>;
 
 /// Calls `into_vec` and `into_boxed_slice`.
@@ -45,7 +44,8 @@ impl<T: Sample, G: Ruled> Call<T, G> for IntoOthers {
     }
 }
 
-// Converts the list to a `Vec`: by `into_vec`, or by `into_boxed_slice` and from there to a `Vec`.
+// Converts the list to a `Vec`: by `into_vec` if `argument` is 0, and otherwise by
+// `into_boxed_slice`, followed by a conversion of the boxed slice to a `Vec`.
 fn into_other<T: Sample, G: Ruled>(
     list: List<T, G>,
     alloc: Lender,
@@ -78,8 +78,8 @@ impl<T: Sample, G: Ruled> Call<T, G> for TryTake {
     }
 }
 
-// Takes the items of the list into a `Vec` on the same allocator, with `spare` more places. Leaves
-// an empty list in the case.
+// Moves the items of the list of the case to a `Vec` on the same allocator, and reserves room for
+// `spare` more items in the `Vec`. The case then has an empty list.
 fn vec_of<T: Sample, R: Abort>(
     rt: &R,
     case: &mut Case<T, Doubling>,
@@ -91,7 +91,8 @@ fn vec_of<T: Sample, R: Abort>(
     items
 }
 
-/// Calls `from_vec`, with a `Vec` that has as much spare room as the shape, and `from_boxed_slice`.
+/// Calls `from_vec` with a `Vec` whose spare room is at least that of the shape. Also calls
+/// `from_boxed_slice`.
 pub struct FromOthers {}
 
 impl<T: Sample> Call<T, Doubling> for FromOthers {
@@ -120,7 +121,8 @@ impl<T: Sample> Call<T, Doubling> for FromOthers {
     }
 }
 
-// Converts a `Vec` to a list: by `from_vec`, or by way of a boxed slice.
+// Converts a `Vec` to a list: by `from_vec` if `argument` is 0, and otherwise by
+// `from_boxed_slice`.
 fn from_other<T: Sample>(
     items: Vec<T, Lender>,
     alloc: Lender,
@@ -138,8 +140,8 @@ fn from_other<T: Sample>(
     }
 }
 
-/// Calls `from_str` on a text of as many letters as the shape has items. Each letter takes one
-/// byte, or each letter takes two.
+/// Calls `from_str` on two texts. The number of letters in each text is the length of the shape.
+/// Each letter takes one byte in the first text, and two bytes in the second.
 pub struct FromStr {}
 
 impl Call<u8, Doubling> for FromStr {
@@ -160,7 +162,7 @@ impl Call<u8, Doubling> for FromStr {
     }
 }
 
-// Returns a text of `count` times this letter.
+// Returns a text that consists of `letter`, repeated `count` times.
 fn letters<R: Abort>(rt: &R, global: Global, letter: &str, count: usize) -> String {
     let mut text = String::new(global);
     for _ in 0..count {
@@ -169,7 +171,7 @@ fn letters<R: Abort>(rt: &R, global: Global, letter: &str, count: usize) -> Stri
     text
 }
 
-// Returns the bytes as numbers.
+// Returns each byte as a `u64`.
 fn numbers_of<R: Abort>(rt: &R, global: Global, bytes: &[u8]) -> Vec<u64, Global> {
     let mut numbers = Vec::new(global);
     for byte in bytes {
@@ -178,8 +180,8 @@ fn numbers_of<R: Abort>(rt: &R, global: Global, bytes: &[u8]) -> Vec<u64, Global
     numbers
 }
 
-/// Calls `with_capacity`: with the length of the shape, and with numbers near the greatest capacity
-/// that fits and beyond.
+/// Calls `with_capacity` with the length of the shape, with the greatest capacity that fits, with
+/// the next greater number, and with further great numbers up to `usize::MAX`.
 pub struct WithCapacity {}
 
 impl<T: Sample> Call<T, Doubling> for WithCapacity {
@@ -213,8 +215,8 @@ impl<T: Sample> Call<T, Doubling> for WithCapacity {
     }
 }
 
-/// Calls `thin_vec![alloc => x; k]` and `thin_vec![in alloc; x; k]`, where k is the length of the
-/// shape.
+/// Calls `thin_vec![alloc => x; k]` and `thin_vec![in alloc; x; k]` with the length of the shape as
+/// k.
 pub struct Repeated {}
 
 impl<T: Sample> Call<T, Doubling> for Repeated {
@@ -241,7 +243,8 @@ impl<T: Sample> Call<T, Doubling> for Repeated {
             case.items.resize(count, FRESH).expect(rt, "memory");
         }
         if verdict == Verdict::NoClone {
-            // The new list is dropped if a clone fails, and its block with it. No capacity is left.
+            // If a clone fails, the new list is dropped and its block is freed. The case keeps its
+            // empty list, whose capacity is 0.
             case.capacity = 0;
         }
     }
@@ -276,8 +279,8 @@ impl<T: Sample> Call<T, Doubling> for New {
     }
 }
 
-/// Checks the result of a call that makes a list. If there is a list, it becomes the list of the
-/// case.
+/// Checks the result of a call that makes a list. If the call succeeded, the new list becomes the
+/// list of the case.
 pub fn made<T: Sample, R: Abort>(
     rt: &R,
     case: &mut Case<T, Doubling>,

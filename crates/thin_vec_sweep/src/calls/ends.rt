@@ -1,4 +1,4 @@
-//! Sweeps of the calls that add or remove one item, and of those that remove all items from an
+//! Sweeps of the calls that add or remove one item, and of the calls that remove all items from an
 //! index on: `push`, `push_mut`, `push_reserved`, `pop`, `insert`, `insert_mut`, `insert_reserved`,
 //! `remove`, `swap_remove`, `truncate`, `clear`.
 use crate::case::{Case, Verdict, put};
@@ -10,10 +10,11 @@ use std::process::Abort;
 use thin_testing::Ruled;
 use thin_vec::Rejected;
 
-// The number of the new item.
+// The number from which the new item is made.
 const FRESH: u64 = 70_000;
 
-// The number of an item that is passed to a call, and then swapped with the new item.
+// The number from which the item passed to `push_mut` or `insert_mut` is made. This item is then
+// swapped with the new item.
 const PASSED: u64 = 71_000;
 
 /// Calls `push`.
@@ -33,7 +34,7 @@ impl<T: Sample, G: Ruled> Call<T, G> for Push {
     }
 }
 
-/// Calls `push_mut`, and swaps another item into the place that it lends.
+/// Calls `push_mut`, and swaps the pushed item with another one through the returned reference.
 pub struct PushMut {}
 
 impl<T: Sample, G: Ruled> Call<T, G> for PushMut {
@@ -54,8 +55,9 @@ impl<T: Sample, G: Ruled> Call<T, G> for PushMut {
     }
 }
 
-// Checks a call that lends the place at `index`. After a success, the item that was passed to the
-// call is in `hand`; after a failure, the call returned that item.
+// Checks a call that adds an item at `index` and returns a reference to it. If the call succeeded,
+// the added item was then swapped with the item in `hand`. If the call failed, it must have
+// returned the item.
 fn lent<T: Sample, G: Ruled, R: Abort>(
     rt: &R,
     case: &mut Case<T, G>,
@@ -93,7 +95,7 @@ impl<T: Sample, G: Ruled> Call<T, G> for PushReserved {
     }
 }
 
-/// Calls `insert` at each index.
+/// Calls `insert` at each tried index.
 pub struct Insert {}
 
 impl<T: Sample, G: Ruled> Call<T, G> for Insert {
@@ -117,7 +119,8 @@ impl<T: Sample, G: Ruled> Call<T, G> for Insert {
     }
 }
 
-/// Calls `insert_mut` at each index, and swaps another item into the place that it lends.
+/// Calls `insert_mut` at each tried index, and swaps the inserted item with another one through the
+/// returned reference.
 pub struct InsertMut {}
 
 impl<T: Sample, G: Ruled> Call<T, G> for InsertMut {
@@ -145,7 +148,7 @@ impl<T: Sample, G: Ruled> Call<T, G> for InsertMut {
     }
 }
 
-/// Calls `insert_reserved` at each index if there is spare room.
+/// Calls `insert_reserved` at each tried index if there is spare room.
 pub struct InsertReserved {}
 
 impl<T: Sample, G: Ruled> Call<T, G> for InsertReserved {
@@ -182,7 +185,7 @@ impl<T: Sample, G: Ruled> Call<T, G> for Pop {
     }
 }
 
-/// Calls `remove` at each index that has an item.
+/// Calls `remove` at each tried index that has an item.
 pub struct Remove {}
 
 impl<T: Sample, G: Ruled> Call<T, G> for Remove {
@@ -205,7 +208,7 @@ impl<T: Sample, G: Ruled> Call<T, G> for Remove {
     }
 }
 
-/// Calls `swap_remove` at each index that has an item.
+/// Calls `swap_remove` at each tried index that has an item.
 pub struct SwapRemove {}
 
 impl<T: Sample, G: Ruled> Call<T, G> for SwapRemove {
@@ -228,7 +231,7 @@ impl<T: Sample, G: Ruled> Call<T, G> for SwapRemove {
     }
 }
 
-/// Calls `truncate` with each index, with the length plus one, and with `usize::MAX`.
+/// Calls `truncate` with each tried index, with the length plus one, and with `usize::MAX`.
 pub struct Truncate {}
 
 impl<T: Sample, G: Ruled> Call<T, G> for Truncate {

@@ -1,5 +1,6 @@
-//! Sweeps of `extend` and `from_iter`. The size hint of the iterator is too small, exact, too
-//! great, or greater than every capacity.
+//! Sweeps of the calls that move the items of an iterator into a list, such as `extend` and
+//! `from_iter`. The size hint of the iterator is too small, exact, too great, or greater than every
+//! capacity.
 use crate::assertions::assert_same;
 use crate::case::{Case, Verdict, numbers, put, source};
 use crate::claims::Claims;
@@ -13,14 +14,15 @@ use std::process::Abort;
 use thin_testing::Ruled;
 use thin_vec::{Doubling, ThinVec};
 
-// The number of the first new item. Each further new item has the next lower number.
+// The number from which the first new item is made. Each further new item is made from the next
+// lower number.
 const FRESH: u64 = 800_000;
 
 // How many size hints are tried.
 const HINTS: usize = 10;
 
-// Returns the size hint with the number `number`, for an iterator over `count` items and a list of
-// `length` items.
+// Returns the tried size hint with the number `number`. The iterator has `count` items, and the
+// list has `length` items.
 fn hint<T: Sample>(number: usize, count: usize, length: usize) -> usize {
     match number {
         0 => 0,
@@ -42,19 +44,20 @@ pub struct Ending {
     pub verdict: Verdict,
     /// How many items are moved into the list.
     pub placed: usize,
-    /// How many items are held back in a vector, after the items that are moved into the list.
+    /// How many items are taken from the iterator and held back in a vector, instead of being moved
+    /// into the list.
     pub held: usize,
-    /// How many items are in hand after the items that are held back: 0 or 1.
+    /// How many items are in hand, that is, taken from the iterator but stored nowhere: 0 or 1.
     pub in_hand: usize,
-    /// How often the iterator returns `None`: at most once.
+    /// How often the iterator returns `None`: once or never.
     pub ends: usize,
     /// How often `size_hint` is called.
     pub hints: u64,
 }
 
 impl Ending {
-    /// Returns the ending of a call that fails after `placed` items, with `in_hand` more items in
-    /// hand.
+    /// Returns the ending of a call that fails after it has moved `placed` items into the list.
+    /// `in_hand` items (0 or 1) are then in hand.
     pub fn refused(verdict: Verdict, placed: usize, in_hand: usize) -> Ending {
         Ending {
             verdict,
@@ -66,7 +69,8 @@ impl Ending {
         }
     }
 
-    /// Returns the ending of a call that moves all `placed` items into the list.
+    /// Returns the ending of a call that succeeds. It moves all items of the iterator, which are
+    /// `placed` items, into the list.
     pub fn done(placed: usize) -> Ending {
         Ending {
             verdict: Verdict::Done,
@@ -86,9 +90,9 @@ impl Ending {
     }
 }
 
-/// Returns how a call that appends `count` items must end, and updates the reference list. The call
-/// first grows the list once, for the size hint, to the capacity `hinted`. Then the list grows
-/// whenever there is no room for an item.
+/// Returns how a call that appends `count` items must end, and makes the same change to
+/// `case.items`. The call first grows the list to the capacity `hinted`, because of the size hint.
+/// Then it grows the list whenever there is no room for the next item.
 pub fn fill<T: Sample, G: Ruled, R: Abort>(
     rt: &R,
     case: &mut Case<T, G>,
@@ -112,8 +116,8 @@ pub fn fill<T: Sample, G: Ruled, R: Abort>(
     Ending::done(count)
 }
 
-/// Returns the numbers of `count` new items, in the order in which the iterator yields them. The
-/// first `before` items are left out.
+/// Returns the numbers of the `count` items that the iterator yields after its first `before`
+/// items, in order.
 pub fn coming<R: Abort>(
     rt: &R,
     ledger: &'static Ledger,
@@ -128,7 +132,7 @@ pub fn coming<R: Abort>(
     numbers
 }
 
-/// Asserts that `next` and `size_hint` of the iterator were called as often as they must be.
+/// Asserts that the call called `next` and `size_hint` of the iterator as often as `ending` says.
 pub fn assert_iterator_calls<T: Sample, G: Ruled, R: Abort>(
     rt: &R,
     case: &Case<T, G>,
@@ -145,8 +149,8 @@ pub fn assert_iterator_calls<T: Sample, G: Ruled, R: Abort>(
     );
 }
 
-/// Asserts that an error returns the item in hand, and the items that were not taken from the
-/// iterator. Together with the items that were placed or held back, they are all `count` items.
+/// Asserts that a failed call returned the item in hand, if `ending` has one, and the iterator with
+/// all items that were not taken from it. The iterator had `count` items at first.
 pub fn back<T: Sample, G: Ruled, R: Abort>(
     rt: &R,
     case: &Case<T, G>,
@@ -166,8 +170,8 @@ pub fn back<T: Sample, G: Ruled, R: Abort>(
     case.assert_items(rt, items.as_slice(), numbers.as_slice());
 }
 
-/// Returns an iterator over `count` items, whose numbers descend from `FRESH`, and whose size hint
-/// has this lower bound.
+/// Returns an iterator over `count` items, which are made from `FRESH` and the next lower numbers.
+/// The lower bound of its size hint is `lower`.
 pub fn claims<T: Sample, G: Ruled, R: Abort>(
     rt: &R,
     case: &Case<T, G>,
@@ -178,8 +182,8 @@ pub fn claims<T: Sample, G: Ruled, R: Abort>(
     Claims::new(source(rt, case.ledger, last, count), lower, case.ledger)
 }
 
-/// Calls `extend` with each tried number of items and each size hint. A failed call must return the
-/// items that are not in the list.
+/// Calls `extend` with each tried number of items and each tried size hint. A failed call must
+/// return all items that it did not append.
 pub struct Extend {}
 
 impl<T: Sample, G: Ruled> Call<T, G> for Extend {
@@ -206,7 +210,8 @@ impl<T: Sample, G: Ruled> Call<T, G> for Extend {
     }
 }
 
-/// Calls `extend` of the trait `Extend` of `std`, which drops the items that it does not append.
+/// Calls the method `extend` of the trait `Extend` of `std`. If it fails, it drops the items that
+/// it did not append.
 pub struct ExtendAsTrait {}
 
 impl<T: Sample, G: Ruled> Call<T, G> for ExtendAsTrait {
@@ -227,7 +232,7 @@ impl<T: Sample, G: Ruled> Call<T, G> for ExtendAsTrait {
     }
 }
 
-// Asserts that a call of a trait of `std` succeeded if and only if it had to.
+// Asserts that a call succeeded (`is_done`) if and only if `ending` says that it must succeed.
 fn done<T: Sample, G: Ruled, R: Abort>(rt: &R, case: &Case<T, G>, ending: &Ending, is_done: bool) {
     assert_same(
         rt,
@@ -238,8 +243,8 @@ fn done<T: Sample, G: Ruled, R: Abort>(rt: &R, case: &Case<T, G>, ending: &Endin
     );
 }
 
-// Returns the iterator by which a list is extended, how many items it has, and how the call must
-// end. Returns `None` if the call would take too much memory.
+// Returns the iterator whose items are appended to the list of the case, the number of these items,
+// and how the call must end. Returns `None` if the call would take too much memory.
 fn extension<T: Sample, G: Ruled, R: Abort>(
     rt: &R,
     case: &mut Case<T, G>,
@@ -257,7 +262,8 @@ fn extension<T: Sample, G: Ruled, R: Abort>(
     Some((claims, count, ending))
 }
 
-/// Calls `from_iter` on an iterator with as many items as the shape.
+/// Calls `from_iter` with each tried size hint. The number of items in the iterator is the length
+/// of the shape.
 pub struct FromIter {}
 
 impl<T: Sample> Call<T, Doubling> for FromIter {
@@ -289,8 +295,8 @@ impl<T: Sample> Call<T, Doubling> for FromIter {
     }
 }
 
-/// Calls `collect` of `std`, which calls `from_iter`. On failure, it drops the items that it
-/// collected.
+/// Calls the method `collect` of `std`, which calls `from_iter`. If it fails, it drops the items
+/// that it collected.
 pub struct Collect {}
 
 impl<T: Sample> Call<T, Doubling> for Collect {
@@ -320,9 +326,9 @@ impl<T: Sample> Call<T, Doubling> for Collect {
     }
 }
 
-// Returns an iterator over as many items as the shape has, and how a call must end that makes a
-// list of these items. Returns `None` if the call would take too much memory. First drops the list
-// of the case.
+// Drops the list of the case. Returns an iterator whose number of items is the length of the shape,
+// and how a call must end that makes a list from this iterator. Returns `None` if the call would
+// take too much memory.
 fn collection<T: Sample, R: Abort>(
     rt: &R,
     case: &mut Case<T, Doubling>,

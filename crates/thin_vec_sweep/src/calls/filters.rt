@@ -1,5 +1,5 @@
-//! Sweeps of the calls in which a closure decides which items stay. The closure is called once for
-//! each item, in order, and may overwrite it.
+//! Sweeps of the calls that test items and remove some of them, such as `retain` and `dedup`. Each
+//! closure checks that it is called with the right items, in order.
 use crate::case::{Case, put};
 use crate::closures::{ClosureCalls, PATTERNS, number_at, stays};
 use crate::samples::{Counted, Sample};
@@ -11,7 +11,7 @@ use std::mem;
 use std::process::Abort;
 use thin_testing::Ruled;
 
-// The number of a new item.
+// The number from which a new item is made.
 const FRESH: u64 = 70_000;
 
 /// Calls `retain`. The closure only reads the items.
@@ -38,7 +38,8 @@ impl<T: Sample, G: Ruled> Call<T, G> for Retain {
     }
 }
 
-// Returns the numbers of the items that stay by the pattern.
+// Returns the numbers of the items that stay in a list of `count` items, if the closure returns the
+// results of the pattern with the number `pattern`.
 fn kept<R: Abort>(rt: &R, global: Global, count: usize, pattern: usize) -> Vec<u64, Global> {
     let mut left = Vec::new(global);
     for index in 0..count {
@@ -78,8 +79,9 @@ impl<T: Sample, G: Ruled> Call<T, G> for RetainMut {
     }
 }
 
-// Returns the numbers of the items that are left if each item first moves to the place of the next
-// one, and a new item to the first place. The pattern tells which places stay.
+// Returns the numbers of the items that are left after a sweep of `retain_mut` on `count` items.
+// Its closure moves each item to the next place, and a new item to the first place. `pattern` tells
+// which places are kept.
 fn moved_up<R: Abort>(rt: &R, global: Global, count: usize, pattern: usize) -> Vec<u64, Global> {
     let mut left = Vec::new(global);
     let mut number = FRESH;
@@ -123,8 +125,9 @@ impl<T: Sample, G: Ruled> Call<T, G> for PopIf {
     }
 }
 
-// Replaces the last number by that of the new item, if there is a last number. If `goes` is true,
-// removes the new number again and returns it.
+// Makes the change of `PopIf` to the numbers of the items: replaces the last number, if there is
+// one, by the number of the new item. If `goes` is true, removes the new number again and returns
+// it.
 fn popped<R: Abort>(rt: &R, items: &mut Vec<u64, Global>, goes: bool) -> Option<u64> {
     let _last = items.pop()?;
     if goes {
@@ -165,9 +168,9 @@ impl<T: Sample, G: Ruled> Call<T, G> for DedupBy {
     }
 }
 
-// Returns the numbers of the items that are left if each later item is swapped with the item that
-// was kept last. If the place of the later item stays, the list then ends with the item that was
-// kept last before.
+// Returns the numbers of the items that are left after a sweep of `dedup_by` on `count` items. Its
+// closure swaps each later item with the item that was kept last. If the pattern keeps the place of
+// the later item, the item that was kept last is now in this place.
 fn exchanged<R: Abort>(rt: &R, global: Global, count: usize, pattern: usize) -> Vec<u64, Global> {
     let mut left = Vec::new(global);
     let mut last = number_at(0);
@@ -184,9 +187,9 @@ fn exchanged<R: Abort>(rt: &R, global: Global, count: usize, pattern: usize) -> 
     left
 }
 
-/// Calls `dedup_by_key`. The key of each later item is 1. Next, the closure is called with the item
-/// that was kept last: its key is 1 if the later item is to be removed, and 0 if not. The keys are
-/// counted items.
+/// Calls `dedup_by_key`. For each later item, the closure is called twice. It returns the key 1 for
+/// the later item. For the item that was kept last, it returns 1 if the later item is to be
+/// removed, and 0 otherwise. The ledger counts the keys until they are dropped.
 pub struct DedupByKey {}
 
 impl<T: Sample, G: Ruled> Call<T, G> for DedupByKey {
@@ -222,7 +225,8 @@ impl<T: Sample, G: Ruled> Call<T, G> for DedupByKey {
     }
 }
 
-// Returns the numbers of the items that stay by the pattern. The first item always stays.
+// Returns the numbers of the items that stay in a list of `count` items, if the first item always
+// stays, and `pattern` tells which later items stay.
 fn first_kept<R: Abort>(rt: &R, global: Global, count: usize, pattern: usize) -> Vec<u64, Global> {
     let mut left = Vec::new(global);
     for index in 0..count {

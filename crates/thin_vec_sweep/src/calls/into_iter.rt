@@ -1,4 +1,4 @@
-//! Sweeps of the iterator that a list becomes, with steps from both ends.
+//! Sweeps of `into_iter`, with steps from both ends of the iterator, and of cloning the iterator.
 use crate::assertions::{At, assert_same, assert_same_item, assert_same_items};
 use crate::case::Case;
 use crate::samples::Sample;
@@ -11,11 +11,11 @@ use std::process::Abort;
 use thin_testing::Ruled;
 use thin_vec::Growth;
 
-// The number of a new item.
+// The number from which a new item is made.
 const FRESH: u64 = 70_000;
 
-// Returns how many different numbers of steps are tried. For a list of at most 4 items, they are
-// the numbers from 0 to the length plus 2.
+// Returns how many different numbers of steps are tried. On a list of at most 4 items, each number
+// from 0 to the length plus 2 is tried.
 fn steps(shape: Shape) -> usize {
     shape.indices().saturating_add(2)
 }
@@ -27,8 +27,8 @@ fn step(shape: Shape, number: usize) -> usize {
     }
 }
 
-/// Calls `into_iter`, takes some steps, checks what remains, writes to the first remaining item,
-/// and drops the rest.
+/// Calls `into_iter`, takes some steps, and checks the items that remain. Then swaps the first of
+/// these items with a new item, takes one more step, and drops the rest.
 pub struct IntoIter {}
 
 impl<T: Sample, G: Ruled> Call<T, G> for IntoIter {
@@ -58,8 +58,8 @@ impl<T: Sample, G: Ruled> Call<T, G> for IntoIter {
     }
 }
 
-// Asserts that the items that are made from `numbers` remain, and that `len` and `size_hint` say
-// so.
+// Asserts that the items remaining in `rest` are made from `numbers`, and that `len` and
+// `size_hint` return how many items remain.
 fn remains<T: Sample, A: Allocator, G: Growth, R: Abort>(
     rt: &R,
     at: &At,
@@ -72,7 +72,8 @@ fn remains<T: Sample, A: Allocator, G: Growth, R: Abort>(
     assert_same_items(rt, at, rest.as_slice(), numbers);
 }
 
-// Takes the steps, and returns the numbers of the items that remain.
+// Takes the steps of `walk`, and checks the item that each step yields. Returns the numbers of the
+// items that remain.
 fn step_through<'a, T: Sample, A: Allocator, G: Growth, R: Abort>(
     rt: &R,
     at: &At,
@@ -93,7 +94,8 @@ fn step_through<'a, T: Sample, A: Allocator, G: Growth, R: Abort>(
     remaining.of(numbers)
 }
 
-/// Calls `into_iter`, takes some steps from the front, or from the back, and clones the iterator.
+/// Calls `into_iter`, takes some steps (all from the front, or all from the back), and clones the
+/// iterator.
 pub struct IntoIterClone {}
 
 impl<T: Sample, G: Ruled> Call<T, G> for IntoIterClone {

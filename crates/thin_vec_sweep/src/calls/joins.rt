@@ -6,11 +6,11 @@ use crate::sweep::Call;
 use std::process::Abort;
 use thin_testing::Ruled;
 
-// The number of the first item of the second list.
+// The number from which the first item of the second list is made.
 const FRESH: u64 = 80_000;
 
-/// Calls `append` with a list of each tried number of items, once without spare room and once with
-/// one empty slot.
+/// Calls `append` with second lists of each tried length. Each of these lists is tried without
+/// spare room, and with one empty slot.
 pub struct Append {}
 
 impl<T: Sample, G: Ruled> Call<T, G> for Append {
@@ -35,7 +35,8 @@ impl<T: Sample, G: Ruled> Call<T, G> for Append {
     }
 }
 
-/// Calls `append_reserved` with a list of one item, of two items, and so on, up to the spare room.
+/// Calls `append_reserved` with second lists of one item, of two items, and so on, up to the number
+/// of empty slots in the first list.
 pub struct AppendReserved {}
 
 impl<T: Sample, G: Ruled> Call<T, G> for AppendReserved {
@@ -59,7 +60,7 @@ impl<T: Sample, G: Ruled> Call<T, G> for AppendReserved {
     }
 }
 
-/// Calls `split_off` at each index.
+/// Calls `split_off` at each tried index.
 pub struct SplitOff {}
 
 impl<T: Sample, G: Ruled> Call<T, G> for SplitOff {

@@ -1,5 +1,5 @@
-//! Sweeps of the calls that remove the items of a range, each dropped after some steps, and of the
-//! function `bounds`.
+//! Sweeps of `drain` and `extract_if`, which remove items of a range, and of the function `bounds`.
+//! The iterators that `drain` and `extract_if` return are dropped after some steps.
 use crate::assertions::{At, assert_same, assert_same_item, assert_same_items};
 use crate::case::{Case, put};
 use crate::closures::{number_at, stays};
@@ -13,7 +13,7 @@ use std::process::Abort;
 use thin_testing::Ruled;
 use thin_vec::{Drain, Growth, ThinVec, bounds};
 
-/// Calls `drain` on each range, with each walk over it, and drops the `Drain`.
+/// Calls `drain` on each tried range, takes the steps of each tried walk, and drops the `Drain`.
 pub struct Drained {}
 
 impl<T: Sample, G: Ruled> Call<T, G> for Drained {
@@ -43,7 +43,8 @@ fn outside<R: Abort>(rt: &R, global: Global, range: Ranged, length: usize) -> Ve
     left
 }
 
-// Drains the range, takes some steps, checks what remains, and drops the `Drain`.
+// Calls `drain` on the range, takes some steps, checks the items that remain, and drops the
+// `Drain`.
 fn drain<T: Sample, A: Allocator, G: Growth, R: Abort>(
     rt: &R,
     at: &At,
@@ -61,8 +62,8 @@ fn drain<T: Sample, A: Allocator, G: Growth, R: Abort>(
     remains(rt, at, &drain, numbers);
 }
 
-// Asserts that the items that are made from `numbers` remain, and that `len` and `size_hint` say
-// so.
+// Asserts that the items remaining in `drain` are made from `numbers`, and that `len` and
+// `size_hint` return how many items remain.
 fn remains<T: Sample, A: Allocator, G: Growth, R: Abort>(
     rt: &R,
     at: &At,
@@ -75,7 +76,8 @@ fn remains<T: Sample, A: Allocator, G: Growth, R: Abort>(
     assert_same_items(rt, at, drain.as_slice(), numbers);
 }
 
-// Takes the steps, and returns the numbers of the items that remain.
+// Takes the steps of `walk`, and checks the item that each step yields. Returns the numbers of the
+// items that remain.
 fn step_through<'a, T: Sample, A: Allocator, G: Growth, R: Abort>(
     rt: &R,
     at: &At,
@@ -96,12 +98,12 @@ fn step_through<'a, T: Sample, A: Allocator, G: Growth, R: Abort>(
     remaining.of(numbers)
 }
 
-// For each k from 0 to 6: how many cases there are, one for each number of calls from 0 to k + 1
-// and each pattern of what the closure returns for k items.
+// For each k from 0 to 6: the number of cases of `extract_if` on a range of k items. Each number of
+// calls of `next` from 0 to k + 1 is tried with each pattern of the closure's results.
 const EXTRACTIONS: Cases = [2, 6, 16, 40, 96, 224, 512];
 
-/// Calls `extract_if` on each range, with each pattern of what the closure returns, and drops the
-/// `ExtractIf` after each number of calls of `next`.
+/// Calls `extract_if` on each tried range, with each tried pattern of the closure's results. The
+/// `ExtractIf` is dropped after each tried number of calls of `next`.
 pub struct Extracted {}
 
 impl<T: Sample, G: Ruled> Call<T, G> for Extracted {
@@ -121,23 +123,23 @@ impl<T: Sample, G: Ruled> Call<T, G> for Extracted {
     }
 }
 
-// What an extraction must do.
+// One case of `extract_if`: the calls that are made, and the results that they must have.
 #[derive(Drop)]
 struct Extraction {
     // How often `next` is called.
     calls: usize,
-    // The number of the pattern of what the closure returns.
+    // The number of the pattern of the closure's results.
     pattern: usize,
-    // How often the closure is called.
+    // How often the closure must be called.
     asked: usize,
-    // The number of each item that is yielded.
+    // The numbers of the items that `next` must yield.
     given: Vec<u64, Global>,
-    // The number of each item that the list has afterwards.
+    // The numbers of the items that the list must have after the `ExtractIf` is dropped.
     left: Vec<u64, Global>,
 }
 
 impl Extraction {
-    // Returns what an extraction must do on a list of `length` items.
+    // Returns the case of `extract_if` that `range` selects, on a list of `length` items.
     fn new<R: Abort>(rt: &R, global: Global, length: usize, range: Ranged) -> Extraction {
         let width = range.width();
         let (calls, pattern) = calls_and_pattern(width, range.number);
@@ -167,8 +169,8 @@ impl Extraction {
     }
 }
 
-// Returns how many calls of `next` are made on `width` items, and the number of the closure's
-// pattern.
+// Returns how many calls of `next` are made in the case `number` on a range of `width` items, and
+// the number of the pattern of the closure's results.
 fn calls_and_pattern(width: usize, number: usize) -> (usize, usize) {
     if width >= EXTRACTIONS.len() {
         return (some_steps(width, number % 5), number / 5);
@@ -180,8 +182,8 @@ fn calls_and_pattern(width: usize, number: usize) -> (usize, usize) {
     (number % calls, number / calls)
 }
 
-// Makes some calls of `next`, and drops the `ExtractIf`. If the closure is called with an item out
-// of turn, that item stays, whatever the pattern says.
+// Calls `extract_if`, calls `next` as often as `wanted` says, and checks each item that is yielded.
+// If the closure is called with an item out of turn, it keeps this item, whatever the pattern says.
 fn extract<T: Sample, A: Allocator, G: Growth, R: Abort>(
     rt: &R,
     at: &At,
@@ -211,11 +213,12 @@ fn extract<T: Sample, A: Allocator, G: Growth, R: Abort>(
     assert_same(rt, at, "hint", extract.size_hint(), (0, Some(left)));
 }
 
-// How many bounds are tried: `Unbounded`, and 9 places, each as `Included` and as `Excluded`.
+// How many bounds are tried: `Unbounded`, and each of 9 numbers both as `Included` and as
+// `Excluded`.
 const BOUNDS: usize = 19;
 
-/// Calls `bounds` with bounds at each place of a short list, past its end, and at the greatest
-/// numbers.
+/// Calls `bounds` with each pair of tried bounds. The bounds are at the numbers from 0 to 4, at the
+/// length and one past it, and at the two greatest numbers.
 pub struct Bounds {}
 
 impl<T: Sample, G: Ruled> Call<T, G> for Bounds {
@@ -238,7 +241,7 @@ impl<T: Sample, G: Ruled> Call<T, G> for Bounds {
     }
 }
 
-// Returns the bound with the number `number`, for a list of `length` items.
+// Returns the tried bound with the number `number`, for a list of `length` items.
 fn bound(number: usize, length: usize) -> Bound<usize> {
     let place = match number / 2 {
         5 => length,
@@ -254,8 +257,8 @@ fn bound(number: usize, length: usize) -> Bound<usize> {
     }
 }
 
-// Returns the range that `bounds` must return. No list has `usize::MAX` items, so a sum may
-// saturate there.
+// Returns the range that `bounds` must return for these two bounds. The additions may saturate,
+// because no list has `usize::MAX` items.
 fn between(start: Bound<usize>, end: Bound<usize>, length: usize) -> Option<(usize, usize)> {
     let first = match start {
         Bound::Included(place) => place,

@@ -9,7 +9,7 @@ use std::mem;
 use std::process::Abort;
 use thin_testing::Ruled;
 
-// The number of a new item.
+// The number from which a new item is made.
 const FRESH: u64 = 70_000;
 
 /// Calls `len`, `is_empty`, `has_capacity` and `allocator`.
@@ -30,7 +30,7 @@ impl<T: Sample, G: Ruled> Call<T, G> for Read {
     }
 }
 
-/// Reads each item by its index.
+/// Reads the item at each tried index, by `list[index]`.
 pub struct Index {}
 
 impl<T: Sample, G: Ruled> Call<T, G> for Index {
@@ -82,7 +82,7 @@ fn difference<T: Sample, G: Ruled>(list: &List<T, G>, numbers: &[u64]) -> Option
     }
 }
 
-/// Calls `as_mut_slice`, and swaps one item through the slice.
+/// Calls `as_mut_slice`, and swaps one item of the slice with a new item.
 pub struct AsMutSlice {}
 
 impl<T: Sample, G: Ruled> Call<T, G> for AsMutSlice {
@@ -129,8 +129,8 @@ impl<T: Sample, G: Ruled> Call<T, G> for IndexMut {
     }
 }
 
-/// Calls `get_mut` with each index, with the length, and with `usize::MAX`. If there is an item,
-/// swaps it.
+/// Calls `get_mut` with each tried index (one of them is the length) and with `usize::MAX`. If the
+/// call returns an item, swaps it with a new item.
 pub struct GetMut {}
 
 impl<T: Sample, G: Ruled> Call<T, G> for GetMut {
@@ -163,7 +163,8 @@ impl<T: Sample, G: Ruled> Call<T, G> for GetMut {
     }
 }
 
-/// Iterates over `&mut list`, and swaps each item into the place of the next one.
+/// Iterates over `&mut list`. Swaps each item into the place of the next one, and a new item into
+/// the first place.
 pub struct IterateMut {}
 
 impl<T: Sample, G: Ruled> Call<T, G> for IterateMut {

@@ -7,18 +7,18 @@ use crate::sweep::Call;
 use std::process::Abort;
 use thin_testing::Ruled;
 
-// The number of the first new item.
+// The number from which the first new item is made.
 const FRESH: u64 = 80_000;
 
-// How many counts of new items are tried for each range.
+// How many different numbers of new items are tried for each range.
 const COUNTS: usize = 7;
 
 // On lists of at most 6 items, each range is replaced by each tried number of new items.
 const EACH_COUNT: Cases = [COUNTS; 7];
 
-// Returns how many new items replace the range: more than the range has, none, one, or about as
-// many as the range has. For a list of more than 40 items, only the first two counts are tried, and
-// both make the list longer.
+// Returns how many new items replace the range in a case. Seven numbers are tried, from 0 to the
+// length of the range plus 9. On a list of more than 40 items, only the two greatest of these
+// numbers are tried. Both make the list longer.
 fn count_for(range: Ranged) -> usize {
     let width = range.width();
     match range.number % COUNTS {
@@ -32,7 +32,7 @@ fn count_for(range: Ranged) -> usize {
     }
 }
 
-// Replaces the range in the reference by `count` numbers from `FRESH` on, if the call did not fail.
+// If the call succeeded, replaces the range in `case.items` by the `count` numbers from `FRESH` on.
 fn replaced<T: Sample, G: Ruled, R: Abort>(
     rt: &R,
     case: &mut Case<T, G>,
@@ -111,7 +111,8 @@ impl<T: Sample + Copy, G: Ruled> Call<T, G> for ReplaceRangeFromCopies {
     }
 }
 
-/// Calls `replace_range_from_list`, which moves the items of another list without spare room.
+/// Calls `replace_range_from_list`, which moves the items of another list into the range. The other
+/// list has no spare room before the call.
 pub struct ReplaceRangeFromList {}
 
 impl<T: Sample, G: Ruled> Call<T, G> for ReplaceRangeFromList {

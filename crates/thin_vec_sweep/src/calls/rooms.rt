@@ -54,7 +54,7 @@ impl<T: Sample, G: Ruled> Call<T, G> for ReserveExact {
     }
 }
 
-/// Calls `shrink_to` with each index, with the length plus one, with the capacity, and with
+/// Calls `shrink_to` with each tried index, with the length plus one, with the capacity, and with
 /// `usize::MAX`.
 pub struct ShrinkTo {}
 
@@ -96,12 +96,12 @@ impl<T: Sample, G: Ruled> Call<T, G> for ShrinkToFit {
     }
 }
 
-// How many great numbers are tried.
+// How many great numbers of additional items are tried.
 const GREAT: usize = 6;
 
-// Returns for how many more items room is reserved. The last arguments are great numbers: the first
-// makes the capacity the greatest that fits, the second exceeds it by one, and the others are
-// greater.
+// Returns the number of additional items for which room is reserved. The last `GREAT` arguments
+// stand for great numbers: the first of these numbers makes the capacity the greatest that fits,
+// and the second makes the capacity too great by one.
 fn additional<T: Sample>(shape: Shape, argument: usize) -> usize {
     let most = T::LIMIT.saturating_sub(shape.length);
     match argument.checked_sub(shape.counts()) {

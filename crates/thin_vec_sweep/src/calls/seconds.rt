@@ -9,7 +9,8 @@ use std::process::Abort;
 use thin_testing::{Refusing, Ruled};
 use thin_vec::{Doubling, ThinVec, ThinVecError};
 
-/// A call that makes a second list of the items of a list of `T` under the growth rule `G`.
+/// A call that makes a second list with the items of a first list. Both lists have items of type
+/// `T` and the growth rule `G`.
 pub trait MakesSecond<T: Sample, G: Ruled> {
     /// The name of the call in the message of a failed assertion.
     const NAME: &'static str;
@@ -17,14 +18,14 @@ pub trait MakesSecond<T: Sample, G: Ruled> {
     /// Whether the call clones each item.
     const CLONES: bool = false;
 
-    /// Makes the call, with this allocator.
+    /// Makes the call on `list`. If the call takes an allocator, passes `alloc` to it.
     fn second(
         list: &List<T, G>,
         alloc: &'static Refusing<Global>,
     ) -> Result<List<T, G>, ThinVecError>;
 }
 
-/// Makes the call `C`. The second list must have no spare room.
+/// Makes the call `C`, and checks that the second list has the same items and no spare room.
 pub struct MakeSecond<C> {
     call: PhantomData<C>,
 }
@@ -41,7 +42,7 @@ impl<T: Sample, G: Ruled, C: MakesSecond<T, G>> Call<T, G> for MakeSecond<C> {
     }
 }
 
-/// Calls the method `clone` of the list, with an allocator.
+/// Calls the list's own method `clone`, which takes an allocator.
 pub struct CloneOn {}
 
 impl<T: Sample, G: Ruled> MakesSecond<T, G> for CloneOn {
@@ -76,7 +77,7 @@ impl<T: Sample, G: Ruled> MakesSecond<T, G> for CloneAsTrait {
     }
 }
 
-/// Calls `clone_copies`, which copies the items as one run of bytes, with an allocator.
+/// Calls `clone_copies`, which takes an allocator, and copies the items as one run of bytes.
 pub struct CloneCopies {}
 
 impl<T: Sample + Copy, G: Ruled> MakesSecond<T, G> for CloneCopies {

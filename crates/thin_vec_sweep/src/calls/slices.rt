@@ -1,5 +1,5 @@
-//! Sweeps of the calls that append the items of a slice: as clones, as copies, as bytes that are
-//! written, and to spare room.
+//! Sweeps of the calls that append the items of a slice: as clones, as copies, to spare room, or as
+//! bytes that are written.
 use crate::assertions::{At, assert_same};
 use crate::case::{Case, List, source};
 use crate::samples::Sample;
@@ -11,7 +11,7 @@ use std::process::Abort;
 use thin_testing::Ruled;
 use thin_vec::ThinVecError;
 
-// The number of the first new item.
+// The number from which the first new item is made.
 const FRESH: u64 = 80_000;
 
 /// A call that appends the items of a slice to a list of `T` under the growth rule `G`.
@@ -34,8 +34,8 @@ pub trait AppendsSlice<T: Sample, G: Ruled> {
     ) -> Result<(), ThinVecError>;
 }
 
-/// Makes the call `C` with each tried number of items. If `C` requires spare room, makes it with
-/// one item, with two items, and so on, up to the spare room.
+/// Makes the call `C` with slices of each tried length. If `C` requires spare room, the tried
+/// lengths are 1, 2, and so on, up to the number of empty slots.
 pub struct AppendSlice<C> {
     call: PhantomData<C>,
 }
@@ -147,7 +147,7 @@ impl<T: Sample + Copy, G: Ruled> AppendsSlice<T, G> for ExtendFromCopiesReserved
     }
 }
 
-/// Calls `write`, which appends all bytes that it is passed.
+/// Calls `write`, which must append all bytes of the slice.
 pub struct WriteSome {}
 
 impl<G: Ruled> AppendsSlice<u8, G> for WriteSome {
@@ -190,8 +190,9 @@ impl<G: Ruled> AppendsSlice<u8, G> for WriteAll {
     }
 }
 
-// Returns `OutOfMemory` as the cause of a failed write, and asserts that the error has this kind.
-// An `io::Error` has this kind for both causes, `OutOfMemory` and `CapacityOverflow`.
+// Asserts that the error of a failed write has the kind `OutOfMemory`, and returns the cause
+// `OutOfMemory`. An error with the cause `CapacityOverflow` has the same kind, so this function
+// cannot distinguish the two causes.
 fn cause<R: Abort>(rt: &R, at: &At, error: &Error) -> ThinVecError {
     let kind = error.kind() == ErrorKind::OutOfMemory;
     assert_same(rt, at, "the error's kind is OutOfMemory", kind, true);

@@ -1,5 +1,5 @@
-//! Sweeps of `splice`, finished after some steps. The size hint of the iterator is too small,
-//! exact, too great, or greater than every capacity.
+//! Sweeps of `splice`, followed by some steps and by `finish`. The size hint of the iterator is too
+//! small, exact, too great, or greater than every capacity.
 ghost use Rattle.std.specs.Iterator.{IsFinite};
 ghost use Rattle.std.specs.Prelude.{◌≤◌, length};
 ghost use Rattle.thin_vec.specs.Edits.Splice.{SpliceKeeps};
@@ -21,24 +21,24 @@ use thin_vec::{Growth, Splice, SpliceRefused, ThinVec};
 // How many size hints are tried.
 const HINTS: usize = 5;
 
-// How many fillings are tried for a list of at most 6 items: 0 to 5 new items, each with each size
-// hint.
+// How many fillings are tried on a list of at most 6 items. A filling is a number of new items,
+// from 0 to 5, together with a size hint.
 const FILLS: usize = 30;
 
-// How many walks over the range are tried with each filling: no step, one from the front, and one
-// from the back.
+// How many short walks over the range are tried with each filling: no step, one step from the
+// front, and one step from the back.
 const SHORT_WALKS: usize = 3;
 
-// For each k from 0 to 6: how many cases there are of a range of k items. Each filling is tried
-// after each short walk, and each further walk with one filling. If the range is empty, only a few
-// cases take a step.
+// For each k from 0 to 6: the number of cases of `splice` on a range of k items. Each short walk is
+// tried with each filling, and each longer walk with one filling. On an empty range, only 3 cases
+// take a step.
 const AFTER_STEPS: Cases = [33, 94, 102, 118, 150, 214, 342];
 
-// Each filling is tried, without a step before it.
+// The number of cases of `splice` on a range if no steps are taken: one case for each filling.
 const AT_ONCE: Cases = [FILLS; 7];
 
-// Returns how many cases of each range are tried. Spare room matters only to the filling, so lists
-// with spare room are tried without steps.
+// Returns how many cases are tried on a range, for each length of the range. Spare room matters
+// only to `finish`, so no steps are taken on lists with spare room.
 fn cases(shape: Shape) -> Cases {
     if shape.spare == 0 {
         AFTER_STEPS
@@ -47,11 +47,11 @@ fn cases(shape: Shape) -> Cases {
     }
 }
 
-// What a splice is made to do.
+// One case of `splice`: the range, the steps that are taken, and the iterator of new items.
 #[derive(Drop)]
 struct Plan {
     range: Ranged,
-    // The number of each item of the range.
+    // The numbers of the items of the range.
     numbers: Vec<u64, Global>,
     // The steps before `finish`.
     walk: Walk,
@@ -62,8 +62,8 @@ struct Plan {
 }
 
 impl Plan {
-    // Returns the plan for this argument, on the list of a case. `finish` reads the size hint after
-    // it has filled the places of the range: one of the hints is exact at that moment.
+    // Returns the plan of the case with this argument. One of the tried size hints is exact when
+    // `finish` reads it, which is after the places of the range are filled.
     fn new<T: Sample, G: Ruled, R: Abort>(rt: &R, case: &Case<T, G>, argument: usize) -> Plan {
         let shape = case.at.shape;
         let range = shape.ranged_case(&cases(shape), argument);
@@ -88,7 +88,7 @@ impl Plan {
     }
 }
 
-// Returns the number of the walk that precedes a filling.
+// Returns the number of the walk in the case `number` on a range of a list of at most 6 items.
 fn few_steps(number: usize) -> usize {
     let crossed = SHORT_WALKS.saturating_mul(FILLS);
     match number.checked_sub(crossed) {
@@ -97,8 +97,8 @@ fn few_steps(number: usize) -> usize {
     }
 }
 
-// Returns how many new items there are on a longer list: far more than the range has, as many as
-// the range has, one less, or none.
+// Returns how many new items are tried on a list of more than 6 items: more than twice the length
+// of the range, exactly this length, one less, or none.
 fn many(width: usize, number: usize) -> usize {
     match number {
         0 => width.saturating_mul(2).saturating_add(9),
@@ -108,8 +108,8 @@ fn many(width: usize, number: usize) -> usize {
     }
 }
 
-// Returns the size hint with the number `number`. When `finish` reads it, `left` of `all` items are
-// not yet yielded.
+// Returns the tried size hint with the number `number`. When `finish` reads the size hint, the
+// iterator has not yet yielded `left` of its `all` items.
 fn hint(number: usize, left: usize, all: usize) -> usize {
     match number {
         0 => 0,
@@ -120,8 +120,8 @@ fn hint(number: usize, left: usize, all: usize) -> usize {
     }
 }
 
-// Returns how `finish` must end, and updates the reference. If no items are after the range,
-// `finish` does the same as `extend`.
+// Returns how `finish` must end, and makes the same change to `case.items`. If there are no items
+// after the range, `finish` does the same as `extend`.
 fn finish<T: Sample, G: Ruled, R: Abort>(rt: &R, case: &mut Case<T, G>, plan: &Plan) -> Ending {
     let range = plan.range;
     let length = case.items.len();
@@ -140,8 +140,7 @@ fn finish<T: Sample, G: Ruled, R: Abort>(rt: &R, case: &mut Case<T, G>, plan: &P
     ending
 }
 
-// Returns how `finish` must end if there are items after the range. The reference still has all its
-// old items.
+// Returns how `finish` must end if there are items after the range. Leaves `case.items` unchanged.
 fn fill_between<T: Sample, G: Ruled>(case: &mut Case<T, G>, width: usize, plan: &Plan) -> Ending {
     let mut ending = Ending::done(plan.count);
     if plan.count < width {
@@ -173,9 +172,9 @@ fn fill_between<T: Sample, G: Ruled>(case: &mut Case<T, G>, width: usize, plan: 
     ending
 }
 
-// Returns how many of `count` items a `Vec` that is empty at first can hold. The `Vec` first
-// requests 4 places, or 8 if an item has at most one byte, and then each time twice as many as it
-// has.
+// Returns how many of `count` items can be pushed to a new `Vec` before one of its requests is
+// refused. The first request is for 4 items, or for 8 if an item takes at most one byte. Each
+// further request doubles the capacity.
 fn hold<T: Sample, G: Ruled>(case: &mut Case<T, G>, count: usize) -> usize {
     let first = if T::SIZE <= 1 { 8 } else { 4 };
     let mut room: usize = 0;
@@ -190,8 +189,8 @@ fn hold<T: Sample, G: Ruled>(case: &mut Case<T, G>, count: usize) -> usize {
     count
 }
 
-/// Calls `splice` on each range, with each tried number of new items and each size hint, after some
-/// steps.
+/// Calls `splice` on each tried range, takes some steps, and calls `finish`. Each tried number of
+/// new items is combined with each tried size hint.
 pub struct Spliced {}
 
 impl<T: Sample, G: Ruled> Call<T, G> for Spliced {
@@ -221,17 +220,18 @@ impl<T: Sample, G: Ruled> Call<T, G> for Spliced {
     }
 }
 
-// What the steps yielded, and what remained after them.
+// The result of the steps: which step yielded a wrong item, and how many items remain.
 #[derive(Drop, Debug, PartialEq)]
 struct Walked {
-    // The first step that did not yield the item that it must yield.
+    // The number of the first step that yielded a wrong item, or `None` if there is no such step.
     wrong: Option<usize>,
-    // How many items of the range remain, by `len` and by `size_hint`.
+    // How many items of the range remain: the results of `len` and of `size_hint`.
     remaining: (usize, (usize, Option<usize>)),
 }
 
 impl Walked {
-    // Returns what the steps must yield, and what must remain.
+    // Returns the result that the steps must have: no wrong item, and the right number of items
+    // that remain.
     fn due(plan: &Plan) -> Walked {
         let width = plan.numbers.len();
         let count = width.saturating_sub(plan.walk.steps);
@@ -242,7 +242,7 @@ impl Walked {
     }
 }
 
-// Splices the range, takes some steps, and finishes.
+// Calls `splice` on the range, takes the steps of the plan, and calls `finish`.
 fn splice<T: Sample, A: Allocator, G: Growth, I: Iterator<Item = T>>(
     list: &mut ThinVec<T, A, G>,
     plan: &Plan,
@@ -259,7 +259,7 @@ fn splice<T: Sample, A: Allocator, G: Growth, I: Iterator<Item = T>>(
     (walked, splice.finish(alloc))
 }
 
-// Takes the steps, and returns what they yielded.
+// Takes the steps of the plan. Returns which step yielded a wrong item, and how many items remain.
 fn walk<T: Sample, A: Allocator, G: Growth, I>(
     splice: &mut Splice<'_, I, T, A, G>,
     plan: &Plan,
@@ -286,8 +286,8 @@ fn walk<T: Sample, A: Allocator, G: Growth, I>(
     }
 }
 
-// Asserts what a failed `finish` returned: the items held back, the item in hand, and the rest of
-// `count` items.
+// Asserts that a failed `finish` returned the cause, the items held back, the item in hand, and the
+// rest of the iterator, which had `count` items at first.
 fn given_back<T: Sample, A: Allocator, G: Ruled, R: Abort>(
     rt: &R,
     case: &Case<T, G>,

@@ -1,5 +1,6 @@
-//! Tests of the commands: that the random runs get every reply of every command, that two runs have
-//! the results that were computed by hand, and that each difference from the model is found.
+//! Tests of the commands: that random runs get every possible reply to every command, that two runs
+//! have the results that were computed by hand, and that each kind of difference from the model is
+//! detected.
 use crate::runs::compared::both;
 use crate::runs::judges::{EACH_SECOND, Evens};
 use crate::runs::model::Model;
@@ -13,7 +14,8 @@ use thin_runner::judge::Judge;
 use thin_testing::{Refusing, Ruled};
 use thin_vec::{Doubling, Growth, PowerBytes, ThinVec, ThinVecError};
 
-// Every reply of every command, with the cause of the failure, if any.
+// Every reply that a command can have. Each line names the command, the form of the reply, and the
+// cause of the failure, if any.
 const REPLIES: &str = "\
     Push Done None\n\
     Push Returned Some(OutOfMemory)\n\
@@ -81,7 +83,7 @@ fn has(replies: &[Replied], one: Replied) -> bool {
     false
 }
 
-// Appends the replies in `done` to `replies`, except those that are already in it.
+// Appends each reply in `done` to `replies`, unless `replies` already has it.
 fn put_new(replies: &mut Vec<Replied, Global>, done: &[Done]) -> Result<(), AllocError> {
     for (order, _, form, cause) in done {
         let one = (order.kind, *form, *cause);
@@ -116,7 +118,7 @@ fn random_runs_get_each_reply_of_each_command(rt: HostRuntime) {
     assert_eq!(rt; replies.len(), REPLIES.lines().count());
 }
 
-// Returns an order that has no steps.
+// Returns an order (a command as plain numbers) that has no steps.
 const fn plain(kind: Kind, at: usize, to: usize, count: usize, lower: usize, number: u64) -> Order {
     Order {
         kind,
@@ -129,7 +131,8 @@ const fn plain(kind: Kind, at: usize, to: usize, count: usize, lower: usize, num
     }
 }
 
-// Returns the orders of a run that was computed by hand. Its judge is `Evens`.
+// Returns the orders (commands as plain numbers) of a run that was computed by hand with the judge
+// `Evens`.
 fn worked_orders() -> [Order; 6] {
     let walked = Order {
         steps: 1,
@@ -155,8 +158,8 @@ const WORKED: [(&[u64], usize); 6] = [
     (&[1, 9], 6),
 ];
 
-// Returns the orders of a run under the growth rule `PowerBytes`. A block of 32, 64 or 128 bytes
-// has room for 4, 12 or 28 items of 4 bytes after its header.
+// Returns the orders of a run that was computed by hand under the growth rule `PowerBytes`. After
+// its header, a block of 32, 64 or 128 bytes has room for 4, 12 or 28 items of 4 bytes.
 fn worked_powers() -> [Order; 9] {
     [
         plain(Kind::Push, 0, 0, 0, 0, 1),
@@ -183,7 +186,7 @@ const WORKED_POWERS: [(&[u32], usize); 9] = [
     (&[1, 7, 8, 9, 6], 20),
 ];
 
-// Returns whether the list has the items and the capacity that were computed.
+// Returns whether the list has the items and the capacity in `worked`, which were computed by hand.
 fn is_worked<T: Eq, A: Allocator, G: Growth>(
     list: &ThinVec<T, A, G>,
     worked: &(&[T], usize),
@@ -192,8 +195,8 @@ fn is_worked<T: Eq, A: Allocator, G: Growth>(
     list.as_slice() == *items && list.capacity() == *capacity
 }
 
-// Runs the commands by the runner and by the model. Asserts that both agree, and that the list has
-// the computed items and capacity after each command.
+// Runs the commands both by the runner and by the model. Asserts after each command that the two
+// agree, and that the list has the items and the capacity in `worked`.
 fn assert_worked<'a, T: Numbered<Lender<'a>>, G: Ruled, J: Judge<T>, R: Abort>(
     rt: &R,
     alloc: Lender<'a>,
@@ -233,8 +236,8 @@ fn run_under_power_bytes_reaches_states_computed_by_hand(rt: HostRuntime) {
     );
 }
 
-// Runs a command of this kind on an empty list and on `model`. Returns the reply, or `Never` if the
-// two differ.
+// Runs a command of this kind on an empty list and on `model`. Returns the form of the reply, or
+// `Never` if the list and `model` differ in the reply or afterwards.
 fn form_against_model<'a, R: Abort>(
     rt: &R,
     alloc: Lender<'a>,

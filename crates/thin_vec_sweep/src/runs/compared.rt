@@ -10,8 +10,8 @@ use thin_runner::runner::step;
 use thin_testing::Ruled;
 use thin_vec::{ThinVec, ThinVecError};
 
-// Returns whether the number of allocated blocks is that of the list, of the model and of their
-// items.
+// Returns whether the number of allocated blocks is the number of blocks that the list, the model
+// and their items own.
 fn has_its_blocks<'a, T: Numbered<Lender<'a>>, G: Ruled>(
     alloc: Lender<'a>,
     list: &ThinVec<T, Lender<'a>, G>,
@@ -28,8 +28,8 @@ fn has_its_blocks<'a, T: Numbered<Lender<'a>>, G: Ruled>(
     blocks == alloc.blocks()
 }
 
-// Runs a command by the runner, with the request `nth` refused. Returns what the reply shows, and
-// whether the command made this request.
+// Runs a command by the runner, while the allocator refuses the request with the number `nth`, or
+// none if `nth` is 0. Returns what the reply shows, and whether a request was refused.
 fn shown_by_runner<'a, T: Numbered<Lender<'a>>, G: Ruled, J: Judge<T>>(
     alloc: Lender<'a>,
     list: &mut ThinVec<T, Lender<'a>, G>,
@@ -45,9 +45,9 @@ fn shown_by_runner<'a, T: Numbered<Lender<'a>>, G: Ruled, J: Judge<T>>(
     Ok((show(alloc, reply)?, refused))
 }
 
-/// Runs a command both by the runner and by the model, with the request `nth` refused, or none if
-/// `nth` is 0. Returns the form of the reply and the cause of a failure. If the two differ, the
-/// form is `Never`.
+/// Runs a command both by the runner and by the model. The allocator refuses the request with the
+/// number `nth`, or none if `nth` is 0. Returns the form of the reply and the cause of a failure.
+/// If the runner and the model differ, the form is `Never`.
 pub fn both<'a, T: Numbered<Lender<'a>>, G: Ruled, J: Judge<T>>(
     alloc: Lender<'a>,
     list: &mut ThinVec<T, Lender<'a>, G>,

@@ -1,19 +1,19 @@
-//! The judges that decide about the items in the runs.
+//! The judges of the runs. A judge decides which items a command picks, keeps or removes.
 ghost use Rattle.std.specs.Prelude.{◌≡◌, ◌==◌, ◌/◌, ◌%◌};
 
 use std::mem;
 use thin_runner::judge::Judge;
 
-/// A judge that decides by the binary digits of a number, the last digit first. If it compares two
-/// items, it swaps them.
+/// A judge that answers by the binary digits of a number, from the last digit on. When it compares
+/// two items, it also swaps them.
 #[derive(Clone, Copy)]
 pub struct Digits {
     /// The digits that are not yet used.
     pub digits: u64,
 }
 
-/// A judge that picks the first of the items that it is asked about, the third, the fifth, and so
-/// on.
+/// A judge that picks every second item that it tests, beginning with the first. It picks no item
+/// after its 64th test.
 pub const EACH_SECOND: Digits = Digits {
     digits: 0x5555_5555_5555_5555,
 };
@@ -67,9 +67,8 @@ impl<T> Judge<T> for Digits {
     }
 }
 
-/// A judge that picks the even numbers. It also writes to the items: it halves an item if it is
-/// asked whether to keep it, or for its key. If it compares two items, it sets the one that was
-/// kept to 0.
+/// A judge that picks the even numbers. It also writes to the items: `keep` and `key` halve the
+/// item, and `same` sets the item that was kept to 0.
 #[derive(Clone, Copy)]
 pub struct Evens;
 

@@ -1,5 +1,5 @@
-//! Long runs, and a run that fails. They are not compared with the model (the specification written
-//! as a program), because the model would be too slow.
+//! Long runs, and a run that fails. These runs are not compared with the model (the specification
+//! written as a program), which would be too slow for long runs.
 use crate::runs::judges::EACH_SECOND;
 use crate::runs::samples::{Lender, put};
 use std::alloc::Global;
@@ -9,7 +9,7 @@ use thin_runner::runner::{run, step};
 use thin_testing::Refusing;
 use thin_vec::{ThinVec, ThinVecError, thin_vec};
 
-// Returns pushes of the numbers below 5,000.
+// Returns commands that push the numbers below 5,000, in order.
 fn pushes<R: Abort>(rt: &R, alloc: Global) -> Vec<Command<u32, Global>, Global> {
     let mut commands = Vec::new(alloc);
     for item in 0..5000 {
@@ -63,8 +63,8 @@ fn steps<R: Abort>(rt: &R, alloc: Global, count: u32) -> Vec<Step, Global> {
     steps
 }
 
-// Returns the commands that request memory, for one item and for thousands. Before each of them is
-// a `ShrinkToFit`, which leaves no spare room.
+// Returns commands that request memory, for one item or for thousands. Before each of these
+// commands, a `ShrinkToFit` removes the spare room.
 fn long_commands<R: Abort>(rt: &R, alloc: Global) -> Vec<Command<u32, Global>, Global> {
     let many = || numbers(rt, alloc, 6000);
     let mut commands = Vec::new(alloc);
@@ -113,7 +113,7 @@ fn runs_commands_on_thousands_of_items(rt: HostRuntime) {
 // The replies to commands on a list of lists.
 type Replies<'a> = Vec<Reply<ThinVec<u32, Lender<'a>>, Lender<'a>>, Lender<'a>>;
 
-// Returns three pushes. Each one pushes a list of one item.
+// Returns three commands, each of which pushes a list of one item.
 fn pushes_of_lists<'a, R: Abort>(
     rt: &R,
     alloc: Lender<'a>,
@@ -128,7 +128,7 @@ fn pushes_of_lists<'a, R: Abort>(
     commands
 }
 
-// Returns a vector of replies that has the reply to an earlier command.
+// Returns a vector with one reply, which stands for the reply to an earlier command.
 fn earlier_reply<'a, R: Abort>(rt: &R, alloc: Lender<'a>) -> Replies<'a> {
     let mut replies = Vec::with_capacity(alloc, 1).expect(rt, "memory");
     let earlier = Reply::Refused(ThinVecError::CapacityOverflow);
@@ -136,7 +136,7 @@ fn earlier_reply<'a, R: Abort>(rt: &R, alloc: Lender<'a>) -> Replies<'a> {
     replies
 }
 
-// Returns whether `replies` has only the reply to the earlier command.
+// Returns whether `replies` has only the reply that `earlier_reply` makes.
 fn has_earlier_alone(replies: &Replies<'_>) -> bool {
     match replies.as_slice() {
         [left] => left.refusal() == Some(ThinVecError::CapacityOverflow),

@@ -14,11 +14,11 @@ use thin_runner::judge::Judge;
 use thin_testing::Ruled;
 use thin_vec::{ThinVec, ThinVecError};
 
-// The greatest capacity that does not overflow in the model. No test requests a capacity between
-// this number and the true limit of a block.
+// The greatest capacity that the model allows. No test requests a capacity between this number and
+// the true limit of a block.
 const LIMIT: usize = 1_000_000_000_000;
 
-/// A list, as the model has it.
+/// The model of a list: its items and its capacity.
 #[derive(Drop)]
 pub struct Model<T, A: Allocator, G> {
     pub items: Vec<T, A>,
@@ -26,7 +26,7 @@ pub struct Model<T, A: Allocator, G> {
     rule: PhantomData<G>,
 }
 
-// Returns what the steps of an order yield from these items.
+// Returns what the steps in `order` yield if they are taken on an iterator over `items`.
 fn walked<T: Drop, A: Allocator + Copy>(
     alloc: A,
     items: Vec<T, A>,
@@ -44,8 +44,8 @@ fn walked<T: Drop, A: Allocator + Copy>(
     Ok(answers)
 }
 
-// Returns the range that a command replaces in a list of `len` items, as its start and its end, and
-// how many new items replace the range.
+// Returns the start and the end of the range that a command replaces in a list of `len` items, and
+// how many new items replace this range.
 fn range_of(len: usize, order: Order) -> (usize, usize, usize) {
     let at = order.at;
     match order.kind {
@@ -61,7 +61,7 @@ fn range_of(len: usize, order: Order) -> (usize, usize, usize) {
     }
 }
 
-// Returns the reply of a command that replaces a range. The old items of the range are in `out`.
+// Returns the reply to a command that has replaced a range. `out` has the old items of the range.
 fn shown_out<T: Drop, A: Allocator + Copy>(
     alloc: A,
     order: Order,
@@ -83,8 +83,8 @@ fn shown_out<T: Drop, A: Allocator + Copy>(
     }
 }
 
-// Returns the reply of a command that reserves room: a success if `made` is true, and otherwise a
-// capacity overflow.
+// Returns the reply to a command that makes room: a success if `made` is true, and a capacity
+// overflow otherwise.
 fn shown_room<T: Drop, A: Allocator + Copy>(alloc: A, made: bool) -> Shown<T, A> {
     if made {
         Shown::plain(alloc, Form::Done, None)
@@ -93,8 +93,8 @@ fn shown_room<T: Drop, A: Allocator + Copy>(alloc: A, made: bool) -> Shown<T, A>
     }
 }
 
-// Returns the reply of a command that tests items and removes some of them. The removed items are
-// in `answers`.
+// Returns the reply to a command that has tested items and removed some of them. `answers` has the
+// removed items.
 fn shown_sifted<T: Drop, A: Allocator + Copy>(
     alloc: A,
     order: Order,
@@ -110,7 +110,8 @@ fn shown_sifted<T: Drop, A: Allocator + Copy>(
     Ok(Shown::with_answers(Form::Answers, alloc, answers))
 }
 
-// Returns whether an item stays. Each kind of command asks the judge by another method.
+// Asks the judge whether an item stays. Which method of the judge is called depends on the kind of
+// the command.
 fn stays<T, J: Judge<T>>(judge: &mut J, kind: Kind, item: &mut T) -> bool {
     match kind {
         Kind::Retain => judge.look(item),
@@ -119,8 +120,8 @@ fn stays<T, J: Judge<T>>(judge: &mut J, kind: Kind, item: &mut T) -> bool {
     }
 }
 
-// Returns whether a later item is the same as the item that was kept last. Each kind of command
-// compares them in another way.
+// Returns whether a command of this kind finds `later` to be the same as `kept`, the item that was
+// kept last.
 fn is_same<T: Eq, J: Judge<T>>(judge: &mut J, kind: Kind, later: &mut T, kept: &mut T) -> bool {
     match kind {
         Kind::Dedup => *later == *kept,
@@ -151,8 +152,8 @@ impl<T: Numbered<A>, A: Allocator + Copy, G: Ruled> Model<T, A, G> {
         mem::replace(&mut self.items, Vec::new(alloc))
     }
 
-    // Replaces the items from `start` up to `end` by `new`, and returns the old items. The range is
-    // within the list.
+    // Replaces the items from `start` up to `end` by `new`, and returns the replaced items. Fails
+    // if the range is not within the list.
     fn replace(
         &mut self,
         start: usize,
@@ -170,7 +171,7 @@ impl<T: Numbered<A>, A: Allocator + Copy, G: Ruled> Model<T, A, G> {
         Ok(out)
     }
 
-    // Makes room for `want` items in total. Returns whether that succeeded.
+    // Makes room for `want` items in total, and returns whether this succeeded.
     fn make_room(&mut self, want: usize) -> bool {
         if want > self.capacity {
             let capacity = G::expected_capacity(T::SIZE, self.capacity, want);
@@ -182,7 +183,7 @@ impl<T: Numbered<A>, A: Allocator + Copy, G: Ruled> Model<T, A, G> {
         true
     }
 
-    // Runs a command that changes only the capacity. Returns whether that succeeded.
+    // Runs a command that changes only the capacity, and returns whether this succeeded.
     fn change_room(&mut self, order: Order) -> bool {
         let want = self.len().saturating_add(order.lower);
         match order.kind {
@@ -238,7 +239,8 @@ impl<T: Numbered<A>, A: Allocator + Copy, G: Ruled> Model<T, A, G> {
         Ok(Shown::with_items(Form::List, None, alloc, copy, capacity))
     }
 
-    // Appends the item to `answers` if it is tested and does not stay, and otherwise to the list.
+    // Tests the item if `asked` is the kind of a command. Appends the item to `answers` if the test
+    // removes it, and to the list otherwise.
     fn sift_one<J: Judge<T>>(
         &mut self,
         asked: Option<Kind>,
@@ -256,8 +258,8 @@ impl<T: Numbered<A>, A: Allocator + Copy, G: Ruled> Model<T, A, G> {
         }
     }
 
-    // Tests the items by the judge, in order, and removes those that do not stay. `ExtractIf` tests
-    // only the items of its range, until it has removed as many as it asks for.
+    // Lets the judge test the items in order, and removes the items that do not stay. `ExtractIf`
+    // tests only the items of its range, and stops when it has removed `order.count` items.
     fn sift<J: Judge<T>>(
         &mut self,
         alloc: A,
@@ -277,7 +279,8 @@ impl<T: Numbered<A>, A: Allocator + Copy, G: Ruled> Model<T, A, G> {
         shown_sifted(alloc, order, answers)
     }
 
-    // Appends the item to the list, unless it is found to be the same as the last item.
+    // Appends the item to the list, unless the command finds it to be the same as the last item of
+    // the list.
     fn put_other<J: Judge<T>>(
         &mut self,
         kind: Kind,
@@ -346,9 +349,10 @@ impl<T: Numbered<A>, A: Allocator + Copy, G: Ruled> Model<T, A, G> {
         }
     }
 
-    /// Runs a command. The real reply, which is `given`, tells whether a request was refused. If
-    /// the command clones items, `nth` tells which request it was. Returns the form of the reply,
-    /// which is `Never` if the model's reply is not `given`, and the cause of a failure.
+    /// Runs a command on the model, and compares the model's reply with `given`, the reply of the
+    /// runner. `given` tells whether a request was refused; if so, `nth` is the number of this
+    /// request. Returns the form of the reply (`Never` if the two replies differ) and the cause of
+    /// a failure.
     pub fn follow<J: Judge<T>>(
         &mut self,
         alloc: A,

@@ -63,8 +63,8 @@ pub const KINDS: [Kind; 25] = [
     Kind::Splice,
 ];
 
-/// A command as numbers. The command of the runner and that of the model are both made from an
-/// order.
+/// A command described by plain numbers. The command for the runner is made from an order, and the
+/// model runs the order itself.
 #[derive(Clone, Copy, Debug)]
 pub struct Order {
     pub kind: Kind,
@@ -77,14 +77,15 @@ pub struct Order {
     /// The lower bound of a size hint, or how many items are reserved, or the new length of a
     /// resize.
     pub lower: usize,
-    /// How many steps a walk has.
+    /// How many steps are taken over the range.
     pub steps: usize,
-    /// The number of the first item. Its binary digits, the last digit first, are also the steps of
-    /// the walk: the digit 1 is a step from the front.
+    /// The number from which the first item is made. The binary digits of this number, from the
+    /// last digit on, are also the steps over the range: 1 is a step from the front, and 0 is a
+    /// step from the back.
     pub number: u64,
 }
 
-/// Returns the steps of the walk of an order.
+/// Returns the steps that `order` describes.
 pub fn steps_of<A: Allocator>(alloc: A, order: Order) -> Result<Vec<Step, A>, AllocError> {
     let mut steps = Vec::new(alloc);
     let mut digits = order.number;
@@ -100,7 +101,7 @@ pub fn steps_of<A: Allocator>(alloc: A, order: Order) -> Result<Vec<Step, A>, Al
     Ok(steps)
 }
 
-// Returns a list of the items of an order, without spare room.
+// Returns a list of the items that `order` describes, without spare room.
 fn listed<T: Numbered<A>, A: Allocator + Copy, G: Growth>(
     alloc: A,
     order: Order,
@@ -115,7 +116,8 @@ fn listed<T: Numbered<A>, A: Allocator + Copy, G: Growth>(
     }
 }
 
-// Returns the command that `order` describes, which must be one with a single item, `item`.
+// Returns the command that `order` describes. This must be a command with a single item, which is
+// `item`.
 fn with_item<T: Drop, A: Allocator, G: Growth>(order: Order, item: T) -> Command<T, A, G> {
     match order.kind {
         Kind::Insert => Command::Insert(order.at, item),
@@ -125,7 +127,8 @@ fn with_item<T: Drop, A: Allocator, G: Growth>(order: Order, item: T) -> Command
     }
 }
 
-// Returns the command of an order whose command has a vector of items.
+// Returns the command that `order` describes. This must be a command with a vector of items, which
+// is `items`. If it has steps, they are `steps`.
 fn with_items<T: Drop, A: Allocator, G: Growth>(
     order: Order,
     steps: Vec<Step, A>,
@@ -138,7 +141,7 @@ fn with_items<T: Drop, A: Allocator, G: Growth>(
     }
 }
 
-// Returns the command of an order whose command has neither items nor steps.
+// Returns the command that `order` describes. This must be a command without items and steps.
 fn with_none<T, A: Allocator, G: Growth>(order: Order) -> Command<T, A, G> {
     match order.kind {
         Kind::Remove => Command::Remove(order.at),
@@ -160,7 +163,7 @@ fn with_none<T, A: Allocator, G: Growth>(order: Order) -> Command<T, A, G> {
     }
 }
 
-/// Returns the command of an order.
+/// Returns the command that `order` describes.
 pub fn command_of<T: Numbered<A>, A: Allocator + Copy, G: Growth>(
     alloc: A,
     order: Order,

@@ -1,5 +1,5 @@
-//! Random runs. Each command is run by the runner (`step`) and by the model, which is the
-//! specification written as a program, and both results are compared.
+//! Random runs. Each command is run both by the runner (`step`) and by the model, which is the
+//! specification written as a program. The two results are compared.
 use crate::runs::compared::both;
 use crate::runs::judges::{Digits, EACH_SECOND};
 use crate::runs::model::Model;
@@ -35,8 +35,8 @@ impl Dice {
         usize::try_from(self.below(limit)).unwrap_or(0)
     }
 
-    // Returns a number that is used as a lower bound, or as the number of items to reserve room
-    // for. Rarely, it is more than any block holds.
+    // Returns a random number for the field `lower` of an order. It is mostly small, and sometimes
+    // greater than every capacity.
     fn claim(&mut self) -> usize {
         if self.below(9) == 0 {
             usize::MAX
@@ -45,8 +45,8 @@ impl Dice {
         }
     }
 
-    // Returns the number of the request that is refused, or 0 for none. It is mostly one of the
-    // first requests, which a command really makes.
+    // Returns the number of the request that is to be refused, or 0 for none. It is mostly a small
+    // number, because most commands make few requests.
     fn refused(&mut self) -> u64 {
         let few = self.below(4);
         if self.below(2) == 0 {
@@ -56,7 +56,7 @@ impl Dice {
         }
     }
 
-    // Returns the digits by which a judge decides.
+    // Returns a number whose binary digits are the answers of a judge.
     fn digits(&mut self) -> u64 {
         if self.below(4) == 0 {
             EACH_SECOND.digits
@@ -65,7 +65,7 @@ impl Dice {
         }
     }
 
-    // Returns a command for a list of `len` items.
+    // Returns a random order for a list of `len` items.
     fn order(&mut self, len: usize) -> Order {
         let near = u64::try_from(len).unwrap_or(0).min(12).saturating_add(2);
         let kind = self.index(25);
@@ -81,7 +81,8 @@ impl Dice {
     }
 }
 
-/// A command, the number of its request that was to be refused, and its reply.
+/// A command that was run, the number of its request that was to be refused, the form of the reply,
+/// and the cause of the failure, if any.
 pub type Done = (Order, u64, Form, Option<ThinVecError>);
 
 // Runs one random command, and appends it to `done`. Returns whether the runner and the model
@@ -119,8 +120,8 @@ fn are_alike<'a, T: Numbered<Lender<'a>>, G: Ruled, J: Judge<T> + From<u64>>(
     Ok(true)
 }
 
-// Runs up to 30 random commands, and puts them into `done`. Returns whether the runner and the
-// model agree, and all blocks are freed at the end.
+// Runs up to 30 random commands, and records them in `done`. Returns whether the runner and the
+// model agree and all blocks are freed at the end.
 fn runs_alike<'a, T: Numbered<Lender<'a>>, G: Ruled, J: Judge<T> + From<u64>>(
     alloc: Lender<'a>,
     seed: u64,
@@ -133,8 +134,8 @@ fn runs_alike<'a, T: Numbered<Lender<'a>>, G: Ruled, J: Judge<T> + From<u64>>(
     Ok(alike && alloc.blocks() == 0)
 }
 
-/// Asserts that the runner and the model agree on the run of this seed. Puts its commands into
-/// `done`.
+/// Asserts that the runner and the model agree on the run that `seed` determines. Records the
+/// commands of this run in `done`.
 pub fn assert_alike<'a, T: Numbered<Lender<'a>>, G: Ruled, J: Judge<T> + From<u64>, R: Abort>(
     rt: &R,
     alloc: Lender<'a>,
@@ -149,8 +150,9 @@ pub fn assert_alike<'a, T: Numbered<Lender<'a>>, G: Ruled, J: Judge<T> + From<u6
 // and two of these types under two more rules, are 20 pairs, and thus 100,000 runs.
 const RUNS: u64 = 5_000;
 
-// How many commands were run, how many of them were to have a request refused, and how many really
-// had one refused. Some commands made too few requests for that.
+// How many commands were run, for how many commands a request was to be refused, and for how many a
+// request really was refused. The last two numbers differ, because some commands made too few
+// requests.
 #[derive(Debug, Drop)]
 struct Tally {
     commands: u64,
@@ -159,7 +161,7 @@ struct Tally {
 }
 
 impl Tally {
-    // Returns the counts of no command.
+    // Returns a tally in which all counts are 0.
     fn new() -> Tally {
         Tally {
             commands: 0,
@@ -168,7 +170,7 @@ impl Tally {
         }
     }
 
-    // Adds these commands to the counts.
+    // Adds the commands in `done` to the counts.
     fn add(&mut self, done: &[Done]) {
         for (_order, nth, _form, cause) in done {
             let named = u64::from(*nth > 0);
@@ -180,8 +182,8 @@ impl Tally {
     }
 }
 
-// Asserts that the runner and the model agree on all runs from the seed `first` on. Returns the
-// counts of their commands.
+// Asserts that the runner and the model agree on `RUNS` runs, with the seeds from `first` on.
+// Returns the counts of the commands of these runs.
 fn assert_all_from<'a, T: Numbered<Lender<'a>>, G: Ruled, R: Abort>(
     rt: &R,
     alloc: Lender<'a>,
@@ -197,15 +199,16 @@ fn assert_all_from<'a, T: Numbered<Lender<'a>>, G: Ruled, R: Abort>(
     tally
 }
 
-// Asserts how many commands there were, and how many of them were to have a request refused. Both
-// numbers were computed by another program. Also asserts that more than one command in fifty really
-// had a request refused.
+// Asserts that `commands` commands were run, and that a request was to be refused for `named` of
+// them. Another program computed both numbers. Also asserts that a request really was refused for
+// more than one command in fifty.
 fn assert_tally<R: Abort>(rt: &R, tally: &Tally, commands: u64, named: u64) {
     assert_eq!(rt; (tally.commands, tally.named), (commands, named));
     assert!(rt; tally.refused > commands / 50, "{tally:?}");
 }
 
-// Asserts that the runner and the model agree on all runs under the growth rules of `thin_vec`.
+// Asserts that the runner and the model agree on all random runs under the growth rules of
+// `thin_vec`.
 fn assert_all_alike<'a, T: Numbered<Lender<'a>>, R: Abort>(
     rt: &R,
     alloc: Lender<'a>,
@@ -217,8 +220,8 @@ fn assert_all_alike<'a, T: Numbered<Lender<'a>>, R: Abort>(
     assert_tally(rt, &tally, 74_928, 64_471);
 }
 
-// Asserts that the runner and the model agree on all runs under two growth rules that are only for
-// tests.
+// Asserts that the runner and the model agree on all random runs under two growth rules that exist
+// only for tests.
 fn assert_alike_by_other_rules<'a, T: Numbered<Lender<'a>>, R: Abort>(
     rt: &R,
     alloc: Lender<'a>,
@@ -233,7 +236,7 @@ fn assert_alike_by_other_rules<'a, T: Numbered<Lender<'a>>, R: Abort>(
 // A seed whose run has no commands.
 const NO_COMMANDS: u64 = 52;
 
-// How many commands the runs of the first seeds have.
+// How many commands the run of each seed from 0 to 11 has.
 const COMMANDS: [usize; 12] = [7, 24, 9, 24, 10, 26, 10, 27, 12, 27, 12, 29];
 
 #[test]
@@ -250,7 +253,7 @@ fn each_seed_makes_its_own_run(rt: HostRuntime) {
     assert_eq!(rt; counted, (217, 187, 12));
 }
 
-// Returns a block that no command of the runs allocated.
+// Returns a box whose block is not allocated by any command of a run. A run must detect this block.
 fn block<'a, R: Abort>(rt: &R, alloc: Lender<'a>) -> Box<u64, Lender<'a>> {
     Box::new(alloc, 1).ok().expect(rt, "memory")
 }

@@ -108,14 +108,14 @@ pub fn put<T: Drop, A: Allocator>(items: &mut Vec<T, A>, item: T) -> Result<(), 
     }
 }
 
-/// Returns a vector of only this item.
+/// Returns a vector whose only item is `item`.
 pub fn one<T: Drop, A: Allocator>(alloc: A, item: T) -> Result<Vec<T, A>, AllocError> {
     let mut items = Vec::new(alloc);
     put(&mut items, item)?;
     Ok(items)
 }
 
-/// Returns the items of `count` numbers, from `number` on.
+/// Returns `count` items, which are made from `number` and the numbers after it.
 pub fn samples<T: Numbered<A>, A: Allocator + Copy>(
     alloc: A,
     count: usize,

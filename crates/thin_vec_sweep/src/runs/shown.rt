@@ -1,5 +1,5 @@
-//! What a reply shows (`Shown`): the parts of a reply that are compared with the reply of the
-//! model.
+//! The parts of a reply (`Shown`) in which the reply of the runner is compared with the reply of
+//! the model.
 use crate::runs::samples::{one, put};
 use std::alloc::{AllocError, Allocator};
 use thin_runner::command::{Command, Reply, Step};
@@ -18,12 +18,12 @@ pub enum Form {
     Refused,
     Stopped,
     OutOfRange,
-    /// A reply that the model does not allow.
+    /// The form of a reply that the model does not allow.
     Never,
 }
 
-/// The index or range of a command, and how it is walked. A field is 0 if the command does not have
-/// it.
+/// The index or the range of a command, and the steps over the range. If the command has only an
+/// index, the other fields are 0.
 #[derive(Clone, Copy, PartialEq, Eq)]
 pub struct Place {
     /// The index, or the start of the range.
@@ -32,12 +32,13 @@ pub struct Place {
     pub end: usize,
     /// The lower bound of the size hint, or how many calls of `next` are made.
     pub claim: usize,
-    /// The steps of a walk as binary digits after a first 1. The digit 1 is a step from the front.
+    /// The steps over the range, as binary digits after a leading 1. The digit 1 is a step from the
+    /// front, and 0 is a step from the back.
     pub walk: u64,
 }
 
 impl Place {
-    /// Returns a place that is only an index.
+    /// Returns the place of a command that has only an index.
     pub const fn index(start: usize) -> Place {
         Place {
             start,
@@ -47,7 +48,7 @@ impl Place {
         }
     }
 
-    /// Returns a place that is a range, and how it is walked.
+    /// Returns the place of a command that has a range, a number `claim`, and steps over the range.
     pub fn range(start: usize, end: usize, claim: usize, steps: &[Step]) -> Place {
         let mut walk: u64 = 1;
         for step in steps {
@@ -71,19 +72,18 @@ pub struct Shown<T, A: Allocator> {
     pub cause: Option<ThinVecError>,
     /// What the steps yielded, or the item that was removed.
     pub answers: Vec<Option<T>, A>,
-    /// The items of a list, or the items that were returned.
+    /// The items of the list in the reply, or the items that the command returned.
     pub items: Vec<T, A>,
-    /// The capacity of a list, or how many items were held back.
+    /// The capacity of the list in the reply, or how many items were held back.
     pub number: usize,
-    /// Whether an item was in hand. In `items`, this item is the first one after the items that
-    /// were held back.
+    /// Whether an item was in hand. In `items`, this item follows the items that were held back.
     pub in_hand: bool,
-    /// The place of a command that was returned because it is out of range.
+    /// The place of a command that was returned because its index or range is not within the list.
     pub place: Place,
 }
 
 impl<T: Drop, A: Allocator + Copy> Shown<T, A> {
-    /// Returns a reply that has no items.
+    /// Returns what a reply without items shows.
     pub fn plain(alloc: A, form: Form, cause: Option<ThinVecError>) -> Shown<T, A> {
         Shown {
             form,
@@ -96,7 +96,7 @@ impl<T: Drop, A: Allocator + Copy> Shown<T, A> {
         }
     }
 
-    /// Returns a reply that has items and a number.
+    /// Returns what a reply with items and a number shows.
     pub fn with_items(
         form: Form,
         cause: Option<ThinVecError>,
@@ -111,7 +111,7 @@ impl<T: Drop, A: Allocator + Copy> Shown<T, A> {
         }
     }
 
-    /// Returns a reply that has answers.
+    /// Returns what a reply with answers shows.
     pub fn with_answers(form: Form, alloc: A, answers: Vec<Option<T>, A>) -> Shown<T, A> {
         Shown {
             answers,
@@ -119,7 +119,7 @@ impl<T: Drop, A: Allocator + Copy> Shown<T, A> {
         }
     }
 
-    /// Returns the reply that returns a command, because its index or range is past the end of the
+    /// Returns what a reply shows if it returns a command whose index or range is not within the
     /// list.
     pub fn out_of_range(alloc: A, items: Vec<T, A>, place: Place) -> Shown<T, A> {
         Shown {
@@ -131,7 +131,7 @@ impl<T: Drop, A: Allocator + Copy> Shown<T, A> {
 }
 
 impl<T: Eq, A: Allocator> Shown<T, A> {
-    /// Returns whether the two replies show the same.
+    /// Returns whether the two replies are equal in all parts.
     pub fn is(&self, other: &Shown<T, A>) -> bool {
         self.form == other.form
             && self.cause == other.cause
@@ -160,7 +160,7 @@ fn place_of<T, A: Allocator, G: Growth>(command: &Command<T, A, G>) -> Place {
     }
 }
 
-// Returns the items that a command with an index or a range passes to its call.
+// Returns the items of a command that has an index or a range.
 fn items_with<T: Drop, A: Allocator + Copy, G: Growth>(
     alloc: A,
     command: Command<T, A, G>,
@@ -172,7 +172,7 @@ fn items_with<T: Drop, A: Allocator + Copy, G: Growth>(
     }
 }
 
-// Returns what a reply shows if it has a list.
+// Returns what a reply with a list shows.
 fn show_list<T: Drop, A: Allocator + Copy, G: Growth>(
     form: Form,
     cause: Option<ThinVecError>,
@@ -186,7 +186,7 @@ fn show_list<T: Drop, A: Allocator + Copy, G: Growth>(
     }
 }
 
-// Returns what a reply shows if its call stopped before all items were placed.
+// Returns what a reply shows if the command failed before all its items were placed.
 fn show_stopped<T: Drop, A: Allocator + Copy>(
     answers: Vec<Option<T>, A>,
     cause: ThinVecError,
@@ -214,7 +214,7 @@ fn show_stopped<T: Drop, A: Allocator + Copy>(
     })
 }
 
-// Returns what a reply shows if it has an item, or has none because the list was empty.
+// Returns what a reply with an item shows. The item is `None` if the list was empty.
 fn show_item<T: Drop, A: Allocator + Copy>(
     alloc: A,
     item: Option<T>,
@@ -222,7 +222,7 @@ fn show_item<T: Drop, A: Allocator + Copy>(
     Ok(Shown::with_answers(Form::Item, alloc, one(alloc, item)?))
 }
 
-// Returns what a reply shows if it returns the value of the failed call.
+// Returns what a reply shows if the command failed and returned its item, `value`.
 fn show_returned<T: Drop, A: Allocator + Copy>(
     alloc: A,
     value: T,
@@ -232,8 +232,7 @@ fn show_returned<T: Drop, A: Allocator + Copy>(
     Ok(Shown::with_items(Form::Returned, Some(cause), alloc, items, 0))
 }
 
-// Returns what a reply shows if it returns the command, because its index or range is past the end
-// of the list.
+// Returns what a reply shows if it returns `command`, whose index or range is not within the list.
 fn show_out_of_range<T: Drop, A: Allocator + Copy, G: Growth>(
     alloc: A,
     command: Command<T, A, G>,

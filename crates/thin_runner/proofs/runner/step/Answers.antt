@@ -1,5 +1,5 @@
--- In each arm, rewriting by the matched command turns the clause `allowed` of the called method of
--- `Setting` into the clause to prove.
+-- Each arm of the `match` calls a method of `Setting`. Rewriting with the equation for the matched
+-- command turns the clause `allowed` of this method into the clause `allowed` of `step`.
 use Rattle.thin_runner.proofs.runner.step.Goals as goal
 
 pub returns-in-Push : goal.returns-in-Push

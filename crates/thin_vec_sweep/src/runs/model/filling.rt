@@ -1,5 +1,5 @@
-//! How the model, which is the specification written as a program, runs `Splice`, and `Extend`,
-//! which is a splice at the end of the list, without steps.
+//! How the model (the specification written as a program) runs `Splice` and `Extend`. An `Extend`
+//! is a splice at the end of the list, without steps.
 use super::{Model, walked};
 use crate::runs::orders::{Kind, Order};
 use crate::runs::samples::{Numbered, samples};
@@ -9,7 +9,8 @@ use thin_testing::Ruled;
 use thin_vec::ThinVecError;
 
 impl<T: Numbered<A>, A: Allocator + Copy, G: Ruled> Model<T, A, G> {
-    // Returns the order with its range. The range of `Extend` is the end of the list.
+    // Returns the order of a `Splice` unchanged. Returns the order of an `Extend` with the empty
+    // range at the end of the list, and without steps.
     pub(crate) fn placed(&self, order: Order) -> Order {
         let len = self.items.len();
         if order.kind == Kind::Extend {
@@ -24,9 +25,11 @@ impl<T: Numbered<A>, A: Allocator + Copy, G: Ruled> Model<T, A, G> {
         }
     }
 
-    // Makes room for the items of an order in place of its range, and returns whether that
-    // succeeded. If there are items after the range, room is made once for the size hint, and once
-    // for all items. Otherwise, room is made for the size hint, and then for each item.
+    // Makes room for the new items that replace the range of `order`, and returns whether this
+    // succeeded. If there are no items after the range, room is made for the size hint, and then
+    // for one new item after another. If there are items after the range, room is made once for the
+    // size hint and once for all new items. In this case, no room is made if the range has more
+    // items than the order has new items.
     fn make_rooms(&mut self, order: Order) -> bool {
         let len = self.items.len();
         let gap = order.to.saturating_sub(order.at);
@@ -42,8 +45,8 @@ impl<T: Numbered<A>, A: Allocator + Copy, G: Ruled> Model<T, A, G> {
         made
     }
 
-    // Replaces the range by the first `placed` items of the order, and returns the reply, in which
-    // the other items are returned.
+    // Replaces the range by the first `placed` new items of the order. Returns the reply, which
+    // contains the other new items.
     fn fill(
         &mut self,
         alloc: A,
@@ -82,12 +85,14 @@ impl<T: Numbered<A>, A: Allocator + Copy, G: Ruled> Model<T, A, G> {
         self.fill(alloc, order, placed, Some(ThinVecError::CapacityOverflow))
     }
 
-    // Returns whether the reply `given` is possible for a command for which a request was refused
-    // after some items were placed.
+    // Returns whether a command may have the reply `given` if one of its requests was refused.
     //
-    // If no items are after the range, no item is held back, and there are two cases: an item is in
-    // hand and the list is full, or no item is in hand and none was placed. Otherwise, either an
-    // item is in hand, or no item was drawn, or all items were drawn.
+    // If there are no items after the range, no item is held back, and there are two cases. Either
+    // an item is in hand and the list is full, or no item is in hand and none was placed.
+    //
+    // If there are items after the range, the places of the range are full, and there are three
+    // cases. An item is in hand, or no item is held back, or the iterator has yielded all its
+    // items.
     fn may_stop(&self, order: Order, given: &Shown<T, A>) -> bool {
         let placed = order.count.saturating_sub(given.items.len());
         if order.to == self.items.len() {
@@ -99,8 +104,9 @@ impl<T: Numbered<A>, A: Allocator + Copy, G: Ruled> Model<T, A, G> {
             && (given.in_hand || given.number == 0 || has_ended)
     }
 
-    // Makes the room that the command reserved for the size hint before it drew any item. If the
-    // command returned an item that it had drawn, it must have reserved this room.
+    // Makes the room that the command made before its request was refused. If the reply has an item
+    // that was held back or in hand, this is the room for the size hint and for the placed items.
+    // Otherwise, no room is made.
     fn make_first_rooms(&mut self, order: Order, placed: usize, given: &Shown<T, A>) {
         if given.number > 0 || given.in_hand {
             let first = Order {
@@ -111,8 +117,8 @@ impl<T: Numbered<A>, A: Allocator + Copy, G: Ruled> Model<T, A, G> {
         }
     }
 
-    // Runs a command for which a request was refused. The number of the returned items tells how
-    // many items were placed before.
+    // Runs a `Splice` or an `Extend` with a refused request. The number of items that the reply
+    // returns tells how many items were placed before the refusal.
     pub(crate) fn stop(
         &mut self,
         alloc: A,

@@ -1,5 +1,5 @@
-//! How the model, which is the specification written as a program, runs a command for which a
-//! request is refused: what the list has afterwards, and what the reply is.
+//! How the model (the specification written as a program) runs a command with a refused request:
+//! what the list has afterwards, and what the reply is.
 use super::Model;
 use crate::runs::orders::{Kind, Order};
 use crate::runs::samples::{Numbered, samples};
@@ -8,8 +8,7 @@ use std::alloc::{AllocError, Allocator};
 use thin_testing::Ruled;
 use thin_vec::ThinVecError;
 
-// Returns `Refused` if the command can have this reply and has something to allocate, and `Never`
-// otherwise.
+// Returns `Refused` if a command with a refused request can have this reply, and `Never` otherwise.
 fn form_of(order: Order) -> Form {
     let may_be = match order.kind {
         Kind::Drain | Kind::Splice => order.steps > 0,
@@ -22,8 +21,8 @@ fn form_of(order: Order) -> Form {
 }
 
 impl<T: Numbered<A>, A: Allocator + Copy, G: Ruled> Model<T, A, G> {
-    // Returns for how many items in total a command makes room before it clones items, or 0 if it
-    // does not.
+    // Returns for how many items in total a list has room when a command begins to clone items into
+    // it. Returns 0 if the command does not do this.
     fn room_of_clones(&self, order: Order) -> usize {
         match order.kind {
             Kind::Resize => order.lower,
@@ -32,7 +31,7 @@ impl<T: Numbered<A>, A: Allocator + Copy, G: Ruled> Model<T, A, G> {
         }
     }
 
-    // Runs a command whose request `nth` was refused, and returns its reply.
+    // Runs a command whose request with the number `nth` was refused, and returns its reply.
     pub(crate) fn refuse(
         &mut self,
         alloc: A,

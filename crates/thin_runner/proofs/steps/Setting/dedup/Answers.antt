@@ -1,4 +1,4 @@
--- The items that `dedup` leaves are those that are kept by the stateless test `==`.
+-- `dedup` leaves the items that the stateless test `==` keeps.
 use Rattle.std.proofs.Common.{rules}
 use Rattle.thin_runner.proofs.JudgedLemmas.{deduped-alike}
 use Rattle.thin_runner.proofs.steps.Setting.dedup.Goals as goal

@@ -1,4 +1,4 @@
--- The clauses for failure are about the slice, whose items are those of the vector.
+-- The slice has the items of the vector, so the failure clauses for the slice hold for the vector.
 use Rattle.std.proofs.Common.{Err, ap, arith, length}
 use Rattle.thin_vec.specs.ThinVec.{HasRoomFor}
 use Rattle.thin_runner.proofs.CommandLemmas.{refuses-clone, some-items}

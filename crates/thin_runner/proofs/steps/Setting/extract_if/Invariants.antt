@@ -1,5 +1,5 @@
--- The results of the calls so far, followed by those of the calls that are left, are the results of
--- the whole extraction.
+-- The results of the calls of `next` made so far, followed by the results of the calls that are
+-- left, are the results of all `count` calls.
 use Rattle.std.proofs.Common.{◌≡◌, ◌++◌, ◌≤◌, ◌+◌, ◌-◌, drop, take, false, slice_range, vec_len}
 use Rattle.std.specs.Vec.{vec_capacity}
 use Rattle.thin_vec.specs.Edits.ExtractIf.{extract_alloc, extract_callee, extract_capacity, extract_cost, extract_front, extract_gone, extract_lender, extract_rest, extract_tail}

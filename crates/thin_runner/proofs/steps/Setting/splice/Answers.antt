@@ -1,5 +1,5 @@
--- Together, the items placed, those held, the one in hand and those of `rest` are all items of the
--- iterator.
+-- The items placed, the items held, the item in hand and the items of `rest` together are all items
+-- of the iterator.
 use Rattle.std.proofs.Common.{rules, inl, inr, ◌≡◌, ◌≤◌, ◌+◌, ◌-◌, ◌++◌, ◌∙◌, ap, arith, length, length-append, subst, sym}
 use Rattle.std.proofs.lemmas.Bool.{false≢true}
 use Rattle.std.specs.Iterator.{at_most, size}

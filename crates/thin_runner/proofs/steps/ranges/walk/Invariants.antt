@@ -1,5 +1,5 @@
--- What the steps so far have returned, followed by what the steps left return, is what all steps
--- return.
+-- The results of the steps taken so far, followed by the results of the steps that are left, are
+-- the results of all steps.
 use Rattle.std.proofs.Common.{◌≡◌, ◌++◌, ◌≤◌, ◌+◌, length, vec_len}
 use Rattle.std.specs.Vec.{vec_capacity}
 use Rattle.std.specs.Vec.Iter.{into_iter_items}

@@ -1,4 +1,5 @@
--- Whatever steps are taken, the splice keeps the iterator that it was made with.
+-- Whatever steps are taken, the splice keeps its iterator, its range, and the items before and
+-- after the range.
 use Rattle.thin_vec.specs.Edits.Splice.{SpliceKeeps}
 use Rattle.thin_vec_sweep.proofs.calls.splices.walk.Given as goal
 
