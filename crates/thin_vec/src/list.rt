@@ -188,6 +188,7 @@ impl<T, A: Allocator, G: Growth> ThinVec<T, A, G> {
         ensures* writes_back { sem 𝓛
             (LendsItems T.row A.row G.row A.Allocator G.Growth self.entry result) }
         ensures value { result.now ≡ self.old.items }
+        ensures len { length result.now ≡ length self.old.items }
         ensures within { IsWithin T.row self.old }
     {
         let len = self.block.len();
@@ -201,6 +202,7 @@ impl<T, A: Allocator, G: Growth> ThinVec<T, A, G> {
     pub fn push_reserved(&mut self, value: T)
         requires room { HasRoomFor self.old 1 }
         ensures items { self.new.items ≡ self.old.items ++ value ∷ [] }
+        ensures len { length self.new.items ≡ length self.old.items + 1 }
         ensures cost { self.new.cost ≡ moving 1 self.old.cost }
         ensures capacity { self.new.capacity ≡ self.old.capacity }
         ensures keeps { Keeps T.row self.old self.new }

@@ -1,6 +1,6 @@
 -- The slots that `as_mut_slice` lends are all filled. When the loan ends, the block is again the
 -- block of a list, and this list has the items that were written.
-use Rattle.std.proofs.Common.{ap, arith, refl, ◌∙◌}
+use Rattle.std.proofs.Common.{ap, arith, length, refl, ◌≡◌, ◌∙◌}
 use Rattle.thin_block.specs.Lends.{with_items as block_with_items}
 use Rattle.thin_vec.specs.Lends.{with_items}
 use Rattle.thin_vec.proofs.LendsLemmas.{settle-over, view-with_items}
@@ -18,6 +18,13 @@ invariant_of-self-lent g c =
     λ w. (settle-over c.self.invariant (block_with_items c.self.inside.block 0 w) w
     refl).thin
 
+-- the slice has the items of the list
+lent : (g : _) (c : goal.After-self-2-1 g) → c.slice_mut.result.now ≡ c.args.self.now.items
+lent g c =
+    thin-run c.self.inside.block c.self.inside.alloc c.slice_mut.result.now c.len-len.result
+    c.self.invariant c.len-len.ensures.value c.slice_mut.ensures.value
+    ∙ ap (λ v. v.items) c.self.view_is
+
 pub returns : goal.returns
 returns g c = (
   (
@@ -27,9 +34,8 @@ returns g c = (
   ),
   record {
     writes_back = tt;
-    value = thin-run c.self.inside.block c.self.inside.alloc c.slice_mut.result.now c.len-len.result
-        c.self.invariant c.len-len.ensures.value c.slice_mut.ensures.value
-        ∙ ap (λ v. v.items) c.self.view_is;
+    value = lent g c;
+    len = ap length (lent g c);
     within = within-of _ _ _ _ c.self.invariant c.self.view_is c.len-len.ensures.slots_fit;
   },
 )

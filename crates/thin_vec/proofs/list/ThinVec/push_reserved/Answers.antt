@@ -7,6 +7,7 @@ use Rattle.thin_vec.proofs.ThinVecLemmas.{within-kept}
 use Rattle.thin_vec.proofs.list.ReservesLemmas.{keeps-kept}
 use Rattle.thin_vec.specs.ThinVec.{thin_of}
 use Rattle.std.proofs.lemmas.Grind.{common_steps}
+use Rattle.std.proofs.lemmas.List.{length_push}
 use Rattle.thin_vec.proofs.list.ThinVec.push_reserved.Goals as goal
 
 facts : (g : _) (c : goal.After-put_and_store g)
@@ -30,6 +31,9 @@ invariant_of-self g c = (facts g c).thin
 
 pub returns-clause-items : goal.returns-clause-items
 returns-clause-items g c = (facts g c).items ∙ ap (λ v. v.items ++ c.args.value ∷ []) c.self.view_is
+
+pub returns-clause-len : goal.returns-clause-len
+returns-clause-len g c = ap length (returns-clause-items g c) ∙ length_push _ _
 
 pub returns-clause-keeps : goal.returns-clause-keeps
 returns-clause-keeps g c =
