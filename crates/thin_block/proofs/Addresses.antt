@@ -32,7 +32,7 @@ use Rattle.thin_block.proofs.HeaderMemory.{Br, block_val}
 use Rattle.thin_block.proofs.SlotMemory.{Slot, sz, reach, besides, slot_out, Two}
 
 -- if a block of the slots xs fits and i is at most their number, then the distance in bytes from
--- the first slot to the slot i is less than 2 ^ 64
+-- the first slot to slot i is less than 2 ^ 64
 pub near : (E : El) (xs : List (Slot E)) (i : ℕ) → fits_block (R E) (length xs) ≡ true
     → i ≤ length xs → i * sz E < 2 ^ 64
 near E xs i fits le = let low = reach (R E) i (length xs) fits le in omega arith
@@ -155,7 +155,7 @@ module _ (E : El) {M : Type 1} {𝓤 : Ura M} {𝓛 : Logic 𝓤} {K : Type 0} {
 
 module _ (E : El) {M : Type 1} {𝓤 : Ura M} {𝓛 : Logic 𝓤} {K : Type 0} {Γ : List (Item 𝓤)}
     {G : Goal 𝓤 𝓛.H} {h : Item 𝓤} where
-  -- Takes the slot i out of the row. The context [the header; the slots] becomes [the slot i; the
+  -- Takes slot i out of the row. The context [the header; the slots] becomes [slot i; the
   -- other slots; the header].
   pub takes_slot : K → {x : Slot E} (b o : ℕ) (xs : List (Slot E)) (i : ℕ) → i < length xs
       → get_or xs i None ≡ x

@@ -74,7 +74,7 @@ fits-less R c d e less =
 pub fits-none : (R : RattleType) → Fits R 0
 fits-none R = closed R 0 (fits_none R)
 
--- ---- sizes that are far below every limit: fewer than 2 ^ 31 items of fewer than 2 ^ 31 bytes
+-- Section: sizes that are far below every limit: fewer than 2 ^ 31 items of fewer than 2 ^ 31 bytes
 -- each. These lemmas are for callers that know the item type.
 
 -- fewer than 2 ^ 31 items of fewer than 2 ^ 31 bytes each take less than 2 ^ 62 bytes

@@ -75,7 +75,7 @@ block_own_made 𝓛 p =
       (refl, (refl, ((tt, (refl, tt)), ((tt, (refl, tt)), tt)))),
     )
 
--- ---- the layout of a block
+-- Section: the layout of a block
 by_width : (P : ℕ → Type 0) → ((w : Width) → P (bytes w)) → (τ : Ty) → P (align τ)
 by_width P each τ = subst P (sym (align-bytes τ)) (each (align_w τ))
 
@@ -151,7 +151,7 @@ module _ {M : Type 1} {𝓤 : Ura M} (𝓛 : Logic 𝓤) (R : RattleType) where
       move ! (2 ∷ 4 ∷ []) $ join ! $ move ! (2 ∷ 0 ∷ []) $ join ! $ move ! (1 ∷ 0 ∷ []) $ join ! $
       by ! (apply∗ 𝓤 rooms (H.room (whole R c) b o))
 
--- ---- a block, apart from its slots.
+-- Section: a block, apart from its slots.
 -- What a block of c slots owns without these slots: the frame if it has an allocator; otherwise its
 -- share of the static header.
 abbrev pub header : {D : Type 0} → (D → Ty → Ptr → Fml) → RattleType → ℕ → ℕ

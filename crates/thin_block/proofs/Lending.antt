@@ -50,8 +50,8 @@ module _ (E : El) (Y : Al) {M : Type 1} {𝓤 : Ura M} (𝓛 : Logic 𝓤) (x : 
       (λ us. fsep (cell_at full_share (Br E Y).mir us rb ro)
       ((Br E Y).own_val (with_slots x s same) us)) (block_val (block_ptr b o) ∷ []) $ done !
 
-  -- if a `&mut` to the item in the slot i ends and leaves the item w, the block is whole again and
-  -- holds w in the slot i
+  -- if a `&mut` to the item in slot i ends and leaves the item w, the block is whole again and
+  -- holds w in slot i
   pub item_back : (i : ℕ) → i < length x.slots → (w : el_x E)
       → ent 𝓤 (sep 𝓤 (sem 𝓛 ((mem (R E)).own_at w b (i * sz E + (o + 16))))
       (sem 𝓛 (fsep (besides E 𝓛 b (o + 16) x.slots i) Waiting)))

@@ -22,7 +22,7 @@ use Rattle.std.proofs.lemmas.Bool.Decides.{nat_tests}
 use Rattle.thin_block.specs.Capacity.{IsAlign, items_offset, block_align, block_bytes, is_small, fits, Fits, first}
 use Rattle.thin_block.specs.Growth.{fitting, doubling}
 
--- ---- rounding up
+-- Section: rounding up
 
 -- what is known about the size of a block whose items have the alignment a and take x bytes in
 -- total
@@ -90,7 +90,7 @@ rounded_at a x is = subst (λ (k : ℕ). Rounded k x) (sym is.1) (rounded_to is.
 pub rounded : (R : RattleType) (x : ℕ) → Rounded (type_align R) x
 rounded R x = rounded_at (type_align R) x (align_known R)
 
--- ---- sizes that exceed `usize::MAX`, which the code replaces by `usize::MAX`
+-- Section: sizes that exceed `usize::MAX`, which the code replaces by `usize::MAX`
 
 -- if the product of c and `capped s` is less than 2 ^ 63, it equals the product of c and s
 pub whole_product : (c s : ℕ) → c * capped s < 2 ^ 63 → c * s ≡ c * capped s
@@ -106,7 +106,7 @@ capped_product zero s h = zero-mul (capped s) ∙ sym (zero-mul s)
 capped_product (suc c) s h = let more = suc-mul c s in
     ap (λ (k : ℕ). suc c * k) (capped_is s (omega arith))
 
--- ---- tests
+-- Section: tests
 
 both_true : (x y : Bool) → x ≡ true → y ≡ true → (x && y) ≡ true
 both_true true y e f = f
@@ -128,7 +128,7 @@ positive (suc n) never = omega arith
 lt_of_not : (a b : ℕ) → (a ≤ b → ⊥) → b < a
 lt_of_not a b never = omega arith
 
--- ---- when a block fits
+-- Section: when a block fits
 
 -- `Small s a c`: c items of s bytes, the header, and `block_align a` bytes for the padding take at
 -- most 2 ^ 63 bytes in total
@@ -214,7 +214,7 @@ fits_none R =
     let nothing = zero-mul (type_size R) in
     fits_yes R 0 (omega arith) (omega arith)
 
--- ---- the first capacity
+-- Section: the first capacity
 
 -- if the size that the code computes for an item exceeds 2 ^ 61 - 1, the first capacity is 1
 pub first_one : (s : ℕ) → 2 ^ 61 - 1 < capped s → 1 ≡ first s
@@ -233,7 +233,7 @@ first_many s small =
     let same = capped_is s (omega arith) in
     rw (le-ltb (2 ^ 61 - 1) s (omega arith)) refl
 
--- ---- what doubling chooses
+-- Section: what doubling chooses
 
 first_false : (x y : Bool) → x ≡ false → (x && y) ≡ false
 first_false true y f = cc

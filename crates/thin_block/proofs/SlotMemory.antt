@@ -39,7 +39,7 @@ use Rattle.thin_block.specs.Slots.{full, empty, run, laid}
 use Rattle.thin_block.proofs.SizesLemmas.{fits_tells}
 
 -- if a block of c slots fits and i is at most c, then the distance in bytes from the first slot to
--- the slot i is less than 2 ^ 63
+-- slot i is less than 2 ^ 63
 pub reach : (Rw : RattleType) (i c : ℕ) → fits_block Rw c ≡ true → i ≤ c → i * type_size Rw < 2 ^ 63
 reach Rw i c fits le =
     let small = (fits_tells Rw c fits).room in
@@ -93,7 +93,7 @@ module _ (E : El) {M : Type 1} {𝓤 : Ura M} (𝓛 : Logic 𝓤) (b : ℕ) wher
     before le = let long : i ≡ length (take i xs) = omega (arith, length-take i xs) in
         ap (λ k. k * s + o) long
 
-    -- all slots of the row except the slot i
+    -- all slots of the row except slot i
     abbrev pub besides : Fml
     besides = fsep (Row o (take i xs)) (Row (i * s + o + s) (drop (suc i) xs))
 

@@ -18,7 +18,7 @@ same_or_not i j =
     (λ (q : i ≤ j). inl (let e : i ≡ j = omega arith in e)) (order j i)) (order i j)
 
 module _ {T : Type 0} where
-  -- if i equals j, swapping the slots i and j is the same as writing the slot i to itself
+  -- if i equals j, swapping the slots i and j is the same as writing slot i to itself
   pub set-same : (s : List (Option T)) (i j : ℕ) → i ≡ j
       → set s i (slot s i) ≡ set (set s i (slot s j)) j (slot s i)
   set-same s i j same =

@@ -50,7 +50,7 @@ use Rattle.thin_block.proofs.WordsMemory.{word_el, header_out, header_in, block_
 abbrev half : Ty
 half = ty_int w64
 
--- ---- the layout for which a block is allocated
+-- Section: the layout for which a block is allocated
 module _ (Rw : RattleType) (c : ℕ) where
   abbrev s₀ : ℕ
   s₀ = type_size Rw
@@ -86,7 +86,7 @@ module _ (Rw : RattleType) (c : ℕ) where
   pub asked_align : align (asked Rw c) ≡ block_align a₀
   asked_align = align_for (words_of Rw) (sym same_words)
 
--- ---- the memory of a block
+-- Section: the memory of a block
 module _ {M : Type 1} {𝓤 : Ura M} (𝓛 : Logic 𝓤) (E : El) (b c o : ℕ) where
   open 𝓛 use {H}
 
@@ -146,7 +146,7 @@ module _ {M : Type 1} {𝓤 : Ura M} (𝓛 : Logic 𝓤) (E : El) (b c o : ℕ) 
       use1 𝓛 (‵ (froom (asked (R E) c) b o))
       (gather_for (words_of (R E)) (sym (same_words (R E) c))) $ done !
 
--- ---- the block as an array of items from its start
+-- Section: the block as an array of items from its start
 module _ {M : Type 1} {𝓤 : Ura M} (𝓛 : Logic 𝓤) (E : El) (b : ℕ) (k : ℕ)
     (hd : k * type_size (R E) ≡ 16) (o : ℕ) where
   open 𝓛 use {H}
@@ -296,8 +296,8 @@ module _ {M : Type 1} {𝓤 : Ura M} (𝓛 : Logic 𝓤) (E : El) (b : ℕ) (k :
           use1 𝓛 (‵ (froom (ty_array τ' k) b there)) (to_room E 𝓛 b k there) $
           move ! (2 ∷ 3 ∷ 0 ∷ 1 ∷ 4 ∷ []) $ done !
 
--- ---- the header of a block whose items make words: m items make a word, and the header takes as
--- many bytes as k words
+-- Section: the header of a block whose items make words. Here m items make one word, and the header
+-- has the size of k words.
 module _ {M : Type 1} {𝓤 : Ura M} (𝓛 : Logic 𝓤) (T : RattleType) (L : Laws T) (b m k : ℕ)
     (is : in_words (type_size (param 0 T)) ≡ Some (m, k)) (o : ℕ) where
   open 𝓛 use {H}

@@ -52,7 +52,7 @@ use Rattle.thin_block.proofs.SlotMemory.{cut, glue, to_items, of_items, to_raw, 
 use Rattle.thin_block.proofs.WordsLemmas.{InWords, nameless}
 use Rattle.thin_block.proofs.words.Words.TheLaws.{the_row_laws}
 
--- ---- uninitialized memory.
+-- Section: uninitialized memory.
 -- An array of n values from the offset o on ends after n times the size of a value.
 past-place : (τ : Ty) (n o : ℕ) → past τ n o ≡ place (size τ) o n
 past-place τ zero o = refl
@@ -232,7 +232,7 @@ module _ {M : Type 1} {𝓤 : Ura M} (𝓛 : Logic 𝓤) (τ : Ty) (m k b : ℕ)
         move ! (2 ∷ 3 ∷ 1 ∷ []) $ use3 𝓛 (‵ (froom units b o)) (header_in o) $
         by ! (room_glue 𝓛 ω k w b o)
 
--- ---- items.
+-- Section: items.
 -- The number of items of a word, as the const parameter of `Words`.
 abbrev pub number_of_items : ℕ → RattleType
 number_of_items m = param 1 (number m)
@@ -315,7 +315,7 @@ module _ {M : Type 1} {𝓤 : Ura M} (𝓛 : Logic 𝓤) (T : RattleType) (L : L
   named : u' ≡ type_size (R W)
   named = size-raw (layout W.row)
 
-  -- ---- one word
+  -- Section: one word
   abbrev fields : List Member
   fields = record { row = ArrayAt (R E) N; ty = ty_array σ m }
       ∷ record { row = Array u64 0; ty = ty_array (ty_int w64) 0 } ∷ []
@@ -377,7 +377,7 @@ module _ {M : Type 1} {𝓤 : Ura M} (𝓛 : Logic 𝓤) (T : RattleType) (L : L
         rewrite ! 0 (λ (n : ℕ). ‵ (part_at (Array (R E) m) full_share xs b n)) at_start refl $
         done !
 
-  -- ---- words in a row
+  -- Section: words in a row
   abbrev chunks : ℕ → List X → List (List X)
   chunks n xs = first_chunks m n xs
 
@@ -465,7 +465,7 @@ module _ {M : Type 1} {𝓤 : Ura M} (𝓛 : Logic 𝓤) (T : RattleType) (L : L
       rewrite ! 0 (λ (n : ℕ). ‵ (ways τ' m n b o))
       (let more : suc (j + n) ≡ w = omega (arith, ew) in more) refl $ move ! (1 ∷ 0 ∷ []) $ done !
 
-  -- ---- empty slots
+  -- Section: empty slots
   module _ (j v pad at far : ℕ) (whole : j + pad ≡ v * m) (end : far ≡ at + j * size τ') where
     abbrev Spare : Fml
     Spare = froom (ty_array τ' pad) b far
@@ -505,7 +505,7 @@ module _ {M : Type 1} {𝓤 : Ura M} (𝓛 : Logic 𝓤) (T : RattleType) (L : L
         rewrite ! 0 (λ (n : ℕ). ‵ (froom (ty_array τ' pad) b n)) (sym end_at) refl $
         move ! (1 ∷ 2 ∷ 0 ∷ []) $ done !
 
-  -- ---- all slots of a block: its c slots take w words, and n words hold items
+  -- Section: all slots of a block: its c slots take w words, and n words hold items
   module _ (xs : List X) (n j v w c o : ℕ) (long : length xs ≡ n * m) (all : c ≡ length xs + j)
       (total : w ≡ v + n) (le : c ≤ w * m) where
     abbrev after : ℕ

@@ -41,7 +41,7 @@ module _ {X Z : Type 0} where
         );
       }
 
-  -- `with_item b i w` is the block b with the item w in the slot i
+  -- `with_item b i w` is the block b with the item w in slot i
   abbrev pub with_item : Block X Z → ℕ → X → Block X Z
   with_item b i w = with_slots b (slice_set b.slots i (Some w)) (length-set b.slots i (Some w))
 
@@ -50,7 +50,7 @@ module _ {X Z : Type 0} where
   with_items b i ws = with_slots b (over b.slots i ws) (length-over b.slots i ws)
 
 module _ (T A : RattleType) (g : Ghosts A.Denot) (b : MutBor (Block T.Denot A.Denot)) where
-  -- `LendsItem i r`: r is a `&mut` to the item in the slot i of the block, and after r has ended,
+  -- `LendsItem i r`: r is a `&mut` to the item in slot i of the block, and after r has ended,
   -- this slot holds what was written to r
   abbrev pub LendsItem : ℕ → MutBor T.Denot → Fml
   LendsItem i r = Lends (the_row T A g) T b r (with_item b.now i)

@@ -11,7 +11,7 @@ module _ {T : Type 0} where
   abbrev pub empty : ℕ → List (Option T)
   empty k = replicate k None
 
-  -- `slot s i` is the content of the slot i: None if the slot is empty, or if there is no such slot
+  -- `slot s i` is the content of slot i: None if the slot is empty, or if there is no such slot
   abbrev pub slot : List (Option T) → ℕ → Option T
   slot s i = slice_index_or s i None
 

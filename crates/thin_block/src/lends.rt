@@ -26,7 +26,7 @@ impl<T, A: Allocator> Block<T, A> {
         }
     }
 
-    /// Returns the item in the slot `i` as a `&mut`. The caller may write to the item; after the
+    /// Returns the item in slot `i` as a `&mut`. The caller may write to the item; after the
     /// borrow, the slot holds what was written.
     pub fn slot_mut(&mut self, i: usize) -> &mut T
         requires filled { IsSome (slot self.old.slots i) }

@@ -48,7 +48,7 @@ impl<T, A: Allocator> Block<T, A> {
         }
     }
 
-    /// Moves the item out of the slot `i` to the caller. The slot is empty afterwards. Moving an
+    /// Moves the item out of slot `i` to the caller. The slot is empty afterwards. Moving an
     /// item out is not counted as a move.
     pub fn take(&mut self, i: usize) -> T
         requires filled { IsSome (slot self.old.slots i) }
@@ -81,8 +81,8 @@ impl<T, A: Allocator> Block<T, A> {
         }
     }
 
-    /// Moves the item out of the slot `i` to the caller, and then moves the item of the slot `j`
-    /// into the slot `i`. If `i` equals `j`, the slot is empty afterwards, and no move is counted.
+    /// Moves the item out of slot `i` to the caller, and then moves the item of slot `j`
+    /// into slot `i`. If `i` equals `j`, the slot is empty afterwards, and no move is counted.
     pub fn take_replacing(&mut self, i: usize, j: usize) -> T
         requires first { IsSome (slot self.old.slots i) }
         requires second { IsSome (slot self.old.slots j) }

@@ -19,7 +19,7 @@ pub fn halves<A: Allocator>(alloc: A, numbers: &[u32]) -> Option<ThinVec<u32, A>
 }
 
 /// Appends the numbers that are less than `limit`, in order, and returns whether all of them were
-/// appended. The list keeps its old items in any case.
+/// appended. The list keeps its old items in every case.
 pub fn extend_below<A: Allocator, G: Growth>(
     list: &mut ThinVec<u32, A, G>,
     numbers: &[u32],

@@ -16,7 +16,7 @@ use Rattle.thin_vec.specs.declared.edits.extract_if.Extracting.{Extracting}
 use Rattle.thin_vec.specs.declared.edits.holder.Holder.{Holder}
 use Rattle.thin_vec.specs.declared.edits.holder.Holds.{Ghosts as HoldsGhosts}
 
--- ---- `dedup_by` and `dedup_by_key`
+-- Section: `dedup_by` and `dedup_by_key`
 
 -- in this module, R is the relation of a closure that compares two items (see specs/Edits/Dedup)
 module _ {S T : Type 0} (R : S → T → T → Bool → S → T → T → Type 0) where
@@ -64,7 +64,7 @@ module _ {S T : Type 0} (R : S → T → T → Bool → S → T → T → Type 0
   deduped_dedup same {s} {v} {w} says h =
       dedup_same R same s says v.items w.items (deduped_deduped s v w h)
 
--- ---- `extract_if`
+-- Section: `extract_if`
 
 module _ {T : Type 0} (test : T → Bool) where
   -- `others xs` are the items of xs for which the test is false

@@ -55,7 +55,7 @@ module _ {T : Type 0} where
   pub full-same : (xs ys : List T) → full xs ≡ full ys → xs ≡ ys
   full-same xs ys e = sym (items-full-alone xs) ∙ (ap items_in e ∙ items-full-alone ys)
 
-  -- in the row `full xs ++ s`, the slot i holds the item of xs at index i, for each i below the
+  -- in the row `full xs ++ s`, slot i holds the item of xs at index i, for each i below the
   -- length of xs
   pub slot-full : (xs : List T) (s : List (Option T)) (i : ℕ) (d : T) → i < length xs
       → slot (full xs ++ s) i ≡ Some (get_or xs i d)
@@ -113,7 +113,7 @@ module _ {T : Type 0} where
       (replicate-append-replicate (c - length xs) (d - c) None
       ∙ ap (λ (q : ℕ). replicate q None) m)
 
-  -- in the row `full xs ++ s`, the slot i holds the item of xs at index i, for each i below the
+  -- in the row `full xs ++ s`, slot i holds the item of xs at index i, for each i below the
   -- length of xs
   pub slot-get : (xs : List T) (s : List (Option T)) (i : ℕ) → i < length xs
       → slot (full xs ++ s) i ≡ slice_get xs i
@@ -221,7 +221,7 @@ module _ {T A : Type 0} where
       ∙ front-push xs c v l))
       (omega (arith, t.packed.len, length_push xs v)) (omega (arith, length_push xs v))
 
-  -- if the slot j is the last filled slot of a list's block b and holds v, the items of the list
+  -- if slot j is the last filled slot of a list's block b and holds v, the items of the list
   -- are its first j items, followed by v
   pub last-item : (b : Block T A) (a : A) (v : T) (j : ℕ) → IsThin b a → j + 1 ≡ b.len
       → slot b.slots j ≡ Some v → items_in b.slots ≡ take j (items_in b.slots) ++ v ∷ []
@@ -260,7 +260,7 @@ module _ {T A : Type 0} where
       ∙ (ap (λ (q : ℕ). set (front (ys ++ v ∷ []) c) q None) (sym m) ∙ front-pop ys c v k))
       (sym m) (omega (arith, length_push ys v))
 
-  -- in the block of a list, the slot i holds the item at index i, for each i below the number of
+  -- in the block of a list, slot i holds the item at index i, for each i below the number of
   -- items
   thin-slot : (b : Block T A) (a : A) (i : ℕ) → IsThin b a → i < length (items_in b.slots)
       → slot b.slots i ≡ slice_get (items_in b.slots) i
@@ -284,13 +284,13 @@ module _ {T A : Type 0} where
       ∙ (ap (λ (k : ℕ). take k (front ys (length b.slots))) all ∙ take-append_seam (full ys)
       (empty (length b.slots - length ys)))))
 
-  -- if the slot i of a list's block holds v, the item at index i is v
+  -- if slot i of a list's block holds v, the item at index i is v
   pub thin-get : (b : Block T A) (a : A) (i : ℕ) (v : T) → IsThin b a
       → i < length (items_in b.slots) → slot b.slots i ≡ Some v
       → slice_get (items_in b.slots) i ≡ Some v
   thin-get b a i v t h e = sym (thin-slot b a i t h) ∙ e
 
-  -- if the slot i of a list's block was emptied, the slot of each later item is still filled
+  -- if slot i of a list's block was emptied, the slot of each later item is still filled
   pub kept-filled : (b : Block T A) (a : A) (i j : ℕ) (s : List (Option T)) → IsThin b a → i < j
       → j < length (items_in b.slots) → s ≡ set b.slots i None → IsSome (slot s j)
   kept-filled b a i j s t n h e = let ne : j ≢ i = omega arith in

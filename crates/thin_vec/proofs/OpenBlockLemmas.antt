@@ -231,9 +231,9 @@ module _ {T A : Type 0} where
       → xs ≡ (open_of h).rest
   rest-run h xs e = sym (items-full-alone xs) ∙ ap items_in e
 
-  -- ---- The steps. Each step has two definitions and a lemma. The first definition is the block
-  -- after the step, the second one is an `Open`, and the lemma says that contracts see the block as
-  -- this `Open`.
+  -- Section: steps. Each step has two definitions and a lemma. The first definition is the block
+  -- after the step. The second definition is an `Open`. The lemma says that contracts see the block
+  -- as this `Open`.
 
   module _ (h : Inside T A) (o : IsOpen h) (b : Block T A)
       (some : 0 < length (open_of h).rest) where

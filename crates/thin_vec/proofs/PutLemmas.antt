@@ -35,8 +35,8 @@ module _ {S X : Type 0} {steps : S → Option X → S → Type 0} {can : S → T
   }
 
 module _ {T : Type 0} where
-  -- writing ys into a row from the slot i + 1 on, and then y into the slot i, is the same as
-  -- writing y followed by ys from the slot i on
+  -- writing ys into a row from slot i + 1 on, and then y into slot i, is the same as
+  -- writing y followed by ys from slot i on
   laid-before : (i k : ℕ) (y : Option T) (ys s : List (Option T)) → k ≡ i + 1 → i < length s
       → set (laid k ys s) i y ≡ laid i (y ∷ ys) s
   laid-before i k y ys s next low =

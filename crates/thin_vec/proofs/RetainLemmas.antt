@@ -116,7 +116,7 @@ module _ {S T : Type 0} (R : S → T → Bool → S → T → Type 0) where
   pub asked-one : (s t : S) (x y : T) (b : Bool) → R s x b t y → Asked R s (x ∷ []) ((b, y) ∷ []) t
   asked-one s t x y b h = (b, y, t, [], h, (refl, refl), refl)
 
-  -- ---- runs of items that all stay
+  -- Section: runs of items that all stay
 
   -- Starting in the state s, the items of xs from index k up to m were tested, and all of them
   -- stay. t is the state after the tests, and ys is xs with the tested items as the tests left
@@ -331,7 +331,7 @@ module _ {S T : Type 0} (R : S → T → Bool → S → T → Type 0) where
               ∙ sym (append_assoc h.left r.left r.end));
         }
 
-  -- ---- the items kept by the tests of a run
+  -- Section: the items kept by the tests of a run
 
   -- Starting in the state s, the items of xs before `rest` were tested; t is the final state.
   -- `kept` are the tested items that stay, as the tests left them, and m is their number.
@@ -422,7 +422,7 @@ module _ {S T : Type 0} (R : S → T → Bool → S → T → Type 0) where
           count = trues-stay r.left ∙ run-long;
         }
 
-  -- ---- open blocks
+  -- Section: open blocks
 
   module _ {A : Type 0} (v w : Open T A) where
     -- If the first items of the middle run of v were tested (`Part`), and w is v with the m items
@@ -629,7 +629,7 @@ module _ {J S T : Type 0} (R : S → T → Bool → S → T → Type 0) (inside 
     },
   )
 
--- ---- for callers
+-- Section: for callers
 
 -- in this module, R is the relation of a closure that only reads the item
 module _ {S T : Type 0} (R : S → T → Bool → S → Type 0) where

@@ -162,8 +162,7 @@ impl<T, A: Allocator, G: Growth> ThinVec<T, A, G> {
         ensures err { OnErr result (self.new ≡ self.old) }
         ensures value_returned { IfErr result (λ error. error.value ≡ value) }
 
-        // In any case. The new capacity and the cause of a failure are those of a call of
-        // `reserve(1)`.
+        // In every case. The capacity grows, and the call fails, exactly as `reserve(1)` would.
         ensures reserves { Reserves G.rule T.row 1 self.old self.new (causes result) }
         ensures keeps { Keeps T.row self.old self.new }
     {

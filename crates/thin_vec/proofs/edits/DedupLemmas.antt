@@ -122,7 +122,7 @@ module _ {S T : Type 0} (R : OnPairs S T) where
           h.7,
     )
 
-  -- ---- runs of items that all stay
+  -- Section: runs of items that all stay
 
   -- The first item of xs stays, and the m - 1 items after it were tested and stay. ys is xs with
   -- these items as the tests left them. s and t are the states before and after the tests.
@@ -253,7 +253,7 @@ module _ {S T : Type 0} (R : OnPairs S T) where
           stops = inl (refl, refl);
         }
 
-  -- ---- the items that the tests of a run kept
+  -- Section: the items that the tests of a run kept
 
   module _ (m : ℕ) (s : S) (xs : List T) (t : S) (ys : List T)
       (r : PairsAskedUpTo R m s xs t ys) where
@@ -294,7 +294,7 @@ module _ {S T : Type 0} (R : OnPairs S T) where
     run-count f none e =
         omega (arith, ap trues e, trues-join (all-stay r.more) f, trues-all r.more, none, r.kept)
 
-  -- ---- open blocks
+  -- Section: open blocks
 
   module _ {A : Type 0} (v w : Open T A) where
     -- `Moved front cost` holds if w is v with this front and this cost. In addition, only the gap

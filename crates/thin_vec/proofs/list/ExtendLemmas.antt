@@ -108,8 +108,8 @@ full-in-hand P Q (Err error) some at_capacity =
 
 module _ {T : Type 0} where
   module _ (s s' r : List (Option T)) where
-    -- if xs was written from the slot i on, and x is written into the slot after xs, then xs
-    -- followed by x was written from the slot i on
+    -- if xs was written from slot i on, and x is written into the slot after xs, then xs
+    -- followed by x was written from slot i on
     pub laid-more : (i k : ℕ) (xs : List T) (x : T) → s ≡ laid i (full xs) r → k ≡ i + length xs
         → k < length r → s' ≡ set s k (Some x) → s' ≡ laid i (full (xs ++ x ∷ [])) r
     laid-more i k xs x e at within e' =
@@ -152,7 +152,7 @@ spare-kept v w xs is =
     omega (arith, ap length items, length-append v.items xs) in
     is ∙ (λ i. record v { items = sym items i; cost = moving (many i) v.cost })
 
--- ---- how a capacity grows over several calls
+-- Section: how a capacity grows over several calls
 
 module _ (rule : Rule) (R : RattleType) (law : KeepsLaw rule) where
   -- after a loose growth (`IsLoose`), the capacity is not smaller than before

@@ -18,7 +18,7 @@ use Rattle.thin_block.proofs.SlotsLemmas.{same_or_not, the_item, moved_left, mov
 use lib.Seq.{set-set, take-set-le}
 use mathlib.Core.Logic.{⊎_elim}
 
--- ---- moves of a run by one slot
+-- Section: moves of a run by one slot
 
 module _ {T : Type 0} where
   -- if the slot of the item at i is emptied, and the later items move down by one slot, the slots
@@ -72,7 +72,7 @@ module _ {T : Type 0} where
         ap (λ (ys : List (Option T)). moved i j k ys) s
         ∙ moved_right i j k 1 (full a) (full b) r before e q
 
-    -- if v is written into the slot i after the items from index i on have moved up, the slots are
+    -- if v is written into slot i after the items from index i on have moved up, the slots are
     -- those of the list with v inserted at i
     pub front-insert : (v : T)
         → set (moved i j k (front xs c)) i (Some v) ≡ front (insert xs i v) c
@@ -87,7 +87,7 @@ module _ {T : Type 0} where
         ∙ (ap (λ (ys : List (Option T)). ys ++ r) (sym (map-append (λ (y : T). Some y) a (v ∷ b)))
         ∙ ap (λ (z : ℕ). full (insert xs i v) ++ replicate z None) m)))
 
-    -- after the items from index i on have moved up, the slot i is empty
+    -- after the items from index i on have moved up, slot i is empty
     front-gap : slot (moved i j k (front xs c)) i ≡ None
     front-gap =
         ap (λ (ys : List (Option T)). slot ys i) apart
@@ -108,7 +108,7 @@ module _ {T A : Type 0} {b : Block T A} {a : A} (t : IsThin b a) where
       (omega (arith, len, t.packed.len, length-remove xs i h))
       (omega (arith, thin-room b a t, length-remove xs i h))
 
-  -- if the items from i on were moved up by one slot, v was written into the slot i, and the stored
+  -- if the items from i on were moved up by one slot, v was written into slot i, and the stored
   -- length was incremented, the new block b' is the block of the list with v inserted at i
   pub settle-insert : (b' : Block T A) (i : ℕ) (v : T) {j k : ℕ} → i ≤ length (items_in b.slots)
       → b.len < length b.slots → j ≡ i + 1 → k ≡ b.len - i → {l : ℕ} {m : Cost} → l ≡ b.len
@@ -122,7 +122,7 @@ module _ {T A : Type 0} {b : Block T A} {a : A} (t : IsThin b a) where
       (omega (arith, len, t.packed.len, length-insert xs i v h))
       (omega (arith, o, t.packed.len, length-insert xs i v h))
 
-  -- after the items from i on were moved up by one slot, the slot i is empty
+  -- after the items from i on were moved up by one slot, slot i is empty
   pub thin-gap : (i : ℕ) {j k : ℕ} → i ≤ length (items_in b.slots) → b.len < length b.slots
       → j ≡ i + 1 → k ≡ b.len - i → slot (moved i j k b.slots) i ≡ None
   thin-gap i {j} {k} h o e n =
@@ -130,7 +130,7 @@ module _ {T A : Type 0} {b : Block T A} {a : A} (t : IsThin b a) where
       ∙ front-gap (items_in b.slots) (length b.slots) i h (omega (arith, o, t.packed.len)) e
       (omega (arith, n, t.packed.len))
 
--- ---- removal of items
+-- Section: removal of items
 
 module _ {T : Type 0} where
   -- `emptying xs k i c` is the row of c slots that held xs, after the slots from k up to i were
@@ -166,15 +166,15 @@ module _ {T : Type 0} where
       ∙ ap full (take-append-drop k xs)))
 
   module _ (xs : List T) (k i c : ℕ) (order : k ≤ i) (bound : i < length xs) where
-    -- the slots before the slot i
+    -- the slots before slot i
     pre : List (Option T)
     pre = full (take k xs) ++ empty (i - k)
 
-    -- the slots after the slot i
+    -- the slots after slot i
     post : List (Option T)
     post = full (drop (i + 1) xs) ++ empty (c - length xs)
 
-    -- there are i slots before the slot i
+    -- there are i slots before slot i
     length-pre : length pre ≡ i
     unfolding pre
     length-pre =
@@ -186,7 +186,7 @@ module _ {T : Type 0} where
           length-replicate {A = Option T} (i - k) None,
         )
 
-    -- while slots are emptied, the slot i, which is the next to be emptied, still holds the item at
+    -- while slots are emptied, slot i, which is the next to be emptied, still holds the item at
     -- index i
     split : emptying xs k i c ≡ pre ++ (Some (item-at xs i bound).0 ∷ post)
     unfolding pre post
@@ -197,12 +197,12 @@ module _ {T : Type 0} where
         ∙ sym (append_assoc (full (take k xs)) (empty (i - k))
         (Some r.0 ∷ (full (drop (i + 1) xs) ++ empty (c - length xs))))
 
-    -- the next slot to be emptied, the slot i, is filled
+    -- the next slot to be emptied, slot i, is filled
     pub emptying-filled : IsSome (slot (emptying xs k i c) i)
     emptying-filled = rw (ap (λ (s : List (Option T)). slot s i) split
         ∙ get_or_at pre (Some (item-at xs i bound).0) post None i length-pre) refl
 
-    -- emptying the slot i makes the row `emptying xs k (i + 1) c`
+    -- emptying slot i makes the row `emptying xs k (i + 1) c`
     pub emptying-take : set (emptying xs k i c) i None ≡ emptying xs k (i + 1) c
     unfolding pre post
     emptying-take =
@@ -234,7 +234,7 @@ module _ {T : Type 0} where
   full-set (x ∷ xs) s (suc i) m h = ap (λ (r : List (Option T)). Some x ∷ r)
       (full-set xs s i m (omega arith))
 
-  -- if the item at i and the last item m are taken out, and m is written into the slot i, the slots
+  -- if the item at i and the last item m are taken out, and m is written into slot i, the slots
   -- are those of the list after `swap_remove` at i
   front-swap_remove : (ys : List T) (c i : ℕ) (v m : T) → i < length ys → length (ys ++ m ∷ []) ≤ c
       → set (set (set (front (ys ++ m ∷ []) c) i None) (length ys) None) i (Some m) ≡ front
@@ -271,7 +271,7 @@ module _ {T A : Type 0} where
 
   module _ {b : Block T A} {a : A} (t : IsThin b a) (b' : Block T A) (i last : ℕ) where
     -- Let the item at i not be the last item. If both items were taken out, the last item was
-    -- written into the slot i, and the stored length was decremented, then the new block is the
+    -- written into slot i, and the stored length was decremented, then the new block is the
     -- block of the list after `swap_remove` at i.
     settle-swap_remove : (v : T) {m : T} → i < last → last + 1 ≡ b.len → slot b.slots last ≡ Some m
         → {k : Cost} → IsWritten b b' (set (set (set b.slots i None) last None) i (Some m)) last k
@@ -311,7 +311,7 @@ module _ {T A : Type 0} where
               long,
             )
 
-    -- Let the content of the last filled slot be moved into the slot i, which may be the same slot.
+    -- Let the content of the last filled slot be moved into slot i, which may be the same slot.
     -- If the stored length was decremented too, the new block is the block of the list after
     -- `swap_remove` at i.
     pub settle-replaced : (v : T) → i ≤ last → last + 1 ≡ b.len → slot b.slots i ≡ Some v

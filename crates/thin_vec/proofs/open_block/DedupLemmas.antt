@@ -20,7 +20,7 @@ use Rattle.thin_vec.proofs.ListLemmas.{length-full}
 use Rattle.thin_vec.proofs.open_block.SiftLemmas.{row-at, same-past, write-step, written}
 
 module _ {T : Type 0} where
-  -- ---- two neighbouring items
+  -- Section: two neighbouring items
 
   -- writing no items over the slots s does not change s
   over-none : (s : List (Option T)) → over s 0 [] ≡ s
@@ -29,13 +29,13 @@ module _ {T : Type 0} where
   over-none (Some x ∷ s) = refl
 
   -- The slots i and i + 1 hold the items k and x. Writing k' and x' over these items puts k' into
-  -- the slot i and x' into the slot i + 1.
+  -- slot i and x' into slot i + 1.
   pub record Neighbours (s : List (Option T)) (i : ℕ) (k x k' x' : T) : Type 0 where
     pub first : slot s i ≡ Some k
     pub second : slot s (suc i) ≡ Some x
     pub now : over s i (k' ∷ x' ∷ []) ≡ set (set s i (Some k')) (suc i) (Some x')
 
-  -- if the first two slots from the slot i on hold k and x, `Neighbours` holds
+  -- if the first two slots from slot i on hold k and x, `Neighbours` holds
   pub neighbours : (s : List (Option T)) (i : ℕ) (k x k' x' : T) → Some k ∷ Some x ∷ [] ≡ take 2
       (drop i s) → Neighbours s i k x k' x'
   neighbours [] zero k x k' x' e = absurd (cons-not-nil e)
@@ -54,12 +54,12 @@ module _ {T : Type 0} where
       let h = neighbours s i k x k' x' e in
       record { first = h.first; second = h.second; now = ap (λ (r : List (Option T)). p ∷ r) h.now }
 
-  -- in this module, the slice `all` of the two items from the slot i on is cut into two slices of
+  -- in this module, the slice `all` of the two items from slot i on is cut into two slices of
   -- one item each, `a` and `b`
   module _ (s : List (Option T)) (i : ℕ) (all a b : List T) (within : i + 2 ≤ length s)
       (lent : full all ≡ slice_range s i (i + 2)) (cut : all ≡ a ++ b) (one : length a ≡ 1) where
     -- if the item of `a` is k, and the item of `b` is x, then `Neighbours` holds, and writing k'
-    -- into `a` and x' into `b` puts k' into the slot i and x' into the slot i + 1
+    -- into `a` and x' into `b` puts k' into slot i and x' into slot i + 1
     pub parts-of : {k x : T} (k' x' : T) → k ≡ get_or a 0 k → x ≡ get_or b 0 x
         → Neighbours s i k x k' x'
         × (over s i (set a 0 k' ++ set b 0 x') ≡ set (set s i (Some k')) (suc i) (Some x'))
@@ -87,7 +87,7 @@ module _ {T : Type 0} where
         (h, (λ j. over s i (set (p.1 j) 0 k' ++ set (q.1 j) 0 x')) ∙ h.now)
 
 module _ {T A : Type 0} where
-  -- ---- open blocks
+  -- Section: open blocks
 
   -- the items x and y, at the indices k and k + 1 of the middle run, were overwritten by x' and y',
   -- and contracts see the block b as h with x' and y' in place of x and y

@@ -51,8 +51,8 @@ module _ {S T : Type 0} (R : S → T → T → Bool → S → T → T → Type 0
     pub asked : R s later k b t later_left l
     pub now : ys ≡ later_left ∷ after
 
-  -- The item in the slot `i + 1` was tested against the item in the slot `i`, in the state `s`. `b`
-  -- says whether the item in the slot `i + 1` is removed, and `t` is the state afterwards. `slots'`
+  -- The item in slot `i + 1` was tested against the item in slot `i`, in the state `s`. `b`
+  -- says whether the item in slot `i + 1` is removed, and `t` is the state afterwards. `slots'`
   -- is `slots` with both items as the test left them.
   pub record AreAskedIn (s : S) (i : ℕ) (slots : List (Option T)) (b : Bool) (t : S)
       (slots' : List (Option T)) : Type 0 where

@@ -71,7 +71,7 @@ impl<A: Allocator, G: Growth> Write for ThinVec<u8, A, G> {
         ensures cause { IfErr result (λ error. error_kind error ≡ ErrorKind.OutOfMemory) }
         ensures err { OnErr result (self.new ≡ self.old) }
 
-        // In any case.
+        // In every case.
         ensures had_room { HasRoomFor self.old (length buf.now)
             → self.new.capacity ≡ self.old.capacity }
         ensures keeps { Keeps u8 self.old self.new }
@@ -103,7 +103,7 @@ impl<A: Allocator, G: Growth> Write for ThinVec<u8, A, G> {
         ensures cause { IfErr result (λ error. error_kind error ≡ ErrorKind.OutOfMemory) }
         ensures err { OnErr result (self.new ≡ self.old) }
 
-        // In any case.
+        // In every case.
         ensures had_room { HasRoomFor self.old (length buf.now)
             → self.new.capacity ≡ self.old.capacity }
         ensures keeps { Keeps u8 self.old self.new }

@@ -77,7 +77,7 @@ impl<T, A: Allocator, G: Growth> ThinVec<T, A, G> {
         ensures cause { IfErr result
             (λ rejected. FailsAtHint G.rule T.row self.new (I.remaining iter) rejected.cause) }
 
-        // In any case. Each item from index `at` on moves at most twice, or at most once if the
+        // In every case. Each item from index `at` on moves at most twice, or at most once if the
         // reserved room was filled.
         ensures taken { HasTaken G.rule T.row self.old self.new
             (2 * (length self.old.items - at)) (I.remaining iter) }
@@ -122,7 +122,7 @@ impl<T: Drop, A: Allocator, G: Growth> ThinVec<T, A, G> {
         ensures cause { IfErr result (λ error. (tail : List T) → 0 < length tail
             → IsStopCause G.rule T.row self.new tail (I.remaining error.rest) error) }
 
-        // In any case.
+        // In every case.
         ensures ruled { IsKeptOrRuled G.rule T.row self.old.capacity self.new.capacity
             (length self.new.items) }
         ensures taken { HasTaken G.rule T.row self.old self.new (length self.old.items - at)

@@ -66,7 +66,7 @@ impl<T: Clone, A: Allocator, G: Growth> ThinVec<T, A, G> {
         ensures err_cost { OnErr result (CostsAtMost
             (length items.now + 3 * (length self.old.items - end)) self.old self.new) }
 
-        // In any case.
+        // In every case.
         ensures reserves { Reserves G.rule T.row (length items.now) self.old self.new result }
         ensures keeps { Keeps T.row self.old self.new }
     {
@@ -99,7 +99,7 @@ impl<T: Clone, A: Allocator, G: Growth> ThinVec<T, A, G> {
         ensures cost { OnOk result (self.new.cost
             ≡ moving (moves_cloning self.old start end (length items.now)) self.old.cost) }
 
-        // In any case, only the items and the cost may change.
+        // In every case, only the items and the cost may change.
         ensures changes { self.new ≡ record self.old {
           items = self.new.items;
           cost = self.new.cost;
@@ -111,7 +111,7 @@ impl<T: Clone, A: Allocator, G: Growth> ThinVec<T, A, G> {
             (length self.old.items - end)) self.old.cost self.new.cost) }
         ensures cause { IfErr result (λ cause. cause ≡ ThinVecError.OutOfMemory) }
 
-        // In any case.
+        // In every case.
         ensures within { IsWithin T.row self.new }
     {
         let (inside, beyond) = items.split_at(items.len().min(end - start));
@@ -140,7 +140,7 @@ impl<T: Clone, A: Allocator, G: Growth> ThinVec<T, A, G> {
         ensures cost { OnOk result (self.new.cost
             ≡ moving (moves_replacing self.old at at (length items.now)) self.old.cost) }
 
-        // In any case, only the items and the cost may change.
+        // In every case, only the items and the cost may change.
         ensures changes { self.new ≡ record self.old {
           items = self.new.items;
           cost = self.new.cost;
@@ -152,7 +152,7 @@ impl<T: Clone, A: Allocator, G: Growth> ThinVec<T, A, G> {
             (length self.old.items - at)) self.old.cost self.new.cost) }
         ensures cause { IfErr result (λ cause. cause ≡ ThinVecError.OutOfMemory) }
 
-        // In any case.
+        // In every case.
         ensures within { IsWithin T.row self.new }
     {
         let mut block = self.open_wide(at, items.len());

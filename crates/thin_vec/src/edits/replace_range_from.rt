@@ -54,7 +54,7 @@ impl<T: Copy, A: Allocator, G: Growth> ThinVec<T, A, G> {
         // On failure.
         ensures err { OnErr result (self.new ≡ self.old) }
 
-        // In any case.
+        // In every case.
         ensures reserves { Reserves G.rule T.row (length items.now - (end - start)) self.old
             self.new result }
         ensures keeps { Keeps T.row self.old self.new }
@@ -130,7 +130,7 @@ impl<T: Drop, A: Allocator, G: Growth> ThinVec<T, A, G> {
         ensures err { OnErr result (self.new ≡ self.old) }
         ensures other_err { OnErr result (other.new ≡ other.old) }
 
-        // In any case.
+        // In every case.
         ensures reserves { Reserves G.rule T.row (length other.old.items - (end - start)) self.old
             self.new result }
         ensures keeps { Keeps T.row self.old self.new }

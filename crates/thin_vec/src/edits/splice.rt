@@ -206,7 +206,7 @@ impl<
         ensures cause { IfErr result (λ error. IsStopCause G.rule T.row self.exit.0.now
             (splice_block self.entry).tail (I.remaining error.rest) error) }
 
-        // In any case.
+        // In every case.
         ensures capacity { GrowsFor G.rule T.row (splice_left self.entry) self.exit.0.now
             (I.remaining (splice_iter self.entry)) }
         ensures cost { CostsAdding (splice_left self.entry) self.exit.0.now

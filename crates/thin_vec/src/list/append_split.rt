@@ -34,8 +34,8 @@ impl<T, A: Allocator, G: Growth> ThinVec<T, A, G> {
         ensures err { OnErr result (self.new ≡ self.old) }
         ensures other_err { OnErr result (other.new ≡ other.old) }
 
-        // In any case. The new capacity and the cause of a failure are those of a call of
-        // `reserve(other.len())`.
+        // In every case. The capacity grows, and the call fails, exactly as
+        // `reserve(other.len())` would.
         ensures reserves { Reserves G.rule T.row (length other.old.items) self.old self.new result }
         ensures keeps { Keeps T.row self.old self.new }
         ensures other_within { IsWithin T.row other.old × IsWithin T.row other.new }
@@ -74,7 +74,7 @@ impl<T, A: Allocator, G: Growth> ThinVec<T, A, G> {
         ensures cause { IfErr result (λ cause. cause ≡ ThinVecError.OutOfMemory) }
         ensures err { OnErr result (self.new ≡ self.old) }
 
-        // In any case.
+        // In every case.
         ensures changes { self.new ≡ record self.old { items = self.new.items } }
         ensures within { IsWithin T.row self.old × IsWithin T.row self.new }
     {

@@ -41,7 +41,7 @@ impl<T, A: Allocator, G: Growth> ThinVec<T, A, G> {
         // On failure, the list is unchanged.
         ensures err { OnErr result (self.new ≡ self.old) }
 
-        // In any case.
+        // In every case.
         ensures items { self.new.items ≡ self.old.items }
         ensures reserves { Reserves G.rule T.row additional self.old self.new result }
         ensures keeps { Keeps T.row self.old self.new }
@@ -79,7 +79,7 @@ impl<T, A: Allocator, G: Growth> ThinVec<T, A, G> {
         ensures err { OnErr result (self.new ≡ self.old) }
         ensures overflow { TellsOverflow (exact_for T.row self.old additional) result }
 
-        // In any case.
+        // In every case.
         ensures items { self.new.items ≡ self.old.items }
         ensures had_room { HasRoomFor self.old additional → self.new.capacity ≡ self.old.capacity }
         ensures alloc { self.new.alloc ≡ self.old.alloc }
@@ -146,7 +146,7 @@ impl<T, A: Allocator, G: Growth> ThinVec<T, A, G> {
         // On failure, the list is unchanged.
         ensures err { OnErr result (self.new ≡ self.old) }
 
-        // In any case.
+        // In every case.
         ensures items { self.new.items ≡ self.old.items }
         ensures reserves { Reserves G.rule T.row additional self.old self.new result }
         ensures keeps { Keeps T.row self.old self.new }
@@ -229,7 +229,7 @@ impl<T, A: Allocator, G: Growth> ThinVec<T, A, G> {
         requires fits { Fits T.row cap }
         requires within { IsWithin T.row self.old }
 
-        // In any case, only the capacity and the cost change.
+        // In every case, only the capacity and the cost change.
         ensures changes { self.new ≡ record self.old {
           capacity = self.new.capacity;
           cost = self.new.cost;
@@ -243,7 +243,7 @@ impl<T, A: Allocator, G: Growth> ThinVec<T, A, G> {
         ensures err { OnErr result (self.new ≡ self.old) }
         ensures cause { IfErr result (λ cause. cause ≡ ThinVecError.OutOfMemory) }
 
-        // In any case.
+        // In every case.
         ensures within { IsWithin T.row self.new }
     {
         self.block.grow(&self.alloc, cap)

@@ -46,7 +46,7 @@ impl<T: Clone, A: Allocator, G: Growth> ThinVec<T, A, G> {
         ensures err_cost { OnErr result ((self.new ≡ self.old)
             ⊎ CostsUpToClone T.is_infallible items.now self.old self.new) }
 
-        // In any case. The new capacity, and whether the call fails with `CapacityOverflow`, are
+        // In every case. The new capacity, and whether the call fails with `CapacityOverflow`, are
         // the same as for a call of `reserve(items.len())`.
         ensures reserves { Reserves G.rule T.row (length items.now) self.old self.new result }
         ensures keeps { Keeps T.row self.old self.new }
@@ -142,7 +142,7 @@ impl<T: Clone, A: Allocator, G: Growth> ThinVec<T, A, G> {
         ensures err_cost { OnErr result (StopsAtClone T.is_infallible items.now self.old.cost
             self.new.cost) }
 
-        // In any case.
+        // In every case.
         ensures capacity { self.new.capacity ≡ self.old.capacity }
         ensures keeps { Keeps T.row self.old self.new }
     {
@@ -213,7 +213,7 @@ impl<T: Clone, A: Allocator, G: Growth> ThinVec<T, A, G> {
             ⊎ CostsUpToClone T.is_infallible (slice_range self.old.items start end)
             self.old self.new) }
 
-        // In any case. The new capacity, and whether the call fails with `CapacityOverflow`, are
+        // In every case. The new capacity, and whether the call fails with `CapacityOverflow`, are
         // the same as for a call of `reserve(end - start)`.
         ensures reserves { Reserves G.rule T.row (end - start) self.old self.new result }
         ensures keeps { Keeps T.row self.old self.new }
@@ -239,7 +239,7 @@ impl<T: Clone, A: Allocator, G: Growth> ThinVec<T, A, G> {
             → self.new.items ≡ self.old.items ++ slice_range self.old.items start end) }
         ensures cost { OnOk result (self.new.cost ≡ moving (end - start) self.old.cost) }
 
-        // In any case, only the items and the cost change.
+        // In every case, only the items and the cost change.
         ensures changes { self.new ≡ record self.old {
           items = self.new.items;
           cost = self.new.cost;
@@ -251,7 +251,7 @@ impl<T: Clone, A: Allocator, G: Growth> ThinVec<T, A, G> {
             (slice_range self.old.items start end) self.old.cost self.new.cost) }
         ensures cause { IfErr result (λ cause. cause ≡ ThinVecError.OutOfMemory) }
 
-        // In any case.
+        // In every case.
         ensures within { IsWithin T.row self.old × IsWithin T.row self.new }
     {
         let len = self.len();
@@ -286,7 +286,7 @@ impl<T: Clone, A: Allocator, G: Growth> ThinVec<T, A, G> {
         ensures refused { result < end - start → HoldsAt (λ x. ¬ (T.is_infallible x))
             (slice_range self.old.items start end) result }
 
-        // In any case.
+        // In every case.
         ensures within { IsWithin T.row self.new }
     {
         let count = end - start;

@@ -33,8 +33,8 @@ impl<T: Copy, A: Allocator, G: Growth> ThinVec<T, A, G> {
         // On failure, the list is unchanged.
         ensures err { OnErr result (self.new ≡ self.old) }
 
-        // In any case. The new capacity and the cause of a failure are those of a call of
-        // `reserve(items.len())`.
+        // In every case. The capacity grows, and the call fails, exactly as
+        // `reserve(items.len())` would.
         ensures reserves { Reserves G.rule T.row (length items.now) self.old self.new result }
         ensures keeps { Keeps T.row self.old self.new }
     {

@@ -65,7 +65,7 @@ impl<T, A: Allocator, G: Growth> ThinVec<T, A, G> {
         ensures cause { IfErr result
             (λ error. IsExtendCause G.rule T.row self.new (I.remaining error.rest) error) }
 
-        // In any case.
+        // In every case.
         ensures capacity { GrowsFor G.rule T.row self.old self.new (I.remaining iter) }
         ensures cost { CostsAdding self.old self.new 0 }
         ensures keeps { Keeps T.row self.old self.new }
@@ -106,7 +106,7 @@ impl<T, A: Allocator, G: Growth> ThinVec<T, A, G> {
         ensures cause { IfErr result
             (λ error. IsExtendCause G.rule T.row self.new (I.remaining error.rest) error) }
 
-        // In any case.
+        // In every case.
         ensures had_room { HasRoomFor self.old (size (I.remaining iter))
             → self.new.capacity ≡ self.old.capacity }
         ensures loose { IsLoose G.rule T.row self.old.capacity self.new.capacity }
@@ -158,7 +158,7 @@ impl<T, A: Allocator, G: Growth> ThinVec<T, A, G> {
             (length self.new.items + size (I.remaining result.0) < length self.old.items + size
             (I.remaining iter)) }
 
-        // In any case.
+        // In every case.
         ensures room { length self.new.items ≤ self.new.capacity }
         ensures cheap { IsCheap self.old → IsCheap self.new }
         ensures within { IsWithin T.row self.old × IsWithin T.row self.new }

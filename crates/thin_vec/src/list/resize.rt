@@ -49,7 +49,7 @@ impl<T: Clone, A: Allocator, G: Growth> ThinVec<T, A, G> {
         ensures err_cost { OnErr result ((self.new ≡ self.old) ⊎ CostsUpToClone T.is_infallible
             (replicate (len - length self.old.items - 1) value) self.old self.new) }
 
-        // In any case. The new capacity, and whether the call fails with `CapacityOverflow`, are
+        // In every case. The new capacity, and whether the call fails with `CapacityOverflow`, are
         // the same as for a call of `reserve` with the number of new items.
         ensures reserves { Reserves G.rule T.row (len - length self.old.items) self.old self.new
             result }
@@ -81,7 +81,7 @@ impl<T: Clone, A: Allocator, G: Growth> ThinVec<T, A, G> {
             → self.new.items ≡ self.old.items ++ replicate count value) }
         ensures cost { OnOk result (self.new.cost ≡ moving count self.old.cost) }
 
-        // In any case, only the items and the cost change.
+        // In every case, only the items and the cost change.
         ensures changes { self.new ≡ record self.old {
           items = self.new.items;
           cost = self.new.cost;
@@ -94,7 +94,7 @@ impl<T: Clone, A: Allocator, G: Growth> ThinVec<T, A, G> {
             self.new.cost) }
         ensures cause { IfErr result (λ cause. cause ≡ ThinVecError.OutOfMemory) }
 
-        // In any case.
+        // In every case.
         ensures within { IsWithin T.row self.old × IsWithin T.row self.new }
     {
         let len = self.len();
@@ -159,8 +159,8 @@ impl<T: Drop, A: Allocator, G: Growth> ThinVec<T, A, G> {
         // On failure, the list is unchanged.
         ensures err { OnErr result (self.new ≡ self.old) }
 
-        // In any case. The new capacity and the cause of a failure are those of a call of `reserve`
-        // with the number of new items.
+        // In every case. The capacity grows, and the call fails, exactly as `reserve` would for the
+        // number of new items.
         ensures reserves { Reserves G.rule T.row (len - length self.old.items) self.old self.new
             result }
         ensures keeps { Keeps T.row self.old self.new }

@@ -35,7 +35,7 @@ impl<T, A: Allocator, G: Growth> ThinVec<T, A, G> {
         ensures err { OnErr result (self.new ≡ self.old) }
         ensures cause { IfErr result (λ cause. cause ≡ ThinVecError.OutOfMemory) }
 
-        // In any case.
+        // In every case.
         ensures items { self.new.items ≡ self.old.items }
         ensures alloc { self.new.alloc ≡ self.old.alloc }
         ensures within { IsWithin T.row self.old × IsWithin T.row self.new }
@@ -71,7 +71,7 @@ impl<T, A: Allocator, G: Growth> ThinVec<T, A, G> {
         ensures err { OnErr result (self.new ≡ self.old) }
         ensures cause { IfErr result (λ cause. cause ≡ ThinVecError.OutOfMemory) }
 
-        // In any case.
+        // In every case.
         ensures items { self.new.items ≡ self.old.items }
         ensures alloc { self.new.alloc ≡ self.old.alloc }
         ensures within { IsWithin T.row self.old × IsWithin T.row self.new }
@@ -87,7 +87,7 @@ impl<T, A: Allocator, G: Growth> ThinVec<T, A, G> {
         requires smaller { cap < self.old.capacity }
         requires within { IsWithin T.row self.old }
 
-        // In any case, only the capacity and the cost change.
+        // In every case, only the capacity and the cost change.
         ensures changes { self.new ≡ record self.old {
           capacity = self.new.capacity;
           cost = self.new.cost;
@@ -101,7 +101,7 @@ impl<T, A: Allocator, G: Growth> ThinVec<T, A, G> {
         ensures err { OnErr result (self.new ≡ self.old) }
         ensures cause { IfErr result (λ cause. cause ≡ ThinVecError.OutOfMemory) }
 
-        // In any case.
+        // In every case.
         ensures within { IsWithin T.row self.new }
     {
         self.block.shrink(&self.alloc, cap)?;

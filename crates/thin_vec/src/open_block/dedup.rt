@@ -200,7 +200,7 @@ impl<T: Drop, A: Allocator> OpenBlock<T, A> {
     }
 }
 
-// Tests the item in the slot `i + 1` against the item in the slot `i`. Both items stay where they
+// Tests the item in slot `i + 1` against the item in slot `i`. Both items stay where they
 // are.
 fn test_neighbours<T, A: Allocator, J: PairTest<T>>(
     block: &mut Block<T, A>,

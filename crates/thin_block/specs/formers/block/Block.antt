@@ -36,7 +36,7 @@ use Rattle.std.specs.Coded.{coded_option}
 use Rattle.thin_block.specs.declared.block.Block.{Block}
 use Rattle.thin_block.specs.contracts.block.Block as C
 
--- `on_slot h x` is the slot x, with h applied to its item
+-- `on_slot h x` is slot x, with h applied to its item
 abbrev pub on_slot : {X Y : Type 0} → (X → Y) → Option X → Option Y
 on_slot h None = None
 on_slot h (Some x) = Some (h x)

@@ -83,8 +83,8 @@ take_replacing_spec 𝓤 𝓛 𝓜 𝓡 wired T A LT LA g d dd met md =
           move ! (2 ∷ 1 ∷ []) $ use2 𝓛 (‵ (place (R E) (Some two.0) b here))
           (el_in E 𝓛 b two.0 here v') $
           rewrite ! 0 (λ (c : Option T.Denot). ‵ (place (R E) c b here)) (sym two.1) refl $
-          -- The second item is now in the slot i, and the slot j is empty. The context holds, in
-          -- this order: [the slot i; the slot j; what the removed item owns; the other slots; the
+          -- The second item is now in slot i, and slot j is empty. The context holds, in
+          -- this order: [slot i; slot j; what the removed item owns; the other slots; the
           -- header; the cell with the block's pointer; three entries for the open borrow of the
           -- block; the other lifetime tokens].
           move ! (0 ∷ 1 ∷ 3 ∷ []) $ use3 𝓛 (‵ (places (R E) after_it b (o + 16)))
