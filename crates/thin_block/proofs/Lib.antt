@@ -1,4 +1,4 @@
--- The lemma files of this crate. Other crates may use the files that are `pub`.
+-- The list of this crate's lemma files. Other crates may use only the files that are `pub`.
 mod SizesLemmas
 mod PowersLemmas
 mod GrowthLemmas
