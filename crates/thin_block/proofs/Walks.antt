@@ -1,5 +1,6 @@
--- What all walks share: the parts of a body, what must hold after a part has run, and how a walk
--- proves the clauses of an `ensures`. Assumes `Logic`.
+-- Lemmas that every walk needs. A walk is the proof of a function body. The lemmas are about the
+-- parts of a body, about what must hold after a part has run, and about the proof of the `ensures`
+-- clauses. They assume the laws of the separation logic (`Logic`).
 pub use Rattle.core.proofs.alloc.Shapes.{after, head, inside, arm_body}
 use Rattle.std.proofs.Common.{◌≡◌, ℕ, zero, suc, List, [], ◌∷◌, refl, T}
 use seplogic.Ra.Ura.{Ura}
