@@ -1,6 +1,6 @@
--- Lemmas for the proof of a function body, which is called a walk. They compute the address of a
--- slot, and split the memory of this slot off the memory of all slots. The lemmas assume the laws
--- of the separation logic (`Logic`).
+-- These lemmas are for the proof of a function body, which is called a walk. They compute the
+-- address of a slot, and split the memory of this slot off the memory of all slots. The lemmas
+-- assume the laws of the separation logic (`Logic`).
 --     its_ptr       reads the pointer of the block
 --     slot_found    executes the statements that compute `(p.add(HEADER_WORDS) as *mut T).add(i)`
 --     moves_on      executes the statements that compute `p.add(i)`
@@ -68,12 +68,12 @@ module _ {M : Type 1} {𝓤 : Ura M} (𝓛 : Logic 𝓤) (Ev : Env 𝓤 𝓛.H) 
   Takes p v = T (has_ty (spot_of 𝓤 H Ev p).0 v)
 
   module _ (Γ : List (Item 𝓤)) (E : El) (b o i p₃ p₄ : ℕ) where
-    -- The proof context `Γ` after the product of `i` and the size of an item was stored in the
+    -- The proof context `Γ` after the product of `i` and the size of an item has been stored in the
     -- local variable `p₃`.
     abbrev far : List (Item 𝓤)
     far = set 𝓛 p₃ (holds p₃ (vint w64 (i * sz E))) Γ
 
-    -- The proof context `Γ` after `p.add(i)` was computed. The local variable `p₃` holds the
+    -- The proof context `Γ` after `p.add(i)` has been computed. The local variable `p₃` holds the
     -- product of `i` and the size of an item, and `p₄` holds the address of item `i`.
     abbrev pub gone : List (Item 𝓤)
     gone = set 𝓛 p₄ (holds p₄ (vptr b (i * sz E + o))) far
@@ -90,13 +90,13 @@ module _ {M : Type 1} {𝓤 : Ura M} (𝓛 : Logic 𝓤) (Ev : Env 𝓤 𝓛.H) 
         ∷ holds p₃ (vint w64 (i * sz E)) ∷ free p₄ far ∷ []
 
   module _ (Γ : List (Item 𝓤)) (E : El) (b o i p₁ p₂ : ℕ) where
-    -- The proof context `Γ` after the address of the first slot was stored in the local variable
-    -- `p₁`.
+    -- The proof context `Γ` after the address of the first slot has been stored in the local
+    -- variable `p₁`.
     abbrev first : List (Item 𝓤)
     first = set 𝓛 p₁ (holds p₁ (vptr b (o + 16))) Γ
 
-    -- The proof context `Γ` after the address of the first slot was stored in the local variables
-    -- `p₁` and `p₂`.
+    -- The proof context `Γ` after the address of the first slot has been stored in the local
+    -- variables `p₁` and `p₂`.
     abbrev pub turned : List (Item 𝓤)
     turned = set 𝓛 p₂ (holds p₂ (vptr b (o + 16))) first
 
@@ -186,9 +186,9 @@ module _ (E : El) {M : Type 1} (𝓤 : Ura M) where
 
 module _ (E : El) {M : Type 1} {𝓤 : Ura M} {𝓛 : Logic 𝓤} {K : Type 0} {Γ : List (Item 𝓤)}
     {G : Goal 𝓤 𝓛.H} {h : Item 𝓤} where
-  -- Splits the filled slot `i` off the other slots. Then its item can be read. The proof context
-  -- now holds, in this order: [the bytes of the item; what the item owns; the other slots; the
-  -- header].
+  -- Splits the filled slot `i` off the other slots, so that the item in it can be read. After this
+  -- step the proof context holds, in this order: [the bytes of the item; what the item owns; the
+  -- other slots; the header].
   pub takes_item : K → {x : el_x E} (b o : ℕ) (xs : List (Slot E)) (i : ℕ) → i < length xs
       → get_or xs i None ≡ Some x
       → ((v : Val) → Good E v → Seq K 𝓛 (Bits E 𝓤 b (i * sz E + o) v ∷ Owned E 𝓤 x v
@@ -199,9 +199,9 @@ module _ (E : El) {M : Type 1} {𝓤 : Ura M} {𝓛 : Logic 𝓤} {K : Type 0} {
       use1 𝓛 (some (λ (v : Val). given (Good E v) (Bits E 𝓤 b (i * sz E + o) v ⊛ Owned E 𝓤 x v)))
       (el_out E 𝓛 b x (i * sz E + o)) $ pick k (λ v. learn k (λ good. split k $ next v good))
 
-  -- Splits two filled slots off the other slots. The proof context now holds, in this order: [the
-  -- bytes of the second item; what the second item owns; the bytes of the first item; what the
-  -- first item owns; the other slots; the header].
+  -- Splits two filled slots off the other slots. After this step the proof context holds, in this
+  -- order: [the bytes of the second item; what the second item owns; the bytes of the first item;
+  -- what the first item owns; the other slots; the header].
   pub takes_two : K → {x y : el_x E} (b o : ℕ) (xs : List (Slot E)) (i j : ℕ)
       (p : Two E 𝓛 b o xs i j) → (get_or xs i None ≡ Some x) × (get_or xs j None ≡ Some y)
       → ((v w : Val) → Good E v → Good E w → Seq K 𝓛 (Bits E 𝓤 b (j * sz E + o) w ∷ Owned E 𝓤 y w

@@ -1,6 +1,6 @@
--- Lemmas on three things: `ruled_capacity`, the capacity that a growth rule chooses;
--- `exact_capacity`, the capacity for an exact number of items; and `Fits`, the capacities that are
--- small enough to be allocated. Other crates use these lemmas too.
+-- Lemmas on `ruled_capacity`, `exact_capacity` and `Fits`. The first two functions compute the new
+-- capacity of a block, by a growth rule or for an exact number of items. `Fits` says that a block
+-- of some capacity is small enough to be allocated. Other crates use these lemmas too.
 use Rattle.std.proofs.Common.{if◌then◌else◌, Bool, true, false, IsTrue, ◌≡◌, ℕ, zero, suc, ◌*◌, ◌^◌, ◌<◌, ◌≤◌, ap, refl, subst, sym, ◌∙◌, arith}
 use Rattle.std.specs.declared.option.Option.TheVariants.{Some, None}
 use borrow.Author.Tests.{lt-ltb, le-ltb, le-leb, lt-leb}
@@ -36,7 +36,8 @@ unfolding ruled_capacity
 ruled-rule rule R c w more word = rw (lt-leb w c more) (rw (lt-ltb w (2 ^ 64) word) refl)
 
 -- `Grown R c w n` holds if a block of capacity `c` may grow to the capacity `n` in order to hold
--- `w` items of type `R`. It is `Grows` with `Fits R n` as its last field.
+-- `w` items of type `R`. The record has the same meaning as `Grows`, but the type of its last field
+-- is `Fits R n`.
 pub record Grown (R : RattleType) (c w n : ℕ) : Type 0 where
   pub enough : w ≤ n
   pub doubled : 2 * c ≤ n
@@ -65,8 +66,8 @@ fits-small R c e = (fits_tells R c (opened R c e)).few
 pub fits-bytes : (R : RattleType) (c : ℕ) → Fits R c → c * type_size R < 2 ^ 63
 fits-bytes R c e = let room = (fits_tells R c (opened R c e)).room in omega arith
 
--- If a block of capacity `d` is small enough to be allocated, then a block of any smaller capacity
--- `c` is too.
+-- If a block of capacity `d` is small enough to be allocated and `c ≤ d`, then a block of capacity
+-- `c` is small enough too.
 pub fits-less : (R : RattleType) (c d : ℕ) → Fits R d → c ≤ d → Fits R c
 fits-less R c d e less =
     let told = fits_tells R d (opened R d e) in
@@ -138,7 +139,8 @@ no_answer : (b : Bool) (n : ℕ) → (IsTrue b → ⊥) → (if b then Some n el
 no_answer true n never = absurd (never refl)
 no_answer false n never = refl
 
--- If a block of capacity `n` is too large to be allocated, then `fitting` returns `None` for `n`.
+-- If a block of capacity `n` is too large to be allocated, then the function `fitting` returns
+-- `None`.
 pub fitting_none : (R : RattleType) (n : ℕ) → (Fits R n → ⊥)
     → fitting (type_size R) (type_align R) n ≡ None
 unfolding fitting

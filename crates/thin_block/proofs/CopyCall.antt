@@ -1,5 +1,6 @@
--- How the proof of a caller proves a call of `copied`, the function that copies a slice into the
--- memory of core's type `Slots`. The lemmas assume the laws of the separation logic (`Logic`).
+-- These lemmas prove a call of the function `copied` within the proof of its caller. The function
+-- copies the items of a slice into a value of core's type `Slots`. The lemmas assume the laws of
+-- the separation logic (`Logic`).
 use mathlib.Core.Path.{◌≡◌, refl, sym, ap, ◌∙◌}
 use Prim.Native.Nat.{ℕ}
 use mathlib.Core.List.{List, [], ◌∷◌}
@@ -54,8 +55,8 @@ module _ (E : El) (g : Ghosts (el_x E)) (d : Dict) {M : Type 1} {𝓤 : Ura M} (
     abbrev pub Slice : Fml
     Slice = (ShrSlice (named 0) κ₀ (copied 0 E.row)).own_val s (shr_slice_vals s)
 
-    -- `IsCopy z` holds if `z` is the value `r` of type `Slots` after the items of the slice were
-    -- copied into it.
+    -- `IsCopy z` holds if copying the items of the slice into `r` yields `z`. Both `r` and `z` are
+    -- values of core's type `Slots`.
     pub record IsCopy (z : (Row E).Denot) : Type 0 where
       pub same : SamePlaces r z
       pub items : slots_items z ≡ s.now

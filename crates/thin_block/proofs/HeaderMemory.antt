@@ -1,5 +1,6 @@
--- A block as a machine value, the parts of a block's memory, and the proof steps that split and
--- join a block. The lemmas assume the laws of the separation logic (`Logic`).
+-- These lemmas are about the machine value of a block, about the parts of its memory, and about the
+-- proof steps that split a block into its parts or join the parts again. The lemmas assume the laws
+-- of the separation logic (`Logic`).
 --     block_val, block_own        the machine value of a block, and what its fields own
 --     whole_size, whole_align     the size and the alignment of a whole block's memory
 --     carve                       splits the memory of a whole block into its parts, and keeps the
@@ -63,8 +64,8 @@ block_val p = vstruct (vcons (ptr_val p) (vcons (vstruct vnil) (vcons (vstruct v
 abbrev pub block_own : Ptr → List Val → Fml
 block_own p = (plainly (RawPtr ∷ plainly [] ∷ plainly [] ∷ [])).own_val (p, (tt, (tt, tt)))
 
--- If the fields of a block with the pointer `p` own the machine values `vs`, then `vs` is
--- `block_val p`.
+-- If `vs` are the machine values of a block with the pointer `p`, then `vs` consists of the one
+-- value `block_val p`.
 pub block_told : (p : Ptr) (vs : List Val) → shadow (block_own p vs) → vs ≡ block_val p ∷ []
 block_told p vs s = s.1.0
     ∙ (λ i. vstruct (of_list (s.1.1.0 i ++ (s.1.1.1.0.1.0 i ++ (s.1.1.1.1.0.1.0 i ++ [])))) ∷ [])
@@ -111,11 +112,11 @@ module _ (R : RattleType) (c : ℕ) where
   abbrev pub items : Ty
   items = raw (ty_array τ c)
 
-  -- The alignment of the type of a whole block is `block_align` of the item alignment.
+  -- The type of a whole block has the alignment that `block_align` computes.
   pub whole_align : align (whole R c) ≡ block_align (type_align R)
   whole_align = ap (λ (a : ℕ). max 8 (max 8 (max a 1))) (align-raw τ) ∙ (aligned τ).0
 
-  -- The size of the type of a whole block of `c` slots is the size that `block_bytes` computes.
+  -- The type of a whole block of `c` slots has the size that `block_bytes` computes.
   pub whole_size : size (whole R c) ≡ block_bytes (type_size R) (type_align R) c
   whole_size =
       let ends : up (align items) 16 + size items ≡ max 16 (align τ) + c * size τ =
@@ -125,8 +126,8 @@ module _ (R : RattleType) (c : ℕ) where
 module _ {M : Type 1} {𝓤 : Ura M} (𝓛 : Logic 𝓤) (R : RattleType) where
   open 𝓛 use {H}
 
-  -- Splits the memory of a whole block into the capacity, the length and the slots. The last part
-  -- of the result is the right to join these three parts again.
+  -- Splits the memory of a whole block into memory for the capacity, the length and the slots. The
+  -- last part of the result is the right to join these three parts again.
   pub carve : (c b o : ℕ) → ent 𝓤 (H.room (whole R c) b o)
       (sep 𝓤 (H.room (ty_int w64) b o)
       (sep 𝓤 (H.room (ty_int w64) b (o + 8))
@@ -213,7 +214,7 @@ module _ (E : El) (Y : Al) where
   abbrev pub args : Args
   args = bounded (a_type ∷ a_type ∷ []) (E.row, (Y.row, tt)) (dcons Y.d (dcons Y.drops dnil))
 
-  -- The type of blocks whose items and allocator have the types `E` and `Y`.
+  -- The type of blocks with items of the type `E` and an allocator of the type `Y`.
   abbrev pub Br : RattleType
   Br = block.the_row (param 0 E.row) (param 1 Y.row) Y.g
 
@@ -232,7 +233,7 @@ module _ (E : El) (Y : Al) where
 
 module _ (E : El) (Y : Al) {M : Type 1} {𝓤 : Ura M} {𝓛 : Logic 𝓤} {K : Type 0}
     {Γ : List (Item 𝓤)} {G : Goal 𝓤 𝓛.H} where
-  -- Splits the resources that a block owns into its header and its slots.
+  -- Splits a block into its header and its slots.
   pub block_had : K → (x : (Br E Y).Denot) (vs : List Val)
       → ((b o : ℕ) → x.at ≡ block_ptr b o → vs ≡ block_val (block_ptr b o) ∷ []
       → fits_block (R E) (length x.slots) ≡ true
@@ -261,9 +262,9 @@ module _ (E : El) (Y : Al) {M : Type 1} {𝓤 : Ura M} {𝓛 : Logic 𝓤} {K : 
 
 module _ (E : El) (Y : Al) {M : Type 1} {𝓤 : Ura M} {𝓛 : Logic 𝓤} {K : Type 0}
     {Γ : List (Item 𝓤)} {G : Goal 𝓤 𝓛.H} where
-  -- Splits the block behind a `&mut` into its parts. The proof context now holds, in this order:
-  -- [the header; the slots; the memory of the block's pointer; three entries for the open borrow of
-  -- the block].
+  -- Splits the block behind a `&mut` into its parts. After this step the proof context holds, in
+  -- this order: [the header; the slots; the memory of the block's pointer; three entries for the
+  -- open borrow of the block].
   pub block_opens : K → Soaks G → {κ : Lft} {q : Share} {γ : GName} (x : (Br E Y).Denot) (rb ro : ℕ)
       → ((b o : ℕ) → x.at ≡ block_ptr b o → fits_block (R E) (length x.slots) ≡ true
       → Seq K 𝓛 (‵ (Header E Y x b o) ∷ ‵ (Slots E Y x b o) ∷ ‵

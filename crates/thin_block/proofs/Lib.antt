@@ -1,4 +1,4 @@
--- The list of this crate's lemma files. Other crates may use only the files that are `pub`.
+-- This file lists the lemma files of the crate. Other crates may use only the files that are `pub`.
 mod SizesLemmas
 mod PowersLemmas
 mod GrowthLemmas

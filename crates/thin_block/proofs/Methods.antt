@@ -1,5 +1,5 @@
--- The beginning and the end of the proof of a method that takes `&mut self` or `&self`. Such a
--- proof of a function body is called a walk. The lemmas assume the laws of the separation logic
+-- These lemmas begin and end the proof of a method that takes `&mut self` or `&self`. Such a proof
+-- of a function body is called a walk. The lemmas assume the laws of the separation logic
 -- (`Logic`).
 --     dropped, all_go          give no argument back to the caller, if the contract allows this
 --     heard_all                splits a `requires` clause that consists of several facts
@@ -55,20 +55,21 @@ others [] = []
 others (s ∷ ss) = ss
 
 module _ {n : ℕ} where
-  -- The choice to give none of the arguments for the parameters `ss` back to the caller.
+  -- This choice says that a function with the parameters `ss` gives none of its arguments back to
+  -- the caller.
   abbrev pub dropped : (ss : List (Slot n)) (ks : Kepts ss) → Stays ss ks
   dropped [] ks = tt
   dropped (s ∷ ss) ks = (stay_dropped s ks.0, dropped ss ks.1)
 
 module _ {M : Type 1} {𝓤 : Ura M} (𝓛 : Logic 𝓤) {n : ℕ} where
-  -- `AllSilent ss ks` holds if the contract says nothing about the arguments for the parameters
-  -- `ss` after the call.
+  -- `AllSilent ss ks` holds if the contract says nothing about the state of the parameters `ss`
+  -- after the call.
   abbrev pub AllSilent : (ss : List (Slot n)) → Kepts ss → Type 1
   AllSilent [] ks = Unit {1}
   AllSilent (s ∷ ss) ks = Silent 𝓛 n s ks.0 × AllSilent ss ks.1
 
-  -- If the contract says nothing about the arguments after the call, then the function need not
-  -- give them back to the caller.
+  -- If the contract says nothing about the state of the arguments after the call, then the function
+  -- need not give the arguments back to the caller.
   pub all_go : (ss : List (Slot n)) (ks : Kepts ss) → AllSilent ss ks
       → AllGo 𝓛 n ss ks (dropped ss ks)
   all_go [] ks silent = tt
@@ -126,12 +127,13 @@ module _ (E : El) (Y : Al) {n : ℕ} (ss : List (Slot (suc n))) where
   abbrev pub on_block : List (Slot (suc n))
   on_block = mut_ref_to (0 ∷ []) tt (plain (λ _. Br E Y)) ∷ ss
 
-  -- The choice to give only the `&mut Block` back to the caller when the method returns.
+  -- This choice says that the method gives only the `&mut Block` back to the caller when it
+  -- returns.
   abbrev pub block_stays : (ks : Kepts ss) → Stays on_block (yes, ks)
   block_stays ks = (stay_ref (0 ∷ []) tt (plain (λ _. Br E Y)), dropped ss ks)
 
-  -- If the contract says nothing about the other arguments after the call, then the method need not
-  -- give them back to the caller.
+  -- If the contract says nothing about the state of the other arguments after the call, then the
+  -- method need not give these arguments back to the caller.
   pub goes : {M : Type 1} {𝓤 : Ura M} (𝓛 : Logic 𝓤) (ks : Kepts ss) → AllSilent 𝓛 ss ks
       → AllGo 𝓛 (suc n) on_block (yes, ks) (block_stays ks)
   goes 𝓛 ks silent =
@@ -161,9 +163,9 @@ module _ {n : ℕ} (s : Slot (suc n)) (ss : List (Slot (suc n))) where
       → SProp 𝓤
   Entry {𝓤 = 𝓤} 𝓛 x = sep 𝓤 (toks 𝓛 (suc n) x.0 x.1) (sem 𝓛 (owns (types_at (s ∷ ss) x.0) x.3 x.4))
 
-  -- Begins the proof of a function. The proof context now holds, in this order: [what the first
-  -- argument owns; the first lifetime token; the other lifetime tokens; what the other arguments
-  -- own; the `requires` clauses].
+  -- Begins the proof of a function. After this step the proof context holds, in this order: [what
+  -- the first argument owns; the first lifetime token; the other lifetime tokens; what the other
+  -- arguments own; the `requires` clauses].
   pub arrives : {M : Type 1} {𝓤 : Ura M} (𝓛 : Logic 𝓤) {Bd : Lfts (suc n) → Type 0} {P : SProp 𝓤}
       (x : Passed Bd) (Q : SProp 𝓤)
       → Sq 𝓛 (‵ ((s.row x.0).own_val x.3.0 x.4.0) ∷ ‵ (flft x.0.0 x.1.0)
@@ -192,14 +194,13 @@ module _ (E : El) (Y : Al) {M : Type 1} {𝓤 : Ura M} (𝓛 : Logic 𝓤) {n : 
       ∷ ‵ (flft x.0.0 x.1.0) ∷ raw (toks 𝓛 n x.0.1 x.1.1) ∷ ‵
       (owns (types_at ss x.0) x.3.1 x.4.1) ∷ Γ
 
-  -- Begins the proof of a method that takes `&mut self`. The last entry of the proof context is the
-  -- `requires` clauses.
+  -- Begins the proof of a method that takes `&mut self`. In the proof context, the `requires`
+  -- clauses are the last entry.
   pub starts : {Bd : Lfts (suc n) → Type 0} {P : SProp 𝓤} (x : Passed lent ss Bd) (Q : SProp 𝓤)
       → Sq 𝓛 (Entered x (raw Q ∷ [])) (prop P) → ent 𝓤 (sep 𝓤 (Entry lent ss 𝓛 x) Q) P
   starts x Q next = arrives lent ss 𝓛 x Q (fsplit3 ! $ drop ! $ next)
 
-  -- Begins the proof of a method that takes `&mut self` and whose `requires` clauses are the facts
-  -- `φs`.
+  -- Begins the proof of a method that takes `&mut self` and requires the facts `φs`.
   pub begins_with : {Bd : Lfts (suc n) → Type 0} {P : SProp 𝓤} (x : Passed lent ss Bd)
       (φs : List (Type 0)) → (Shown φs → Sq 𝓛 (Entered x []) (prop P))
       → ent 𝓤 (sep 𝓤 (Entry lent ss 𝓛 x) (Facts 𝓤 φs)) P
@@ -207,8 +208,8 @@ module _ (E : El) (Y : Al) {M : Type 1} {𝓤 : Ura M} (𝓛 : Logic 𝓤) {n : 
       (move ! (5 ∷ []) $ heard_all ! φs (λ said. next said))
 
   -- Begins the proof of a method that takes `&mut self`, and drops what the other arguments own.
-  -- The proof context now holds, in this order: [two entries for the `&mut`; the lifetime token of
-  -- this `&mut`; the other lifetime tokens].
+  -- After this step the proof context holds, in this order: [two entries for the `&mut`; the
+  -- lifetime token of this `&mut`; the other lifetime tokens].
   pub begins : {Bd : Lfts (suc n) → Type 0} {P : SProp 𝓤} (x : Passed lent ss Bd)
       (φs : List (Type 0))
       → (Shown φs → Sq 𝓛 (‵ (fobs x.3.0.ghost_name ((Br E Y).coded.code x.3.0.now)) ∷ ‵
@@ -217,9 +218,9 @@ module _ (E : El) (Y : Al) {M : Type 1} {𝓤 : Ura M} (𝓛 : Logic 𝓤) {n : 
       → ent 𝓤 (sep 𝓤 (Entry lent ss 𝓛 x) (Facts 𝓤 φs)) P
   begins x φs next = begins_with x φs (λ said. keep ! (0 ∷ 1 ∷ 2 ∷ 3 ∷ []) $ next said)
 
-  -- Begins the proof of a method that takes `&self`. The proof context now holds, in this order:
-  -- [what the `&` gives access to; the lifetime token of this `&`; the other lifetime tokens; what
-  -- the other arguments own; the `requires` clauses].
+  -- Begins the proof of a method that takes `&self`. After this step the proof context holds, in
+  -- this order: [what the `&` gives access to; the lifetime token of this `&`; the other lifetime
+  -- tokens; what the other arguments own; the `requires` clauses].
   pub seen : {Bd : Lfts (suc n) → Type 0} {P : SProp 𝓤} (x : Passed shared ss Bd) (Q : SProp 𝓤)
       → Sq 𝓛 (‵ (hidden_shr (Br E Y) x.0.0 x.3.0.now x.3.0.ref_ptr.0 x.3.0.ref_ptr.1)
       ∷ ‵ (flft x.0.0 x.1.0) ∷ raw (toks 𝓛 n x.0.1 x.1.1) ∷ ‵

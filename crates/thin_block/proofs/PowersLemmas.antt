@@ -1,5 +1,5 @@
--- The code of the growth rule `PowerBytes` computes the same capacity as the function `power_bytes`
--- in specs/Growth.antt. These lemmas prove it.
+-- These lemmas prove that the code of the growth rule `PowerBytes` computes the same capacity as
+-- the function `power_bytes` in specs/Growth.antt.
 use Rattle.std.proofs.Common.{◌≡◌, ℕ, ◌+◌, ◌-◌, ◌*◌, ◌/◌, ◌^◌, ◌<◌, ◌≤◌, Option, IfSome, inl, inr, max, min, sym, ap, ◌∙◌, arith}
 use Rattle.std.specs.declared.option.Option.TheVariants.{Some, None}
 use Rattle.std.specs.Mem.{type_size}

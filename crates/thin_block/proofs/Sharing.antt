@@ -82,8 +82,8 @@ module _ (E : El) (Y : Al) {M : Type 1} {𝓤 : Ura M} (𝓛 : Logic 𝓤) (κ :
 
 module _ (E : El) (Y : Al) {M : Type 1} {𝓤 : Ura M} {𝓛 : Logic 𝓤} {K : Type 0}
     {Γ : List (Item 𝓤)} {G : Goal 𝓤 𝓛.H} where
-  -- Splits a `&` to a block into its parts. The proof context now holds, in this order: [the `&` to
-  -- the pointer; the `&` to the capacity; the `&` to the length; the `&` to the slots].
+  -- Splits a `&` to a block into its parts. After this step the proof context holds, in this order:
+  -- [the `&` to the pointer; the `&` to the capacity; the `&` to the length; the `&` to the slots].
   pub block_seen : K → {κ : Lft} (x : (Br E Y).Denot) (rb ro : ℕ)
       → ((b o : ℕ) → x.at ≡ block_ptr b o → fits_block (R E) (length x.slots) ≡ true
       → Seq K 𝓛 (‵ (hidden_shr RawPtr κ x.at rb (ro + 0)) ∷ ‵
@@ -126,8 +126,8 @@ module _ (E : El) {M : Type 1} {𝓤 : Ura M} (𝓛 : Logic 𝓤) (b : ℕ) (κ 
   up_to (y ∷ ys) rest o = qed 𝓛 (‵ (Seen o (Some y ∷ (full ys ++ rest))) ∷ []) ∵ fsplit ! $
       fsplit ! $ keep ! (1 ∷ 2 ∷ []) $ frame ! $ by ! (up_to ys rest (o + s))
 
-  -- If the slots `i..i + k` hold the items `ys`, then a `&` to all slots contains a `&` to a slice
-  -- of `ys`.
+  -- If the slots `i..i + k` hold the items `ys`, then a `&` to all slots gives access to a slice of
+  -- the items `ys`.
   pub run_seen : (xs : List (Slot E)) (i k o : ℕ) (ys : List (el_x E)) → i ≤ length xs
       → run i k xs ≡ full ys → ent 𝓤 (sem 𝓛 (Seen o xs))
       (sem 𝓛 (elements_shared (R E) ys b (i * s + o) κ))

@@ -78,8 +78,7 @@ module _ (E : El) {M : Type 1} {𝓤 : Ura M} (𝓛 : Logic 𝓤) (b o : ℕ) (s
   empty-long n = length-replicate n None
 
   -- If the `d` slots before a run are empty, the run and these slots can be split off the other
-  -- slots. After the run has moved down by `d` slots, they can be joined with the other slots
-  -- again.
+  -- slots. After the run has moved down by `d` slots, all slots can be joined again.
   pub slides_down : (d : ℕ) → from ≡ to + d → from + k ≤ length slots → run to d slots ≡ empty d
       → Moves (memory_before_copy (R E) false d k (block_ptr b src) (block_ptr b dst) xs)
       (memory_after_copy (R E) false d k (block_ptr b src) (block_ptr b dst) xs)
@@ -130,7 +129,7 @@ module _ (E : El) {M : Type 1} {𝓤 : Ura M} (𝓛 : Logic 𝓤) (b o : ℕ) (s
       }
 
   -- If the `d` slots after a run are empty, the run and these slots can be split off the other
-  -- slots. After the run has moved up by `d` slots, they can be joined with the other slots again.
+  -- slots. After the run has moved up by `d` slots, all slots can be joined again.
   pub slides_up : (d : ℕ) → to ≡ from + d → to + k ≤ length slots → run (from + k) d slots ≡ empty d
       → Moves (memory_before_copy (R E) true d k (block_ptr b src) (block_ptr b dst) xs)
       (memory_after_copy (R E) true d k (block_ptr b src) (block_ptr b dst) xs)
@@ -340,8 +339,8 @@ module _ (E : El) {M : Type 1} {𝓤 : Ura M} (𝓛 : Logic 𝓤) (b o : ℕ) (s
   abbrev pub Bare : Type 0
   Bare = (i : ℕ) → to ≤ i → i < to + k → (i < from) ⊎ (from + k ≤ i) → slot slots i ≡ None
 
-  -- If the old and the new slots of a run do not overlap, they can be split off the other slots.
-  -- After the run has moved, all slots can be joined again.
+  -- If the old and the new slots of a run do not overlap, these slots can be split off the other
+  -- slots. After the run has moved, all slots can be joined again.
   pub apart : from + k ≤ length slots → to + k ≤ length slots → Bare → (from + k ≤ to)
       ⊎ (to + k ≤ from) → Moves Was Is
   apart source target bare far =

@@ -87,7 +87,7 @@ align_known R = (align_w (layout R), align-bytes (layout R))
 pub rounded_at : (a x : ℕ) → IsAlign a → Rounded a x
 rounded_at a x is = subst (λ (k : ℕ). Rounded k x) (sym is.1) (rounded_to is.0 x)
 
--- `Rounded a x` holds if `a` is the alignment of an item type, for every size `x`.
+-- If `a` is the alignment of an item type, then `Rounded a x` holds for every size `x`.
 pub rounded : (R : RattleType) (x : ℕ) → Rounded (type_align R) x
 rounded R x = rounded_at (type_align R) x (align_known R)
 
@@ -163,7 +163,7 @@ module _ (s a c : ℕ) (is : IsAlign a) where
       (tells_second (ltb c (2 ^ 63)) (ltb (block_bytes s a c) (2 ^ 63)) e) in
       record { few = few; room = (rounded_at a (c * s) is).tells short; short = short }
 
--- The lemmas `small_yes` and `small_tells` for the size and the alignment of the item type `R`.
+-- This module restates the lemmas `small_yes` and `small_tells` for an item type `R`.
 module _ (R : RattleType) (c : ℕ) where
   abbrev IsSmall : Type 0
   IsSmall = is_small (type_size R) (type_align R) c ≡ true

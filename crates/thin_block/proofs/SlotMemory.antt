@@ -1,5 +1,6 @@
--- How the memory of some slots of a block is split off the memory of the other slots, and joined
--- with it again. The lemmas assume the laws of the separation logic (`Logic`).
+-- These lemmas split the memory of some slots of a block off the memory of the other slots, and
+-- join all slots again. They also convert the memory of slots into other kinds of memory. The
+-- lemmas assume the laws of the separation logic (`Logic`).
 --     slot_out, slot_in    split off one slot, and join it with the other slots again
 --     run_out, run_in      split off the slots `i..i + k`, and join them with the other slots again
 --     two_slots            splits off two different slots, and joins them with the others again

@@ -1,6 +1,7 @@
--- These lemmas convert a block into one array of words, which an allocator can grow or shrink, and
--- back. A word is a struct of several items. Until the allocator returns, the last words are in the
--- place of the header. The lemmas assume the laws of the separation logic (`Logic`).
+-- These lemmas convert a block into one array of words, and the array back into a block. An
+-- allocator can grow or shrink such an array. A word is a struct of several items. Until the
+-- allocator returns, the last words are in the place of the header. The lemmas assume the laws of
+-- the separation logic (`Logic`).
 --     asked_size, asked_align     the size and the alignment with which a block is allocated
 --     carve_asked, gather         split the memory of a block into its parts, and join these again
 --     turn_out, turn_back         split the last `k` words off the other words, and join them again
@@ -281,9 +282,9 @@ module _ {M : Type 1} {𝓤 : Ura M} (𝓛 : Logic 𝓤) (E : El) (b : ℕ) (k :
           rewrite ! 0 (λ (j : ℕ). ‵ (froom (array_of (R E) spare) b j)) turned refl $
           move ! (1 ∷ 0 ∷ 2 ∷ []) $ fjoin3 ! $ done !
 
-      -- Splits an array that begins at the start of the block. The parts are its first `k` items,
-      -- which are in the place of the header, the other items, the memory after the items, and the
-      -- right to free the block.
+      -- Splits an array that begins at the start of the block into four parts: its first `k` items,
+      -- in the place of the header; the other items; the memory after the items; and the right to
+      -- free the block.
       pub turn_down : ent 𝓤 (sem 𝓛 Whole) (sep 𝓤 (sem 𝓛 (Last o))
           (sep 𝓤 (sem 𝓛 (Slots' (o + 16) (full xs))) (sep 𝓤 (H.room (ty_array τ' k) b there)
           (sep 𝓤 (sem 𝓛 (Slots' past_all (empty m))) (sem 𝓛 Token)))))
@@ -322,7 +323,7 @@ module _ {M : Type 1} {𝓤 : Ura M} (𝓛 : Logic 𝓤) (T : RattleType) (L : L
   hd = nameless (elτ Item) m k (words_told (R Item) m k is)
 
   -- Splits uninitialized memory for `k` words into memory for the capacity and memory for the
-  -- length. The third part is the right to join the two again.
+  -- length. The third part is the right to join these two parts again.
   pub units_out : ent 𝓤 (H.room units b o)
       (sep 𝓤 (H.room half b o)
       (sep 𝓤 (H.room half b (o + 8)) (sem 𝓛 (header_way (bare (R Item)) m k b o))))

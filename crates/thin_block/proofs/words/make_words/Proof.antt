@@ -167,7 +167,7 @@ module _ (E : El) (m : ℕ) {M : Type 1} {𝓤 : Ura M} (𝓛 : Logic 𝓤) (at_
     To = Made g o
 
     -- `Then xss at` is the right to join the words that are made from the items `xss` with the
-    -- words before them. The result is all words.
+    -- words before them. Joined, they are the memory of all words.
     abbrev Then : Runs E m → ℕ → SProp 𝓤
     Then xss at = wand 𝓤 (sem 𝓛 (Made xss at)) (sem 𝓛 To)
 

@@ -1,6 +1,6 @@
--- `copy_in` splits adjacent empty slots off the other slots, copies items into them by means of
--- core's type `Slots`, and joins all slots again. The proof assumes the laws of the separation
--- logic (`Logic`).
+-- `copy_in` copies items into adjacent empty slots by means of core's type `Slots`. The proof
+-- splits these slots off the other slots, and joins all slots again afterwards. It assumes the laws
+-- of the separation logic (`Logic`).
 use Rattle.std.proofs.Common.{◌≡◌, ℕ, Some, None, false, ◌+◌, ◌*◌, ◌^◌, ◌<◌, ◌≤◌, List, ◌∷◌, [], ◌++◌, length, refl, sym, subst, ◌∙◌, arith, w64}
 use lib.ListN.{length-map, length-replicate, replicate}
 use mir.Syntax.{Fn, Args, ty_array, a_type, dcons, dnil, named}

@@ -1,6 +1,6 @@
--- `move_apart` splits the slots of the items and the slots to which it moves them off the other
--- slots. It copies the items, and joins all slots again. The proof assumes the laws of the
--- separation logic (`Logic`).
+-- `move_apart` copies items to slots that do not overlap with their old slots. The proof splits the
+-- old and the new slots off the other slots, and joins all slots again afterwards. It assumes the
+-- laws of the separation logic (`Logic`).
 use Rattle.std.proofs.Common.{◌≡◌, ℕ, Some, ◌+◌, ◌*◌, ◌^◌, ◌<◌, ◌≤◌, List, ◌∷◌, [], ◌++◌, length, refl, sym, ap, subst, ◌∙◌, arith, w64}
 use lib.ListN.{length-map}
 use lib.Dec.{T as Holds}

@@ -1,6 +1,6 @@
--- `move_run_charging` splits the slots of the items off the slots of `self`, and empty slots off
--- the slots of `to_block`. It copies the items to the empty slots, and joins the slots of each
--- block again. The proof assumes the laws of the separation logic (`Logic`).
+-- `move_run_charging` copies items from `self` to empty slots of `to_block`. The proof splits the
+-- slots of the items and these empty slots off the other slots of the two blocks, and joins all
+-- slots again afterwards. It assumes the laws of the separation logic (`Logic`).
 use Rattle.std.proofs.Common.{◌≡◌, ℕ, Some, None, ◌+◌, ◌*◌, ◌^◌, ◌<◌, ◌≤◌, List, ◌∷◌, [], ◌++◌, length, refl, sym, ap, subst, ◌∙◌, arith, w64}
 use lib.Dec.{T as Holds}
 use lib.ListN.{length-map, length-replicate}

@@ -1,5 +1,5 @@
--- `put` splits one empty slot off the other slots, writes the item to this slot, and joins all
--- slots again. The proof assumes the laws of the separation logic (`Logic`).
+-- `put` writes an item to an empty slot. The proof splits this slot off the other slots, and joins
+-- all slots again afterwards. It assumes the laws of the separation logic (`Logic`).
 use Rattle.std.proofs.Common.{◌≡◌, ℕ, Some, None, ◌+◌, ◌*◌, ◌<◌, List, ◌∷◌, [], ◌++◌, length, refl, arith, w64}
 use lib.ListN.{set, length-set, get_or}
 use mir.Val.{Val, vint, vunit}

@@ -1,6 +1,6 @@
 -- `put_and_store` writes an item as `put` does, and then writes the length as `store_len` does. So
--- its proof consists of the proofs of these two functions. The proof assumes the laws of the
--- separation logic (`Logic`).
+-- its proof consists of the proofs of these two functions. It assumes the laws of the separation
+-- logic (`Logic`).
 use Rattle.std.proofs.Common.{◌≡◌, ℕ, Some, ◌+◌, ◌*◌, ◌<◌, ◌≤◌, List, ◌∷◌, [], ◌++◌, length, refl, sym, subst, arith, w64}
 use lib.ListN.{set, length-set}
 use mir.Syntax.{ty_int}
@@ -80,9 +80,9 @@ put_and_store_spec 𝓤 𝓛 𝓜 𝓡 wired T A LT LA g d dd met md =
     rewrite ! 0 (λ (k : ℕ). ‵ (fat full_share (ty_int w64) b k (vint w64 x.len)))
     (let turned : o + 8 ≡ 8 + o = omega arith in turned) refl $
     -- The filled slot has been joined with the other slots, and the header has been split. The
-    -- proof context holds, in this order: [the length; the rest of the header; the capacity; the
-    -- slots; the memory of the block's pointer; three entries for the open borrow of the block; the
-    -- other lifetime tokens].
+    -- proof context holds, in this order: [the length; the right to free the block; the capacity;
+    -- the slots; the memory of the block's pointer; three entries for the open borrow of the block;
+    -- the other lifetime tokens].
     sets ! (bin ! (get ! refl) (lit ! tt) tt) refl (tt, tt) $
     assigns_last ! (of_opd ! (get ! refl)) (through ! refl (stop !))
     (store ! 0 refl (tt, record { fits = fl })) $

@@ -1,6 +1,6 @@
--- `put_array` splits adjacent empty slots off the other slots as memory for one array. It writes
--- the array there, and joins all slots again. The proof assumes the laws of the separation logic
--- (`Logic`).
+-- `put_array` writes an array of items to adjacent empty slots. The proof splits these slots off
+-- the other slots as memory for one array, and joins all slots again afterwards. It assumes the
+-- laws of the separation logic (`Logic`).
 use Rattle.std.proofs.Common.{◌≡◌, ℕ, Some, ◌+◌, ◌*◌, ◌≤◌, List, ◌∷◌, [], ◌++◌, length, refl, ◌∙◌, arith, w64}
 use lib.ListN.{length-map}
 use mir.Syntax.{ty_array}

@@ -7,8 +7,8 @@ use Rattle.thin_block.proofs.SlotsLemmas.{packed-shrunk}
 use Rattle.thin_block.proofs.Outcomes.{on-ok}
 use Rattle.thin_block.proofs.block.Block.shrink.Goals as goal
 
--- A block of the new capacity is small enough to be allocated. The reason is that the new capacity
--- is less than the old capacity.
+-- A block of the new capacity is small enough to be allocated, because the new capacity is less
+-- than the old capacity.
 pub resize-requires-clause-fits : goal.resize-requires-clause-fits
 resize-requires-clause-fits g c =
     let smaller = c.requires.smaller in

@@ -1,6 +1,6 @@
--- `slice_mut` splits the items in adjacent slots off the other slots, and lends them as a slice.
--- The slice may be empty. The proof also shows that the block is complete again after the borrow
--- has ended. It assumes the laws of the separation logic (`Logic`).
+-- `slice_mut` lends the items in adjacent slots as a slice, which may be empty. The proof splits
+-- these slots off the other slots, and shows that the block is complete again after the borrow has
+-- ended. It assumes the laws of the separation logic (`Logic`).
 use Rattle.std.proofs.Common.{◌≡◌, ℕ, Some, ◌+◌, ◌-◌, ◌*◌, ◌^◌, ◌<◌, ◌≤◌, List, ◌∷◌, [], ◌++◌, length, refl, sym, ap, subst, ◌∙◌, arith, w64}
 use lib.ListN.{length-map}
 use mir.Syntax.{named}

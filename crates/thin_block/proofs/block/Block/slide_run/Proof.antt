@@ -1,6 +1,6 @@
--- `slide_run` splits the items and the empty slots next to them off the other slots. It calls
--- `slide` to move the items, and joins all slots again. The proof assumes the laws of the
--- separation logic (`Logic`).
+-- `slide_run` calls `slide` to move items through the empty slots next to them. The proof splits
+-- the items and these empty slots off the other slots, and joins all slots again afterwards. It
+-- assumes the laws of the separation logic (`Logic`).
 use Rattle.std.proofs.Common.{◌≡◌, ℕ, Some, ◌+◌, ◌*◌, ◌^◌, ◌<◌, ◌≤◌, List, ◌∷◌, [], ◌++◌, length, refl, sym, ap, subst, ◌∙◌, arith, w64}
 use lib.ListN.{length-map}
 use lib.Dec.{T as Holds}

@@ -1,5 +1,5 @@
--- `slot_mut` splits one filled slot off the other slots, and lends its item. The proof also shows
--- that the block is complete again after the borrow has ended. It assumes the laws of the
+-- `slot_mut` lends the item in a filled slot. The proof splits this slot off the other slots, and
+-- shows that the block is complete again after the borrow has ended. It assumes the laws of the
 -- separation logic (`Logic`).
 use Rattle.std.proofs.Common.{◌≡◌, ℕ, Some, None, ◌+◌, ◌*◌, ◌<◌, ◌∷◌, [], ◌++◌, length, refl, arith, w64}
 use lib.ListN.{get_or}

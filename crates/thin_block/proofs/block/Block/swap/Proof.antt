@@ -1,6 +1,6 @@
--- `swap` splits the two slots off the other slots, or only one slot if the two slots are the same.
--- It reads both items before it writes the first item, and joins all slots again. The proof assumes
--- the laws of the separation logic (`Logic`).
+-- `swap` exchanges the items in two slots. The proof splits these slots off the other slots, or
+-- only one slot if the two are the same. It joins all slots again afterwards. It assumes the laws
+-- of the separation logic (`Logic`).
 use Rattle.std.proofs.Common.{◌≡◌, ℕ, Some, ◌+◌, ◌*◌, ◌<◌, List, ◌∷◌, [], ◌++◌, length, refl, sym, ap, ◌∙◌, arith, w64}
 use lib.ListN.{set, length-set}
 use mir.Val.{vint, vunit}
@@ -90,10 +90,10 @@ swap_spec 𝓤 𝓛 𝓜 𝓡 wired T A LT LA g d dd met md =
           says_all ! (_ ∷ []) refl $ done !)
       | inl same ↦
           takes_item E ! b (o + 16) x.slots i low one.1 (λ v good.
-          -- The two slots are the same slot, which has been split off the other slots. The proof
-          -- context holds, in this order: [the bytes of the item; what the item owns; the other
-          -- slots; the header; the memory of the block's pointer; three entries for the open borrow
-          -- of the block; the other lifetime tokens].
+          -- The two slots are the same slot. This slot has been split off the other slots. The
+          -- proof context holds, in this order: [the bytes of the item; what the item owns; the
+          -- other slots; the header; the memory of the block's pointer; three entries for the open
+          -- borrow of the block; the other lifetime tokens].
           let Bits = λ (k : ℕ). ‵ (fat full_share (layout T) b (k * sz E + (o + 16)) v) in
           sets ! (of_opd ! (load ! (through ! refl (stop !)) (look ! 0 refl))) refl good $
           rewrite ! 0 Bits same refl $

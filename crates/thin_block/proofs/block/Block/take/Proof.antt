@@ -1,6 +1,5 @@
--- `take` splits one filled slot off the other slots, reads the item, and joins the slot, which is
--- now empty, with the other slots again. The proof assumes the laws of the separation logic
--- (`Logic`).
+-- `take` moves the item out of a filled slot. The proof splits this slot off the other slots, and
+-- joins all slots again afterwards. It assumes the laws of the separation logic (`Logic`).
 use Rattle.std.proofs.Common.{ℕ, None, ◌+◌, ◌*◌, ◌<◌, ◌∷◌, [], ◌++◌, length, refl, arith, w64}
 use lib.ListN.{set, length-set, get_or}
 use mir.Val.{vint}

@@ -1,6 +1,6 @@
--- `take_array` splits the items in adjacent slots off the other slots as one array. It reads the
--- array, and joins the slots, which are now empty, with the other slots again. The proof assumes
--- the laws of the separation logic (`Logic`).
+-- `take_array` moves the items out of adjacent slots as one array. The proof splits these slots off
+-- the other slots, and joins all slots again afterwards. It assumes the laws of the separation
+-- logic (`Logic`).
 use Rattle.std.proofs.Common.{◌≡◌, ℕ, Some, None, ◌+◌, ◌*◌, ◌≤◌, List, ◌∷◌, [], ◌++◌, length, refl, sym, ap, ◌∙◌, arith, w64}
 use lib.ListN.{length-map, length-replicate}
 use mir.Syntax.{ty_array}
