@@ -39,7 +39,7 @@ near E xs i fits le = let low = reach (R E) i (length xs) fits le in omega arith
 
 module _ (E : El) (Y : Al) {M : Type 1} {𝓤 : Ura M} {𝓛 : Logic 𝓤} {K : Type 0}
     {Γ : List (Item 𝓤)} {h s : Item 𝓤} where
-  -- Copying the pointer of a block through a reference to the block yields this pointer.
+  -- Evaluates the operand that copies the pointer of a block through a reference to the block.
   pub its_ptr : K → {Ev : Env 𝓤 𝓛.H} {p b o rb ro : ℕ} {q : Share}
       → at 𝓛 p (h ∷ s ∷ ‵
       (cell_at full_share (Br E Y).mir (block_val (block_ptr b o) ∷ []) rb ro) ∷ Γ)

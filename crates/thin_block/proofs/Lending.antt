@@ -1,7 +1,7 @@
 -- These lemmas say what holds after a `&mut` to items of a block has ended: the items are in their
 -- slots again, and the block is complete again. The lemmas assume the laws of the separation logic
 -- (`Logic`).
---     Waiting       the header and the memory of the block's pointer, while slots are lent
+--     Waiting       the header and the memory that holds the block's pointer, while slots are lent
 --     item_back     the block after a `&mut` to the item in one slot has ended
 --     items_back    the block after a `&mut` to the items in adjacent slots has ended
 use Rattle.std.proofs.Common.{◌≡◌, ℕ, ◌+◌, ◌*◌, ◌<◌, ◌≤◌, List, ◌∷◌, [], length, Some, refl, sym, ◌∙◌, arith}

@@ -277,7 +277,7 @@ module _ (E : El) (Y : Al) {M : Type 1} {𝓤 : Ura M} {𝓛 : Logic 𝓤} {K : 
   opens_self k z r next = block_opens E Y k z r.now r.ref_ptr.0 r.ref_ptr.1 next
 
   -- Joins the parts of the block behind a `&mut` again. Before this step the proof context holds,
-  -- in this order: [the slots in their present state; the header; the memory of the block's
+  -- in this order: [the slots in their present state; the header; the memory that holds the block's
   -- pointer; three entries for the open borrow of the block].
   pub closes_over : K → Soaks G → {Γ : List (Item 𝓤)} {κ : Lft} {q : Share} {u v : Gv} {c : ℕ}
       (r : MutBor (Br E Y).Denot) (y : (Br E Y).Denot) (b o : ℕ) → y.at ≡ block_ptr b o

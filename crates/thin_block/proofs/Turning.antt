@@ -63,8 +63,8 @@ module _ (Rw : RattleType) (c : ℕ) where
   abbrev τ₀ : Ty
   τ₀ = lone Rw.mir
 
-  -- The number of items that make a word depends only on the size of the item type. The names of
-  -- the fields do not matter.
+  -- The number of items in a word depends only on the size of the item type. The names of the
+  -- fields do not matter.
   pub same_words : words_of Rw ≡ in_words s₀
   same_words = ap in_words (size-raw τ₀)
 
@@ -81,13 +81,13 @@ module _ (Rw : RattleType) (c : ℕ) where
   align_for None e = whole_align Rw c
   align_for (Some w) e = ap word_align (align-raw τ₀) ∙ (words_told Rw w.0 w.1 e).align
 
-  -- A block is allocated with the size that `block_bytes` computes, whether or not its items make
-  -- words.
+  -- A block is allocated with the size that `block_bytes` computes, whether or not its items can be
+  -- grouped into words. A word is a struct of several items.
   pub asked_size : size (asked Rw c) ≡ block_bytes s₀ a₀ c
   asked_size = size_for (words_of Rw) (sym same_words)
 
   -- A block is allocated with the alignment that `block_align` computes, whether or not its items
-  -- make words.
+  -- can be grouped into words. A word is a struct of several items.
   pub asked_align : align (asked Rw c) ≡ block_align a₀
   asked_align = align_for (words_of Rw) (sym same_words)
 
@@ -101,13 +101,14 @@ module _ {M : Type 1} {𝓤 : Ura M} (𝓛 : Logic 𝓤) (E : El) (b c o : ℕ) 
   Parts w = sep 𝓤 (H.room half b o) (sep 𝓤 (H.room half b (o + 8))
       (sep 𝓤 (H.room (array_of (R E) c) b (o + 16)) (sem 𝓛 (way_back w (bare (R E)) c b o))))
 
-  -- If the items of the block make words, then `InWords` holds for the item type without the names
-  -- of its fields.
+  -- If the items of the block can be grouped into words, then `InWords` holds for the item type
+  -- without the names of its fields.
   known : (w : ℕ × ℕ) → in_words (type_size (R E)) ≡ Some w
       → InWords (size (bare (R E))) (align (bare (R E))) w.0 w.1
   known w e = nameless (elτ E) w.0 w.1 (words_told (R E) w.0 w.1 e)
 
-  -- Splits the memory of a block into its parts, whether or not its items make words.
+  -- Splits the memory of a block into its parts, whether or not its items can be grouped into
+  -- words. A word is a struct of several items.
   carve_for : (w : Option (ℕ × ℕ)) → in_words (type_size (R E)) ≡ w
       → ent 𝓤 (H.room (asked_for w (bare (R E)) c) b o) (Parts w)
   carve_for None e = carve 𝓛 (R E) c b o
@@ -304,8 +305,8 @@ module _ {M : Type 1} {𝓤 : Ura M} (𝓛 : Logic 𝓤) (E : El) (b : ℕ) (k :
           use1 𝓛 (‵ (froom (ty_array τ' k) b there)) (to_room E 𝓛 b k there) $
           move ! (2 ∷ 3 ∷ 0 ∷ 1 ∷ 4 ∷ []) $ done !
 
--- Section: the header of a block whose items make words. Here `m` items make one word, and `k`
--- words take as many bytes as the header.
+-- Section: the header of a block with items that can be grouped into words. Here `m` items make one
+-- word, and `k` words take as many bytes as the header.
 module _ {M : Type 1} {𝓤 : Ura M} (𝓛 : Logic 𝓤) (T : RattleType) (L : Laws T) (b m k : ℕ)
     (is : in_words (type_size (param 0 T)) ≡ Some (m, k)) (o : ℕ) where
   open 𝓛 use {H}

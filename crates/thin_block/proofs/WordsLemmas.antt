@@ -193,7 +193,8 @@ by_test false false false false true s q ex ey ez eu ev e =
     (λ w d. in_words_by 16 (bytes w) 1 1 counts_1 (omega arith) refl (laid_16 w d))
 by_test false false false false false s q ex ey ez eu ev e = absurd (clash (ap is_some e))
 
--- If items of type `R` make words, then `InWords` holds for the size and the alignment of `R`.
+-- If items of type `R` can be grouped into words, then `InWords` holds for the size and the
+-- alignment of `R`.
 pub words_told : (R : RattleType) (m k : ℕ) → in_words (type_size R) ≡ Some (m, k)
     → InWords (type_size R) (type_align R) m k
 words_told R m k e =

@@ -107,8 +107,8 @@ copy_in_spec 𝓤 𝓛 𝓜 𝓡 wired T A LT LA copies gc dc g d dd metc met md
     token_out ! 1 z.0.0.1.1 z.0.1.1.1 $ move ! (3 ∷ 0 ∷ 2 ∷ 1 ∷ []) $
     -- The empty slots for the copies have been split off the other slots. The proof context holds,
     -- in this order: [these slots; the lifetime tokens of `T`, of the slice `items` and of `A`; the
-    -- other slots; the header; the memory of the block's pointer; three entries for the open borrow
-    -- of the block; the slice `items`].
+    -- other slots; the header; the memory that holds the block's pointer; three entries for the
+    -- open borrow of the block; the slice `items`].
     let y₁ = at_from V 𝓛 𝓜.mem 𝓡.returns κ₂ q₂ b here n xs (replicate n false) in
     use2 𝓛 (raw ((From V 𝓛 𝓜.mem 𝓡.returns).pre y₁))
     (from_goes V 𝓛 𝓜.mem 𝓡.returns κ₂ q₂ b here n xs (replicate n false) lives refl
@@ -127,8 +127,8 @@ copy_in_spec 𝓤 𝓛 𝓜 𝓡 wired T A LT LA copies gc dc g d dd metc met md
     sets ! (of_opd ! (get ! refl)) refl (tt, words) $
     -- `from_raw_parts` has converted the empty slots into a value of core's type `Slots`. The proof
     -- context holds, in this order: [this value; the lifetime tokens of `T`, of the slice `items`
-    -- and of `A`; the other slots; the header; the memory of the block's pointer; three entries for
-    -- the open borrow of the block; the slice `items`].
+    -- and of `A`; the other slots; the header; the memory that holds the block's pointer; three
+    -- entries for the open borrow of the block; the slice `items`].
     move ! (2 ∷ 1 ∷ []) $ join ! $ move ! (1 ∷ 9 ∷ 0 ∷ []) $
     let Cp = Copied V gc dc 𝓛 𝓜.mem 𝓡.returns in
     let y₂ : Cp.Ghost = at_copied V gc dc 𝓛 𝓜.mem 𝓡.returns κ₁ κ₂ q₁ q₂
@@ -152,8 +152,8 @@ copy_in_spec 𝓤 𝓛 𝓜 𝓡 wired T A LT LA copies gc dc g d dd metc met md
     lands_as ! is_copy.0 refl (tt, (tt, (record { fits = fz }, tt))) $
     -- `copied` has copied the items into the value of core's type `Slots`. The proof context holds,
     -- in this order: [this value; the lifetime tokens of the slice `items`, of `T` and of `A`; the
-    -- other slots; the header; the memory of the block's pointer; three entries for the open borrow
-    -- of the block].
+    -- other slots; the header; the memory that holds the block's pointer; three entries for the
+    -- open borrow of the block].
     let y₃ = at_into V 𝓛 𝓜.mem 𝓡.returns κ₂ q₂ f b here in
     move ! (0 ∷ 2 ∷ []) $
     use2 𝓛 (raw ((Into V 𝓛 𝓜.mem 𝓡.returns).pre y₃))
@@ -170,8 +170,8 @@ copy_in_spec 𝓤 𝓛 𝓜 𝓡 wired T A LT LA copies gc dc g d dd metc met md
     sets ! (of_opd ! (unit_lit !)) refl (tt, tt) $
     -- `into_raw_parts` has converted the value of core's type `Slots` into slots of the block
     -- again. The proof context holds, in this order: [these slots; the lifetime tokens of `T`, of
-    -- the slice `items` and of `A`; the other slots; the header; the memory of the block's pointer;
-    -- three entries for the open borrow of the block].
+    -- the slice `items` and of `A`; the other slots; the header; the memory that holds the block's
+    -- pointer; three entries for the open borrow of the block].
     let many : slots_len f ≡ n = copy.same.count ∙ made.1.1 in
     let flags : length (slots_filled f) ≡ n = sym (slots_counts f).1 ∙ many in
     let filled : Filled (slots_filled f) 0 n =
@@ -188,7 +188,7 @@ copy_in_spec 𝓤 𝓛 𝓜 𝓡 wired T A LT LA copies gc dc g d dd metc met md
     (run_in E 𝓛 b (o + 16) x.slots i n within (full xs) long_full) $
     -- The filled slots have been joined with the other slots. The proof context holds, in this
     -- order: [all slots; the lifetime tokens of `T`, of the slice `items` and of `A`; the header;
-    -- the memory of the block's pointer; three entries for the open borrow of the block].
+    -- the memory that holds the block's pointer; three entries for the open borrow of the block].
     move ! (0 ∷ 4 ∷ 5 ∷ 6 ∷ 7 ∷ 8 ∷ []) $
     closes_over E Y ! tt self y b o at long $
     -- The borrow of the block has been closed. The proof context holds, in this order: [two entries

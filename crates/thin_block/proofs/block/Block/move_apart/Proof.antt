@@ -82,8 +82,8 @@ move_apart_spec 𝓤 𝓛 𝓜 𝓡 wired T A LT LA g d dd met md =
     token_out ! 1 z.0.0.1 z.0.1.1 $ move ! (2 ∷ 3 ∷ 0 ∷ []) $
     -- The old and the new slots of the items have been split off the other slots. The proof context
     -- holds, in this order: [the items; the empty slots to which they will be moved; the lifetime
-    -- tokens of `T` and `A`; the other slots; the header; the memory of the block's pointer; three
-    -- entries for the open borrow of the block].
+    -- tokens of `T` and `A`; the other slots; the header; the memory that holds the block's
+    -- pointer; three entries for the open borrow of the block].
     let G = Copies T 𝓛 𝓜.mem 𝓡.returns in
     let y₀ : G.Ghost = at_copies T 𝓛 𝓜.mem 𝓡.returns κ₁ q₁ b src b dst k xs in
     use3 𝓛 (raw (G.pre y₀)) (Copies-goes T 𝓛 𝓜.mem 𝓡.returns κ₁ q₁ b src b dst k xs lives fk light)

@@ -124,8 +124,8 @@ slide_run_spec 𝓤 𝓛 𝓜 𝓡 wired T A LT LA g d dd met md =
     token_out ! 1 z.0.0.1 z.0.1.1 $ move ! (2 ∷ 0 ∷ []) $
     -- The items and the empty slots next to them have been split off the other slots. The proof
     -- context holds, in this order: [the items and the empty slots; the lifetime tokens of `T` and
-    -- `A`; the other slots; the header; the memory of the block's pointer; three entries for the
-    -- open borrow of the block].
+    -- `A`; the other slots; the header; the memory that holds the block's pointer; three entries
+    -- for the open borrow of the block].
     let G = triple_of 𝓛 (slide.signature T) (slide.spec T 𝓛 𝓜.mem 𝓡.returns) in
     let y₀ : G.Ghost = (
       (

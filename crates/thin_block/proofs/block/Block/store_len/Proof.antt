@@ -48,8 +48,8 @@ store_len_spec 𝓤 𝓛 𝓜 𝓡 wired T A LT LA g d dd met md =
     rewrite ! 0 (λ (k : ℕ). ‵ (fat full_share (ty_int w64) b k (vint w64 x.len)))
     (let turned : o + 8 ≡ 8 + o = omega arith in turned) refl $
     -- The header has been split. The proof context holds, in this order: [the length; the right to
-    -- free the block; the capacity; the slots; the memory of the block's pointer; three entries for
-    -- the open borrow of the block; the other lifetime tokens].
+    -- free the block; the capacity; the slots; the memory that holds the block's pointer; three
+    -- entries for the open borrow of the block; the other lifetime tokens].
     sets ! (of_opd ! (load ! (through ! refl (fld ! refl (stop !)))
     (look_in ! 4 (sub ! 0 refl (whole !))))) refl (tt, tt) $
     first ! $ blocks ! $

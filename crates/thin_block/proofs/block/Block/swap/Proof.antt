@@ -69,8 +69,9 @@ swap_spec 𝓤 𝓛 𝓜 𝓡 wired T A LT LA g d dd met md =
           takes_two E ! b (o + 16) x.slots i j p (one.1, two.1) (λ v v' good good'.
           -- The two slots have been split off the other slots. The proof context holds, in this
           -- order: [the bytes of the second item; what the second item owns; the bytes of the first
-          -- item; what the first item owns; the other slots; the header; the memory of the block's
-          -- pointer; three entries for the open borrow of the block; the other lifetime tokens].
+          -- item; what the first item owns; the other slots; the header; the memory that holds the
+          -- block's pointer; three entries for the open borrow of the block; the other lifetime
+          -- tokens].
           sets ! (of_opd ! (load ! (through ! refl (stop !)) (look ! 2 refl))) refl good $
           sets ! (of_opd ! (load ! (through ! refl (stop !)) (look ! 0 refl))) refl good' $
           assigns ! (of_opd ! (get ! refl)) (through ! refl (stop !)) (store ! 2 refl good') $
@@ -92,8 +93,8 @@ swap_spec 𝓤 𝓛 𝓜 𝓡 wired T A LT LA g d dd met md =
           takes_item E ! b (o + 16) x.slots i low one.1 (λ v good.
           -- The two slots are the same slot. This slot has been split off the other slots. The
           -- proof context holds, in this order: [the bytes of the item; what the item owns; the
-          -- other slots; the header; the memory of the block's pointer; three entries for the open
-          -- borrow of the block; the other lifetime tokens].
+          -- other slots; the header; the memory that holds the block's pointer; three entries for
+          -- the open borrow of the block; the other lifetime tokens].
           let Bits = λ (k : ℕ). ‵ (fat full_share (layout T) b (k * sz E + (o + 16)) v) in
           sets ! (of_opd ! (load ! (through ! refl (stop !)) (look ! 0 refl))) refl good $
           rewrite ! 0 Bits same refl $

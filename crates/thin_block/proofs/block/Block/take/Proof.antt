@@ -46,8 +46,9 @@ take_spec 𝓤 𝓛 𝓜 𝓡 wired T A LT LA g d dd met md =
     let here : ℕ = i * sz E + (o + 16) in
     takes_item E ! b (o + 16) x.slots i within item.1 (λ v good.
     -- The filled slot has been split off the other slots. The proof context holds, in this order:
-    -- [the bytes of the item; what the item owns; the other slots; the header; the memory of the
-    -- block's pointer; three entries for the open borrow of the block; the other lifetime tokens].
+    -- [the bytes of the item; what the item owns; the other slots; the header; the memory that
+    -- holds the block's pointer; three entries for the open borrow of the block; the other lifetime
+    -- tokens].
     sets_last ! (of_opd ! (load ! (through ! refl (stop !)) (look ! 0 refl))) refl good $
     continues ! 𝓜 𝓡 fn l 2 ((walk_of 𝓛 En₀ hs c).post z) $
     sets ! (of_opd ! (get ! refl)) refl good $

@@ -70,8 +70,9 @@ take_replacing_spec 𝓤 𝓛 𝓜 𝓡 wired T A LT LA g d dd met md =
           takes_two E ! b (o + 16) x.slots i j p (one.1, two.1) (λ v v' good good'.
           -- The two slots have been split off the other slots. The proof context holds, in this
           -- order: [the bytes of the second item; what the second item owns; the bytes of the first
-          -- item; what the first item owns; the other slots; the header; the memory of the block's
-          -- pointer; three entries for the open borrow of the block; the other lifetime tokens].
+          -- item; what the first item owns; the other slots; the header; the memory that holds the
+          -- block's pointer; three entries for the open borrow of the block; the other lifetime
+          -- tokens].
           sets ! (of_opd ! (load ! (through ! refl (stop !)) (look ! 2 refl))) refl good $
           sets ! (of_opd ! (load ! (through ! refl (stop !)) (look ! 0 refl))) refl good' $
           assigns ! (of_opd ! (get ! refl)) (through ! refl (stop !)) (store ! 2 refl good') $
@@ -85,8 +86,8 @@ take_replacing_spec 𝓤 𝓛 𝓜 𝓡 wired T A LT LA g d dd met md =
           rewrite ! 0 (λ (c : Option T.Denot). ‵ (place (R E) c b here)) (sym two.1) refl $
           -- The second item is now in slot `i`, and slot `j` is empty. The proof context holds, in
           -- this order: [slot `i`; slot `j`; what the removed item owns; the other slots; the
-          -- header; the memory of the block's pointer; three entries for the open borrow of the
-          -- block; the other lifetime tokens].
+          -- header; the memory that holds the block's pointer; three entries for the open borrow of
+          -- the block; the other lifetime tokens].
           move ! (0 ∷ 1 ∷ 3 ∷ []) $ use3 𝓛 (‵ (places (R E) after_it b (o + 16)))
           (p.back (slot x.slots j) None) $
           move ! (0 ∷ 2 ∷ 3 ∷ 4 ∷ 5 ∷ 6 ∷ []) $
@@ -98,8 +99,8 @@ take_replacing_spec 𝓤 𝓛 𝓜 𝓡 wired T A LT LA g d dd met md =
           takes_item E ! b (o + 16) x.slots i low one.1 (λ v good.
           -- The two slots are the same slot. This slot has been split off the other slots. The
           -- proof context holds, in this order: [the bytes of the item; what the item owns; the
-          -- other slots; the header; the memory of the block's pointer; three entries for the open
-          -- borrow of the block; the other lifetime tokens].
+          -- other slots; the header; the memory that holds the block's pointer; three entries for
+          -- the open borrow of the block; the other lifetime tokens].
           let Bits = λ (k : ℕ). ‵ (fat full_share (layout T) b (k * sz E + (o + 16)) v) in
           sets ! (of_opd ! (load ! (through ! refl (stop !)) (look ! 0 refl))) refl good $
           rewrite ! 0 Bits same refl $
