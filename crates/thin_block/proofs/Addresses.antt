@@ -1,12 +1,12 @@
--- How a walk computes the address of a slot, and takes this slot out of the row of slots. Assumes
--- `Logic`.
+-- These lemmas are for the proof of a function body, which is called a walk. They compute the
+-- address of a slot, and split the memory of this slot off the memory of all slots. The lemmas
+-- assume the laws of the separation logic (`Logic`).
 --     its_ptr       reads the pointer of the block
---     slot_found    walks through the statements that compute
---                   `(p.add(HEADER_WORDS) as *mut T).add(i)`
---     moves_on      walks through the statements that compute `p.add(i)`
---     takes_slot    takes a slot out of the row
---     takes_item    takes a filled slot out of the row
---     takes_two     takes two filled slots out of the row
+--     slot_found    executes the statements that compute `(p.add(HEADER_WORDS) as *mut T).add(i)`
+--     moves_on      executes the statements that compute `p.add(i)`
+--     takes_slot    splits off the memory of one slot
+--     takes_item    splits off the memory of one filled slot
+--     takes_two     splits off the memory of two filled slots
 use Rattle.std.proofs.Common.{◌≡◌, ℕ, zero, Some, None, ◌+◌, ◌*◌, ◌^◌, ◌<◌, ◌≤◌, List, [], ◌∷◌, length, true, refl, sym, ap, subst, arith, w64}
 use lib.Dec.{T}
 use lib.ListN.{get_or}
@@ -31,15 +31,15 @@ use Rattle.thin_block.specs.Ownership.{fits_block, place as slot_place, places}
 use Rattle.thin_block.proofs.HeaderMemory.{Br, block_val}
 use Rattle.thin_block.proofs.SlotMemory.{Slot, sz, reach, besides, slot_out, Two}
 
--- if a block of the slots xs fits and i is at most their number, then the distance in bytes from
--- the first slot to slot i is less than 2 ^ 64
+-- If a block with the slots `xs` is small enough to be allocated and `i ≤ length xs`, then slot `i`
+-- begins less than `2 ^ 64` bytes after the first slot.
 pub near : (E : El) (xs : List (Slot E)) (i : ℕ) → fits_block (R E) (length xs) ≡ true
     → i ≤ length xs → i * sz E < 2 ^ 64
 near E xs i fits le = let low = reach (R E) i (length xs) fits le in omega arith
 
 module _ (E : El) (Y : Al) {M : Type 1} {𝓤 : Ura M} {𝓛 : Logic 𝓤} {K : Type 0}
     {Γ : List (Item 𝓤)} {h s : Item 𝓤} where
-  -- reads the pointer of a block through a reference to the block
+  -- Evaluates the operand that copies the pointer of a block through a reference to the block.
   pub its_ptr : K → {Ev : Env 𝓤 𝓛.H} {p b o rb ro : ℕ} {q : Share}
       → at 𝓛 p (h ∷ s ∷ ‵
       (cell_at full_share (Br E Y).mir (block_val (block_ptr b o) ∷ []) rb ro) ∷ Γ)
@@ -52,56 +52,62 @@ module _ (E : El) (Y : Al) {M : Type 1} {𝓤 : Ura M} {𝓛 : Logic 𝓤} {K : 
 module _ {M : Type 1} {𝓤 : Ura M} (𝓛 : Logic 𝓤) (Ev : Env 𝓤 𝓛.H) where
   open 𝓛 use {H}
 
-  -- `holds p v` is the entry of the context which says that the local p holds the value v
+  -- `holds p v` is the entry of the proof context which says that the local variable `p` holds the
+  -- value `v`.
   abbrev holds : ℕ → Val → Item 𝓤
   holds p v = ‵ (fat full_share (spot_of 𝓤 H Ev p).0 (spot_of 𝓤 H Ev p).1 zero v)
 
-  -- `free p Γ` is the entry of the context Γ which says that the local p may be written. The local
-  -- may hold any value of its type, or no value.
+  -- `free p Γ` is the entry of the proof context `Γ` which says that the local variable `p` may be
+  -- written. The variable may hold any value of its type, or no value.
   abbrev free : ℕ → List (Item 𝓤) → Item 𝓤
   free p Γ = nth 𝓛 0 (free_needs 𝓛 (((spot_of 𝓤 H Ev p).0, (spot_of 𝓤 H Ev p).1) ∷ [])
       (at 𝓛 p Γ ∷ ‵ ftrue ∷ []))
 
-  -- `Takes p v`: the value v has the type of the local p
+  -- `Takes p v` holds if the value `v` has the type of the local variable `p`.
   abbrev Takes : ℕ → Val → Type 0
   Takes p v = T (has_ty (spot_of 𝓤 H Ev p).0 v)
 
   module _ (Γ : List (Item 𝓤)) (E : El) (b o i p₃ p₄ : ℕ) where
-    -- the context Γ after i times the size of an item was stored in the local p₃
+    -- The proof context `Γ` after the product of `i` and the size of an item has been stored in the
+    -- local variable `p₃`.
     abbrev far : List (Item 𝓤)
     far = set 𝓛 p₃ (holds p₃ (vint w64 (i * sz E))) Γ
 
-    -- the context Γ after `p.add(i)` was computed: the local p₃ holds i times the size of an item,
-    -- and the local p₄ holds the address of the item i
+    -- The proof context `Γ` after `p.add(i)` has been computed. The local variable `p₃` holds the
+    -- product of `i` and the size of an item, and `p₄` holds the address of item `i`.
     abbrev pub gone : List (Item 𝓤)
     gone = set 𝓛 p₄ (holds p₄ (vptr b (i * sz E + o))) far
 
-    -- `goes_by p pᵢ` lists the context entries that the steps of `p.add(i)` use. The local p holds
-    -- the address of the first item, and the local pᵢ holds i.
+    -- `goes_by p pᵢ` lists the entries of the proof context that the statements for `p.add(i)` use.
+    -- The local variable `p` holds the address of the first item, and `pᵢ` holds the index `i`.
     abbrev pub goes_by : ℕ → ℕ → List (Item 𝓤)
     goes_by p pᵢ = at 𝓛 pᵢ Γ ∷ at 𝓛 p₃ Γ ∷ at 𝓛 p far ∷ at 𝓛 p₃ far ∷ at 𝓛 p₄ far ∷ []
 
-    -- what the entries in `goes_by` must be, in the same order
+    -- The entries that the list `goes_by` must contain, in the same order, before `p.add(i)` is
+    -- computed.
     abbrev pub goes_with : ℕ → ℕ → List (Item 𝓤)
     goes_with p pᵢ = holds pᵢ (vint w64 i) ∷ free p₃ Γ ∷ holds p (vptr b o)
         ∷ holds p₃ (vint w64 (i * sz E)) ∷ free p₄ far ∷ []
 
   module _ (Γ : List (Item 𝓤)) (E : El) (b o i p₁ p₂ : ℕ) where
-    -- the context Γ after the address of the first slot was stored in the local p₁
+    -- The proof context `Γ` after the address of the first slot has been stored in the local
+    -- variable `p₁`.
     abbrev first : List (Item 𝓤)
     first = set 𝓛 p₁ (holds p₁ (vptr b (o + 16))) Γ
 
-    -- the context Γ after the address of the first slot was stored in the locals p₁ and p₂
+    -- The proof context `Γ` after the address of the first slot has been stored in the local
+    -- variables `p₁` and `p₂`.
     abbrev pub turned : List (Item 𝓤)
     turned = set 𝓛 p₂ (holds p₂ (vptr b (o + 16))) first
 
-    -- `meets p₃ p₄ p pᵢ` lists the context entries that the four steps of `slot_found` use. The
-    -- local p holds the pointer of the block.
+    -- `meets p₃ p₄ p pᵢ` lists the entries of the proof context that the four statements in the
+    -- lemma `slot_found` use. The local variable `p` holds the pointer of the block.
     abbrev pub meets : ℕ → ℕ → ℕ → ℕ → List (Item 𝓤)
     meets p₃ p₄ p pᵢ = at 𝓛 p Γ ∷ at 𝓛 p₁ Γ ∷ at 𝓛 p₁ first ∷ at 𝓛 p₂ first
         ∷ goes_by turned E b (o + 16) i p₃ p₄ p₂ pᵢ
 
-    -- what the entries in `meets` must be, in the same order
+    -- The entries that the list `meets` must contain, in the same order, before the four statements
+    -- in the lemma `slot_found` are executed.
     abbrev pub needs : ℕ → ℕ → ℕ → ℕ → List (Item 𝓤)
     needs p₃ p₄ p pᵢ = holds p (vptr b o) ∷ free p₁ Γ ∷ holds p₁ (vptr b (o + 16)) ∷ free p₂ first
         ∷ goes_with turned E b (o + 16) i p₃ p₄ p₂ pᵢ
@@ -109,7 +115,7 @@ module _ {M : Type 1} {𝓤 : Ura M} (𝓛 : Logic 𝓤) (Ev : Env 𝓤 𝓛.H) 
 module _ (E : El) {M : Type 1} {𝓤 : Ura M} {𝓛 : Logic 𝓤} {K : Type 0} {Γ : List (Item 𝓤)} where
   open 𝓛 use {H}
 
-  -- walks through the two statements that compute `p.add(i)`
+  -- Symbolically executes the two statements that compute `p.add(i)`.
   pub moves_on : K → {C : Calls 𝓤 H} {Λ : Loops 𝓤 H} {Ev : Env 𝓤 H} {q : Post 𝓤 H} {rest : Body}
       {p pᵢ p₃ p₄ : ℕ} (b o i : ℕ) → i * sz E < 2 ^ 64
       → goes_by 𝓛 Ev Γ E b o i p₃ p₄ p pᵢ ≡ goes_with 𝓛 Ev Γ E b o i p₃ p₄ p pᵢ
@@ -131,7 +137,8 @@ module _ (E : El) {M : Type 1} {𝓤 : Ura M} {𝓛 : Logic 𝓤} {K : Type 0} {
 module _ (E : El) {M : Type 1} {𝓤 : Ura M} {𝓛 : Logic 𝓤} {K : Type 0} {Γ : List (Item 𝓤)} where
   open 𝓛 use {H}
 
-  -- walks through the four statements that compute `(p.add(HEADER_WORDS) as *mut T).add(i)`
+  -- Symbolically executes the four statements that compute `(p.add(HEADER_WORDS) as *mut
+  -- T).add(i)`.
   pub slot_found : K → {C : Calls 𝓤 H} {Λ : Loops 𝓤 H} {Ev : Env 𝓤 H} {q : Post 𝓤 H} {rest : Body}
       {p pᵢ p₁ p₂ p₃ p₄ : ℕ} (b o i : ℕ) → i * sz E < 2 ^ 64
       → meets 𝓛 Ev Γ E b o i p₁ p₂ p₃ p₄ p pᵢ ≡ needs 𝓛 Ev Γ E b o i p₁ p₂ p₃ p₄ p pᵢ
@@ -155,8 +162,8 @@ module _ (E : El) {M : Type 1} {𝓤 : Ura M} {𝓛 : Logic 𝓤} {K : Type 0} {
 
 module _ (E : El) {M : Type 1} {𝓤 : Ura M} {𝓛 : Logic 𝓤} {K : Type 0} {Γ : List (Item 𝓤)}
     {G : Goal 𝓤 𝓛.H} {h : Item 𝓤} where
-  -- Takes slot i out of the row. The context [the header; the slots] becomes [slot i; the
-  -- other slots; the header].
+  -- Splits the memory of slot `i` off the memory of all slots. The proof context [the header; all
+  -- slots] becomes [slot `i`; the other slots; the header].
   pub takes_slot : K → {x : Slot E} (b o : ℕ) (xs : List (Slot E)) (i : ℕ) → i < length xs
       → get_or xs i None ≡ x
       → Step K 𝓛 (‵ (slot_place (R E) x b (i * sz E + o)) ∷ ‵ (besides E 𝓛 b o xs i) ∷ h ∷ Γ) G
@@ -168,18 +175,20 @@ module _ (E : El) {M : Type 1} {𝓤 : Ura M} {𝓛 : Logic 𝓤} {K : Type 0} {
       rewrite k 0 (λ (x : Slot E). ‵ (slot_place (R E) x b (i * sz E + o))) e refl $ rest)
 
 module _ (E : El) {M : Type 1} (𝓤 : Ura M) where
-  -- `Bits b o v` is the bytes of an item in memory, if its machine value is v
+  -- `Bits b o v` says that the memory at the offset `o` of the allocation `b` holds the machine
+  -- value `v` of an item.
   abbrev Bits : ℕ → ℕ → Val → Item 𝓤
   Bits b o v = ‵ (fat full_share (elτ E) b o v)
 
-  -- `Owned x v` is what the item x with the machine value v owns
+  -- `Owned x v` states what the item `x` owns if its machine value is `v`.
   abbrev Owned : el_x E → Val → Item 𝓤
   Owned x v = ‵ (E.row.own_val x (v ∷ []))
 
 module _ (E : El) {M : Type 1} {𝓤 : Ura M} {𝓛 : Logic 𝓤} {K : Type 0} {Γ : List (Item 𝓤)}
     {G : Goal 𝓤 𝓛.H} {h : Item 𝓤} where
-  -- Takes the filled slot i out of the row, so that its item can be read. After it the context
-  -- holds, in this order: [the bytes of the item; what the item owns; the other slots; the header].
+  -- Splits the filled slot `i` off the other slots, so that the item in it can be read. After this
+  -- step the proof context holds, in this order: [the bytes of the item; what the item owns; the
+  -- other slots; the header].
   pub takes_item : K → {x : el_x E} (b o : ℕ) (xs : List (Slot E)) (i : ℕ) → i < length xs
       → get_or xs i None ≡ Some x
       → ((v : Val) → Good E v → Seq K 𝓛 (Bits E 𝓤 b (i * sz E + o) v ∷ Owned E 𝓤 x v
@@ -190,9 +199,9 @@ module _ (E : El) {M : Type 1} {𝓤 : Ura M} {𝓛 : Logic 𝓤} {K : Type 0} {
       use1 𝓛 (some (λ (v : Val). given (Good E v) (Bits E 𝓤 b (i * sz E + o) v ⊛ Owned E 𝓤 x v)))
       (el_out E 𝓛 b x (i * sz E + o)) $ pick k (λ v. learn k (λ good. split k $ next v good))
 
-  -- Takes two filled slots out of the row. After it the context holds, in this order: [the bytes of
-  -- the second item; what the second item owns; the bytes of the first item; what the first item
-  -- owns; the other slots; the header].
+  -- Splits two filled slots off the other slots. After this step the proof context holds, in this
+  -- order: [the bytes of the second item; what the second item owns; the bytes of the first item;
+  -- what the first item owns; the other slots; the header].
   pub takes_two : K → {x y : el_x E} (b o : ℕ) (xs : List (Slot E)) (i j : ℕ)
       (p : Two E 𝓛 b o xs i j) → (get_or xs i None ≡ Some x) × (get_or xs j None ≡ Some y)
       → ((v w : Val) → Good E v → Good E w → Seq K 𝓛 (Bits E 𝓤 b (j * sz E + o) w ∷ Owned E 𝓤 y w

@@ -1,4 +1,6 @@
--- Lemmas on ruled capacities, exact capacities and capacities that fit. Other crates use them too.
+-- Lemmas on `ruled_capacity`, `exact_capacity` and `Fits`. The first two functions compute the new
+-- capacity of a block, by a growth rule or for an exact number of items. `Fits` says that a block
+-- of some capacity is small enough to be allocated. Other crates use these lemmas too.
 use Rattle.std.proofs.Common.{if◌then◌else◌, Bool, true, false, IsTrue, ◌≡◌, ℕ, zero, suc, ◌*◌, ◌^◌, ◌<◌, ◌≤◌, ap, refl, subst, sym, ◌∙◌, arith}
 use Rattle.std.specs.declared.option.Option.TheVariants.{Some, None}
 use borrow.Author.Tests.{lt-ltb, le-ltb, le-leb, lt-leb}
@@ -13,27 +15,29 @@ use Rattle.thin_block.specs.Capacity.{fits, first, Fits}
 use Rattle.thin_block.specs.Growth.{Rule, KeepsLaw, doubling, exact_capacity, fitting, ruled_capacity}
 use Rattle.thin_block.proofs.SizesLemmas.{opened, closed, fits_none, fits_tells, fits_yes, rounded}
 
--- if the capacity c suffices for w items, the ruled capacity is c
+-- If the capacity `c` suffices for `w` items, then `ruled_capacity rule R c w` is `Some c`.
 pub ruled-same : (rule : Rule) (R : RattleType) (c w : ℕ) → w ≤ c
     → ruled_capacity rule R c w ≡ Some c
 unfolding ruled_capacity
 ruled-same rule R c w enough = rw (le-leb w c enough) refl
 
--- if the capacity c is less than w and w exceeds `usize::MAX`, then w items have no ruled capacity
+-- If `c < w` and the number of items `w` exceeds `usize::MAX`, then `ruled_capacity rule R c w` is
+-- `None`.
 pub ruled-overflow : (rule : Rule) (R : RattleType) (c w : ℕ) → c < w → 2 ^ 64 ≤ w
     → ruled_capacity rule R c w ≡ None
 unfolding ruled_capacity
 ruled-overflow rule R c w more high = rw (lt-leb w c more) (rw (le-ltb w (2 ^ 64) high) refl)
 
--- if the capacity c is less than w and w fits into a `usize`, then the ruled capacity for w items
--- is what the rule chooses
+-- If `c < w` and the number of items `w` fits into a `usize`, then `ruled_capacity rule R c w` is
+-- the result of the growth rule.
 pub ruled-rule : (rule : Rule) (R : RattleType) (c w : ℕ) → c < w → w < 2 ^ 64
     → ruled_capacity rule R c w ≡ rule (type_size R) (type_align R) c w
 unfolding ruled_capacity
 ruled-rule rule R c w more word = rw (lt-leb w c more) (rw (lt-ltb w (2 ^ 64) word) refl)
 
--- `Grown R c w n`: a block of capacity c may grow to the capacity n in order to hold w items of R.
--- (This is `Grows`, with `Fits R n` as its last field.)
+-- `Grown R c w n` holds if a block of capacity `c` may grow to the capacity `n` in order to hold
+-- `w` items of type `R`. The record has the same meaning as `Grows`, but the type of its last field
+-- is `Fits R n`.
 pub record Grown (R : RattleType) (c w n : ℕ) : Type 0 where
   pub enough : w ≤ n
   pub doubled : 2 * c ≤ n
@@ -42,8 +46,8 @@ pub record Grown (R : RattleType) (c w n : ℕ) : Type 0 where
 none_some : {A B : Type 0} (x : A) → None ≡ Some x → B
 none_some x e = cc
 
--- if the rule keeps its law, c is less than w, and n is the ruled capacity for w items, then n is
--- at least w, n is at least 2 * c, and n fits
+-- If a growth rule keeps its law, `c < w` and `ruled_capacity rule R c w ≡ Some n`, then `w ≤ n`
+-- and `2 * c ≤ n`, and a block of capacity `n` is small enough to be allocated.
 pub ruled-grows : (rule : Rule) (R : RattleType) (c w n : ℕ) → KeepsLaw rule → c < w
     → ruled_capacity rule R c w ≡ Some n → Grown R c w n
 ruled-grows rule R c w n law more e = elim (dec_lt w (2 ^ 64)) [
@@ -53,15 +57,17 @@ ruled-grows rule R c w n law more e = elim (dec_lt w (2 ^ 64)) [
   | no high ↦ none_some n (sym (ruled-overflow rule R c w more (omega arith)) ∙ e)
 ]
 
--- a capacity that fits is less than 2 ^ 63
+-- If a block of capacity `c` is small enough to be allocated, then `c < 2 ^ 63`.
 pub fits-small : (R : RattleType) (c : ℕ) → Fits R c → c < 2 ^ 63
 fits-small R c e = (fits_tells R c (opened R c e)).few
 
--- if the capacity c fits, then c items take less than 2 ^ 63 bytes
+-- If a block of capacity `c` is small enough to be allocated, then `c` items take less than `2 ^
+-- 63` bytes.
 pub fits-bytes : (R : RattleType) (c : ℕ) → Fits R c → c * type_size R < 2 ^ 63
 fits-bytes R c e = let room = (fits_tells R c (opened R c e)).room in omega arith
 
--- if the capacity d fits, then every capacity up to d fits
+-- If a block of capacity `d` is small enough to be allocated and `c ≤ d`, then a block of capacity
+-- `c` is small enough too.
 pub fits-less : (R : RattleType) (c d : ℕ) → Fits R d → c ≤ d → Fits R c
 fits-less R c d e less =
     let told = fits_tells R d (opened R d e) in
@@ -74,25 +80,26 @@ fits-less R c d e less =
 pub fits-none : (R : RattleType) → Fits R 0
 fits-none R = closed R 0 (fits_none R)
 
--- Section: sizes that are far below every limit: fewer than 2 ^ 31 items of fewer than 2 ^ 31 bytes
--- each. These lemmas are for callers that know the item type.
+-- Section: blocks that are far below every size limit. They hold fewer than `2 ^ 31` items of fewer
+-- than `2 ^ 31` bytes each. These lemmas are for callers that know the item type.
 
--- fewer than 2 ^ 31 items of fewer than 2 ^ 31 bytes each take less than 2 ^ 62 bytes
+-- Fewer than `2 ^ 31` items of fewer than `2 ^ 31` bytes each take less than `2 ^ 62` bytes.
 pub few_bytes : (c s : ℕ) → c < 2 ^ 31 → s < 2 ^ 31 → c * s < 2 ^ 62
 few_bytes c s few small =
     let wide : c * s ≤ c * (2 ^ 31) =
     mul-le-mul_left c (let less : s ≤ 2 ^ 31 = omega arith in less) in
     omega arith
 
--- if an item takes less than 2 ^ 31 bytes, every capacity less than 2 ^ 31 fits
+-- If an item takes less than `2 ^ 31` bytes and `c < 2 ^ 31`, then a block of capacity `c` is small
+-- enough to be allocated.
 pub small_fits : (R : RattleType) (c : ℕ) → c < 2 ^ 31 → type_size R < 2 ^ 31 → Fits R c
 small_fits R c few small =
     let bytes : c * type_size R < 2 ^ 62 = few_bytes c (type_size R) few small in
     let about = rounded R 0 in
     closed R c (fits_yes R c (omega arith) (omega (arith, about.most)))
 
--- if 1 to 4 items of less than 2 ^ 31 bytes each need room and the capacity is 0, then doubling
--- chooses the capacity 4
+-- If the old capacity is 0, the rule `doubling` chooses the capacity 4 for 1 to 4 items of less
+-- than `2 ^ 31` bytes each.
 pub doubling_first : (R : RattleType) (c w : ℕ) → c ≡ 0 → 0 < w → w ≤ 4 → type_size R < 2 ^ 31
     → ruled_capacity doubling R c w ≡ Some 4
 unfolding doubling fitting first
@@ -104,8 +111,9 @@ doubling_first R c w none some few small =
     subst (Fits R) (sym four) (small_fits R 4 (omega arith) small) in
     ruled-rule doubling R c w more (omega arith) ∙ (rw fit (ap Some four))
 
--- if the capacity c is from 1 to 2 ^ 30 - 1, w is more than c and at most 2 * c, and an item takes
--- less than 2 ^ 31 bytes, then doubling chooses the capacity 2 * c for w items
+-- If the capacity `c` is too small for `w` items, but `2 * c` suffices, then the rule `doubling`
+-- chooses the capacity `2 * c`. The lemma is for `0 < c < 2 ^ 30` and items of less than `2 ^ 31`
+-- bytes.
 pub doubling_next : (R : RattleType) (c w : ℕ) → 0 < c → c < w → w ≤ 2 * c → c < 2 ^ 30
     → type_size R < 2 ^ 31 → ruled_capacity doubling R c w ≡ Some (2 * c)
 unfolding doubling fitting
@@ -116,13 +124,13 @@ doubling_next R c w some more enough few small =
     subst (Fits R) (sym twice) (small_fits R (2 * c) (omega arith) small) in
     ruled-rule doubling R c w more (omega arith) ∙ (rw fit (ap Some twice))
 
--- if the capacity c suffices for w items, the exact capacity is c
+-- If the capacity `c` suffices for `w` items, then `exact_capacity R c w` is `Some c`.
 pub exact-same : (R : RattleType) (c w : ℕ) → w ≤ c → exact_capacity R c w ≡ Some c
 unfolding exact_capacity
 exact-same R c w enough = rw (le-leb w c enough) refl
 
--- if the capacity c is less than w and the capacity w fits, then the exact capacity for w items is
--- w
+-- If `c < w` and a block of capacity `w` is small enough to be allocated, then `exact_capacity R c
+-- w` is `Some w`.
 pub exact-fits : (R : RattleType) (c w : ℕ) → c < w → Fits R w → exact_capacity R c w ≡ Some w
 unfolding exact_capacity fitting
 exact-fits R c w more fit = rw (lt-leb w c more, fit) refl
@@ -131,38 +139,40 @@ no_answer : (b : Bool) (n : ℕ) → (IsTrue b → ⊥) → (if b then Some n el
 no_answer true n never = absurd (never refl)
 no_answer false n never = refl
 
--- if the capacity n does not fit, `fitting` returns None
+-- If a block of capacity `n` is too large to be allocated, then the function `fitting` returns
+-- `None`.
 pub fitting_none : (R : RattleType) (n : ℕ) → (Fits R n → ⊥)
     → fitting (type_size R) (type_align R) n ≡ None
 unfolding fitting
 fitting_none R n never = no_answer (fits (type_size R) (type_align R) n) n never
 
--- if the capacity c is less than w and the capacity w does not fit, then w items have no exact
--- capacity
+-- If `c < w` and a block of capacity `w` is too large to be allocated, then `exact_capacity R c w`
+-- is `None`.
 pub exact-overflow : (R : RattleType) (c w : ℕ) → c < w → (Fits R w → ⊥)
     → exact_capacity R c w ≡ None
 unfolding exact_capacity
 exact-overflow R c w more never = rw (lt-leb w c more) (fitting_none R w never)
 
--- if the old capacity is 0 and the capacity w does not fit, then w items have no exact capacity
+-- If a block of capacity `w` is too large to be allocated, then `exact_capacity R 0 w` is `None`.
 pub exact-none : (R : RattleType) (w : ℕ) → (Fits R w → ⊥) → exact_capacity R 0 w ≡ None
 exact-none R zero never = absurd (never (fits-none R))
 exact-none R (suc w) never = exact-overflow R 0 (suc w) (omega arith) never
 
--- if the capacity c is less than w and w exceeds `usize::MAX`, then w items have no exact capacity
+-- If `c < w` and the number of items `w` exceeds `usize::MAX`, then `exact_capacity R c w` is
+-- `None`.
 pub exact-past : (R : RattleType) (c w : ℕ) → c < w → 2 ^ 64 ≤ w → exact_capacity R c w ≡ None
 exact-past R c w more high =
     exact-overflow R c w more (λ fit. let small = fits-small R w fit in absurd (omega arith))
 
--- lemmas on two item types that have the same size and the same alignment
+-- Two lemmas on item types `R` and `S` that have the same size and the same alignment.
 module _ (R S : RattleType) (c w : ℕ) (size : type_size R ≡ type_size S)
     (align : type_align R ≡ type_align S) where
-  -- the exact capacities of the two item types are equal
+  -- The function `exact_capacity` returns the same result for the two item types.
   pub exact-at : exact_capacity R c w ≡ exact_capacity S c w
   unfolding exact_capacity fitting
   exact-at = rw (size, align) refl
 
-  -- the ruled capacities of the two item types are equal
+  -- The function `ruled_capacity` returns the same result for the two item types.
   pub ruled-at : (rule : Rule) → ruled_capacity rule R c w ≡ ruled_capacity rule S c w
   unfolding ruled_capacity
   ruled-at rule = rw (size, align) refl

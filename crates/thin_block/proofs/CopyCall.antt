@@ -1,5 +1,6 @@
--- A call of `copied` in a walk. `copied` copies a slice into a row of core's `Slots`. Assumes
--- `Logic`.
+-- These lemmas prove a call of the function `copied` within the proof of its caller. The function
+-- copies the items of a slice into a value of core's type `Slots`. The lemmas assume the laws of
+-- the separation logic (`Logic`).
 use mathlib.Core.Path.{◌≡◌, refl, sym, ap, ◌∙◌}
 use Prim.Native.Nat.{ℕ}
 use mathlib.Core.List.{List, [], ◌∷◌}
@@ -54,7 +55,8 @@ module _ (E : El) (g : Ghosts (el_x E)) (d : Dict) {M : Type 1} {𝓤 : Ura M} (
     abbrev pub Slice : Fml
     Slice = (ShrSlice (named 0) κ₀ (copied 0 E.row)).own_val s (shr_slice_vals s)
 
-    -- `IsCopy z`: z is the row r, with the items of the slice copied into its places
+    -- `IsCopy z` holds if copying the items of the slice into `r` yields `z`. Both `r` and `z` are
+    -- values of core's type `Slots`.
     pub record IsCopy (z : (Row E).Denot) : Type 0 where
       pub same : SamePlaces r z
       pub items : slots_items z ≡ s.now
@@ -69,11 +71,12 @@ module _ (E : El) (g : Ghosts (el_x E)) (d : Dict) {M : Type 1} {𝓤 : Ura M} (
         use0 𝓛 (raw (fact 𝓤 (slots_len r ≡ length s.now)))
         (fact_i 𝓤 (slots_len r ≡ length s.now) (emp 𝓤) long) $
         use0 𝓛 (raw (fact 𝓤 (κ₁ ⊑ E.row.lives))) (fact_i 𝓤 (κ₁ ⊑ E.row.lives) (emp 𝓤) le) $ join ! $
-        -- The facts that the call requires are joined. The context holds, in this order: [these
-        -- facts; the two lifetime tokens; the row; the slice].
+        -- The facts that the call requires have been joined. The proof context holds, in this
+        -- order: [these facts; the two lifetime tokens; the value of type `Slots`; the slice].
         nothing ! $ move ! (5 ∷ 0 ∷ []) $ fjoin ! $ move ! (4 ∷ 0 ∷ []) $ fjoin ! $
-        -- The arguments of the call are joined. The context holds, in this order: [the row and the
-        -- slice, as arguments; the facts that the call requires; the two lifetime tokens].
+        -- The arguments of the call have been joined. The proof context holds, in this order: [the
+        -- arguments, which are the value of type `Slots` and the slice; the facts that the call
+        -- requires; the two lifetime tokens].
         nothing ! $ move ! (4 ∷ 0 ∷ []) $ join ! $ move ! (3 ∷ 0 ∷ []) $ join ! $ join ! $ done !
 
     pub Copied-gives : (v : Val) → slots_ptr r ≡ block_ptr b o

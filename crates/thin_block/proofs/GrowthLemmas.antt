@@ -1,12 +1,13 @@
--- The proof that a rule which always chooses exactly the wanted capacity breaks the law of growth
--- rules.
+-- A growth rule that always chooses exactly the wanted capacity breaks the law of growth rules: the
+-- new capacity may be less than twice the old capacity.
 use Rattle.std.specs.Prelude.{◌*◌, ◌≤◌, refl}
 use Rattle.std.proofs.Common.{arith}
 use Rattle.thin_block.specs.Capacity.{fits}
 use Rattle.thin_block.specs.Growth.{KeepsLaw, fitting}
 
--- a rule that always chooses exactly the wanted capacity breaks the law: if the capacity is 4 and 5
--- items need room, it chooses 5, which is less than twice 4
+-- A rule that always chooses exactly the wanted capacity breaks the law of growth rules. For
+-- example, if the capacity is 4 and 5 items need room, this rule chooses 5, but the law demands at
+-- least 8.
 pub want_alone_breaks : KeepsLaw (λ s a c w. fitting s a w) → ⊥
 unfolding fitting fits
 want_alone_breaks law =

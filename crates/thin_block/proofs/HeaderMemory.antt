@@ -1,14 +1,16 @@
--- A block as a machine value, the parts of its memory, and the steps that open and close a block.
--- Assumes `Logic`.
---     block_val, block_own        the pointer in a struct of three fields, and what the struct owns
---     whole_size, whole_align     the size and the alignment of the memory of a whole block
---     carve                       splits the memory of a whole block into its parts, and keeps what
---                                 turns these back into the whole
---     header                      what a block owns without its slots, also if it has no allocation
---     header_fits                 the header of a block implies that the block fits
---     alloc_there                 if there are slots, the block has an allocator
---     block_had, block_made       split a block into its header and its slots, and join these
---     block_opens, block_closes   open and close the block behind a `&mut`
+-- These lemmas are about the machine value of a block, about the parts of its memory, and about the
+-- proof steps that split a block into its parts or join the parts again. The lemmas assume the laws
+-- of the separation logic (`Logic`).
+--     block_val, block_own        the machine value of a block, and what its fields own
+--     whole_size, whole_align     the size and the alignment of a whole block's memory
+--     carve                       splits the memory of a whole block into its parts, and keeps the
+--                                 right to join the parts again
+--     header                      what a block owns besides its slots
+--     header_fits                 derives from the header that the block is small enough to be
+--                                 allocated
+--     alloc_there                 if a block has slots, it has an allocator
+--     block_had, block_made       split a block into its header and its slots, and join these again
+--     block_opens, block_closes   split the block behind a `&mut`, and join its parts again
 use Rattle.std.proofs.Common.{◌≡◌, Bool, true, ℕ, Some, None, ◌+◌, ◌*◌, ◌<◌, List, [], ◌∷◌, ◌++◌, length, refl, sym, ap, subst, ◌∙◌, arith, w64}
 use seplogic.Ra.Ura.{Ura}
 use mir.Syntax.{Ty, Tys, Width, Args, w8, w16, w32, w128, a_type, dcons, dnil, ty_int, ty_array, tcons, tnil}
@@ -47,21 +49,23 @@ use Rattle.std.specs.Align.{type_align}
 use Rattle.thin_block.specs.Capacity.{block_align, block_bytes}
 use Rattle.thin_block.proofs.SizesLemmas.{fits_none}
 
--- `plainly Rs` is the struct with the fields Rs and an empty name. What a struct owns does not
--- depend on its name.
+-- `plainly Rs` is the struct type with the field types `Rs` and an empty name. What a struct owns
+-- does not depend on its name.
 abbrev pub plainly : List RattleType → RattleType
 plainly Rs = Struct (record { name = []; args = []; types = []; fields = Rs })
 
--- the machine value of a block: its pointer, and two fields that take no bytes
+-- The machine value of a block with the pointer `p`: a struct of `p` and two fields that take no
+-- bytes.
 abbrev pub block_val : Ptr → Val
 block_val p = vstruct (vcons (ptr_val p) (vcons (vstruct vnil) (vcons (vstruct vnil) vnil)))
 
--- `block_own p vs` is what the fields of a block with the pointer p own; vs are their machine
--- values
+-- `block_own p vs` states what the fields of a block with the pointer `p` own if the machine values
+-- of the block are `vs`.
 abbrev pub block_own : Ptr → List Val → Fml
 block_own p = (plainly (RawPtr ∷ plainly [] ∷ plainly [] ∷ [])).own_val (p, (tt, (tt, tt)))
 
--- every machine value of a block is the value that `block_val` computes
+-- If `vs` are the machine values of a block with the pointer `p`, then `vs` consists of the one
+-- value `block_val p`.
 pub block_told : (p : Ptr) (vs : List Val) → shadow (block_own p vs) → vs ≡ block_val p ∷ []
 block_told p vs s = s.1.0
     ∙ (λ i. vstruct (of_list (s.1.1.0 i ++ (s.1.1.1.0.1.0 i ++ (s.1.1.1.1.0.1.0 i ++ [])))) ∷ [])
@@ -75,7 +79,7 @@ block_own_made 𝓛 p =
       (refl, (refl, ((tt, (refl, tt)), ((tt, (refl, tt)), tt)))),
     )
 
--- Section: the layout of a block
+-- Section: the layout of a block in memory.
 by_width : (P : ℕ → Type 0) → ((w : Width) → P (bytes w)) → (τ : Ty) → P (align τ)
 by_width P each τ = subst P (sym (align-bytes τ)) (each (align_w τ))
 
@@ -104,15 +108,15 @@ module _ (R : RattleType) (c : ℕ) where
   abbrev τ : Ty
   τ = lone R.mir
 
-  -- the type of the slots, as one array of possibly uninitialized places
+  -- The type of the memory of all slots: an array of possibly uninitialized items.
   abbrev pub items : Ty
   items = raw (ty_array τ c)
 
-  -- the type of a whole block has the alignment `block_align`
+  -- The type of a whole block has the alignment that `block_align` computes.
   pub whole_align : align (whole R c) ≡ block_align (type_align R)
   whole_align = ap (λ (a : ℕ). max 8 (max 8 (max a 1))) (align-raw τ) ∙ (aligned τ).0
 
-  -- the type of a whole block has the size `block_bytes`
+  -- The type of a whole block of `c` slots has the size that `block_bytes` computes.
   pub whole_size : size (whole R c) ≡ block_bytes (type_size R) (type_align R) c
   whole_size =
       let ends : up (align items) 16 + size items ≡ max 16 (align τ) + c * size τ =
@@ -122,8 +126,8 @@ module _ (R : RattleType) (c : ℕ) where
 module _ {M : Type 1} {𝓤 : Ura M} (𝓛 : Logic 𝓤) (R : RattleType) where
   open 𝓛 use {H}
 
-  -- splits the memory of a whole block into the capacity, the length and the slots, and keeps what
-  -- turns these parts back into the whole
+  -- Splits the memory of a whole block into memory for the capacity, the length and the slots. The
+  -- last part of the result is the right to join these three parts again.
   pub carve : (c b o : ℕ) → ent 𝓤 (H.room (whole R c) b o)
       (sep 𝓤 (H.room (ty_int w64) b o)
       (sep 𝓤 (H.room (ty_int w64) b (o + 8))
@@ -151,23 +155,23 @@ module _ {M : Type 1} {𝓤 : Ura M} (𝓛 : Logic 𝓤) (R : RattleType) where
       move ! (2 ∷ 4 ∷ []) $ join ! $ move ! (2 ∷ 0 ∷ []) $ join ! $ move ! (1 ∷ 0 ∷ []) $ join ! $
       by ! (apply∗ 𝓤 rooms (H.room (whole R c) b o))
 
--- Section: a block, apart from its slots.
--- What a block of c slots owns without these slots: the frame if it has an allocator; otherwise its
--- share of the static header.
+-- Section: a block without its slots.
+-- `header` states what a block of `c` slots owns besides these slots. If the block has an
+-- allocator, this is the formula `frame`. Otherwise it is a share of the static header.
 abbrev pub header : {D : Type 0} → (D → Ty → Ptr → Fml) → RattleType → ℕ → ℕ
     → Option D → ℕ → ℕ → Fml
 header t R n c None b o = fsep (lent_at usize (block_ptr b o) 0 [])
     (lent_at usize (block_ptr b (o + 8)) 0 [])
 header t R n c (Some a) b o = frame (t a) R n c b o
 
--- if a block has slots, it has an allocator
+-- If the list of a block's slots is not empty, the block has an allocator.
 pub alloc_there : {D X : Type 0} (a : Option D) (xs : List X) → is_some a ≡ any xs → 0 < length xs
     → (h : D) × (a ≡ Some h)
 alloc_there (Some h) xs is some = (h, refl)
 alloc_there None [] is some = absurd (omega arith)
 alloc_there None (x ∷ xs) is some = absurd (clash is)
 
--- if the length of a list is positive, the list is non-empty
+-- If the length of a list is positive, then the test `any` says that the list is not empty.
 pub any_some : {X : Type 0} (xs : List X) → 0 < length xs → true ≡ any xs
 any_some [] some = absurd (omega arith)
 any_some (x ∷ xs) some = refl
@@ -192,7 +196,8 @@ module _ {D : Type 0} (t : D → Ty → Ptr → Fml) (R : RattleType) {M : Type 
 
 module _ {D : Type 0} (t : D → Ty → Ptr → Fml) (R : RattleType) {M : Type 1} {𝓤 : Ura M}
     {𝓛 : Logic 𝓤} {K : Type 0} {Γ : List (Item 𝓤)} {G : Goal 𝓤 𝓛.H} where
-  -- the header of a block implies that the block fits
+  -- The header of a block implies that the block is small enough to be allocated. The proof then
+  -- continues with this fact.
   pub header_fits : K → (n : ℕ) (xs : List (Option R.Denot)) (a : Option D)
       (b o : ℕ) → is_some a ≡ any xs
       → (fits_block R (length xs) ≡ true → Seq K 𝓛 (‵ (header t R n (length xs) a b o) ∷ Γ) G)
@@ -205,30 +210,30 @@ module _ {D : Type 0} (t : D → Ty → Ptr → Fml) (R : RattleType) {M : Type 
   header_fits k n (x ∷ xs) None b o is next = absurd (clash is)
 
 module _ (E : El) (Y : Al) where
-  -- the type arguments of the functions of a block: the item type and the allocator type
+  -- The type arguments of the functions of a block: the item type and the allocator type.
   abbrev pub args : Args
   args = bounded (a_type ∷ a_type ∷ []) (E.row, (Y.row, tt)) (dcons Y.d (dcons Y.drops dnil))
 
-  -- the type of blocks that have the item type and the allocator type of this module
+  -- The type of blocks with items of the type `E` and an allocator of the type `Y`.
   abbrev pub Br : RattleType
   Br = block.the_row (param 0 E.row) (param 1 Y.row) Y.g
 
-  -- `t a` is the right to free memory that the allocator a has allocated
+  -- `t a` is the right to free memory that the allocator `a` has allocated.
   abbrev pub t : Y.row.Denot → Ty → Ptr → Fml
   t = Y.g.dealloc_token
 
-  -- What the block x owns without its slots. If x has an allocator, this is the header and the rest
-  -- of the allocation; otherwise it is a share of the static header.
+  -- What the block `x` owns besides its slots. If `x` has an allocator, this is the header and the
+  -- right to free the allocation. Otherwise it is a share of the static header.
   abbrev pub Header : Br.Denot → ℕ → ℕ → Fml
   Header x b o = header t (R E) x.len (length x.slots) x.alloc b o
 
-  -- the slots of the block x in memory
+  -- The memory of the slots of the block `x`.
   abbrev pub Slots : Br.Denot → ℕ → ℕ → Fml
   Slots x b o = places (R E) x.slots b (o + 16)
 
 module _ (E : El) (Y : Al) {M : Type 1} {𝓤 : Ura M} {𝓛 : Logic 𝓤} {K : Type 0}
     {Γ : List (Item 𝓤)} {G : Goal 𝓤 𝓛.H} where
-  -- splits what a block owns into its header and its slots
+  -- Splits a block into its header and its slots.
   pub block_had : K → (x : (Br E Y).Denot) (vs : List Val)
       → ((b o : ℕ) → x.at ≡ block_ptr b o → vs ≡ block_val (block_ptr b o) ∷ []
       → fits_block (R E) (length x.slots) ≡ true
@@ -243,7 +248,7 @@ module _ (E : El) (Y : Al) {M : Type 1} {𝓤 : Ura M} {𝓛 : Logic 𝓤} {K : 
       header_fits (t E Y) (R E) k x.len x.slots x.alloc b o x.sound.1 (λ fits.
       next b o at (block_told x.at vs is.0 ∙ ap (λ (p : Ptr). block_val p ∷ []) at) fits)))
 
-  -- joins a header and the slots into the block again
+  -- Joins a header and the slots into the block again.
   pub block_made : K → (x : (Br E Y).Denot) (b o : ℕ) → x.at ≡ block_ptr b o
       → Step K 𝓛 (‵ ((Br E Y).own_val x (block_val (block_ptr b o) ∷ [])) ∷ Γ) G
       (‵ (Header E Y x b o) ∷ ‵ (Slots E Y x b o) ∷ Γ) G
@@ -257,8 +262,9 @@ module _ (E : El) (Y : Al) {M : Type 1} {𝓤 : Ura M} {𝓛 : Logic 𝓤} {K : 
 
 module _ (E : El) (Y : Al) {M : Type 1} {𝓤 : Ura M} {𝓛 : Logic 𝓤} {K : Type 0}
     {Γ : List (Item 𝓤)} {G : Goal 𝓤 𝓛.H} where
-  -- Opens the block behind a `&mut`. After it the context holds, in this order: [the header; the
-  -- slots; the cell with the block's pointer; three entries for the open borrow of the block].
+  -- Splits the block behind a `&mut` into its parts. After this step the proof context holds, in
+  -- this order: [the header; the slots; the memory that holds the block's pointer; three entries
+  -- for the open borrow of the block].
   pub block_opens : K → Soaks G → {κ : Lft} {q : Share} {γ : GName} (x : (Br E Y).Denot) (rb ro : ℕ)
       → ((b o : ℕ) → x.at ≡ block_ptr b o → fits_block (R E) (length x.slots) ≡ true
       → Seq K 𝓛 (‵ (Header E Y x b o) ∷ ‵ (Slots E Y x b o) ∷ ‵
@@ -273,7 +279,8 @@ module _ (E : El) (Y : Al) {M : Type 1} {𝓤 : Ura M} {𝓛 : Logic 𝓤} {K : 
       rewrite k 2 (λ (us : List Val). ‵ (cell_at full_share (Br E Y).mir us rb ro))
       is refl $ next b o at fits))
 
-  -- closes the block behind a `&mut` again, by joining its header and its slots
+  -- Joins the header and the slots of the block behind a `&mut` again. This closes the borrow of
+  -- the block.
   pub block_closes : K → Soaks G → {κ : Lft} {q : Share} {u v : Gv} {γ : GName} (x : (Br E Y).Denot)
       (b o rb ro : ℕ) → x.at ≡ block_ptr b o
       → Step K 𝓛 (‵ (fobs γ ((Br E Y).coded.code x)) ∷ ‵

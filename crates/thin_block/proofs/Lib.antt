@@ -1,4 +1,4 @@
--- The lemma files of this crate. Other crates may use the files that are `pub`.
+-- This file lists the lemma files of the crate. Other crates may use only the files that are `pub`.
 mod SizesLemmas
 mod PowersLemmas
 mod GrowthLemmas

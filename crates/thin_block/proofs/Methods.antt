@@ -1,15 +1,17 @@
--- How a walk of a method on a `&mut Block` begins and ends. Assumes `Logic`.
---     dropped, all_go          no parameter is returned, and the contract allows that
---     heard_all                splits a `requires` of several facts
---     block_stays, goes        the `&mut` is returned, and the other parameters are dropped
---     arrives                  begins a walk
---     starts, begins, begins_with   begin the walk of a method on a `&mut Block`
---     token_out                takes the first lifetime token out of a row of tokens
---     enters                   enters the body of a function, with its arguments written out
---     opens_self, closes_over  open the block behind the `&mut`, and close it with other slots
---     continues                continues after the first statements of a body
---     seen                     begins the walk of a method on a `&Block`
---     leaves, leaves_with, leaves_unit  join all that the method must return
+-- These lemmas begin and end the proof of a method that takes `&mut self` or `&self`. Such a proof
+-- of a function body is called a walk. The lemmas assume the laws of the separation logic
+-- (`Logic`).
+--     dropped, all_go          give no argument back to the caller, if the contract allows this
+--     heard_all                splits a `requires` clause that consists of several facts
+--     block_stays, goes        only the `&mut` is given back to the caller
+--     arrives                  begins the walk of any function
+--     starts, begins, begins_with   begin the walk of a method that takes `&mut self`
+--     token_out                splits the first lifetime token off the other lifetime tokens
+--     enters                   enters the body of a function, and writes out the arguments
+--     opens_self, closes_over  split the block behind the `&mut`, and join it with changed slots
+--     continues                continues the walk after the first statements of a body
+--     seen                     begins the walk of a method that takes `&self`
+--     leaves, leaves_with, leaves_unit  end a walk: they join all that must be proved at the end
 use Rattle.std.proofs.Common.{◌≡◌, true, ℕ, zero, suc, ◌+◌, ◌^◌, ◌<◌, List, [], ◌∷◌, length, refl, sym, w64}
 use lib.Dec.{T}
 use seplogic.Ra.Ura.{Ura}
@@ -47,25 +49,27 @@ use Rattle.thin_block.specs.Ownership.{fits_block, places}
 use Rattle.thin_block.proofs.Walks.{Facts, Shown, after}
 use Rattle.thin_block.proofs.HeaderMemory.{Br, Header, Slots, header, t, block_val, block_opens, block_closes}
 
--- a parameter list without its first parameter
+-- The list of parameters without the first parameter.
 abbrev pub others : {n : ℕ} → List (Slot n) → List (Slot n)
 others [] = []
 others (s ∷ ss) = ss
 
 module _ {n : ℕ} where
-  -- none of the parameters ss is returned
+  -- This choice says that a function with the parameters `ss` gives none of its arguments back to
+  -- the caller.
   abbrev pub dropped : (ss : List (Slot n)) (ks : Kepts ss) → Stays ss ks
   dropped [] ks = tt
   dropped (s ∷ ss) ks = (stay_dropped s ks.0, dropped ss ks.1)
 
 module _ {M : Type 1} {𝓤 : Ura M} (𝓛 : Logic 𝓤) {n : ℕ} where
-  -- the contract says nothing about the parameters ss when the function returns
+  -- `AllSilent ss ks` holds if the contract says nothing about the state of the parameters `ss`
+  -- after the call.
   abbrev pub AllSilent : (ss : List (Slot n)) → Kepts ss → Type 1
   AllSilent [] ks = Unit {1}
   AllSilent (s ∷ ss) ks = Silent 𝓛 n s ks.0 × AllSilent ss ks.1
 
-  -- if the contract says nothing about the parameters ss when the function returns, these
-  -- parameters may be dropped
+  -- If the contract says nothing about the state of the arguments after the call, then the function
+  -- need not give the arguments back to the caller.
   pub all_go : (ss : List (Slot n)) (ks : Kepts ss) → AllSilent ss ks
       → AllGo 𝓛 n ss ks (dropped ss ks)
   all_go [] ks silent = tt
@@ -74,8 +78,8 @@ module _ {M : Type 1} {𝓤 : Ura M} (𝓛 : Logic 𝓤) {n : ℕ} where
 
 module _ {M : Type 1} {𝓤 : Ura M} {𝓛 : Logic 𝓤} {K : Type 0} {Γ : List (Item 𝓤)}
     {G : Goal 𝓤 𝓛.H} where
-  -- splits several facts in the context into single facts, and passes their proofs to the rest of
-  -- the walk
+  -- Splits a conjunction of facts in the proof context into the single facts, and passes the facts
+  -- to the rest of the proof.
   pub heard_all : K → (φs : List (Type 0)) → (Shown φs → Seq K 𝓛 Γ G)
       → Seq K 𝓛 (raw (Facts 𝓤 φs) ∷ Γ) G
   heard_all k [] next = drop k $ next tt
@@ -84,16 +88,17 @@ module _ {M : Type 1} {𝓤 : Ura M} {𝓛 : Logic 𝓤} {K : Type 0} {Γ : List
       use1 𝓛 (raw (fact 𝓤 φ) ⊛ raw (Facts 𝓤 (ψ ∷ φs))) (id⊢ 𝓤 _) $ split k $
       heard k φ (λ x. heard_all k (ψ ∷ φs) (λ xs. next (x, xs)))
 
--- the address of a reference, as a machine value
+-- The address that a reference holds, as a machine value.
 abbrev pub ptr_of : {X : Type 0} → MutBor X → Val
 ptr_of r = vptr r.ref_ptr.0 r.ref_ptr.1
 
--- a number less than 2 ^ 64 is a value of the type of a word
+-- A number less than `2 ^ 64` is a machine value of the type of 64-bit integers.
 abbrev pub word : {n : ℕ} → n < 2 ^ 64 → T (has_ty (ty_int w64) (vint w64 n)) × WT (vint w64 n)
 word fits = (tt, record { fits = fits })
 
 module _ {M : Type 1} {𝓤 : Ura M} {𝓛 : Logic 𝓤} {K : Type 0} {Γ : List (Item 𝓤)} where
-  -- enters the body of the function f; its arguments us equal the values vs, which are written out
+  -- Enters the body of the function `f`. The arguments `us` are replaced by the equal list `vs`, in
+  -- which each value is written out.
   pub enters : K → {C : Calls 𝓤 𝓛.H} {Λ : Loops 𝓤 𝓛.H} (f : Fn) {us : List Val}
       {P : Val → SProp 𝓤} (vs : List Val) → us ≡ vs
       → Step K 𝓛 Γ (allocs f.locals (λ E. params' E vs (runs C Λ E f.body (at_ret E P))))
@@ -102,37 +107,40 @@ module _ {M : Type 1} {𝓤 : Ura M} {𝓛 : Logic 𝓤} {K : Type 0} {Γ : List
       regoal k (λ (us : List Val). prop (WpFn 𝓤 𝓛.H C Λ f us P)) e refl $
       enter k C Λ f vs P $ s)
 
--- the item type T with its laws, in the form that walks use
+-- Combines the item type `T` and its laws into the record that the lemmas about blocks take.
 abbrev pub item : {T : RattleType} → Laws T → El
 item {T} L = record { row = T; laws = L }
 
--- the allocator type A with its laws and its ghost members, in the form that walks use
+-- Combines the allocator type `A`, its laws and its ghost members into the record that the lemmas
+-- about blocks take.
 abbrev pub source : {A : RattleType} → Laws A → Ghosts A.Denot → Dict → Dict → Al
 source {A} L g d drops = record { row = A; laws = L; g = g; d = d; drops = drops }
 
--- the type arguments of a function: the item type, the allocator type and a const parameter
+-- The generic arguments of a function: the item type, the allocator type and one const argument.
 abbrev pub args_at : El → Al → ℕ → Args
 args_at E Y N = bounded (a_type ∷ a_type ∷ a_number ∷ []) (E.row, (Y.row, (number N, tt)))
     (dcons Y.d (dcons Y.drops dnil))
 
 module _ (E : El) (Y : Al) {n : ℕ} (ss : List (Slot (suc n))) where
-  -- the parameters of a method on a `&mut Block`: the `&mut`, and then the parameters ss
+  -- The parameters of a method that takes `&mut self`: first the `&mut Block`, and then the
+  -- parameters `ss`.
   abbrev pub on_block : List (Slot (suc n))
   on_block = mut_ref_to (0 ∷ []) tt (plain (λ _. Br E Y)) ∷ ss
 
-  -- when the method returns, the `&mut` is returned, and the other parameters are not
+  -- This choice says that the method gives only the `&mut Block` back to the caller when it
+  -- returns.
   abbrev pub block_stays : (ks : Kepts ss) → Stays on_block (yes, ks)
   block_stays ks = (stay_ref (0 ∷ []) tt (plain (λ _. Br E Y)), dropped ss ks)
 
-  -- if the contract says nothing about the other parameters when the method returns, they may be
-  -- dropped
+  -- If the contract says nothing about the state of the other arguments after the call, then the
+  -- method need not give these arguments back to the caller.
   pub goes : {M : Type 1} {𝓤 : Ura M} (𝓛 : Logic 𝓤) (ks : Kepts ss) → AllSilent 𝓛 ss ks
       → AllGo 𝓛 (suc n) on_block (yes, ks) (block_stays ks)
   goes 𝓛 ks silent =
       (Goes-ref 𝓛 (suc n) 0 tt (plain (λ _. Br E Y)), all_go 𝓛 ss ks silent)
 
 module _ {M : Type 1} {𝓤 : Ura M} {𝓛 : Logic 𝓤} {K : Type 0} {Γ : List (Item 𝓤)} where
-  -- continues after the first k statements of the body of f
+  -- Continues the proof of the function `f` after the first `k` statements of its body.
   pub continues : K → (𝓜 : Model 𝓤 𝓛.H) (𝓡 : Running 𝓤 𝓛.H 𝓜) (f : Fn) (l : ℕ → ℕ) (k : ℕ)
       (P : Val → SProp 𝓤)
       → Step K 𝓛 Γ (runs (tables 𝓤 𝓛.H 𝓜 𝓡 𝓡.env).C (tables 𝓤 𝓛.H 𝓜 𝓡 𝓡.env).Λ
@@ -143,19 +151,21 @@ module _ {M : Type 1} {𝓤 : Ura M} {𝓛 : Logic 𝓤} {K : Type 0} {Γ : List
       (env f.locals l) (after k f.body) (at_ret (env f.locals l) P)
 
 module _ {n : ℕ} (s : Slot (suc n)) (ss : List (Slot (suc n))) where
-  -- what a function is passed: lifetimes, shares, bounds, and the arguments with their machine
-  -- values
+  -- What a function is passed: lifetimes, shares of lifetime tokens, bounds on the lifetimes, and
+  -- the arguments with their machine values.
   abbrev Passed : (Lfts (suc n) → Type 0) → Type 0
   Passed Bd = (κs : Lfts (suc n)) × Shares (suc n) × Bd κs × Denots (types_at (s ∷ ss) κs)
       × Valss (types_at (s ∷ ss) κs)
 
-  -- `Entry 𝓛 x` is the context on entry to a function that is passed x, without the `requires`
+  -- `Entry 𝓛 x` states what a function owns on entry if it is passed `x`. The `requires` clauses
+  -- are not included.
   abbrev Entry : {M : Type 1} {𝓤 : Ura M} (𝓛 : Logic 𝓤) {Bd : Lfts (suc n) → Type 0} → Passed Bd
       → SProp 𝓤
   Entry {𝓤 = 𝓤} 𝓛 x = sep 𝓤 (toks 𝓛 (suc n) x.0 x.1) (sem 𝓛 (owns (types_at (s ∷ ss) x.0) x.3 x.4))
 
-  -- Begins a walk. After it the context holds, in this order: [what the first argument owns; the
-  -- first lifetime token; the other lifetime tokens; what the other arguments own; the `requires`].
+  -- Begins the proof of a function. After this step the proof context holds, in this order: [what
+  -- the first argument owns; the first lifetime token; the other lifetime tokens; what the other
+  -- arguments own; the `requires` clauses].
   pub arrives : {M : Type 1} {𝓤 : Ura M} (𝓛 : Logic 𝓤) {Bd : Lfts (suc n) → Type 0} {P : SProp 𝓤}
       (x : Passed Bd) (Q : SProp 𝓤)
       → Sq 𝓛 (‵ ((s.row x.0).own_val x.3.0 x.4.0) ∷ ‵ (flft x.0.0 x.1.0)
@@ -167,38 +177,39 @@ module _ {n : ℕ} (s : Slot (suc n)) (ss : List (Slot (suc n))) where
 
 module _ (E : El) (Y : Al) {M : Type 1} {𝓤 : Ura M} (𝓛 : Logic 𝓤) {n : ℕ}
     (ss : List (Slot (suc n))) where
-  -- a parameter that is a `&mut Block`
+  -- A parameter of the type `&mut Block`.
   abbrev lent : Slot (suc n)
   lent = mut_ref_to (0 ∷ []) tt (plain (λ _. Br E Y))
 
-  -- a parameter that is a `&Block`
+  -- A parameter of the type `&Block`.
   abbrev shared : Slot (suc n)
   shared = shr_ref_to (0 ∷ []) tt (plain (λ _. Br E Y))
 
-  -- the context on entry to a method on a `&mut Block`: [two entries for the `&mut`; the lifetime
-  -- token of this `&mut`; the other lifetime tokens; what the other arguments own], followed by the
-  -- entries of Γ
+  -- The proof context on entry to a method that takes `&mut self`. It holds, in this order: [two
+  -- entries for the `&mut`; the lifetime token of this `&mut`; the other lifetime tokens; what the
+  -- other arguments own; the further entries `Γ`].
   abbrev Entered : {Bd : Lfts (suc n) → Type 0} → Passed lent ss Bd → List (Item 𝓤) → List (Item 𝓤)
   Entered x Γ = ‵ (fobs x.3.0.ghost_name ((Br E Y).coded.code x.3.0.now)) ∷ ‵
       (fbor x.0.0 (Body (mem (Br E Y)) x.3.0.ref_ptr.0 x.3.0.ref_ptr.1 x.3.0.ghost_name))
       ∷ ‵ (flft x.0.0 x.1.0) ∷ raw (toks 𝓛 n x.0.1 x.1.1) ∷ ‵
       (owns (types_at ss x.0) x.3.1 x.4.1) ∷ Γ
 
-  -- begins the walk of a method on a `&mut Block`; the `requires` is the last entry of the context
+  -- Begins the proof of a method that takes `&mut self`. In the proof context, the `requires`
+  -- clauses are the last entry.
   pub starts : {Bd : Lfts (suc n) → Type 0} {P : SProp 𝓤} (x : Passed lent ss Bd) (Q : SProp 𝓤)
       → Sq 𝓛 (Entered x (raw Q ∷ [])) (prop P) → ent 𝓤 (sep 𝓤 (Entry lent ss 𝓛 x) Q) P
   starts x Q next = arrives lent ss 𝓛 x Q (fsplit3 ! $ drop ! $ next)
 
-  -- begins the walk of a method on a `&mut Block` whose `requires` consists of the facts φs
+  -- Begins the proof of a method that takes `&mut self` and requires the facts `φs`.
   pub begins_with : {Bd : Lfts (suc n) → Type 0} {P : SProp 𝓤} (x : Passed lent ss Bd)
       (φs : List (Type 0)) → (Shown φs → Sq 𝓛 (Entered x []) (prop P))
       → ent 𝓤 (sep 𝓤 (Entry lent ss 𝓛 x) (Facts 𝓤 φs)) P
   begins_with x φs next = starts x (Facts 𝓤 φs)
       (move ! (5 ∷ []) $ heard_all ! φs (λ said. next said))
 
-  -- Begins the walk of a method on a `&mut Block` that does not need what the other arguments own.
-  -- After it the context holds, in this order: [two entries for the `&mut`; the lifetime token of
-  -- this `&mut`; the other lifetime tokens].
+  -- Begins the proof of a method that takes `&mut self`, and drops what the other arguments own.
+  -- After this step the proof context holds, in this order: [two entries for the `&mut`; the
+  -- lifetime token of this `&mut`; the other lifetime tokens].
   pub begins : {Bd : Lfts (suc n) → Type 0} {P : SProp 𝓤} (x : Passed lent ss Bd)
       (φs : List (Type 0))
       → (Shown φs → Sq 𝓛 (‵ (fobs x.3.0.ghost_name ((Br E Y).coded.code x.3.0.now)) ∷ ‵
@@ -207,9 +218,9 @@ module _ (E : El) (Y : Al) {M : Type 1} {𝓤 : Ura M} (𝓛 : Logic 𝓤) {n : 
       → ent 𝓤 (sep 𝓤 (Entry lent ss 𝓛 x) (Facts 𝓤 φs)) P
   begins x φs next = begins_with x φs (λ said. keep ! (0 ∷ 1 ∷ 2 ∷ 3 ∷ []) $ next said)
 
-  -- Begins the walk of a method on a `&Block`. After it the context holds, in this order: [what the
-  -- `&` shows; the lifetime token of this `&`; the other lifetime tokens; what the other arguments
-  -- own; the `requires`].
+  -- Begins the proof of a method that takes `&self`. After this step the proof context holds, in
+  -- this order: [what the `&` gives access to; the lifetime token of this `&`; the other lifetime
+  -- tokens; what the other arguments own; the `requires` clauses].
   pub seen : {Bd : Lfts (suc n) → Type 0} {P : SProp 𝓤} (x : Passed shared ss Bd) (Q : SProp 𝓤)
       → Sq 𝓛 (‵ (hidden_shr (Br E Y) x.0.0 x.3.0.now x.3.0.ref_ptr.0 x.3.0.ref_ptr.1)
       ∷ ‵ (flft x.0.0 x.1.0) ∷ raw (toks 𝓛 n x.0.1 x.1.1) ∷ ‵
@@ -219,29 +230,32 @@ module _ (E : El) (Y : Al) {M : Type 1} {𝓤 : Ura M} (𝓛 : Logic 𝓤) {n : 
 
 module _ {M : Type 1} {𝓤 : Ura M} {𝓛 : Logic 𝓤} {K : Type 0} {Γ : List (Item 𝓤)}
     {G : Goal 𝓤 𝓛.H} where
-  -- splits the tokens of the lifetimes κs into the token of the first lifetime and the other tokens
+  -- Splits the tokens of several lifetimes into the token of the first lifetime and the tokens of
+  -- the other lifetimes.
   pub token_out : K → (n : ℕ) (κs : Lfts (suc n)) (qs : Shares (suc n))
       → Step K 𝓛 (‵ (flft κs.0 qs.0) ∷ raw (toks 𝓛 n κs.1 qs.1) ∷ Γ) G
       (raw (toks 𝓛 (suc n) κs qs) ∷ Γ) G
   token_out k n κs qs = step (λ s.
       use1 𝓛 (‵ (flft κs.0 qs.0) ⊛ raw (toks 𝓛 n κs.1 qs.1)) (id⊢ 𝓤 _) $ split k $ s)
 
--- `blanks m` is what m parameters that are not returned must leave: nothing for each of them
+-- `blanks m` is what a function must prove at its end about `m` arguments that it does not give
+-- back to the caller: a trivially true formula for each argument.
 abbrev pub blanks : ℕ → Fml
 blanks zero = ftrue
 blanks (suc m) = fsep ftrue (blanks m)
 
 module _ {M : Type 1} {𝓤 : Ura M} {𝓛 : Logic 𝓤} {K : Type 0} {Γ : List (Item 𝓤)}
     {G : Goal 𝓤 𝓛.H} where
-  -- Adds to the context what m parameters that are not returned must leave. This is nothing, so no
-  -- resource is needed.
+  -- Adds to the proof context what must be proved about `m` arguments that are not given back to
+  -- the caller. This formula is trivially true, so the step needs no resource.
   pub blank : K → (m : ℕ) → Step K 𝓛 (‵ (blanks m) ∷ Γ) G Γ G
   blank k zero = nothing k
   blank k (suc m) = step (λ s. blank k m $ nothing k $ fjoin k $ s)
 
 module _ {M : Type 1} {𝓤 : Ura M} {𝓛 : Logic 𝓤} {K : Type 0} {G : Goal 𝓤 𝓛.H} where
-  -- joins the context [a lifetime token; the result; the other lifetime tokens] into what a
-  -- function that returns none of its m parameters must return
+  -- Ends the proof of a function that gives none of its `m` arguments back to the caller. This step
+  -- joins the proof context [a lifetime token; the result; the other lifetime tokens] into what
+  -- must be proved at the end.
   pub leaves : K → {Q F : Fml} {T : Item 𝓤} (m : ℕ)
       → Step K 𝓛 (((‵ Q ⊛ T) ⊛ ‵ (blanks m) ⊛ ‵ F) ∷ []) G (‵ Q ∷ ‵ F ∷ T ∷ []) G
   leaves k m = step (λ s. move k (0 ∷ 2 ∷ []) $ join k $ blank k m $ move k (0 ∷ 2 ∷ []) $ join k $
@@ -249,7 +263,7 @@ module _ {M : Type 1} {𝓤 : Ura M} {𝓛 : Logic 𝓤} {K : Type 0} {G : Goal 
 
 module _ (E : El) (Y : Al) {M : Type 1} {𝓤 : Ura M} {𝓛 : Logic 𝓤} {K : Type 0}
     {G : Goal 𝓤 𝓛.H} where
-  -- opens the block behind the `&mut` r, as `block_opens` does
+  -- Splits the block behind the reference `r` into its parts, as the lemma `block_opens` does.
   pub opens_self : K → Soaks G → {Γ : List (Item 𝓤)} {κ : Lft} {q : Share}
       (r : MutBor (Br E Y).Denot)
       → ((b o : ℕ) → r.now.at ≡ block_ptr b o → fits_block (R E) (length r.now.slots) ≡ true
@@ -262,9 +276,9 @@ module _ (E : El) (Y : Al) {M : Type 1} {𝓤 : Ura M} {𝓛 : Logic 𝓤} {K : 
       (fbor κ (Body (mem (Br E Y)) r.ref_ptr.0 r.ref_ptr.1 r.ghost_name)) ∷ ‵ (flft κ q) ∷ Γ) G
   opens_self k z r next = block_opens E Y k z r.now r.ref_ptr.0 r.ref_ptr.1 next
 
-  -- Closes the block behind a `&mut` again. Before it the context holds, in this order: [the slots
-  -- as they now are; the header; the cell with the block's pointer; three entries for the open
-  -- borrow of the block].
+  -- Joins the parts of the block behind a `&mut` again. Before this step the proof context holds,
+  -- in this order: [the slots in their present state; the header; the memory that holds the block's
+  -- pointer; three entries for the open borrow of the block].
   pub closes_over : K → Soaks G → {Γ : List (Item 𝓤)} {κ : Lft} {q : Share} {u v : Gv} {c : ℕ}
       (r : MutBor (Br E Y).Denot) (y : (Br E Y).Denot) (b o : ℕ) → y.at ≡ block_ptr b o
       → length y.slots ≡ c
@@ -278,8 +292,9 @@ module _ (E : El) (Y : Al) {M : Type 1} {𝓤 : Ura M} {𝓛 : Logic 𝓤} {K : 
       rewrite k 1 (λ (c : ℕ). ‵ (header (t E Y) (R E) y.len c y.alloc b o)) (sym long) refl $
       move k (1 ∷ 0 ∷ []) $ block_closes E Y k z y b o r.ref_ptr.0 r.ref_ptr.1 at $ s)
 
-  -- joins the context [two entries for the `&mut`; the lifetime token of this `&mut`; the result;
-  -- the other lifetime tokens] into what a method with m further parameters must return
+  -- Ends the proof of a method that takes `&mut self` and `m` further parameters. This step joins
+  -- the proof context [two entries for the `&mut`; the lifetime token of this `&mut`; the result;
+  -- the other lifetime tokens] into what must be proved at the end.
   pub leaves_with : K → {κ : Lft} {q : Share} {us : List Val} {F : Fml} {T : Item 𝓤}
       (r : MutBor (Br E Y).Denot) (y : (Br E Y).Denot) (m : ℕ) → us ≡ mut_vals r
       → Step K 𝓛 (((‵ (flft κ q) ⊛ T) ⊛ ‵
@@ -291,8 +306,9 @@ module _ (E : El) (Y : Al) {M : Type 1} {𝓤 : Ura M} {𝓛 : Logic 𝓤} {K : 
       feq_i k (List Val) us (mut_vals r) e $ fjoin3 k $ blank k m $ move k (1 ∷ 0 ∷ []) $ fjoin k $
       move k (0 ∷ 2 ∷ []) $ join k $ move k (1 ∷ 2 ∷ []) $ join k $ join k $ s)
 
-  -- joins the context [two entries for the `&mut`; the lifetime token of this `&mut`; the other
-  -- lifetime tokens] into what a method with m further parameters and the result `()` must return
+  -- Ends the proof of a method that takes `&mut self` and `m` further parameters, and returns `()`.
+  -- This step joins the proof context [two entries for the `&mut`; the lifetime token of this
+  -- `&mut`; the other lifetime tokens] into what must be proved at the end.
   pub leaves_unit : K → {κ : Lft} {q : Share} {us : List Val} {T : Item 𝓤}
       (r : MutBor (Br E Y).Denot) (y : (Br E Y).Denot) (m : ℕ) → us ≡ mut_vals r
       → Step K 𝓛 (((‵ (flft κ q) ⊛ T) ⊛ ‵

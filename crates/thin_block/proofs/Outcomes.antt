@@ -1,34 +1,35 @@
--- Lemmas on results that are `Ok` or `Err`, and on options that are `Some` or `None`, for this
--- crate and for `thin_vec`.
+-- Lemmas on values of the types `Result` and `Option`. Both this crate and `thin_vec` use them.
 use Rattle.std.proofs.Common.{Err, None, Ok, Option, Result, Some, subst, ◌≡◌}
 use Rattle.std.specs.Prelude.{OnErr, OnOk, OnSome}
 
--- if P holds whenever r is `Ok`, and P implies Q, then Q holds whenever r is `Ok`
+-- If `P` holds whenever the result `r` is `Ok`, and `P` implies `Q`, then `Q` holds whenever `r` is
+-- `Ok`.
 pub on-ok : {T E P Q : Type 0} (r : Result T E) → (P → Q) → OnOk r P → OnOk r Q
 on-ok (Ok x) h p = h p
 on-ok (Err e) h p = p
 
--- if P holds whenever r is `Err`, and P implies Q, then Q holds whenever r is `Err`
+-- If `P` holds whenever the result `r` is `Err`, and `P` implies `Q`, then `Q` holds whenever `r`
+-- is `Err`.
 pub on-err : {T E P Q : Type 0} (r : Result T E) → (P → Q) → OnErr r P → OnErr r Q
 on-err (Ok x) h p = tt
 on-err (Err e) h p = h p
 
--- if P holds whenever o is `Some`, and o is `Some x`, then P holds
+-- If `P` holds whenever the option `o` is `Some`, and `o` is `Some x`, then `P` holds.
 pub at-some : {X P : Type 0} {o : Option X} {x : X} → o ≡ Some x → OnSome o P → P
 at-some {P = P} e p = subst (λ o. OnSome o P) e p
 
--- no result is both `Ok` and `Err`
+-- No result is both `Ok` and `Err`.
 pub ok-err : {X E P : Type 0} (x : X) (e : E) → Ok x ≡ Err e → P
 ok-err x e h = cc
 
--- if two `Err` results are equal, their errors are equal
+-- If two `Err` results are equal, their errors are equal.
 pub err-same : {X E : Type 0} {d e : E} → (let r : Result X E = Err d in r) ≡ Err e → d ≡ e
 err-same h = cc
 
--- if two `Some` options are equal, their values are equal
+-- If two `Some` options are equal, their values are equal.
 pub some-same : {X : Type 0} {x y : X} → Some x ≡ Some y → x ≡ y
 some-same e = cc
 
--- no option is both `None` and `Some`
+-- No option is both `None` and `Some`.
 pub none-some : {X : Type 0} {o : Option X} {x : X} → o ≡ None → o ≡ Some x → ⊥
 none-some e h = cc

@@ -1,4 +1,5 @@
--- The proof that the code of `PowerBytes` computes what `power_bytes` in specs/Growth.antt says.
+-- These lemmas prove that the code of the growth rule `PowerBytes` computes the same capacity as
+-- the function `power_bytes` in specs/Growth.antt.
 use Rattle.std.proofs.Common.{◌≡◌, ℕ, ◌+◌, ◌-◌, ◌*◌, ◌/◌, ◌^◌, ◌<◌, ◌≤◌, Option, IfSome, inl, inr, max, min, sym, ap, ◌∙◌, arith}
 use Rattle.std.specs.declared.option.Option.TheVariants.{Some, None}
 use Rattle.std.specs.Mem.{type_size}
@@ -15,7 +16,7 @@ use Rattle.thin_block.specs.PowerLaws.{least_power_is, powers_filled, powers_of_
 use Rattle.thin_block.proofs.CapacityLemmas.{fitting_none}
 use Rattle.thin_block.proofs.SizesLemmas.{fits_tells, opened, rounded}
 
--- if the code computes 0 as the size of an item, the item takes no bytes
+-- If the code computes the item size 0, then an item takes no bytes.
 pub takes_none : (s size : ℕ) → size ≡ capped s → size ≡ 0 → s ≡ 0
 takes_none s size is none =
     let low : s < 2 ^ 63 = capped_small s (omega (arith, is, none)) in
@@ -30,8 +31,8 @@ capped_le s = elim (cases_lt s (2 ^ 64)) [
 takes_some : (s size : ℕ) → size ≡ capped s → 0 < size → 0 < s
 takes_some s size is some = omega (arith, is, some, capped_le s)
 
--- if an item takes at least one byte, each capacity that `power_bytes` chooses fills a power of two
--- bytes, as `FillsPower` defines
+-- If an item takes at least one byte and `power_bytes` chooses a capacity, then a block of this
+-- capacity fills a power of two bytes. `FillsPower` says exactly what that means.
 pub each_fills : (s a c w : ℕ) (r : Option ℕ) → r ≡ power_bytes s a c w → 0 < s
     → IfSome r (FillsPower s a)
 each_fills s a c w None e some = tt
@@ -45,16 +46,16 @@ module _ (R : RattleType) (c w size : ℕ) (is : size ≡ capped (type_size R))
   abbrev a : ℕ
   a = type_align R
 
-  -- the greater of w and 2 * c, as the code computes it: a product that exceeds `usize::MAX` counts
-  -- as `usize::MAX`
+  -- The greater of `w` and `2 * c`, as the code computes it. If `2 * c` exceeds `usize::MAX`, the
+  -- code uses `usize::MAX` instead.
   abbrev items : ℕ
   items = max w (min (c * 2) (2 ^ 64 - 1))
 
   abbrev wanted : ℕ
   wanted = max w (2 * c)
 
-  -- if the header and `items` items take at most 2 ^ 63 bytes, no number that the code computes
-  -- exceeds `usize::MAX`
+  -- These lemmas assume that the header and `items` items take at most `2 ^ 63` bytes. Then no
+  -- number that the code computes exceeds `usize::MAX`.
   module _ (small : 16 + items * size ≤ 2 ^ 63) where
     size_is : s ≡ size
     size_is =
@@ -80,7 +81,8 @@ module _ (R : RattleType) (c w size : ℕ) (is : size ≡ capped (type_size R))
         λ i. ((e ∙ ap least_power bytes) i - offset i) / sym size_is i in
         ap (fitting s a) next ∙ sym (powers_of_some s a c w (omega (arith, size_is, some)))
 
-  -- if the header and `items` items take more than 2 ^ 63 bytes, the rule chooses no capacity
+  -- If the header and `items` items take more than `2 ^ 63` bytes, then `power_bytes` chooses no
+  -- capacity.
   pub power_past : 2 ^ 63 < 16 + items * size → None ≡ power_bytes s a c w
   power_past large =
       let offset = (rounded R 0).offset in

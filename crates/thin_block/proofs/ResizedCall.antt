@@ -1,5 +1,6 @@
--- A call of `resized` in a walk: what the call is passed, and what the caller has afterwards.
--- Assumes `Logic`.
+-- These lemmas prove a call of the function `resized` within the proof of its caller. The function
+-- grows or shrinks a block. The lemmas say what the call requires, and what the caller owns after
+-- the call. They assume the laws of the separation logic (`Logic`).
 use Rattle.std.proofs.Common.{ℕ, ◌≤◌, List, [], ◌∷◌, refl, w64, ◌^◌, ◌<◌}
 use seplogic.Ra.Ura.{Ura}
 use mir.Val.{Val, vint, vptr}
@@ -21,8 +22,8 @@ use Rattle.core.proofs.alloc.Resizes.{Sizes, Flagged, by_flag}
 use Rattle.core.proofs.mem.Param.{El, R, el_x}
 use Rattle.thin_block.specs.contracts.in_place.resized as F
 
--- what both `grow` and `shrink` of the allocator require of the number of items, the old number of
--- places and the new number of places
+-- The condition that both `grow` and `shrink` of an allocator require. The items fit into the old
+-- memory and into the new memory, and neither memory is too large to be allocated.
 abbrev pub Sized : El → Sizes
 Sized E len held wanted = (len ≤ held) × ((len ≤ wanted)
     × (FitsBlock (R E) held × FitsBlock (R E) wanted))
@@ -37,7 +38,7 @@ module _ (E : El) (Y : Al) {M : Type 1} {𝓤 : Ura M} (𝓛 : Logic 𝓤) (at_m
 
   module _ (κ κT κA : Lft) (q qT qA : Share) (out : κ ⊑ κA) (p : ℕ × ℕ) (a : Y.row.Denot)
       (b o len held wanted : ℕ) (xs : List (el_x E)) where
-    -- the ghost arguments of a call of `resized`
+    -- The ghost arguments of a call of the function `resized`.
     abbrev pub at_resizing : Resizing.Ghost
     at_resizing = (
       (
@@ -59,7 +60,7 @@ module _ (E : El) (Y : Al) {M : Type 1} {𝓤 : Ura M} (𝓛 : Logic 𝓤) (at_m
     abbrev Block : Fml
     Block = block_with_items (token Y a) (R E) (block_ptr b o) len held xs
 
-    -- `leaves r`: the resources that the caller has after the call of `resized` has returned r
+    -- `leaves r` states what the caller owns after the call of `resized` has returned `r`.
     abbrev pub leaves : Answer.Denot → Fml
     leaves = resized_if_ok (token Y a) (R E) (block_ptr b o) len held wanted xs
 
@@ -83,8 +84,8 @@ module _ (E : El) (Y : Al) {M : Type 1} {𝓤 : Ura M} (𝓛 : Logic 𝓤) (at_m
         feq_i ! (List Val) (vint w64 len ∷ []) (vint w64 len ∷ []) refl $ fjoin ! $ fjoin ! $
         feq_i ! (List Val) (vptr b o ∷ []) (vptr b o ∷ []) refl $ fjoin ! $ move ! (2 ∷ []) $
         feq_i ! (List Val) (vptr p.0 p.1 ∷ []) (vptr p.0 p.1 ∷ []) refl $ fjoin ! $ fjoin ! $
-        -- The arguments are joined. The context holds, in this order: [the arguments; the facts and
-        -- the block; the three lifetime tokens].
+        -- The arguments have been joined. The proof context holds, in this order: [the arguments;
+        -- the required facts with the memory of the block; the three lifetime tokens].
         nothing ! $ move ! (5 ∷ 0 ∷ []) $ join ! $ move ! (4 ∷ 0 ∷ []) $ join ! $
         move ! (3 ∷ 0 ∷ []) $ join ! $ join ! $ join ! $ done !
 

@@ -1,9 +1,9 @@
 -- A block may be sent to another thread if its items, its allocator and the right to free its
--- memory may be sent. It may be shared between threads if its items and its allocator may be
--- shared. The lemmas prove that what a block owns does not depend on the thread (`Keyless`), and
--- that what a `&` to a block shows does not depend on the thread, for every lifetime of the `&`
--- (`Common`).
---     block_send, block_sync    a block may be sent, and may be shared
+-- memory may be sent. A block may be shared between threads if its items and its allocator may be
+-- shared. The lemmas prove this: neither what a block owns (`Keyless`) nor what a `&` to a block
+-- gives access to (`Common`) depends on the thread.
+--     block_send    says when a block may be sent
+--     block_sync    says when a block may be shared
 use Rattle.std.specs.Prelude.{ℕ, zero, suc, ◌+◌, List, [], ◌∷◌, length, Option}
 use Rattle.std.specs.declared.option.Option.TheVariants.{Some, None}
 use Rattle.std.specs.Int.{div_ceil}
@@ -30,35 +30,41 @@ number_send = search sendable
 number_sync : IsSync usize
 number_sync = search sendable
 
--- what turns the memory of items into the memory of words does not depend on the thread
+-- The right to convert memory for items into memory for words does not depend on the thread. A word
+-- is a struct of several items.
 ways_Keyless : (τ : Ty) (m w b o : ℕ) → Keyless (ways τ m w b o)
 ways_Keyless τ m zero b o = tt
 ways_Keyless τ m (suc w) b o = ((tt, tt), ways_Keyless τ m w b (o + size (word_of τ m)))
 
--- what turns the parts of a block back into its allocation does not depend on the thread
+-- The right to convert the parts of a block back into its whole allocation does not depend on the
+-- thread.
 way_back_Keyless : (w : Option (ℕ × ℕ)) (τ : Ty) (c b o : ℕ) → Keyless (way_back w τ c b o)
 way_back_Keyless None τ c b o = ((tt, (tt, tt)), tt)
 way_back_Keyless (Some w) τ c b o =
     (((tt, tt), tt), (ways_Keyless τ w.0 (div_ceil c w.0) b (o + 16), tt))
 
 module _ (R : RattleType) where
-  -- if items may be sent, a slot does not depend on the thread
+  -- If items may be sent to another thread, then the memory of one slot does not depend on the
+  -- thread.
   place_Keyless : IsSend R → (x : Option R.Denot) (b o : ℕ) → Keyless (place R x b o)
   place_Keyless s (Some x) b o = lies R s (block_ptr b o) x
   place_Keyless s None b o = tt
 
-  -- if items may be sent, slots in a row do not depend on the thread
+  -- If items may be sent to another thread, then the memory of several slots does not depend on the
+  -- thread.
   places_Keyless : IsSend R → (xs : List (Option R.Denot)) (b o : ℕ) → Keyless (places R xs b o)
   places_Keyless s [] b o = tt
   places_Keyless s (x ∷ xs) b o =
       (place_Keyless s x b o, places_Keyless s xs b (o + type_size R))
 
-  -- if items may be shared, a `&` to a slot does not depend on the thread
+  -- If items may be shared between threads, then what a `&` to a slot gives access to does not
+  -- depend on the thread.
   place_Common : IsSync R → (x : Option R.Denot) (p : Ptr) → Common (place_lent R x p)
   place_Common y (Some x) p κ = seen R y p x κ
   place_Common y None p κ = tt
 
-  -- if items may be shared, a `&` to slots in a row does not depend on the thread
+  -- If items may be shared between threads, then what a `&` to several slots gives access to does
+  -- not depend on the thread.
   places_Common : IsSync R → (xs : List (Option R.Denot)) (b o : ℕ)
       → Common (places_lent R xs b o)
   places_Common y [] b o κ = tt
@@ -66,8 +72,8 @@ module _ (R : RattleType) where
       (place_Common y x (block_ptr b o) κ, places_Common y xs b (o + type_size R) κ)
 
   module _ (Z : RattleType) (g : Ghosts Z.Denot) where
-    -- if items may be sent and the right to free memory does not depend on the thread, then what a
-    -- block owns does not depend on the thread
+    -- If items may be sent and the right to free memory does not depend on the thread, then what a
+    -- block owns does not depend on the thread.
     block_Keyless : IsSend R → Frees g g.dealloc_token → (p : Ptr) (n : ℕ)
         (xs : List (Option R.Denot)) (a : Option Z.Denot)
         → Keyless (block_owns g.dealloc_token R p n xs a)
@@ -93,7 +99,8 @@ module _ (R : RattleType) where
       places_Keyless s xs b (o + 16),
     )
 
-    -- if items may be shared, a `&` to a block does not depend on the thread
+    -- If items may be shared between threads, then what a `&` to a block gives access to does not
+    -- depend on the thread.
     block_Common : IsSync R → (p : Ptr) (n : ℕ) (xs : List (Option R.Denot)) (a : Option Z.Denot)
         → Common (block_lent R p n xs a)
     block_Common y null_ptr n xs a κ = tt
@@ -109,7 +116,8 @@ module _ (R : RattleType) where
       places_Common y xs b (o + 16) κ,
     )
 
-    -- if the items, the allocator and the right to free memory may be sent, a block may be sent
+    -- If the items, the allocator and the right to free memory may be sent to another thread, then
+    -- a block may be sent too.
     pub block_send : IsSend R → IsSend Z → Frees g g.dealloc_token → IsSend (C.the_row R Z g)
     block_send s z f =
         let O = C.the_type R Z g in
@@ -118,7 +126,7 @@ module _ (R : RattleType) where
         owning_send O all (λ d. block_Keyless s f d.at d.len d.slots d.alloc)
         (λ k. quiet (to O) (exits_of k (fields O)) ((struct_send (shape O) all).leaving k))
 
-    -- if items and the allocator may be shared, a block may be shared
+    -- If the items and the allocator may be shared between threads, then a block may be shared too.
     pub block_sync : IsSync R → IsSync Z → IsSync (C.the_row R Z g)
     block_sync y z =
         let O = C.the_type R Z g in

@@ -1,7 +1,8 @@
--- What a `&` to a block shows: its pointer, and a `&` to each word of the header and to each item.
--- Assumes `Logic`.
---     block_seen    splits a `&` to a block
---     run_seen      turns a `&` to the items in a run of slots into a `&` to a slice
+-- A `&` to a block gives access to the block's pointer, to the capacity and the length in the
+-- header, and to each item. These lemmas split such a `&` into its parts. They assume the laws of
+-- the separation logic (`Logic`).
+--     block_seen    splits a `&` to a block into its parts
+--     run_seen      converts a `&` to items in adjacent slots into a `&` to a slice
 use Rattle.std.proofs.Common.{◌≡◌, ℕ, zero, suc, Some, None, ◌+◌, ◌*◌, ◌≤◌, List, [], ◌∷◌, ◌++◌, length, Bool, true, refl, sym, ap, subst, ◌∙◌, arith}
 use native.Mathlib.Nat.{zero-mul, suc-mul}
 use lib.ListN.{drop, take-append-drop}
@@ -59,7 +60,7 @@ module _ (R : RattleType) {D : Type 0} {M : Type 1} {𝓤 : Ura M} (𝓛 : Logic
   words_lent n (x ∷ xs) None b o is le = absurd (clash is)
 
 module _ (E : El) (Y : Al) {M : Type 1} {𝓤 : Ura M} (𝓛 : Logic 𝓤) (κ : Lft) where
-  -- the struct of the data fields of a block
+  -- The struct of the fields of a block that exist at run time.
   abbrev Words : RattleType
   Words = Struct (shape (block.the_type (R E) (param 1 Y.row) Y.g))
 
@@ -81,8 +82,8 @@ module _ (E : El) (Y : Al) {M : Type 1} {𝓤 : Ura M} (𝓛 : Logic 𝓤) (κ :
 
 module _ (E : El) (Y : Al) {M : Type 1} {𝓤 : Ura M} {𝓛 : Logic 𝓤} {K : Type 0}
     {Γ : List (Item 𝓤)} {G : Goal 𝓤 𝓛.H} where
-  -- Splits a `&` to a block. After it the context holds, in this order: [the `&` to the pointer;
-  -- the `&` to the capacity; the `&` to the length; the `&` to the slots].
+  -- Splits a `&` to a block into its parts. After this step the proof context holds, in this order:
+  -- [the `&` to the pointer; the `&` to the capacity; the `&` to the length; the `&` to the slots].
   pub block_seen : K → {κ : Lft} (x : (Br E Y).Denot) (rb ro : ℕ)
       → ((b o : ℕ) → x.at ≡ block_ptr b o → fits_block (R E) (length x.slots) ≡ true
       → Seq K 𝓛 (‵ (hidden_shr RawPtr κ x.at rb (ro + 0)) ∷ ‵
@@ -125,7 +126,8 @@ module _ (E : El) {M : Type 1} {𝓤 : Ura M} (𝓛 : Logic 𝓤) (b : ℕ) (κ 
   up_to (y ∷ ys) rest o = qed 𝓛 (‵ (Seen o (Some y ∷ (full ys ++ rest))) ∷ []) ∵ fsplit ! $
       fsplit ! $ keep ! (1 ∷ 2 ∷ []) $ frame ! $ by ! (up_to ys rest (o + s))
 
-  -- if the k slots from i on hold the items ys, a `&` to the row shows a slice of ys
+  -- If the slots `i..i + k` hold the items `ys`, then a `&` to all slots gives access to a slice of
+  -- the items `ys`.
   pub run_seen : (xs : List (Slot E)) (i k o : ℕ) (ys : List (el_x E)) → i ≤ length xs
       → run i k xs ≡ full ys → ent 𝓤 (sem 𝓛 (Seen o xs))
       (sem 𝓛 (elements_shared (R E) ys b (i * s + o) κ))

@@ -1,9 +1,10 @@
--- How a run of items and the slots to which it moves are taken out of a row, and put back after the
--- move. Assumes `Logic`.
---     Moves     how the memory that a copy needs is taken out of the row, and how the memory that
---               the copy leaves is put back
---     apart     `Moves` for two runs of slots that do not overlap
---     slides    `Moves` for a run that moves through empty slots
+-- A run is the items in adjacent slots. These lemmas split the old slots and the new slots of a run
+-- off the other slots of a block, and join all slots again after the run has moved. The lemmas
+-- assume the laws of the separation logic (`Logic`).
+--     Moves     the memory that a copy needs can be split off, and the memory that the copy leaves
+--               behind can be joined with the other slots
+--     apart     proves `Moves` if the old and the new slots of the run do not overlap
+--     slides    proves `Moves` if the run moves through empty slots
 use Rattle.std.proofs.Common.{◌≡◌, ◌⊎◌, Bool, true, false, ℕ, Some, None, ◌+◌, ◌-◌, ◌*◌, ◌<◌, ◌≤◌, List, [], ◌∷◌, ◌++◌, length, refl, sym, ap, ◌∙◌, arith, append_assoc}
 use Rattle.std.proofs.lemmas.List.{length-map, length-replicate, length-append, length-take}
 use mathlib.Core.Logic.{inl, inr, ⊎_elim}
@@ -27,13 +28,13 @@ use Rattle.thin_block.specs.Shifts.{IsShifted}
 use Rattle.thin_block.proofs.SlotsLemmas.{empty-run, parted-run, run-split, length-run, moved_left, moved_right, moved_over, moved_back}
 use Rattle.thin_block.proofs.SlotMemory.{Slot, sz, cut, glue, around, run_out, run_in, to_items, of_items, to_room, of_room}
 
--- if c is d + a, the offset of slot c is d slots after the offset of slot a
+-- If `c ≡ d + a`, then slot `c` begins `d` slots after the beginning of slot `a`. The size of a
+-- slot is `s`.
 pub further : (a d c s o : ℕ) → c ≡ d + a → c * s + o ≡ d * s + (a * s + o)
 further a d c s o e = let sum = add_times d a s in
     let same : c * s ≡ (d + a) * s = ap (λ (k : ℕ). k * s) e in omega arith
 
--- laying n slots over a row from i on replaces the n slots there, and keeps the slots before and
--- after them
+-- If `new` consists of `n` slots, then `laid i new s` is `take i s ++ (new ++ drop (i + n) s)`.
 laid-over : {T : Type 0} (s new : List (Option T)) (i n : ℕ) → length new ≡ n
     → laid i new s ≡ take i s ++ (new ++ drop (i + n) s)
 laid-over s new i n long = ap (λ (k : ℕ). take i s ++ (new ++ drop (i + k) s)) long
@@ -62,8 +63,9 @@ module _ (E : El) {M : Type 1} {𝓤 : Ura M} (𝓛 : Logic 𝓤) (b o : ℕ) (s
   abbrev Room : ℕ → ℕ → Fml
   Room n at = froom (ty_array (elτ E) n) b at
 
-  -- `Moves Was Is`: the memory `Was` can be taken out of the row. If the memory `Is` is put back in
-  -- its place, the result is the row after the move.
+  -- `Moves Was Is` says that the memory `Was` can be split off the memory of all slots. After the
+  -- move, the memory `Is` can be joined with the other slots, and the result is the memory of all
+  -- slots again.
   pub record Moves (Was Is : Fml) : Type 1 where
     pub Rest : Fml
     pub out : ent 𝓤 (sem 𝓛 (Row o slots)) (sep 𝓤 (sem 𝓛 Was) (sem 𝓛 Rest))
@@ -75,8 +77,8 @@ module _ (E : El) {M : Type 1} {𝓤 : Ura M} (𝓛 : Logic 𝓤) (b o : ℕ) (s
   empty-long : (n : ℕ) → length (empty {T = el_x E} n) ≡ n
   empty-long n = length-replicate n None
 
-  -- if the d slots before a run are empty, the run and these slots can be taken out of the row, and
-  -- put back after the run has moved down by d slots
+  -- If the `d` slots before a run are empty, the run and these slots can be split off the other
+  -- slots. After the run has moved down by `d` slots, all slots can be joined again.
   pub slides_down : (d : ℕ) → from ≡ to + d → from + k ≤ length slots → run to d slots ≡ empty d
       → Moves (memory_before_copy (R E) false d k (block_ptr b src) (block_ptr b dst) xs)
       (memory_after_copy (R E) false d k (block_ptr b src) (block_ptr b dst) xs)
@@ -126,8 +128,8 @@ module _ (E : El) {M : Type 1} {𝓤 : Ura M} (𝓛 : Logic 𝓤) (b o : ℕ) (s
             rewrite ! 0 (λ (l : S). ‵ (Row o l)) result refl $ done !;
       }
 
-  -- if the d slots after a run are empty, the run and these slots can be taken out of the row, and
-  -- put back after the run has moved up by d slots
+  -- If the `d` slots after a run are empty, the run and these slots can be split off the other
+  -- slots. After the run has moved up by `d` slots, all slots can be joined again.
   pub slides_up : (d : ℕ) → to ≡ from + d → to + k ≤ length slots → run (from + k) d slots ≡ empty d
       → Moves (memory_before_copy (R E) true d k (block_ptr b src) (block_ptr b dst) xs)
       (memory_after_copy (R E) true d k (block_ptr b src) (block_ptr b dst) xs)
@@ -175,7 +177,8 @@ module _ (E : El) {M : Type 1} {𝓤 : Ura M} (𝓛 : Logic 𝓤) (b o : ℕ) (s
             rewrite ! 0 (λ (l : S). ‵ (Row o l)) result refl $ done !;
       }
 
-  -- splits a row into the runs ys, mid and zs, where ys has k slots
+  -- Splits the memory of the slots `ys ++ (mid ++ zs)` into the memory of `ys`, `zs` and `mid`. The
+  -- list `ys` consists of `k` slots.
   cut3 : (ys mid zs : S) (lo hi : ℕ) → length ys ≡ k → hi ≡ length mid * s + (k * s + lo)
       → ent 𝓤 (sem 𝓛 (Row lo (ys ++ (mid ++ zs))))
       (sep 𝓤 (sem 𝓛 (Row lo ys)) (sep 𝓤 (sem 𝓛 (Row hi zs)) (sem 𝓛 (Row (k * s + lo) mid))))
@@ -196,11 +199,11 @@ module _ (E : El) {M : Type 1} {𝓤 : Ura M} (𝓛 : Logic 𝓤) (b o : ℕ) (s
       $ move ! (1 ∷ 0 ∷ []) $
       by ! (glue E 𝓛 b ys (mid ++ zs) lo (k * s + lo) (ap (λ (n : ℕ). n * s + lo) (sym count)))
 
-  -- the memory before the move: the items at their old place, and empty slots at their new place
+  -- The memory before the move: the items at their old address, and empty slots at the new address.
   abbrev pub Was : Fml
   Was = fsep (Items src) (Room k dst)
 
-  -- the memory after the move: the items at their new place, and empty slots at their old place
+  -- The memory after the move: the items at their new address, and empty slots at the old address.
   abbrev pub Is : Fml
   Is = fsep (Items dst) (Room k src)
 
@@ -213,8 +216,8 @@ module _ (E : El) {M : Type 1} {𝓤 : Ura M} (𝓛 : Logic 𝓤) (b o : ℕ) (s
       let same : length mid * s ≡ m * s = ap (λ (n : ℕ). n * s) count in
       omega arith
 
-  -- if k slots above a run are empty, the run and these slots can be taken out of the row, and put
-  -- back after the run has moved up to these slots
+  -- If `k` slots above a run of `k` items are empty, the run and these slots can be split off the
+  -- other slots. After the run has moved up to these slots, all slots can be joined again.
   goes_over : (m : ℕ) → to ≡ from + k + m → to + k ≤ length slots
       → run to k slots ≡ empty k → Moves Was Is
   goes_over m apart within gap =
@@ -272,8 +275,8 @@ module _ (E : El) {M : Type 1} {𝓤 : Ura M} (𝓛 : Logic 𝓤) (b o : ℕ) (s
             rewrite ! 0 (λ (l : S). ‵ (Row o l)) result refl $ done !;
       }
 
-  -- if k slots below a run are empty, the run and these slots can be taken out of the row, and put
-  -- back after the run has moved down to these slots
+  -- If `k` slots below a run of `k` items are empty, the run and these slots can be split off the
+  -- other slots. After the run has moved down to these slots, all slots can be joined again.
   goes_back : (m : ℕ) → from ≡ to + k + m → from + k ≤ length slots
       → run to k slots ≡ empty k → Moves Was Is
   goes_back m apart within gap =
@@ -331,13 +334,13 @@ module _ (E : El) {M : Type 1} {𝓤 : Ura M} (𝓛 : Logic 𝓤) (b o : ℕ) (s
             rewrite ! 0 (λ (l : S). ‵ (Row o l)) result refl $ done !;
       }
 
-  -- the precondition `empty` of `move_run`: each slot to which the run moves is empty, or is a slot
-  -- of the run itself
+  -- The precondition `empty` of `move_run`: each slot to which an item moves is empty, or it is one
+  -- of the slots from which the items move.
   abbrev pub Bare : Type 0
   Bare = (i : ℕ) → to ≤ i → i < to + k → (i < from) ⊎ (from + k ≤ i) → slot slots i ≡ None
 
-  -- if the two runs of slots do not overlap, the run and its destination can be taken out of the
-  -- row, and put back after the move
+  -- If the old and the new slots of a run do not overlap, these slots can be split off the other
+  -- slots. After the run has moved, all slots can be joined again.
   pub apart : from + k ≤ length slots → to + k ≤ length slots → Bare → (from + k ≤ to)
       ⊎ (to + k ≤ from) → Moves Was Is
   apart source target bare far =
@@ -348,7 +351,7 @@ module _ (E : El) {M : Type 1} {𝓤 : Ura M} (𝓛 : Logic 𝓤) (b o : ℕ) (s
       (empty-run slots to k target
       (λ i h j. bare i h j (inl (let q : i < from = omega arith in q))))) far
 
-  -- the distance of the move, in slots
+  -- The distance by which the run moves, in slots.
   abbrev pub distance : Bool → ℕ
   distance true = to - from
   distance false = from - to
@@ -357,16 +360,16 @@ module _ (E : El) {M : Type 1} {𝓤 : Ura M} (𝓛 : Logic 𝓤) (b o : ℕ) (s
   Way up = Moves (memory_before_copy (R E) up (distance up) k (block_ptr b src) (block_ptr b dst)
       xs) (memory_after_copy (R E) up (distance up) k (block_ptr b src) (block_ptr b dst) xs)
 
-  -- if the run moves up, the slots between its old end and its new end are empty
+  -- If the run moves up, then the slots between its old end and its new end are empty.
   abbrev pub GapAbove : Bool → Type 0
   GapAbove up = up ≡ true → (from ≤ to) × AreEmpty slots (from + k) (to - from)
 
-  -- if the run moves down, the slots between its new start and its old start are empty
+  -- If the run moves down, then the slots between its new start and its old start are empty.
   abbrev pub GapBelow : Bool → Type 0
   GapBelow up = up ≡ false → (to ≤ from) × AreEmpty slots to (from - to)
 
-  -- if the slots through which the run moves are empty, the run and these slots can be taken out of
-  -- the row, and put back after the move
+  -- If the slots through which a run moves are empty, the run and these slots can be split off the
+  -- other slots. After the run has moved, all slots can be joined again.
   pub slides : from + k ≤ length slots → to + k ≤ length slots → (up : Bool) → GapAbove up
       → GapBelow up → Way up
   slides source target true above below =
@@ -380,7 +383,7 @@ module _ (E : El) {M : Type 1} {𝓤 : Ura M} (𝓛 : Logic 𝓤) (b o : ℕ) (s
       slides_down (from - to) (omega arith) source
       (empty-run slots to (from - to) within gap.1)
 
-  -- the address of the destination differs from the address of the run by the distance of the move
+  -- The new address of the run differs from the old address by the distance of the move.
   pub shifted : (up : Bool) → GapAbove up → GapBelow up → IsShifted (R E) up (distance up)
       (block_ptr b src) (block_ptr b dst)
   shifted true above below = let le : from ≤ to = (above refl).0 in

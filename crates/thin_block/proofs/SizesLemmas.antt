@@ -1,4 +1,5 @@
--- Arithmetic on sizes: when a block fits.
+-- Arithmetic lemmas on the size of a block in bytes, and on the capacities for which a block is
+-- small enough to be allocated.
 use Rattle.std.proofs.Common.{◌≡◌, ℕ, zero, suc, ◌+◌, ◌-◌, ◌*◌, ◌/◌, ◌^◌, ◌<◌, ◌≤◌, Bool, true, false, refl, sym, ap, subst, ◌∙◌, arith, ltb, zero-mul, suc-mul}
 use borrow.Author.Tests.{lt-ltb, le-ltb, ltb-true}
 use mathlib.Core.Bool.{◌&&◌}
@@ -24,8 +25,8 @@ use Rattle.thin_block.specs.Growth.{fitting, doubling}
 
 -- Section: rounding up
 
--- what is known about the size of a block whose items have the alignment a and take x bytes in
--- total
+-- `Rounded a x` collects bounds on the size of a block whose items take `x` bytes in total. The
+-- alignment of an item is `a`.
 pub record Rounded (a x : ℕ) : Type 0 where
   pub least : 8 ≤ block_align a
   pub most : block_align a ≤ 16
@@ -78,21 +79,22 @@ rounded_to w128 x = record {
   short = λ h. omega arith;
 }
 
--- the alignment of each type is 1, 2, 4, 8 or 16
+-- The alignment of every type is 1, 2, 4, 8 or 16.
 pub align_known : (R : RattleType) → IsAlign (type_align R)
 align_known R = (align_w (layout R), align-bytes (layout R))
 
--- if a is an alignment, then `Rounded` holds for a and every size x
+-- If `a` is an alignment, then `Rounded a x` holds for every size `x`.
 pub rounded_at : (a x : ℕ) → IsAlign a → Rounded a x
 rounded_at a x is = subst (λ (k : ℕ). Rounded k x) (sym is.1) (rounded_to is.0 x)
 
--- `Rounded` holds for the alignment of every item type and every size x
+-- If `a` is the alignment of an item type, then `Rounded a x` holds for every size `x`.
 pub rounded : (R : RattleType) (x : ℕ) → Rounded (type_align R) x
 rounded R x = rounded_at (type_align R) x (align_known R)
 
--- Section: sizes that exceed `usize::MAX`, which the code replaces by `usize::MAX`
+-- Section: sizes that exceed `usize::MAX`. The code uses `usize::MAX` in place of such a size.
 
--- if the product of c and `capped s` is less than 2 ^ 63, it equals the product of c and s
+-- If `c * capped s < 2 ^ 63`, then `c * s` and `c * capped s` are equal. `capped s` is the lesser
+-- of `s` and `usize::MAX`.
 pub whole_product : (c s : ℕ) → c * capped s < 2 ^ 63 → c * s ≡ c * capped s
 whole_product zero s h = zero-mul s ∙ sym (zero-mul (capped s))
 whole_product (suc c) s h =
@@ -100,7 +102,8 @@ whole_product (suc c) s h =
     let low : s < 2 ^ 63 = capped_small s (omega arith) in
     ap (λ (k : ℕ). suc c * k) (sym (capped_is s (omega arith)))
 
--- if the product of c and s is less than 2 ^ 63, it equals the product of c and `capped s`
+-- If `c * s < 2 ^ 63`, then `c * capped s` and `c * s` are equal. `capped s` is the lesser of `s`
+-- and `usize::MAX`.
 pub capped_product : (c s : ℕ) → c * s < 2 ^ 63 → c * capped s ≡ c * s
 capped_product zero s h = zero-mul (capped s) ∙ sym (zero-mul s)
 capped_product (suc c) s h = let more = suc-mul c s in
@@ -120,7 +123,7 @@ tells_second : (x y : Bool) → (x && y) ≡ true → y ≡ true
 tells_second true y f = f
 tells_second false y f = cc
 
--- a number that is not 0 is positive
+-- A number that is not 0 is positive.
 pub positive : (n : ℕ) → (n ≡ 0 → ⊥) → 0 < n
 positive zero never = absurd (never refl)
 positive (suc n) never = omega arith
@@ -128,29 +131,30 @@ positive (suc n) never = omega arith
 lt_of_not : (a b : ℕ) → (a ≤ b → ⊥) → b < a
 lt_of_not a b never = omega arith
 
--- Section: when a block fits
+-- Section: blocks that are small enough to be allocated.
 
--- `Small s a c`: c items of s bytes, the header, and `block_align a` bytes for the padding take at
--- most 2 ^ 63 bytes in total
+-- `Small s a c` holds if the header, `c` items of `s` bytes, and `block_align a` bytes for padding
+-- together take at most `2 ^ 63` bytes.
 abbrev pub Small : ℕ → ℕ → ℕ → Type 0
 Small s a c = c * s + 16 + block_align a ≤ 2 ^ 63
 
--- `Told s a c` is what is known about a capacity c that fits, for items of size s and alignment a
+-- `Told s a c` collects what is known if a block for `c` items is small enough to be allocated. An
+-- item has the size `s` and the alignment `a`.
 pub record Told (s a c : ℕ) : Type 0 where
   pub few : c < 2 ^ 63
   pub room : Small s a c
   pub short : block_bytes s a c < 2 ^ 63
 
 module _ (s a c : ℕ) (is : IsAlign a) where
-  -- if c is less than 2 ^ 63 and `Small s a c` holds, then c is a small capacity
+  -- If `c < 2 ^ 63` and `Small s a c` holds, then `is_small s a c` is true.
   pub small_yes : c < 2 ^ 63 → Small s a c → is_small s a c ≡ true
   small_yes few room =
       let whole : block_bytes s a c < 2 ^ 63 = (rounded_at a (c * s) is).short room in
       both_true (ltb c (2 ^ 63)) (ltb (block_bytes s a c) (2 ^ 63)) (lt-ltb c (2 ^ 63) few)
       (lt-ltb (block_bytes s a c) (2 ^ 63) whole)
 
-  -- if c is a small capacity, then c is less than 2 ^ 63, `Small s a c` holds, and the block takes
-  -- less than 2 ^ 63 bytes
+  -- If `is_small s a c` is true, then `c < 2 ^ 63`, `Small s a c` holds, and the block takes less
+  -- than `2 ^ 63` bytes.
   pub small_tells : is_small s a c ≡ true → Told s a c
   small_tells e =
       let few : c < 2 ^ 63 =
@@ -159,21 +163,22 @@ module _ (s a c : ℕ) (is : IsAlign a) where
       (tells_second (ltb c (2 ^ 63)) (ltb (block_bytes s a c) (2 ^ 63)) e) in
       record { few = few; room = (rounded_at a (c * s) is).tells short; short = short }
 
--- the lemmas `small_yes` and `small_tells` for items of R
+-- This module restates the lemmas `small_yes` and `small_tells` for an item type `R`.
 module _ (R : RattleType) (c : ℕ) where
   abbrev IsSmall : Type 0
   IsSmall = is_small (type_size R) (type_align R) c ≡ true
 
-  -- if c is less than 2 ^ 63 and `Small` holds for c items of R, then c is a small capacity
+  -- If `c < 2 ^ 63` and `Small` holds for `c` items of type `R`, then `is_small` is true for these
+  -- items.
   pub fits_yes : c < 2 ^ 63 → Small (type_size R) (type_align R) c → IsSmall
   fits_yes few room = small_yes (type_size R) (type_align R) c (align_known R) few room
 
-  -- if c is a small capacity for items of R, then c is less than 2 ^ 63, `Small` holds for c items
-  -- of R, and their block takes less than 2 ^ 63 bytes
+  -- If `is_small` is true for `c` items of type `R`, then `c < 2 ^ 63`, `Small` holds for these
+  -- items, and their block takes less than `2 ^ 63` bytes.
   pub fits_tells : IsSmall → Told (type_size R) (type_align R) c
   fits_tells e = small_tells (type_size R) (type_align R) c (align_known R) e
 
-  -- a capacity that fits is small
+  -- If `Fits` holds for a capacity, then `is_small` is true for this capacity.
   pub opened : Fits R c → IsSmall
   unfolding fits
   opened e = e
@@ -183,7 +188,8 @@ module _ (R : RattleType) (c : ℕ) where
   unfolding fits
   closed e = e
 
-  -- if c is at most the quotient that the code computes, then `Small` holds for c items of R
+  -- If the capacity `c` is at most the quotient that the code of `fits` computes, then `Small`
+  -- holds for `c` items of type `R`.
   pub divided : (size : ℕ) → size ≡ capped (type_size R) → 0 < size
       → c ≤ (2 ^ 63 - block_align (type_align R) - 16) / size → Small (type_size R) (type_align R) c
   divided size is some few =
@@ -197,7 +203,8 @@ module _ (R : RattleType) (c : ℕ) where
       ∙ ap (λ (k : ℕ). c * k) (sym is) in
       omega arith
 
-  -- if `Small` holds for c items of R, then c is at most the quotient that the code computes
+  -- If `Small` holds for `c` items of type `R`, then `c` is at most the quotient that the code of
+  -- `fits` computes.
   pub dividing : (size : ℕ) → size ≡ capped (type_size R) → 0 < size
       → Small (type_size R) (type_align R) c → c ≤ (2 ^ 63 - block_align (type_align R) - 16) / size
   dividing size is some room =
@@ -207,7 +214,7 @@ module _ (R : RattleType) (c : ℕ) where
       let same' : c * size ≡ c * type_size R = ap (λ (k : ℕ). c * k) is ∙ same in
       le-div c (2 ^ 63 - block_align (type_align R) - 16) size some (omega arith)
 
--- the capacity 0 is small
+-- For the capacity 0, `is_small` is true.
 pub fits_none : (R : RattleType) → is_small (type_size R) (type_align R) 0 ≡ true
 fits_none R =
     let about = rounded R 0 in
@@ -216,7 +223,8 @@ fits_none R =
 
 -- Section: the first capacity
 
--- if the size that the code computes for an item exceeds 2 ^ 61 - 1, the first capacity is 1
+-- If the size that the code computes for an item exceeds `2 ^ 61 - 1`, then the capacity of the
+-- first block is 1.
 pub first_one : (s : ℕ) → 2 ^ 61 - 1 < capped s → 1 ≡ first s
 unfolding first
 first_one s large =
@@ -225,7 +233,8 @@ first_one s large =
     absurd (omega arith)) in
     rw (lt-ltb (2 ^ 61 - 1) s above) refl
 
--- if the size that the code computes for an item is at most 2 ^ 61 - 1, the first capacity is 4
+-- If the size that the code computes for an item is at most `2 ^ 61 - 1`, then the capacity of the
+-- first block is 4.
 pub first_many : (s : ℕ) → capped s ≤ 2 ^ 61 - 1 → 4 ≡ first s
 unfolding first
 first_many s small =
@@ -244,25 +253,27 @@ unfolding fits
 fits_no s a c many = first_false (ltb c (2 ^ 63)) (ltb (block_bytes s a c) (2 ^ 63))
     (le-ltb c (2 ^ 63) many)
 
--- the capacity that doubling tries: doubling chooses this capacity if it fits
+-- `tried s c w` is the capacity that the rule `doubling` computes first. The rule chooses this
+-- capacity if a block of this capacity is small enough to be allocated.
 abbrev pub tried : ℕ → ℕ → ℕ → ℕ
 tried s c w = max w (if c == 0 then first s else 2 * c)
 
--- if the old capacity is 0, doubling tries the first capacity, or w if that is greater
+-- If the old capacity is 0, then `tried s c w` is the greater of `w` and the capacity of the first
+-- block.
 pub tried_first : (s c w d : ℕ) → c ≡ 0 → d ≡ first s → max w d ≡ tried s c w
 tried_first s c w d none is = grind (arith, nat_tests)
 
--- if the old capacity is not 0, doubling tries twice that capacity, or w if that is greater
+-- If the old capacity `c` is not 0, then `tried s c w` is the greater of `w` and `2 * c`.
 pub tried_twice : (s c w d : ℕ) → (c ≡ 0 → ⊥) → d ≡ 2 * c → max w d ≡ tried s c w
 tried_twice s c w d some is = grind (arith, nat_tests)
 
--- a capacity of 2 ^ 63 or more does not fit
+-- A block with a capacity of `2 ^ 63` or more is too large to be allocated.
 pub fitting_past : (s a n : ℕ) → 2 ^ 63 ≤ n → fitting s a n ≡ None
 unfolding fitting
 fitting_past s a n many = λ i. if fits_no s a n many i then Some n else None
 
--- the code of doubling chooses the same capacity as the rule, although the code replaces each
--- number that exceeds `usize::MAX` by `usize::MAX`
+-- The code of doubling chooses the same capacity as the rule `doubling`. The code uses `usize::MAX`
+-- in place of any number that exceeds `usize::MAX`, but this does not change the choice.
 pub doubling_is : (s a c w d : ℕ) → c < w → (c ≡ 0 → d ≡ first s)
     → ((c ≡ 0 → ⊥) → d ≡ min (c * 2) (2 ^ 64 - 1)) → fitting s a (max w d) ≡ doubling s a c w
 unfolding doubling

@@ -1,14 +1,16 @@
--- How slots are taken out of a block's row of slots, and put back. Assumes `Logic`.
---     slot_out, slot_in    take one slot out of the row, and put it back
---     run_out, run_in      take the k slots from i on out of the row, and put them back
---     two_slots            takes two different slots, in either order, out of the row, and puts
---                          them back
---     to_items, of_items   turn slots that hold the items xs into an array of xs, and back
---     to_cells, of_cells   turn slots that hold the items xs into the cells of a slice, and back
---     to_room, of_room     turn empty slots into uninitialized memory for an array, and back
---     to_raw, of_raw       turn empty slots into uninitialized memory for the bare type of an array
---                          (the fields of a bare type have no names), and back
---     reach                the distance in bytes from the first slot to a slot fits into a word
+-- These lemmas split the memory of some slots of a block off the memory of the other slots, and
+-- join all slots again. They also convert the memory of slots into other kinds of memory. The
+-- lemmas assume the laws of the separation logic (`Logic`).
+--     slot_out, slot_in    split off one slot, and join it with the other slots again
+--     run_out, run_in      split off the slots `i..i + k`, and join them with the other slots again
+--     two_slots            splits off two different slots, and joins them with the others again
+--     to_items, of_items   convert slots that hold the items `xs` into an array of `xs`, and back
+--     to_cells, of_cells   convert slots that hold the items `xs` into the elements of a slice, and
+--                          back
+--     to_room, of_room     convert empty slots into uninitialized memory for an array, and back
+--     to_raw, of_raw       convert empty slots into uninitialized memory for the bare type of an
+--                          array, and back (a bare type is a type without the names of its fields)
+--     reach                bounds the distance in bytes from the first slot to any slot
 use Rattle.std.proofs.Common.{◌≡◌, true, ℕ, zero, suc, None, ◌+◌, ◌*◌, ◌^◌, ◌<◌, ◌≤◌, List, [], ◌∷◌, ◌++◌, length, refl, sym, ap, ◌∙◌, arith}
 use native.Mathlib.Nat.{zero-mul, suc-mul}
 use lib.ListN.{take, drop, set, get_or, take-append-drop, length-take, length-drop, length-set}
@@ -38,8 +40,8 @@ use Rattle.thin_block.specs.Ownership.{fits_block, place, places}
 use Rattle.thin_block.specs.Slots.{full, empty, run, laid}
 use Rattle.thin_block.proofs.SizesLemmas.{fits_tells}
 
--- if a block of c slots fits and i is at most c, then the distance in bytes from the first slot to
--- slot i is less than 2 ^ 63
+-- If a block of `c` slots is small enough to be allocated and `i ≤ c`, then slot `i` begins less
+-- than `2 ^ 63` bytes after the first slot.
 pub reach : (Rw : RattleType) (i c : ℕ) → fits_block Rw c ≡ true → i ≤ c → i * type_size Rw < 2 ^ 63
 reach Rw i c fits le =
     let small = (fits_tells Rw c fits).room in
@@ -47,11 +49,11 @@ reach Rw i c fits le =
     times_below i c (type_size Rw) (2 ^ 63) le all
 
 module _ (E : El) where
-  -- what a slot may hold: an item or nothing
+  -- The content of a slot: an item, or nothing.
   abbrev pub Slot : Type 0
   Slot = Option (el_x E)
 
-  -- the size of an item in bytes
+  -- The size of an item in bytes.
   abbrev pub sz : ℕ
   sz = type_size (R E)
 
@@ -64,7 +66,7 @@ module _ (E : El) {M : Type 1} {𝓤 : Ura M} (𝓛 : Logic 𝓤) (b : ℕ) wher
   abbrev Row : ℕ → List (Slot E) → Fml
   Row o xs = places (R E) xs b o
 
-  -- splits a row of slots into two rows
+  -- Splits the memory of the slots `xs ++ ys` into the memory of `xs` and the memory of `ys`.
   pub cut : (xs ys : List (Slot E)) (o at : ℕ) → at ≡ length xs * s + o
       → ent 𝓤 (sem 𝓛 (Row o (xs ++ ys))) (sep 𝓤 (sem 𝓛 (Row o xs)) (sem 𝓛 (Row at ys)))
   cut [] ys o at e = qed 𝓛 (‵ (Row o ys) ∷ []) ∵ rewrite ! 0 (λ (k : ℕ). ‵ (Row k ys)) {x = at}
@@ -76,7 +78,8 @@ module _ (E : El) {M : Type 1} {𝓤 : Ura M} (𝓛 : Logic 𝓤) (b : ℕ) wher
       (cut xs ys (o + s) at (omega (arith, suc-mul (length xs) s))) $ split ! $
       move ! (2 ∷ 0 ∷ []) $ fjoin ! $ done !
 
-  -- joins two rows of slots into one row
+  -- Joins the memory of the slots `xs` and the memory of the slots `ys` after them into the memory
+  -- of `xs ++ ys`.
   pub glue : (xs ys : List (Slot E)) (o at : ℕ) → at ≡ length xs * s + o
       → ent 𝓤 (sep 𝓤 (sem 𝓛 (Row o xs)) (sem 𝓛 (Row at ys))) (sem 𝓛 (Row o (xs ++ ys)))
   glue [] ys o at e = qed 𝓛 (‵ ftrue ∷ ‵ (Row at ys) ∷ []) ∵ skip ! $
@@ -93,7 +96,7 @@ module _ (E : El) {M : Type 1} {𝓤 : Ura M} (𝓛 : Logic 𝓤) (b : ℕ) wher
     before le = let long : i ≡ length (take i xs) = omega (arith, length-take i xs) in
         ap (λ k. k * s + o) long
 
-    -- all slots of the row except slot i
+    -- The memory of all slots except slot `i`.
     abbrev pub besides : Fml
     besides = fsep (Row o (take i xs)) (Row (i * s + o + s) (drop (suc i) xs))
 
@@ -119,7 +122,7 @@ module _ (E : El) {M : Type 1} {𝓤 : Ura M} (𝓛 : Logic 𝓤) (b : ℕ) wher
         rewrite ! 0 (λ (l : List (Slot E)). ‵ (Row o l)) (sym (set_split xs i x lt)) refl $ done !
 
     module _ (k : ℕ) where
-      -- all slots of the row except the k slots from i on
+      -- The memory of all slots except the slots `i..i + k`.
       abbrev pub around : Fml
       around = fsep (Row o (take i xs)) (Row (k * s + (i * s + o)) (drop (i + k) xs))
 
@@ -169,20 +172,20 @@ module _ (E : El) {M : Type 1} {𝓤 : Ura M} (𝓛 : Logic 𝓤) (b : ℕ) wher
   of_row [] o = id⊢ 𝓤 (emp 𝓤)
   of_row (x ∷ xs) o = mono_r 𝓤 (sem 𝓛 (part_at (R E) full_share x b o)) (of_row xs (o + s))
 
-  -- slots that hold the items xs may be used as an array of xs
+  -- Slots that hold the items `xs` can be converted into an array of `xs`.
   pub to_items : (k : ℕ) (xs : List (el_x E)) (o : ℕ) → length xs ≡ k
       → ent 𝓤 (sem 𝓛 (Row o (full xs))) (sem 𝓛 (part_at (Array (R E) k) full_share xs b o))
   to_items k xs o long = qed 𝓛 (‵ (Row o (full xs)) ∷ []) ∵ use1 𝓛 (‵ (row (R E) full_share xs b o))
       (to_row xs o) $ by ! (arrays.whole E' 𝓛 full_share k xs b o long)
 
-  -- an array of the items xs may be used as slots that hold xs
+  -- An array of the items `xs` can be converted into slots that hold `xs`.
   pub of_items : (k : ℕ) (xs : List (el_x E)) (o : ℕ)
       → ent 𝓤 (sem 𝓛 (part_at (Array (R E) k) full_share xs b o)) (sem 𝓛 (Row o (full xs)))
   of_items k xs o = qed 𝓛 (‵ (part_at (Array (R E) k) full_share xs b o) ∷ []) ∵
       use1 𝓛 (given (length xs ≡ k) (‵ (row (R E) full_share xs b o)))
       (arrays.apart E' 𝓛 full_share k xs b o) $ learn ! (λ _. by ! (of_row xs o))
 
-  -- the number of items in an array is the number k in the array's type
+  -- If an array type has the length `k`, then an array of this type consists of `k` items.
   pub counted : (k : ℕ) (xs : List (el_x E)) (o : ℕ)
       → ent 𝓤 (sem 𝓛 (part_at (Array (R E) k) full_share xs b o))
       (guard 𝓤 (length xs ≡ k) (sem 𝓛 (part_at (Array (R E) k) full_share xs b o)))
@@ -191,19 +194,19 @@ module _ (E : El) {M : Type 1} {𝓤 : Ura M} (𝓛 : Logic 𝓤) (b : ℕ) wher
       (arrays.apart E' 𝓛 full_share k xs b o) $
       learn ! (λ long. check ! long $ by ! (arrays.whole E' 𝓛 full_share k xs b o long))
 
-  -- slots that hold the items xs may be used as the cells of a slice of xs
+  -- Slots that hold the items `xs` can be converted into the elements of a slice of `xs`.
   pub to_cells : (xs : List (el_x E)) (o : ℕ) → ent 𝓤 (sem 𝓛 (Row o (full xs)))
       (sem 𝓛 (cells (mem (R E)) xs b o))
   to_cells [] o = id⊢ 𝓤 (emp 𝓤)
   to_cells (x ∷ xs) o = mono_r 𝓤 (sem 𝓛 (part_at (R E) full_share x b o)) (to_cells xs (o + s))
 
-  -- the cells of a slice of xs may be used as slots that hold the items xs
+  -- The elements of a slice of `xs` can be converted into slots that hold the items `xs`.
   pub of_cells : (xs : List (el_x E)) (o : ℕ) → ent 𝓤 (sem 𝓛 (cells (mem (R E)) xs b o))
       (sem 𝓛 (Row o (full xs)))
   of_cells [] o = id⊢ 𝓤 (emp 𝓤)
   of_cells (x ∷ xs) o = mono_r 𝓤 (sem 𝓛 (part_at (R E) full_share x b o)) (of_cells xs (o + s))
 
-  -- uninitialized memory for an array of k items may be used as k empty slots
+  -- Uninitialized memory for an array of `k` items can be converted into `k` empty slots.
   pub of_room : (k o : ℕ) → ent 𝓤 (H.room (ty_array (elτ E) k) b o) (sem 𝓛 (Row o (empty k)))
   of_room zero o = qed 𝓛 (‵ (froom (ty_array (elτ E) 0) b o) ∷ []) ∵ keep ! [] $ done !
   of_room (suc k) o = qed 𝓛 (‵ (froom (ty_array (elτ E) (suc k)) b o) ∷ []) ∵
@@ -212,7 +215,8 @@ module _ (E : El) {M : Type 1} {𝓤 : Ura M} (𝓛 : Logic 𝓤) (b : ℕ) wher
       use1 𝓛 (‵ (place (R E) None b o)) (𝓛.laws.room-raw (elτ E) b o) $ keeps ! $
       by ! (of_room k (o + s))
 
-  -- k empty slots may be used as uninitialized memory for an array of k items
+  -- The memory of `k` empty slots can be converted into uninitialized memory for an array of `k`
+  -- items.
   pub to_room : (k o : ℕ) → ent 𝓤 (sem 𝓛 (Row o (empty k))) (H.room (ty_array (elτ E) k) b o)
   to_room zero o = 𝓛.laws.room_nil (elτ E) b o
   to_room (suc k) o = qed 𝓛 (‵ (Row o (empty (suc k))) ∷ []) ∵ fsplit ! $
@@ -220,17 +224,20 @@ module _ (E : El) {M : Type 1} {𝓤 : Ura M} (𝓛 : Logic 𝓤) (b : ℕ) wher
       use1 𝓛 (‵ (froom (ty_array (elτ E) k) b (o + s))) (to_room k (o + s)) $ move ! (1 ∷ []) $
       by ! (𝓛.laws.room_cons (elτ E) k b o)
 
-  -- uninitialized memory for the bare type of an array of k items may be used as k empty slots
+  -- Uninitialized memory for an array of `k` items can be converted into `k` empty slots. This
+  -- lemma is for the bare type of the array, which is the type without the names of its fields.
   pub of_raw : (k o : ℕ) → ent 𝓤 (H.room (bare (ty_array (elτ E) k)) b o) (sem 𝓛 (Row o (empty k)))
   of_raw k o = via 𝓤 (H.room (ty_array (elτ E) k) b o)
       (𝓛.laws.raw-room (ty_array (elτ E) k) b o) (of_room k o)
 
-  -- k empty slots may be used as uninitialized memory for the bare type of an array of k items
+  -- The memory of `k` empty slots can be converted into uninitialized memory for an array of `k`
+  -- items. This lemma is for the bare type of the array, which is the type without the names of its
+  -- fields.
   pub to_raw : (k o : ℕ) → ent 𝓤 (sem 𝓛 (Row o (empty k))) (H.room (bare (ty_array (elτ E) k)) b o)
   to_raw k o = via 𝓤 (H.room (ty_array (elτ E) k) b o) (to_room k o)
       (𝓛.laws.room-raw (ty_array (elτ E) k) b o)
 
-  -- `Others o xs i j` is all slots of the row xs except the slots i and j, for i less than j
+  -- `Others o xs i j` is the memory of all slots `xs` except the slots `i` and `j`, if `i < j`.
   abbrev Others : ℕ → List (Slot E) → ℕ → ℕ → Fml
   Others o xs i j = fsep (besides o (take j xs) i) (Row (j * s + o + s) (drop (suc j) xs))
 
@@ -269,8 +276,8 @@ module _ (E : El) {M : Type 1} {𝓤 : Ura M} (𝓛 : Logic 𝓤) (b : ℕ) wher
       (sym (drop-set-lt (suc j) xs i x (omega arith))) refl $ fjoin ! $ move ! (1 ∷ 0 ∷ []) $
       by ! (slot_in o (set xs i x) j low' y)
 
-  -- `Two o xs i j`: the slots i and j can be taken out of the row xs, and can be put back with any
-  -- content
+  -- `Two o xs i j` says that the slots `i` and `j` can be split off the memory of the slots `xs`.
+  -- They can later be joined with the other slots again, whatever they then contain.
   pub record Two (o : ℕ) (xs : List (Slot E)) (i j : ℕ) : Type 1 where
     pub Rest : Fml
     pub out : ent 𝓤 (sem 𝓛 (Row o xs))
@@ -305,8 +312,8 @@ module _ (E : El) {M : Type 1} {𝓤 : Ura M} (𝓛 : Logic 𝓤) (b : ℕ) wher
             done !;
       }
 
-  -- if i and j differ, the slots i and j can be taken out of the row xs, and can be put back with
-  -- any content
+  -- If `i` and `j` are different, the slots `i` and `j` can be split off the memory of the slots
+  -- `xs`. They can later be joined with the other slots again, whatever they then contain.
   pub two_slots : (o : ℕ) (xs : List (Slot E)) (i j : ℕ) → (i ≡ j → ⊥) → i < length xs
       → j < length xs → Two o xs i j
   two_slots o xs i j apart low low' = ⊎_elim (λ (p : i < j). in_order o xs i j p low')

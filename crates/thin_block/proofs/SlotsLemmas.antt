@@ -1,4 +1,6 @@
--- Lemmas on the definitions of specs/Slots.antt: runs, laid slots, moved runs and packed rows.
+-- Lemmas on the definitions in specs/Slots.antt. They are about adjacent slots (`run`), replaced
+-- slots (`laid`), moved items (`moved`), and packed slots (`IsPacked`). Slots are packed if every
+-- filled slot precedes every empty slot.
 use Rattle.std.proofs.Common.{◌⊎◌, ◌≡◌, ℕ, zero, suc, ◌+◌, ◌-◌, ◌<◌, ◌≤◌, List, [], ◌∷◌, ◌++◌, length, Some, None, refl, sym, ap, subst, ◌∙◌, arith, append_assoc}
 use Rattle.std.proofs.lemmas.List.{take-append-drop, drop-drop, set_at, get_or-append_right, get_or-drop, length-replicate, length-map, length-append, length-take, length-drop, take_at, drop_at, drop-replicate, replicate-append-replicate}
 use mathlib.Core.Logic.{inl, inr, ⊎_elim}
@@ -10,7 +12,7 @@ use Rattle.std.specs.Prelude.{Option, IsSome, take, drop, replicate}
 use Rattle.thin_block.specs.Lends.{over}
 use Rattle.thin_block.specs.Slots.{full, empty, slot, items_in, IsPacked, run, laid, emptied, moved}
 
--- two indices are equal or different
+-- Two indices are either equal or different.
 pub same_or_not : (i j : ℕ) → (i ≡ j) ⊎ (i ≡ j → ⊥)
 same_or_not i j =
     ⊎_elim (λ (p : i < j). inr (λ (e : i ≡ j). absurd (omega arith)))
@@ -18,25 +20,26 @@ same_or_not i j =
     (λ (q : i ≤ j). inl (let e : i ≡ j = omega arith in e)) (order j i)) (order i j)
 
 module _ {T : Type 0} where
-  -- if i equals j, swapping the slots i and j is the same as writing slot i to itself
+  -- If `i ≡ j`, then swapping the slots `i` and `j` is the same as writing slot `i` to itself.
   pub set-same : (s : List (Option T)) (i j : ℕ) → i ≡ j
       → set s i (slot s i) ≡ set (set s i (slot s j)) j (slot s i)
   set-same s i j same =
       sym (set-set s i (slot s i) (slot s i))
       ∙ (λ n. set (set s i (slot s (same n))) (same n) (slot s i))
 
-  -- a filled slot holds an item
+  -- If a slot is filled, then it holds some item `y`.
   pub the_item : (x : Option T) → IsSome x → (y : T) × (x ≡ Some y)
   the_item (Some y) is = (y, refl)
   the_item None is = absurd (clash is)
 
-  -- the index of a filled slot is less than the number of slots
+  -- The index of a filled slot is less than the number of slots.
   pub filled-within : (s : List (Option T)) (i : ℕ) → IsSome (slot s i) → i < length s
   filled-within [] i is = absurd (clash is)
   filled-within (x ∷ s) zero is = omega arith
   filled-within (x ∷ s) (suc i) is = let low = filled-within s i is in omega arith
 
-  -- if each slot of a run is filled, there is a list of items that the run holds
+  -- If each of the slots `i..i + k` is filled, then there is a list of items `xs` such that these
+  -- slots are `full xs`.
   pub full-run : (s : List (Option T)) (i k : ℕ) → i + k ≤ length s
       → ((j : ℕ) → i ≤ j → j < i + k → IsSome (slot s j)) → (xs : List T) × (run i k s ≡ full xs)
   full-run [] zero zero le filled = ([], refl)
@@ -51,7 +54,7 @@ module _ {T : Type 0} where
       (λ j p q. filled (suc j) (omega arith) (omega arith)) in
       (item.0 ∷ rest.0, λ n. item.1 n ∷ rest.1 n)
 
-  -- if each slot of a run is empty, the run is k empty slots
+  -- If each of the slots `i..i + k` is empty, then `run i k s` is `empty k`.
   pub empty-run : (s : List (Option T)) (i k : ℕ) → i + k ≤ length s
       → ((j : ℕ) → i ≤ j → j < i + k → slot s j ≡ None) → run i k s ≡ empty k
   empty-run [] zero zero le bare = refl
@@ -64,12 +67,11 @@ module _ {T : Type 0} where
       λ n. bare zero (omega arith) (omega arith) n ∷ empty-run s zero k (omega arith)
       (λ j p q. bare (suc j) (omega arith) (omega arith)) n
 
-  -- if the row s has at least i + k slots, `run i k s` has k slots
+  -- If `i + k ≤ length s`, then `run i k s` consists of `k` slots.
   pub length-run : (s : List (Option T)) (i k : ℕ) → i + k ≤ length s → length (run i k s) ≡ k
   length-run s i k le = omega (arith, length-take k (drop i s), length-drop i s)
 
-  -- laying the slots ys over a row that has room for them does not change the number of slots of
-  -- the row
+  -- If `i + length ys ≤ length s`, then `laid i ys s` is as long as `s`.
   pub length-laid : (i : ℕ) (ys s : List (Option T)) → i + length ys ≤ length s
       → length (laid i ys s) ≡ length s
   length-laid i ys s le =
@@ -81,8 +83,8 @@ module _ {T : Type 0} where
         length-drop (i + length ys) s,
       )
 
-  -- if the slots from i on are filled, replacing their items by ws is the same as laying filled
-  -- slots with the items ws over the row
+  -- If the slots `i..i + length ws` are filled, then `over s i ws` is `laid i (full ws) s`. Both
+  -- replace the items in these slots by the items `ws`.
   pub over-laid : (s : List (Option T)) (i : ℕ) (ws : List T) → i + length ws ≤ length s
       → ((j : ℕ) → i ≤ j → j < i + length ws → IsSome (slot s j)) → over s i ws ≡ laid i (full ws) s
   over-laid [] zero [] le held = refl
@@ -105,12 +107,13 @@ module _ {T : Type 0} where
       (λ j low high. held (suc j) (omega arith) (omega arith)))
       ∙ ap (λ (k : ℕ). Some w ∷ (full ws ++ drop k (Some x ∷ s))) more
 
-  -- laying no slots over a row does not change the row
+  -- Replacing no slots changes nothing: `laid i [] s` is `s`.
   pub laid-none : (i : ℕ) (s : List (Option T)) → laid i [] s ≡ s
   laid-none i s = ap (λ (k : ℕ). take i s ++ drop k s) (let e : i + 0 ≡ i = omega arith in
       e) ∙ take-append-drop i s
 
-  -- laying ys and then setting the next slot to y is the same as laying ys followed by y
+  -- Replacing slots by `ys` and then setting the next slot to `y` is the same as replacing slots by
+  -- `ys` followed by `y`.
   pub laid-one : (i : ℕ) (ys s : List (Option T)) (k : ℕ) (y : Option T) → k ≡ i + length ys
       → k < length s → set (laid i ys s) k y ≡ laid i (ys ++ y ∷ []) s
   laid-one i ys s k y e within =
@@ -128,7 +131,7 @@ module _ {T : Type 0} where
       (sym (append_assoc ys (y ∷ []) (drop (suc k) s)))
       ∙ ap (λ (n : ℕ). take i s ++ ((ys ++ y ∷ []) ++ drop n s)) long))))
 
-  -- laying the slots ys over a row does not change the slots after them
+  -- If slots from index `i` onward are replaced by `ys`, then the slots after `ys` do not change.
   pub slot-laid : (i : ℕ) (ys s : List (Option T)) (k : ℕ) → i ≤ length s → i + length ys ≤ k
       → slot (laid i ys s) k ≡ slot s k
   slot-laid i ys s k low past =
@@ -139,20 +142,22 @@ module _ {T : Type 0} where
       ∙ ap (λ (n : ℕ). slot s n)
       (let e : i + length ys + (k - i - length ys) ≡ k = omega arith in e)))
 
-  -- a row is the slots before a run, the run, and the slots after it
+  -- A list of slots is the concatenation of the slots before index `i`, the slots `i..i + k`, and
+  -- the slots after these.
   pub parted-run : (s : List (Option T)) (i k : ℕ) → s ≡ take i s ++ (run i k s ++ drop (i + k) s)
   parted-run s i k =
       sym (take-append-drop i s)
       ∙ ap (λ (l : List (Option T)). take i s ++ l) (sym (take-append-drop k (drop i s))
       ∙ ap (λ (l : List (Option T)). run i k s ++ l) (drop-drop k i s))
 
-  -- a run of a + k slots is a run of a slots, followed by a run of k slots
+  -- The `a + k` slots from index `i` onward are the first `a` of these slots, followed by the other
+  -- `k` slots.
   pub run-split : (s : List (Option T)) (i a k : ℕ) → run i (a + k) s ≡ run i a s ++ run (i + a) k s
   run-split s i a k = take-add a k (drop i s)
       ∙ ap (λ (l : List (Option T)). run i a s ++ take k l) (drop-drop a i s)
 
-  -- if the part `old` of a row begins at the index i and ys has the same length, then laying ys at
-  -- i replaces this part
+  -- If `i ≡ length pre` and `length ys ≡ length old`, then `laid i ys` replaces `old` by `ys` in
+  -- `pre ++ (old ++ post)`.
   pub laid-at : (i : ℕ) (pre ys old post : List (Option T)) → i ≡ length pre
       → length ys ≡ length old → laid i ys (pre ++ (old ++ post)) ≡ pre ++ (ys ++ post)
   laid-at i pre ys old post e n =
@@ -162,22 +167,21 @@ module _ {T : Type 0} where
       ∙ drop_at (pre ++ old) post (i + length ys) (length-append pre old ∙ omega arith) in
       λ m. take_at pre (old ++ post) i (sym e) m ++ (ys ++ rest m)
 
-  -- if the part ys of a row begins at the index i and has k slots, then the run of k slots from i
-  -- on is ys
+  -- If `i ≡ length pre` and `k ≡ length ys`, then `run i k (pre ++ (ys ++ post))` is `ys`.
   pub run-at : (i k : ℕ) (pre ys post : List (Option T)) → i ≡ length pre → k ≡ length ys
       → run i k (pre ++ (ys ++ post)) ≡ ys
   run-at i k pre ys post e n = ap (λ (l : List (Option T)). take k l)
       (drop_at pre (ys ++ post) i (sym e)) ∙ take_at ys post k (sym n)
 
   module _ (from to k : ℕ) where
-    -- if the run is ys, the row with the run emptied is `bare`, and laying ys over `bare` from `to`
-    -- on yields `result`, then moving the run yields `result`
+    -- If `run from k s ≡ ys`, `emptied from k s ≡ bare` and `laid to ys bare ≡ result`, then `moved
+    -- from to k s ≡ result`.
     moved-by : (s ys bare result : List (Option T)) → run from k s ≡ ys → emptied from k s ≡ bare
         → laid to ys bare ≡ result → moved from to k s ≡ result
     unfolding moved
     moved-by s ys bare result e f g = (λ n. laid to (e n) (f n)) ∙ g
 
-  -- moving a run does not change the number of slots of the row
+  -- Moving items to other slots does not change the number of slots.
   pub length-moved : (from to k : ℕ) (s : List (Option T)) → from + k ≤ length s → to + k ≤ length s
       → length (moved from to k s) ≡ length s
   unfolding moved
@@ -189,7 +193,7 @@ module _ {T : Type 0} where
       length-laid to (run from k s) (emptied from k s)
       (omega (arith, left, length-run s from k source)) ∙ left
 
-  -- two adjacent runs of empty slots may be exchanged
+  -- The order of `a` empty slots and `k` adjacent empty slots does not matter.
   empty-turn : (a k : ℕ) (post : List (Option T))
       → empty a ++ (empty k ++ post) ≡ empty k ++ (empty a ++ post)
   empty-turn a k post =
@@ -200,7 +204,8 @@ module _ {T : Type 0} where
       ∙ append_assoc (empty k) (empty a) post)
 
   module _ (from to k d : ℕ) where
-    -- if d empty slots precede a run, moving the run down by d puts it before these empty slots
+    -- If `d` empty slots precede the slots `ys`, then moving `ys` down by `d` slots exchanges `ys`
+    -- and the empty slots.
     pub moved_left : (pre ys post : List (Option T)) → to ≡ length pre → from ≡ to + d
         → k ≡ length ys
         → moved from to k (pre ++ (empty d ++ (ys ++ post))) ≡ pre ++ (ys ++ (empty d ++ post))
@@ -225,7 +230,8 @@ module _ {T : Type 0} where
         (laid-at to pre ys (empty k) (empty d ++ post) t (sym m))
 
   module _ (from to k d : ℕ) where
-    -- if d empty slots follow a run, moving the run up by d puts it after these empty slots
+    -- If `d` empty slots follow the slots `ys`, then moving `ys` up by `d` slots exchanges `ys` and
+    -- the empty slots.
     pub moved_right : (pre ys post : List (Option T)) → from ≡ length pre → to ≡ from + d
         → k ≡ length ys
         → moved from to k (pre ++ (ys ++ (empty d ++ post))) ≡ pre ++ (empty d ++ (ys ++ post))
@@ -249,8 +255,8 @@ module _ {T : Type 0} where
         ∙ append_assoc pre (empty d) (ys ++ post))
 
   module _ (from to k : ℕ) where
-    -- if a run moves up past the slots `mid` to k empty slots, the old slots of the run become
-    -- empty, and `mid` does not change
+    -- Moving the `k` slots `ys` up past the slots `mid` to `k` empty slots exchanges `ys` and the
+    -- empty slots. The slots `mid` do not change.
     pub moved_over : (pre ys mid post : List (Option T)) → from ≡ length pre
         → to ≡ from + k + length mid → k ≡ length ys
         → moved from to k (pre ++ (ys ++ (mid ++ (empty k ++ post))))
@@ -272,8 +278,8 @@ module _ {T : Type 0} where
         (laid-at to front ys (empty k) post l (sym m) ∙ joined (ys ++ post))
 
   module _ (from to k : ℕ) where
-    -- if a run moves down past the slots `mid` to k empty slots, the old slots of the run become
-    -- empty, and `mid` does not change
+    -- Moving the `k` slots `ys` down past the slots `mid` to `k` empty slots exchanges `ys` and the
+    -- empty slots. The slots `mid` do not change.
     pub moved_back : (pre ys mid post : List (Option T)) → to ≡ length pre
         → from ≡ to + k + length mid → k ≡ length ys
         → moved from to k (pre ++ (empty k ++ (mid ++ (ys ++ post))))
@@ -295,13 +301,13 @@ module _ {T : Type 0} where
         ∙ (laid-at from front (empty k) ys post l m ∙ joined (empty k ++ post)))
         (laid-at to pre ys (empty k) (mid ++ (empty k ++ post)) t (sym m))
 
-  -- every slot of an empty row is empty
+  -- Every slot in the list `empty k` is empty.
   pub slot-empty : (k i : ℕ) → slot (empty {T = T} k) i ≡ None
   slot-empty zero i = refl
   slot-empty (suc k) zero = refl
   slot-empty (suc k) (suc i) = slot-empty k i
 
-  -- if a row begins with the n items of xs, each of its first n slots is filled
+  -- If a list of slots begins with `full xs`, then each of its first `length xs` slots is filled.
   full-filled : (xs : List T) (rest : List (Option T)) (i : ℕ) → i < length xs
       → IsSome (slot (full xs ++ rest) i)
   full-filled [] rest i low = absurd (omega arith)
@@ -309,8 +315,7 @@ module _ {T : Type 0} where
   full-filled (x ∷ xs) rest (suc i) low =
       full-filled xs rest i (let low' : suc i < suc (length xs) = low in omega arith)
 
-  -- if c is a + b, a row of the items xs and c empty slots is a row of the items xs and a empty
-  -- slots, followed by b empty slots
+  -- If `c ≡ a + b`, then `full xs ++ empty c` is `(full xs ++ empty a) ++ empty b`.
   tail-split : (xs : List T) (a b c : ℕ) → c ≡ a + b
       → full xs ++ empty c ≡ (full xs ++ empty a) ++ empty b
   tail-split xs a b c e =
@@ -319,7 +324,8 @@ module _ {T : Type 0} where
       ∙ (ap (λ (l : Row). full xs ++ l) (sym (replicate-append-replicate a b None))
       ∙ sym (append_assoc (full xs) (empty a) (empty b)))
 
--- lemmas on a packed row: its n items are in its first n slots
+-- Lemmas on packed slots `s`. The first `n` of these slots hold `n` items, and the other slots are
+-- empty.
 module _ {T : Type 0} (s : List (Option T)) (n : ℕ) (packed : IsPacked s n) where
   abbrev xs : List T
   xs = items_in s
@@ -333,21 +339,21 @@ module _ {T : Type 0} (s : List (Option T)) (n : ℕ) (packed : IsPacked s n) wh
   parted : s ≡ full xs ++ empty (length s - n)
   parted = packed.row ∙ ap (λ (k : ℕ). full xs ++ empty (length s - k)) (sym packed.len)
 
-  -- the number n of items is at most the number of slots
+  -- The number of items `n` is at most the number of slots.
   pub packed-le : n ≤ length s
   packed-le =
       let whole : length s ≡ length (full xs ++ empty {T = T} (length s - n)) = ap length parted in
       let long = full-long in
       omega (arith, length-append (full xs) (empty {T = T} (length s - n)))
 
-  -- each of the first n slots is filled
+  -- Each of the first `n` slots is filled.
   pub packed-filled : (i : ℕ) → i < n → IsSome (slot s i)
   packed-filled i low =
       let len = packed.len in
       subst (λ (l : Row). IsSome (slot l i)) (sym packed.row)
       (full-filled xs (empty (length s - length xs)) i (omega arith))
 
-  -- the first n slots hold the items of the row, in order
+  -- The first `n` slots hold all items of the list, in order.
   pub packed-run : run 0 n s ≡ full xs
   packed-run = ap (λ (l : Row). take n l) parted
       ∙ take_at (full xs) (empty (length s - n)) n full-long
@@ -356,7 +362,7 @@ module _ {T : Type 0} (s : List (Option T)) (n : ℕ) (packed : IsPacked s n) wh
   packed-rest = ap (λ (l : Row). drop n l) parted
       ∙ drop_at (full xs) (empty (length s - n)) n full-long
 
-  -- emptying the first n slots leaves only empty slots
+  -- After the first `n` slots have been emptied, all slots are empty.
   pub packed-emptied : emptied 0 n s ≡ empty (length s)
   packed-emptied =
       let le = packed-le in
@@ -367,7 +373,8 @@ module _ {T : Type 0} (s : List (Option T)) (n : ℕ) (packed : IsPacked s n) wh
       ∙ (replicate-append-replicate n (length s - n) None
       ∙ ap (λ (k : ℕ). empty k) (let e : n + (length s - n) ≡ length s = omega arith in e)))
 
-  -- laying the first n slots over c empty slots gives the items, followed by empty slots
+  -- Moving the first `n` slots of `s` into `c` empty slots yields the items of `s`, followed by
+  -- empty slots.
   pub packed-carried : (c : ℕ) → laid 0 (run 0 n s) (empty c) ≡ full xs ++ empty (c - n)
   packed-carried c =
       let long : 0 + length (full xs) ≡ n = omega (arith, full-long) in
@@ -375,8 +382,8 @@ module _ {T : Type 0} (s : List (Option T)) (n : ℕ) (packed : IsPacked s n) wh
       ∙ (ap (λ (k : ℕ). full xs ++ drop k (empty c)) long ∙ ap (λ (l : Row). full xs ++ l)
       (drop-replicate n c None))
 
-  -- if c is at least the number of slots, laying the items over c empty slots gives the old row,
-  -- followed by empty slots
+  -- If `length s ≤ c`, then moving the first `n` slots of `s` into `c` empty slots yields `s`,
+  -- followed by empty slots.
   pub packed-grown : (c : ℕ) → length s ≤ c
       → laid 0 (run 0 n s) (empty c) ≡ s ++ empty (c - length s)
   packed-grown c more =
@@ -384,8 +391,8 @@ module _ {T : Type 0} (s : List (Option T)) (n : ℕ) (packed : IsPacked s n) wh
       packed-carried c ∙ (tail-split xs (length s - n) (c - length s) (c - n) (omega arith)
       ∙ ap (λ (l : Row). l ++ empty (c - length s)) (sym parted))
 
-  -- if c is at least n and at most the number of slots, laying the items over c empty slots gives
-  -- the first c slots of the old row
+  -- If `n ≤ c` and `c ≤ length s`, then moving the first `n` slots of `s` into `c` empty slots
+  -- yields the first `c` slots of `s`.
   pub packed-shrunk : (c : ℕ) → n ≤ c → c ≤ length s → laid 0 (run 0 n s) (empty c) ≡ take c s
   packed-shrunk c enough less =
       let kept : Row = full xs ++ empty (c - n) in

@@ -1,13 +1,15 @@
--- A block as an array of words from its start: the last words are kept in the place of the header
--- until the allocator returns. Assumes `Logic`.
---     asked_size, asked_align     the size and the alignment for which a block is allocated
---     carve_asked, gather         split the memory of a block into its parts, and join them again
---     turn_out, turn_back         split the last k words from the other words, and join them again
---     turn_up, turn_down          make the array that an allocator can grow, and split it again
---     units_out                   turns memory for the k words in the place of the header into
+-- These lemmas convert a block into one array of words, and the array back into a block. An
+-- allocator can grow or shrink such an array. A word is a struct of several items. Until the
+-- allocator returns, the last words are in the place of the header. The lemmas assume the laws of
+-- the separation logic (`Logic`).
+--     asked_size, asked_align     the size and the alignment with which a block is allocated
+--     carve_asked, gather         split the memory of a block into its parts, and join these again
+--     turn_out, turn_back         split the last `k` words off the other words, and join them again
+--     turn_up, turn_down          form the array that an allocator can grow, and split it again
+--     units_out                   converts memory for the `k` words in the place of the header into
 --                                 memory for the capacity and the length
---     header_apart, header_whole  split a block without its slots into memory for words, and join
---                                 it again
+--     header_apart, header_whole  split the header into memory for words and the rights that belong
+--                                 to a block, and join them again
 use Rattle.std.proofs.Common.{◌≡◌, true, ℕ, Some, None, ◌+◌, ◌-◌, ◌*◌, List, [], ◌∷◌, ◌++◌, length, refl, sym, ap, ◌∙◌, arith, w64, append_assoc}
 use Rattle.std.proofs.lemmas.List.{length-map, length-append, length-replicate, map-append, replicate-append-replicate}
 use Rattle.std.specs.Prelude.{Bool}
@@ -46,11 +48,11 @@ use Rattle.thin_block.proofs.SlotMemory.{cut, glue, to_items, of_items, to_raw, 
 use Rattle.thin_block.proofs.WordsLemmas.{InWords, word_align, word_size, words_told, nameless}
 use Rattle.thin_block.proofs.WordsMemory.{word_el, header_out, header_in, block_out, block_in}
 
--- the type of half of the header: both the capacity and the length have this type
+-- The type of one half of the header. Both the capacity and the length have this type.
 abbrev half : Ty
 half = ty_int w64
 
--- Section: the layout for which a block is allocated
+-- Section: the size and the alignment with which a block is allocated.
 module _ (Rw : RattleType) (c : ℕ) where
   abbrev s₀ : ℕ
   s₀ = type_size Rw
@@ -61,7 +63,8 @@ module _ (Rw : RattleType) (c : ℕ) where
   abbrev τ₀ : Ty
   τ₀ = lone Rw.mir
 
-  -- the names of fields do not change how many items make a word
+  -- The number of items in a word depends only on the size of the item type. The names of the
+  -- fields do not matter.
   pub same_words : words_of Rw ≡ in_words s₀
   same_words = ap in_words (size-raw τ₀)
 
@@ -78,30 +81,34 @@ module _ (Rw : RattleType) (c : ℕ) where
   align_for None e = whole_align Rw c
   align_for (Some w) e = ap word_align (align-raw τ₀) ∙ (words_told Rw w.0 w.1 e).align
 
-  -- a block is allocated with the size `block_bytes`, whether its items make words or not
+  -- A block is allocated with the size that `block_bytes` computes, whether or not its items can be
+  -- grouped into words. A word is a struct of several items.
   pub asked_size : size (asked Rw c) ≡ block_bytes s₀ a₀ c
   asked_size = size_for (words_of Rw) (sym same_words)
 
-  -- a block is allocated with the alignment `block_align`, whether its items make words or not
+  -- A block is allocated with the alignment that `block_align` computes, whether or not its items
+  -- can be grouped into words. A word is a struct of several items.
   pub asked_align : align (asked Rw c) ≡ block_align a₀
   asked_align = align_for (words_of Rw) (sym same_words)
 
--- Section: the memory of a block
+-- Section: splitting the memory of a block into its parts.
 module _ {M : Type 1} {𝓤 : Ura M} (𝓛 : Logic 𝓤) (E : El) (b c o : ℕ) where
   open 𝓛 use {H}
 
-  -- the parts of a block: the two words of the header, the slots, and what turns these parts back
-  -- into the memory of the whole block
+  -- The parts of a block's memory: the two words of the header, the slots, and the right to join
+  -- these parts again.
   abbrev Parts : Option (ℕ × ℕ) → SProp 𝓤
   Parts w = sep 𝓤 (H.room half b o) (sep 𝓤 (H.room half b (o + 8))
       (sep 𝓤 (H.room (array_of (R E) c) b (o + 16)) (sem 𝓛 (way_back w (bare (R E)) c b o))))
 
-  -- if the items of the block make words, then `InWords` holds for their bare type
+  -- If the items of the block can be grouped into words, then `InWords` holds for the item type
+  -- without the names of its fields.
   known : (w : ℕ × ℕ) → in_words (type_size (R E)) ≡ Some w
       → InWords (size (bare (R E))) (align (bare (R E))) w.0 w.1
   known w e = nameless (elτ E) w.0 w.1 (words_told (R E) w.0 w.1 e)
 
-  -- splits the memory of a block into its parts, whether its items make words or not
+  -- Splits the memory of a block into its parts, whether or not its items can be grouped into
+  -- words. A word is a struct of several items.
   carve_for : (w : Option (ℕ × ℕ)) → in_words (type_size (R E)) ≡ w
       → ent 𝓤 (H.room (asked_for w (bare (R E)) c) b o) (Parts w)
   carve_for None e = carve 𝓛 (R E) c b o
@@ -120,13 +127,13 @@ module _ {M : Type 1} {𝓤 : Ura M} (𝓛 : Logic 𝓤) (E : El) (b c o : ℕ) 
       let h = known w e in
       block_in 𝓛 (bare (R E)) w.0 w.1 b h (div_ceil c w.0) c o (h.counts.covers c)
 
-  -- splits the memory of a block into its parts, and keeps what turns these parts back into the
-  -- whole
+  -- Splits the memory of a block into its parts. The last part is the right to join the other parts
+  -- again.
   pub carve_asked : ent 𝓤 (H.room (asked (R E) c) b o) (Parts (words_of (R E)))
   carve_asked = carve_for (words_of (R E)) (sym (same_words (R E) c))
 
-  -- joins a block without its slots, and uninitialized memory for the slots, into the memory of the
-  -- whole block and the right to free it
+  -- Joins a block without its slots and uninitialized memory for its slots. The result is the
+  -- memory of the whole block, and the right to free it.
   pub gather : (t : Ty → Ptr → Fml) (n : ℕ)
       → ent 𝓤 (sep 𝓤 (sem 𝓛 (frame t (R E) n c b o)) (H.room (array_of (R E) c) b (o + 16)))
       (sep 𝓤 (H.room (asked (R E) c) b o) (sem 𝓛 (t (asked (R E) c) (block_ptr b o))))
@@ -139,14 +146,14 @@ module _ {M : Type 1} {𝓤 : Ura M} (𝓛 : Logic 𝓤) (E : El) (b c o : ℕ) 
       (uint_out 𝓛 full_share w64 n b (o + 8)) $
       use1 𝓛 (‵ (froom half b (o + 8))) (𝓛.laws.at_room half b (o + 8) (vint w64 n)) $
       move ! (1 ∷ []) $ fsplit ! $ drop ! $ fsplit ! $
-      -- The block is split. The context holds, in this order: [what turns the parts back into the
-      -- whole; the right to free the block; memory for the length; memory for the capacity; memory
-      -- for the slots].
+      -- The block has been split. The proof context holds, in this order: [the right to join the
+      -- parts of the block again; the right to free the block; memory for the length; memory for
+      -- the capacity; memory for the slots].
       move ! (3 ∷ 2 ∷ 4 ∷ 0 ∷ []) $ group ! 4 $
       use1 𝓛 (‵ (froom (asked (R E) c) b o))
       (gather_for (words_of (R E)) (sym (same_words (R E) c))) $ done !
 
--- Section: the block as an array of items from its start
+-- Section: a block as one array of items that begins at the start of the block.
 module _ {M : Type 1} {𝓤 : Ura M} (𝓛 : Logic 𝓤) (E : El) (b : ℕ) (k : ℕ)
     (hd : k * type_size (R E) ≡ 16) (o : ℕ) where
   open 𝓛 use {H}
@@ -157,8 +164,8 @@ module _ {M : Type 1} {𝓤 : Ura M} (𝓛 : Logic 𝓤) (E : El) (b : ℕ) (k :
   abbrev Slots' : ℕ → List (Option (el_x E)) → Fml
   Slots' at xs = places (R E) xs b at
 
-  -- a row of the items xs, the k items ys and m empty slots, in this order; the items ys take as
-  -- many bytes as the header
+  -- Lemmas on slots that hold the items `xs` and then the `k` items `ys`, followed by `m` empty
+  -- slots. The items `ys` take as many bytes as the header.
   module _ (xs ys : List (el_x E)) (long : length ys ≡ k) (n m : ℕ)
       (count : n ≡ length xs + k) where
     abbrev there : ℕ
@@ -197,7 +204,8 @@ module _ {M : Type 1} {𝓤 : Ura M} (𝓛 : Logic 𝓤) (E : El) (b : ℕ) (k :
     abbrev Last : ℕ → Fml
     Last at = part_at (Array (R E) k) full_share ys b at
 
-    -- splits the last k items ys from the items xs and from the empty slots
+    -- Splits the memory of the slots into three parts: the items `xs`, the last `k` items `ys`, and
+    -- the empty slots.
     pub turn_out : ent 𝓤 (sem 𝓛 (Slots' (o + 16) All))
         (sep 𝓤 (sem 𝓛 (Slots' (o + 16) (full xs)))
         (sep 𝓤 (sem 𝓛 (Last there)) (sem 𝓛 (Slots' past_all (empty m)))))
@@ -210,8 +218,8 @@ module _ {M : Type 1} {𝓤 : Ura M} (𝓛 : Logic 𝓤) (E : El) (b : ℕ) (k :
         (cut E 𝓛 b (full ys) (empty m) there past_all at_end) $ split ! $
         use1 𝓛 (‵ (Last there)) (to_items E 𝓛 b k ys there long) $ move ! (2 ∷ 0 ∷ 1 ∷ []) $ done !
 
-    -- joins the items xs, the last k items ys and the empty slots into the row again, if ys is at
-    -- its old place after xs
+    -- Joins the items `xs`, the last `k` items `ys` and the empty slots again. The items `ys` must
+    -- be at their old address.
     pub turn_back : ent 𝓤 (sep 𝓤 (sem 𝓛 (Slots' (o + 16) (full xs)))
         (sep 𝓤 (sem 𝓛 (Last there)) (sem 𝓛 (Slots' past_all (empty m)))))
         (sem 𝓛 (Slots' (o + 16) All))
@@ -252,8 +260,8 @@ module _ {M : Type 1} {𝓤 : Ura M} (𝓛 : Logic 𝓤) (E : El) (b : ℕ) (k :
       counted' : length (ys ++ xs) ≡ n
       counted' = let a = length-append ys xs in omega arith
 
-      -- if the last k items are in the place of the header, then these and the other items are one
-      -- array from the start of the block
+      -- If the last `k` items are in the place of the header, then all items form one array that
+      -- begins at the start of the block.
       pub turn_up : ent 𝓤 (sep 𝓤 (sem 𝓛 (Last o)) (sep 𝓤 (sem 𝓛 (Slots' (o + 16) (full xs)))
           (sep 𝓤 (H.room (ty_array τ' k) b there)
           (sep 𝓤 (sem 𝓛 (Slots' past_all (empty m))) (sem 𝓛 Token))))) (sem 𝓛 Whole)
@@ -275,8 +283,9 @@ module _ {M : Type 1} {𝓤 : Ura M} (𝓛 : Logic 𝓤) (E : El) (b : ℕ) (k :
           rewrite ! 0 (λ (j : ℕ). ‵ (froom (array_of (R E) spare) b j)) turned refl $
           move ! (1 ∷ 0 ∷ 2 ∷ []) $ fjoin3 ! $ done !
 
-      -- splits an array from the start of the block into its first k items, which are in the place
-      -- of the header, the other items, and the memory after these
+      -- Splits an array that begins at the start of the block into four parts: its first `k` items,
+      -- in the place of the header; the other items; the memory after the items; and the right to
+      -- free the block.
       pub turn_down : ent 𝓤 (sem 𝓛 Whole) (sep 𝓤 (sem 𝓛 (Last o))
           (sep 𝓤 (sem 𝓛 (Slots' (o + 16) (full xs))) (sep 𝓤 (H.room (ty_array τ' k) b there)
           (sep 𝓤 (sem 𝓛 (Slots' past_all (empty m))) (sem 𝓛 Token)))))
@@ -296,8 +305,8 @@ module _ {M : Type 1} {𝓤 : Ura M} (𝓛 : Logic 𝓤) (E : El) (b : ℕ) (k :
           use1 𝓛 (‵ (froom (ty_array τ' k) b there)) (to_room E 𝓛 b k there) $
           move ! (2 ∷ 3 ∷ 0 ∷ 1 ∷ 4 ∷ []) $ done !
 
--- Section: the header of a block whose items make words. Here m items make one word, and the header
--- has the size of k words.
+-- Section: the header of a block with items that can be grouped into words. Here `m` items make one
+-- word, and `k` words take as many bytes as the header.
 module _ {M : Type 1} {𝓤 : Ura M} (𝓛 : Logic 𝓤) (T : RattleType) (L : Laws T) (b m k : ℕ)
     (is : in_words (type_size (param 0 T)) ≡ Some (m, k)) (o : ℕ) where
   open 𝓛 use {H}
@@ -314,16 +323,16 @@ module _ {M : Type 1} {𝓤 : Ura M} (𝓛 : Logic 𝓤) (T : RattleType) (L : L
   hd : InWords (size (bare (R Item))) (align (bare (R Item))) m k
   hd = nameless (elτ Item) m k (words_told (R Item) m k is)
 
-  -- splits uninitialized memory for k words into uninitialized memory for the capacity and the
-  -- length, and what turns this memory back
+  -- Splits uninitialized memory for `k` words into memory for the capacity and memory for the
+  -- length. The third part is the right to join these two parts again.
   pub units_out : ent 𝓤 (H.room units b o)
       (sep 𝓤 (H.room half b o)
       (sep 𝓤 (H.room half b (o + 8)) (sem 𝓛 (header_way (bare (R Item)) m k b o))))
   units_out = via 𝓤 (H.room (array_of (R W) k) b o) (𝓛.laws.room-raw units b o)
       (header_out 𝓛 (bare (R Item)) m k b hd o)
 
-  -- turns uninitialized memory for the capacity and the length back into uninitialized memory for k
-  -- words
+  -- Joins uninitialized memory for the capacity and for the length into uninitialized memory for
+  -- `k` words.
   pub units_in : ent 𝓤 (sep 𝓤 (H.room half b o) (sep 𝓤 (H.room half b (o + 8))
       (sem 𝓛 (header_way (bare (R Item)) m k b o)))) (H.room units b o)
   units_in = via 𝓤 (H.room (array_of (R W) k) b o) (header_in 𝓛 (bare (R Item)) m k b hd o)
@@ -339,8 +348,9 @@ module _ {M : Type 1} {𝓤 : Ura M} (𝓛 : Logic 𝓤) (T : RattleType) (L : L
     asked_words : words_of (R Item) ≡ Some (m, k)
     asked_words = same_words (R Item) c ∙ is
 
-    -- splits a block without its slots into uninitialized memory for the k words in the place of
-    -- the header, what turns the slots back into words, and the right to free the block
+    -- Splits a block without its slots into three parts: uninitialized memory for `k` words in the
+    -- place of the header, the right to convert memory for the slots into memory for words, and the
+    -- right to free the block.
     pub header_apart : ent 𝓤 (sem 𝓛 (frame t (R Item) n c b o))
         (sep 𝓤 (H.room units b o) (sep 𝓤 (sem 𝓛 Rest) (sem 𝓛 Right)))
     header_apart =
@@ -356,15 +366,16 @@ module _ {M : Type 1} {𝓤 : Ura M} (𝓛 : Logic 𝓤) (T : RattleType) (L : L
         rewrite ! 0 (λ (w : Option (ℕ × ℕ)). ‵ (backing_for t w (bare (R Item)) c b o)) asked_words
         refl $
         fsplit ! $ fsplit ! $
-        -- The block is split. The context holds, in this order: [what turns the header back into
-        -- words; what turns the slots back into words; the right to free the block; memory for the
-        -- length; memory for the capacity].
+        -- The block has been split. The proof context holds, in this order: [the right to convert
+        -- memory for the header into memory for words; the same right for the slots; the right to
+        -- free the block; memory for the length; memory for the capacity].
         move ! (4 ∷ 3 ∷ 0 ∷ []) $ use3 𝓛 (‵ (froom units b o)) units_in $ move ! (2 ∷ []) $
         rewrite ! 0 (λ (j : ℕ). ‵ (t (array_of (R W) j) (block_ptr b o))) (sym total) refl $
         move ! (1 ∷ 2 ∷ 0 ∷ []) $ done !
 
-    -- makes a block without its slots from the capacity, the length, what turns the header back
-    -- into words, what turns the slots back into words, and the right to free the block
+    -- Forms a block without its slots from the capacity, the length and three rights: to convert
+    -- memory for the header into memory for words, to convert memory for the slots into memory for
+    -- words, and to free the block.
     pub header_whole : fits_block (R Item) c ≡ true
         → ent 𝓤 (sep 𝓤 (sem 𝓛 (lies_at usize full_share (block_ptr b o) c))
         (sep 𝓤 (sem 𝓛 (lies_at usize full_share (block_ptr b (o + 8)) n))

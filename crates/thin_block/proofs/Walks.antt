@@ -1,5 +1,6 @@
--- What all walks share: the parts of a body, what must hold after a part has run, and how a walk
--- proves the clauses of an `ensures`. Assumes `Logic`.
+-- Lemmas that every walk needs. A walk is the proof of a function body. The lemmas are about the
+-- parts of a body, about what must hold after a part has run, and about the proof of the `ensures`
+-- clauses. They assume the laws of the separation logic (`Logic`).
 pub use Rattle.core.proofs.alloc.Shapes.{after, head, inside, arm_body}
 use Rattle.std.proofs.Common.{◌≡◌, ℕ, zero, suc, List, [], ◌∷◌, refl, T}
 use seplogic.Ra.Ura.{Ura}
@@ -21,8 +22,8 @@ use denote.Laws.{Is, Typed}
 use denote.Builtin.{unit}
 use denote.Signature.{Slot, plain}
 
--- `slot_at k ss` is the parameter of ss with the index k, or a parameter of the type `()` if ss is
--- too short
+-- `slot_at k ss` is the parameter with the index `k` in the list `ss`. If the list is too short, it
+-- is a parameter of the type `()`.
 abbrev pub slot_at : {n : ℕ} → ℕ → List (Slot n) → Slot n
 slot_at k [] = plain (λ _. unit)
 slot_at zero (s ∷ ss) = s
@@ -31,21 +32,21 @@ slot_at (suc k) (s ∷ ss) = slot_at k ss
 module _ {M : Type 1} {𝓤 : Ura M} (𝓛 : Logic 𝓤) where
   open 𝓛 use {H}
 
-  -- `then_runs C Λ E b q` is what must hold before the rest b of a body runs
+  -- `then_runs C Λ E b q` is what must hold before the remaining statements `b` of a body run.
   abbrev pub then_runs : Calls 𝓤 H → Loops 𝓤 H → Env 𝓤 H → Body → Post 𝓤 H → Post 𝓤 H
   then_runs C Λ E b q = any_q (after_seq 𝓤 H (Wp 𝓤 H C Λ E b (post 𝓤 H q)) (post 𝓤 H q))
 
-  -- what must hold at the end of an inner block
+  -- What must hold at the end of an inner block of statements.
   abbrev pub out_of_block : Post 𝓤 H → Post 𝓤 H
   out_of_block q = any_q (after_block 𝓤 H (post 𝓤 H q))
 
--- the clauses of a `requires` or an `ensures`, as facts in the context of a walk
+-- The `requires` or `ensures` clauses of a function, as facts in the proof context.
 abbrev pub Facts : {M : Type 1} (𝓤 : Ura M) → List (Type 0) → SProp 𝓤
 Facts 𝓤 [] = emp 𝓤
 Facts 𝓤 (φ ∷ []) = fact 𝓤 φ
 Facts 𝓤 (φ ∷ ψ ∷ φs) = sep 𝓤 (fact 𝓤 φ) (Facts 𝓤 (ψ ∷ φs))
 
--- proofs of the clauses of a `requires` or an `ensures`
+-- Proofs of the `requires` or `ensures` clauses of a function.
 abbrev pub Shown : List (Type 0) → Type 0
 Shown [] = Unit {0}
 Shown (φ ∷ []) = φ
@@ -59,7 +60,7 @@ facts_i 𝓤 (φ ∷ ψ ∷ φs) x =
     (via 𝓤 (sep 𝓤 (fact 𝓤 φ) (emp 𝓤)) (mono_l 𝓤 (emp 𝓤) (fact_i 𝓤 φ (emp 𝓤) x.0))
     (mono_r 𝓤 (fact 𝓤 φ) (facts_i 𝓤 (ψ ∷ φs) x.1)))
 
--- proves an `ensures` of several clauses; the rest of the goal remains
+-- Proves several `ensures` clauses at once. The rest of the goal remains to be proved.
 pub says_all : {M : Type 1} {𝓤 : Ura M} {𝓛 : Logic 𝓤} {K : Type 0} {Γ : List (Item 𝓤)} → K
     → (φs : List (Type 0)) {P : SProp 𝓤}
     → Shown φs → Step K 𝓛 Γ (prop P) Γ (prop (sep 𝓤 P (Facts 𝓤 φs)))
@@ -69,7 +70,7 @@ says_all {𝓤 = 𝓤} k φs {P} x = step (λ s. record {
       (via 𝓤 (sep 𝓤 (Facts 𝓤 φs) P) (mono_l 𝓤 P (facts_i 𝓤 φs x)) (comm∗ 𝓤 (Facts 𝓤 φs) P)));
 })
 
--- an `AllocError` owns nothing, so it can be made without resources
+-- An `AllocError` owns nothing. So it can be created without any resource.
 pub refused_made : {M : Type 1} {𝓤 : Ura M} (𝓛 : Logic 𝓤)
     → ent 𝓤 (emp 𝓤) (sem 𝓛 (AE.the_row.own_val (record {}) (vstruct vnil ∷ [])))
 refused_made 𝓛 = qed 𝓛 [] ∵
@@ -77,14 +78,16 @@ refused_made 𝓛 = qed 𝓛 [] ∵
     (Struct-Makes 𝓛 (Declared.shape AE.the_type) tt) tt (vstruct vnil ∷ []) (tt, (refl, tt)) $
     done !
 
--- if a list of machine values is typed by τ alone, it consists of one value of the type τ
+-- If a list of machine values matches the list of types `τ ∷ []`, then it consists of one value of
+-- the type `τ`.
 pub alone : (τ : Ty) (vs : List Val) → Typed (τ ∷ []) vs → (v : Val)
     × ((vs ≡ v ∷ []) × (T (has_ty τ v) × WT v))
 alone τ [] t = absurd t
 alone τ (v ∷ []) t = (v, (refl, t.0))
 alone τ (v ∷ w ∷ vs) t = absurd t.1
 
--- an array that was passed as an argument leaves no resource when the function returns
+-- A function that takes an array by value need not give any resource of the array back when it
+-- returns.
 pub nothing_left : {M : Type 1} {𝓤 : Ura M} (𝓛 : Logic 𝓤) {X : Type 0} (xs : List X)
     (fs : Entries (λ _. Unit {0}) xs)
     → ent 𝓤 (sem 𝓛 ftrue) (sem 𝓛 (all_last (λ _. Unit {0}) (λ _ _. ftrue) xs fs))

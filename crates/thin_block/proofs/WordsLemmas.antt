@@ -1,8 +1,9 @@
--- Which item sizes make words, and the size and the alignment of words, as arithmetic.
---     InWords       what is known if m items of s bytes make a word, and the header takes as many
---                   bytes as k words
---     words_told    if `in_words` finds words, then `InWords` holds
---     nameless      `InWords` also holds for bare types, whose fields have no names
+-- Arithmetic lemmas on words. A word is a struct of several items, and takes 8 or 16 bytes. The
+-- lemmas say which item sizes make words, and which size and alignment the words have.
+--     InWords       what is known if `m` items of `s` bytes make a word, and `k` words take as many
+--                   bytes as the header
+--     words_told    if `in_words` returns a pair of numbers, then `InWords` holds for it
+--     nameless      `InWords` also holds for bare types, which are types without field names
 use Rattle.std.proofs.Common.{◌≡◌, true, false, ℕ, Some, None, ◌+◌, ◌*◌, ◌<◌, ◌≤◌, refl, sym, ap, subst, arith}
 use Rattle.std.proofs.lemmas.Bool.{eqb-true}
 use Rattle.std.specs.Prelude.{◌==◌, if◌then◌else◌, Bool, Option, max}
@@ -21,15 +22,17 @@ use denote.RattleType.{RattleType}
 use Rattle.thin_block.specs.Capacity.{in_words, block_align, block_bytes}
 use Rattle.std.specs.Option.{is_some}
 
--- `word_align a` is the alignment of a word whose items have the alignment a
+-- `word_align a` is the alignment of a word if its items have the alignment `a`.
 abbrev pub word_align : ℕ → ℕ
 word_align a = max a (max 8 1)
 
--- `word_size s a m` is the size in bytes of a word of m items of s bytes with the alignment a
+-- `word_size s a m` is the size in bytes of a word of `m` items. Each item has the size `s` and the
+-- alignment `a`.
 abbrev pub word_size : ℕ → ℕ → ℕ → ℕ
 word_size s a m = up (word_align a) (up 8 (up a 0 + m * s) + 0 * 8)
 
--- what is known about `div_ceil c m`, the number of words that c items need if a word holds m items
+-- `Counts m` collects facts on `div_ceil c m`. This is the number of words that `c` items need if a
+-- word holds `m` items.
 pub record Counts (m : ℕ) : Type 0 where
   pub some : 0 < m
   pub covers : (c : ℕ) → c ≤ div_ceil c m * m
@@ -38,7 +41,7 @@ pub record Counts (m : ℕ) : Type 0 where
   pub least : (n : ℕ) → n ≤ n * m
   pub few : (c : ℕ) → div_ceil c m ≤ c
 
--- `Counts` holds for each number of items that a word may have: 1, 2, 4 and 8
+-- `Counts m` holds for each number of items that a word may hold: 1, 2, 4 and 8.
 counts_1 : Counts 1
 counts_1 = record {
   some = omega arith;
@@ -79,14 +82,14 @@ counts_8 = record {
   few = λ c. omega arith;
 }
 
--- `Laid s a m k` is what is known about words of m items with the size s and the alignment a: their
--- size and alignment, and the size in bytes of a block of such words
+-- `Laid s a m k` collects facts on words of `m` items with the size `s` and the alignment `a`: the
+-- size and the alignment of a word, and the size of a block of such words.
 abbrev Laid : ℕ → ℕ → ℕ → ℕ → Type 0
 Laid s a m k = (word_size s a m ≡ m * s) × ((word_align a ≡ block_align a)
     × (Dv 8 (word_align a) × (Dv a (word_align a)
     × ((c : ℕ) → (k + div_ceil c m) * (m * s) ≡ block_bytes s a c))))
 
--- `Laid` holds for items of 1, 2, 4, 8 and 16 bytes whose alignment divides their size
+-- `Laid` holds for items of 1, 2, 4, 8 and 16 bytes if the alignment of an item divides its size.
 laid_1 : (w : Width) → Dv (bytes w) 1 → Laid 1 (bytes w) 8 2
 laid_1 w8 d = (refl, (refl, (tt, (tt, λ c. omega arith))))
 laid_1 w16 d = absurd d
@@ -122,8 +125,8 @@ laid_16 w32 d = (refl, (refl, (tt, (tt, λ c. omega arith))))
 laid_16 w64 d = (refl, (refl, (tt, (tt, λ c. omega arith))))
 laid_16 w128 d = (refl, (refl, (tt, (tt, λ c. omega arith))))
 
--- `InWords s a m k`: m items of s bytes with the alignment a make a word, and k words take as many
--- bytes as the header
+-- `InWords s a m k` holds if `m` items with the size `s` and the alignment `a` make a word, and `k`
+-- words take as many bytes as the header.
 pub record InWords (s a m k : ℕ) : Type 0 where
   pub counts : Counts m
   pub size : word_size s a m ≡ m * s
@@ -134,7 +137,7 @@ pub record InWords (s a m k : ℕ) : Type 0 where
   pub room : k * (m * s) ≡ 16
   pub any : 0 < k
 
--- the parts `Counts` and `Laid` imply `InWords`
+-- The facts in `Counts` and `Laid` together imply `InWords`.
 in_words_by : (s a m k : ℕ) → Counts m → 0 < k → k * (m * s) ≡ 16 → Laid s a m k → InWords s a m k
 in_words_by s a m k c any room l = record {
   counts = c;
@@ -147,29 +150,30 @@ in_words_by s a m k c any room l = record {
   any = any;
 }
 
--- `AtAny s m k`: `InWords` holds for items of s bytes and every alignment that divides s
+-- `AtAny s m k` says that `InWords` holds for items of size `s` with every alignment that divides
+-- `s`.
 abbrev AtAny : ℕ → ℕ → ℕ → Type 0
 AtAny s m k = (w : Width) → Dv (bytes w) s → InWords s (bytes w) m k
 
--- the pair that an option holds, or (0, 0) if it is None
+-- The pair that an option contains, or `(0, 0)` if the option is `None`.
 abbrev pair : Option (ℕ × ℕ) → ℕ × ℕ
 pair None = (0, 0)
 pair (Some p) = p
 
--- if s equals t and p equals q, then `AtAny` for items of t bytes and the pair p implies `AtAny`
--- for items of s bytes and the pair q
+-- In `AtAny t p.0 p.1`, the size `t` may be replaced by an equal size `s`, and the pair `p` by an
+-- equal pair `q`.
 at_size : (s t : ℕ) (p q : ℕ × ℕ) → s ≡ t → ◌≡◌ {A = Option (ℕ × ℕ)} (Some p) (Some q)
     → AtAny t p.0 p.1 → AtAny s q.0 q.1
 at_size s t p q es e all =
     subst (λ (x : ℕ × (ℕ × ℕ)). AtAny x.0 x.1.0 x.1.1) (λ i. (sym es i, pair (e i))) all
 
--- the number of items that make a word, and the number of words that take as many bytes as the
--- header, computed from five tests of the size of an item
+-- The result of `in_words`, computed from five tests of the item size. It is the number of items
+-- that make a word, and the number of words that take as many bytes as the header.
 abbrev tested : Bool → Bool → Bool → Bool → Bool → Option (ℕ × ℕ)
 tested x y z u v = if x then Some (8, 2) else (if y then Some (4, 2) else
     (if z then Some (2, 2) else (if u then Some (1, 2) else (if v then Some (1, 1) else None))))
 
--- if one of the five tests of the size s succeeds, then `InWords` holds for items of s bytes
+-- If one of the five tests of the size `s` succeeds, then `InWords` holds for items of `s` bytes.
 by_test : (x y z u v : Bool) (s : ℕ) (q : ℕ × ℕ) → (s == 1) ≡ x → (s == 2) ≡ y → (s == 4) ≡ z
     → (s == 8) ≡ u → (s == 16) ≡ v → tested x y z u v ≡ Some q → AtAny s q.0 q.1
 by_test true y z u v s q ex ey ez eu ev e =
@@ -189,7 +193,8 @@ by_test false false false false true s q ex ey ez eu ev e =
     (λ w d. in_words_by 16 (bytes w) 1 1 counts_1 (omega arith) refl (laid_16 w d))
 by_test false false false false false s q ex ey ez eu ev e = absurd (clash (ap is_some e))
 
--- if items of R make words, then `InWords` holds for R
+-- If items of type `R` can be grouped into words, then `InWords` holds for the size and the
+-- alignment of `R`.
 pub words_told : (R : RattleType) (m k : ℕ) → in_words (type_size R) ≡ Some (m, k)
     → InWords (type_size R) (type_align R) m k
 words_told R m k e =
@@ -200,7 +205,7 @@ words_told R m k e =
     subst (λ (a : ℕ). InWords s a m k) (sym known)
     (at_width (align_w (layout R)) (subst (λ (a : ℕ). Dv a s) known (align_size (layout R))))
 
--- if `InWords` holds for a type, it also holds for the bare type, whose fields have no names
+-- If `InWords` holds for a type, it also holds for the same type without the names of its fields.
 pub nameless : (τ : Ty) (m k : ℕ) → InWords (size τ) (align τ) m k
     → InWords (size (raw τ)) (align (raw τ)) m k
 nameless τ m k h = subst (λ (p : ℕ × ℕ). InWords p.0 p.1 m k)

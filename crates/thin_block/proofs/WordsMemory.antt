@@ -1,13 +1,15 @@
--- Turning the items of a block into words, and back. Assumes `Logic`.
---     ways_out, ways_in      turn memory for words into memory for their items, and back
---     header_out, header_in  turn memory for the words that take as many bytes as the header into
+-- These lemmas convert the memory of items into memory of words, and back. A word is a struct of
+-- `m` items. The lemmas assume the laws of the separation logic (`Logic`).
+--     ways_out, ways_in      convert memory for words into memory for their items, and back
+--     header_out, header_in  convert memory for words that take as many bytes as the header into
 --                            memory for the capacity and the length, and back
---     block_out, block_in    turn memory for a block of words into memory for its parts, and back
---     word_el                words as the items of a block
---     word_out               splits a word into its items, and what turns their memory back into
---                            memory for the word
---     words_in, words_back   turn filled slots into items that can be made words, and empty slots
---                            into empty words, and back
+--     block_out, block_in    convert memory for a block of words into memory for its parts, and
+--                            back
+--     word_el                the type of words, as the item type of a block
+--     word_out               splits a word into its items and the right to make the word's memory
+--                            from the memory of these items again
+--     words_in, words_back   convert filled slots into items that can be made words, and empty
+--                            slots into empty words, and back
 use Rattle.std.proofs.Common.{◌≡◌, ℕ, zero, suc, Some, ◌+◌, ◌-◌, ◌*◌, ◌≤◌, List, [], ◌∷◌, ◌++◌, length, map, take, drop as rest, refl, sym, ap, subst, ◌∙◌, arith, zero-mul, suc-mul}
 use Rattle.std.proofs.lemmas.List.{take-append-drop, length-take, length-drop, length-map, map-append}
 use Rattle.std.specs.Prelude.{Option}
@@ -53,7 +55,8 @@ use Rattle.thin_block.proofs.WordsLemmas.{InWords, nameless}
 use Rattle.thin_block.proofs.words.Words.TheLaws.{the_row_laws}
 
 -- Section: uninitialized memory.
--- An array of n values from the offset o on ends after n times the size of a value.
+-- If an array of `n` values begins at the offset `o`, then it ends at `o` plus `n` times the size
+-- of a value.
 past-place : (τ : Ty) (n o : ℕ) → past τ n o ≡ place (size τ) o n
 past-place τ zero o = refl
 past-place τ (suc n) o = past-place τ n (o + size τ)
@@ -74,7 +77,7 @@ module _ {M : Type 1} {𝓤 : Ura M} (𝓛 : Logic 𝓤) (τ : Ty) (m k b : ℕ)
   abbrev run : Ty
   run = ty_array τ m
 
-  -- the type of half of the header: both the capacity and the length have this type
+  -- The type of one half of the header. Both the capacity and the length have this type.
   abbrev half : Ty
   half = ty_int w64
 
@@ -84,16 +87,16 @@ module _ {M : Type 1} {𝓤 : Ura M} (𝓛 : Logic 𝓤) (τ : Ty) (m k b : ℕ)
   abbrev units : Ty
   units = ty_array ω k
 
-  -- a word ends where its last item ends
+  -- The end of a word is the end of its last item.
   after_run : (o : ℕ) → past τ m o ≡ o + u
   after_run o = past_is τ m o ∙ ap (λ (n : ℕ). o + n) (sym hd.size)
 
-  -- the number of items of w + 1 words is m plus the number of items of w words
+  -- If `m` items make a word, then `w + 1` words hold `m` more items than `w` words.
   one_more : (w : ℕ) → m + w * m ≡ suc w * m
   one_more w = omega (arith, suc-mul w m)
 
-  -- splits memory for w words into memory for their items, and the `ways` that turn this memory
-  -- back into memory for the words
+  -- Splits memory for `w` words into memory for their items, and the right (`ways`) to convert this
+  -- memory back into memory for words.
   pub ways_out : (w o : ℕ) → ent 𝓤 (H.room (ty_array ω w) b o)
       (sep 𝓤 (H.room (ty_array τ (w * m)) b o) (sem 𝓛 (ways τ m w b o)))
   ways_out zero o =
@@ -109,16 +112,17 @@ module _ {M : Type 1} {𝓤 : Ura M} (𝓛 : Logic 𝓤) (τ : Ty) (m k b : ℕ)
       split ! $ move ! (2 ∷ []) $
       use1 𝓛 (‵ (froom (ty_array τ (w * m)) b (o + u)) ⊛ ‵ (ways τ m w b (o + u)))
       (ways_out w (o + u)) $ split ! $
-      -- The memory is split. The context holds, in this order: [memory for the items of the other
-      -- words; the `ways` of the other words; memory for the items of the first word; the `way` of
-      -- the first word].
+      -- The memory has been split. The proof context holds, in this order: [memory for the items of
+      -- the other words; the right to convert this memory into memory for the words; memory for the
+      -- items of the first word; the right to convert this memory into memory for the word].
       rewrite ! 0 (λ (n : ℕ). ‵ (froom (ty_array τ (w * m)) b n)) (sym (after_run o)) refl $
       move ! (2 ∷ 0 ∷ []) $ use2 𝓛 (‵ (froom (ty_array τ (m + w * m)) b o))
       (room_glue 𝓛 τ m (w * m) b o) $
       rewrite ! 0 (λ (n : ℕ). ‵ (froom (ty_array τ n) b o)) (one_more w) refl $
       move ! (2 ∷ 1 ∷ 0 ∷ []) $ fjoin ! $ move ! (1 ∷ 0 ∷ []) $ done !
 
-  -- joins memory for the items of w words and their `ways` into memory for the words
+  -- Joins memory for the items of `w` words and the right (`ways`) to convert this memory. The
+  -- result is memory for the words.
   pub ways_in : (w o : ℕ) → ent 𝓤 (sep 𝓤 (H.room (ty_array τ (w * m)) b o) (sem 𝓛 (ways τ m w b o)))
       (H.room (ty_array ω w) b o)
   ways_in zero o = qed 𝓛 (‵ (froom (ty_array τ (0 * m)) b o) ∷ ‵ ftrue ∷ []) ∵ keep ! [] $
@@ -128,24 +132,24 @@ module _ {M : Type 1} {𝓤 : Ura M} (𝓛 : Logic 𝓤) (τ : Ty) (m k b : ℕ)
       rewrite ! 0 (λ (n : ℕ). ‵ (froom (ty_array τ n) b o)) (sym (one_more w)) refl $
       use1 𝓛 (‵ (froom run b o) ⊛ ‵ (froom (ty_array τ (w * m)) b (past τ m o)))
       (room_cut 𝓛 τ m (w * m) b o) $ split ! $ move ! (2 ∷ []) $ fsplit ! $
-      -- The memory is split. The context holds, in this order: [the `way` of the first word; the
-      -- `ways` of the other words; memory for the items of the first word; memory for the items of
-      -- the other words].
+      -- The memory has been split. The proof context holds, in this order: [the right to convert
+      -- memory for the items of the first word into memory for a word; the same right for the other
+      -- words; memory for the items of the first word; memory for the items of the other words].
       move ! (2 ∷ 0 ∷ []) $ use2 𝓛 (‵ (froom ω b o)) (apply∗ 𝓤 (H.room run b o) (H.room ω b o)) $
       move ! (2 ∷ 1 ∷ []) $
       rewrite ! 0 (λ (n : ℕ). ‵ (froom (ty_array τ (w * m)) b n)) (after_run o) refl $
       use2 𝓛 (‵ (froom (ty_array ω w) b (o + u))) (ways_in w (o + u)) $ move ! (1 ∷ 0 ∷ []) $
       by ! (𝓛.laws.room_cons ω w b o)
 
-  -- the header takes as many bytes as k words
+  -- The header takes as many bytes as `k` words.
   header_bytes : k * u ≡ 16
   header_bytes = ap (λ (n : ℕ). k * n) hd.size ∙ hd.room
 
   after_header : (o : ℕ) → past ω k o ≡ o + 16
   after_header o = past_is ω k o ∙ ap (λ (n : ℕ). o + n) header_bytes
 
-  -- splits memory for k words into memory for the capacity and the length, and the `header_way`
-  -- that turns this memory back into memory for the words
+  -- Splits memory for `k` words into memory for the capacity, memory for the length, and the right
+  -- (`header_way`) to convert the two back into memory for words.
   pub header_out : (o : ℕ) → ent 𝓤 (H.room units b o)
       (sep 𝓤 (H.room half b o) (sep 𝓤 (H.room half b (o + 8)) (sem 𝓛 (header_way τ m k b o))))
   header_out o =
@@ -164,15 +168,16 @@ module _ {M : Type 1} {𝓤 : Ura M} (𝓛 : Logic 𝓤) (τ : Ty) (m k b : ℕ)
       move ! (1 ∷ 0 ∷ []) $ use2 𝓛 (‵ (froom two b o)) (𝓛.laws.room_cons half 1 b o) $
       by ! (apply∗ 𝓤 (H.room two b o) (H.room units b o))
 
-  -- joins memory for the capacity and the length, and their `header_way`, into memory for k words
+  -- Joins memory for the capacity, memory for the length and the right (`header_way`) to convert
+  -- the two. The result is memory for `k` words.
   pub header_in : (o : ℕ) → ent 𝓤 (sep 𝓤 (H.room half b o) (sep 𝓤 (H.room half b (o + 8))
       (sem 𝓛 (header_way τ m k b o)))) (H.room units b o)
   header_in o =
       qed 𝓛 (‵ (froom half b o) ∷ ‵ (froom half b (o + 8)) ∷ ‵ (header_way τ m k b o) ∷ []) ∵
       fjoin ! $ by ! (apply∗ 𝓤 (sem 𝓛 (header_room b o)) (H.room units b o))
 
-  -- splits memory for w words into memory for c slots, and the `slots_way` that turns this memory
-  -- back into memory for the words
+  -- Splits memory for `w` words into memory for `c` slots, and the right (`slots_way`) to convert
+  -- this memory back into memory for words.
   slots_out : (w c o : ℕ) → c ≤ w * m → ent 𝓤 (H.room (ty_array ω w) b o)
       (sep 𝓤 (H.room (ty_array τ c) b o) (sem 𝓛 (slots_way τ m w c b o)))
   slots_out w c o le =
@@ -186,7 +191,8 @@ module _ {M : Type 1} {𝓤 : Ura M} (𝓛 : Logic 𝓤) (τ : Ty) (m k b : ℕ)
       rewrite ! 0 (λ (n : ℕ). ‵ (froom (ty_array τ pad) b n)) (past_is τ c o) refl $
       move ! (2 ∷ 0 ∷ []) $ fjoin ! $ move ! (1 ∷ 0 ∷ []) $ done !
 
-  -- joins memory for c slots and their `slots_way` into memory for w words
+  -- Joins memory for `c` slots and the right (`slots_way`) to convert this memory. The result is
+  -- memory for `w` words.
   slots_in : (w c o : ℕ) → c ≤ w * m → ent 𝓤 (sep 𝓤 (H.room (ty_array τ c) b o)
       (sem 𝓛 (slots_way τ m w c b o))) (H.room (ty_array ω w) b o)
   slots_in w c o le =
@@ -203,8 +209,8 @@ module _ {M : Type 1} {𝓤 : Ura M} (𝓛 : Logic 𝓤) (τ : Ty) (m k b : ℕ)
     abbrev Back : Fml
     Back = fsep (header_way τ m k b o) (slots_way τ m w c b (o + 16))
 
-    -- splits memory for a block of words into memory for the capacity, the length and the slots,
-    -- and `Back`, which turns these back into the whole
+    -- Splits memory for a block of words into memory for the capacity, the length and the slots,
+    -- and the right (`Back`) to convert this memory back.
     pub block_out : ent 𝓤 (H.room (ty_array ω (k + w)) b o)
         (sep 𝓤 (H.room half b o) (sep 𝓤 (H.room half b (o + 8))
         (sep 𝓤 (H.room (ty_array τ c) b (o + 16)) (sem 𝓛 Back))))
@@ -219,8 +225,8 @@ module _ {M : Type 1} {𝓤 : Ura M} (𝓛 : Logic 𝓤) (τ : Ty) (m k b : ℕ)
         (slots_out w c (o + 16) le) $ split ! $ move ! (4 ∷ 1 ∷ []) $ fjoin ! $
         move ! (2 ∷ 3 ∷ 1 ∷ 0 ∷ []) $ done !
 
-    -- joins memory for the capacity, the length and the slots, and `Back`, into memory for a block
-    -- of words
+    -- Joins memory for the capacity, the length and the slots and the right (`Back`) to convert
+    -- this memory. The result is memory for a block of words.
     pub block_in : ent 𝓤 (sep 𝓤 (H.room half b o) (sep 𝓤 (H.room half b (o + 8))
         (sep 𝓤 (H.room (ty_array τ c) b (o + 16)) (sem 𝓛 Back)))) (H.room (ty_array ω (k + w)) b o)
     block_in =
@@ -233,23 +239,23 @@ module _ {M : Type 1} {𝓤 : Ura M} (𝓛 : Logic 𝓤) (τ : Ty) (m k b : ℕ)
         by ! (room_glue 𝓛 ω k w b o)
 
 -- Section: items.
--- The number of items of a word, as the const parameter of `Words`.
+-- The number of items in a word, as the const parameter of the type `Words`.
 abbrev pub number_of_items : ℕ → RattleType
 number_of_items m = param 1 (number m)
 
--- `word_row T m` is the type of words of m items of T
+-- `word_row T m` is the type of words that consist of `m` items of type `T`.
 abbrev pub word_row : RattleType → ℕ → RattleType
 word_row T m = the_row (param 0 T) (number_of_items m)
 
--- `word_el T L m` is the type of words of m items of T, as the item type of a block; it has the
--- form that walks use
+-- `word_el T L m` combines the type of words and its laws into the record that the lemmas about
+-- blocks take. A word consists of `m` items of type `T`.
 abbrev pub word_el : (T : RattleType) → Laws T → ℕ → El
 word_el T L m = record {
   row = word_row T m;
   laws = the_row_laws (param 0 T) (number_of_items m) (param_laws 0 T L) refl;
 }
 
--- rounding 0 up to an alignment gives 0
+-- Rounding 0 up to a multiple of an alignment yields 0.
 zero_at : (w : Width) → up (bytes w) 0 ≡ 0
 zero_at w8 = refl
 zero_at w16 = refl
@@ -257,21 +263,21 @@ zero_at w32 = refl
 zero_at w64 = refl
 zero_at w128 = refl
 
--- the first field of a struct is at the start of the struct
+-- The first field of a struct has the offset 0.
 zero_up : (τ : Ty) → up (align τ) 0 ≡ 0
 zero_up τ = subst (λ (a : ℕ). up a 0 ≡ 0) (sym (align-bytes τ)) (zero_at (align_w τ))
 
--- `words_made T m n xs` is the list of the first n words that the items xs make; each word takes m
--- items
+-- `words_made T m n xs` is the list of the first `n` words that the items `xs` make. Each word
+-- takes `m` items.
 abbrev pub words_made : (T : RattleType) (m n : ℕ) → List T.Denot → List (word_row T m).Denot
 words_made T m n xs = map (word (param 0 T) (number_of_items m)) (first_chunks m n xs)
 
--- cutting a list into its first n chunks yields n chunks
+-- Cutting a list into its first `n` chunks yields `n` chunks.
 pub chunks_long : {X : Type 0} (m n : ℕ) (xs : List X) → length (first_chunks m n xs) ≡ n
 chunks_long m zero xs = refl
 chunks_long m (suc n) xs = ap suc (chunks_long m n (rest m xs))
 
--- `words_made T m n xs` is a list of n words
+-- The list `words_made T m n xs` consists of `n` words.
 pub words_long : (T : RattleType) (m n : ℕ) (xs : List T.Denot)
     → length (words_made T m n xs) ≡ n
 words_long T m n xs = length-map (first_chunks m n xs) (word (param 0 T) (number_of_items m))
@@ -308,7 +314,8 @@ module _ {M : Type 1} {𝓤 : Ura M} (𝓛 : Logic 𝓤) (T : RattleType) (L : L
   hd' : InWords (size τ') (align τ') m k
   hd' = nameless σ m k hd
 
-  -- the size of the bare type of a word is m times the size of an item
+  -- If the names of fields are removed from the type of a word, the size of a word is still `m`
+  -- times the size of an item.
   wide : u' ≡ m * s
   wide = hd'.size ∙ ap (λ (n : ℕ). m * n) (size-raw σ)
 
@@ -323,7 +330,7 @@ module _ {M : Type 1} {𝓤 : Ura M} (𝓛 : Logic 𝓤) (T : RattleType) (L : L
   abbrev Tuple : RattleType
   Tuple = Struct (shape_of (the_type (R E) N).name fields)
 
-  -- a word in memory is the tuple of its fields
+  -- In memory, a word is the same as the tuple of its fields.
   as_tuple : (v : W.row.Denot) (o : ℕ) → part_at W.row full_share v b o
       ≡ part_at Tuple full_share (v.items, (v.aligned, tt)) b o
   as_tuple v o =
@@ -343,8 +350,8 @@ module _ {M : Type 1} {𝓤 : Ura M} (𝓛 : Logic 𝓤) (T : RattleType) (L : L
     abbrev Rooms : SProp 𝓤
     Rooms = rooms_for 𝓤 H fields zero b o
 
-    -- what turns memory for the fields of a word into memory for the word also turns memory for its
-    -- items into memory for the word
+    -- If memory for the fields of a word can be converted into memory for the word, then memory for
+    -- the items of the word can also be converted into memory for the word.
     way_out : ent 𝓤 (RoomBack 𝓤 H (the_type (R E) N).name fields b o) (sem 𝓛 (way τ' m b o))
     way_out =
         qed 𝓛 (raw (RoomBack 𝓤 H (the_type (R E) N).name fields b o) ∷ []) ∵
@@ -356,8 +363,8 @@ module _ {M : Type 1} {𝓤 : Ura M} (𝓛 : Logic 𝓤) (T : RattleType) (L : L
         use2 𝓛 (‵ (froom (layout W.row) b o)) (apply∗ 𝓤 Rooms (H.room (layout W.row) b o)) $
         by ! (𝓛.laws.room-raw (layout W.row) b o)
 
-    -- splits a word in memory into its items, and the `way` that turns their memory back into
-    -- memory for the word
+    -- Splits a word in memory into its items, and the right (`way`) to convert the memory of these
+    -- items back into memory for the word.
     pub word_out : (xs : List X) → ent 𝓤 (sem 𝓛 (part_at (R W) full_share (word (R E) N xs) b o))
         (sep 𝓤 (sem 𝓛 (part_at (Array (R E) m) full_share xs b o)) (sem 𝓛 (way τ' m b o)))
     word_out xs =
@@ -377,15 +384,15 @@ module _ {M : Type 1} {𝓤 : Ura M} (𝓛 : Logic 𝓤) (T : RattleType) (L : L
         rewrite ! 0 (λ (n : ℕ). ‵ (part_at (Array (R E) m) full_share xs b n)) at_start refl $
         done !
 
-  -- Section: words in a row
+  -- Section: several adjacent words.
   abbrev chunks : ℕ → List X → List (List X)
   chunks n xs = first_chunks m n xs
 
   abbrev words : ℕ → List X → List W.row.Denot
   words n xs = words_made T m n xs
 
-  -- slots that hold the items xs are the slots of the first word, followed by the slots of the
-  -- other words
+  -- Slots that hold the items `xs` are the slots of the first `m` items, followed by the slots of
+  -- the other items. The first `m` items make the first word.
   parted : (xs : List X) → full xs ≡ full (take m xs) ++ full (rest m xs)
   parted xs = ap full (sym (take-append-drop m xs)) ∙ map-append Some (take m xs) (rest m xs)
 
@@ -402,8 +409,8 @@ module _ {M : Type 1} {𝓤 : Ura M} (𝓛 : Logic 𝓤) (T : RattleType) (L : L
         ap (λ (n : ℕ). n * s) (length-map (take m xs) Some ∙ first_long) in
         let e = wide in omega arith
 
-  -- turns slots that hold the items of n words, with the `ways` of n + j words, into the items of
-  -- these n words, with the `ways` of the other j words
+  -- Groups slots that hold the items of `n` words by word. Each group gets the right (`way`) to
+  -- convert its memory into memory for the word, and the rights for `j` further words remain.
   to_runs : (n w j : ℕ) (xs : List X) (o at : ℕ) → length xs ≡ n * m → w ≡ j + n → at ≡ n * u' + o
       → ent 𝓤 (sep 𝓤 (sem 𝓛 (places (R E) (full xs) b o)) (sem 𝓛 (ways τ' m w b o)))
       (sep 𝓤 (sem 𝓛 (runs_at (R E) N (chunks n xs) b o)) (sem 𝓛 (ways τ' m j b at)))
@@ -424,16 +431,16 @@ module _ {M : Type 1} {𝓤 : Ura M} (𝓛 : Logic 𝓤) (T : RattleType) (L : L
       (to_items E 𝓛 b m c o (first_long n xs o long)) $ move ! (2 ∷ []) $
       rewrite ! 0 (λ (n : ℕ). ‵ (ways τ' m n b o)) {x = suc (j + n)} (omega (arith, ew)) refl $
       fsplit ! $
-      -- The slots and the `ways` are split. The context holds, in this order: [the `way` of the
-      -- first word; the `ways` of the other words; the items of the first word; the slots with the
-      -- items of the other words].
+      -- The slots and the rights (`ways`) have been split. The proof context holds, in this order:
+      -- [the right for the first word; the rights for the other words; the items of the first word;
+      -- the slots with the items of the other words].
       move ! (2 ∷ 0 ∷ []) $ fjoin ! $ move ! (2 ∷ 1 ∷ []) $
       use2 𝓛 (‵ (runs_at (R E) N (chunks n (rest m xs)) b far) ⊛ ‵ (ways τ' m j b at))
       (to_runs n (j + n) j (rest m xs) far at (rest_long n xs o long) refl
       (omega (arith, ea, suc-mul n u'))) $ split ! $ move ! (2 ∷ 0 ∷ []) $ fjoin ! $ done !
 
-  -- turns n words in a row, with the `ways` of j words after them, into slots that hold the items
-  -- of these n words, with the `ways` of n + j words
+  -- Turns `n` adjacent words into slots that hold their items, and into the rights (`ways`) to
+  -- convert these slots back into words. The rights for the `j` words after these words are added.
   of_runs : (n w j : ℕ) (xs : List X) (o at : ℕ) → length xs ≡ n * m → w ≡ j + n → at ≡ n * u' + o
       → ent 𝓤 (sep 𝓤 (sem 𝓛 (places (R W) (full (words n xs)) b o)) (sem 𝓛 (ways τ' m j b at)))
       (sep 𝓤 (sem 𝓛 (places (R E) (full xs) b o)) (sem 𝓛 (ways τ' m w b o)))
@@ -455,9 +462,9 @@ module _ {M : Type 1} {𝓤 : Ura M} (𝓛 : Logic 𝓤) (T : RattleType) (L : L
       use2 𝓛 (‵ (places (R E) (full (rest m xs)) b far) ⊛ ‵ (ways τ' m (j + n) b far))
       (of_runs n (j + n) j (rest m xs) far at (rest_long n xs o long) refl
       (omega (arith, ea, suc-mul n u'))) $ split ! $
-      -- The other words are turned into slots. The context holds, in this order: [the slots with
-      -- the items of the other words; the `ways` of the other words; the slots with the items of
-      -- the first word; the `way` of the first word].
+      -- The other words have been turned into slots. The proof context holds, in this order: [the
+      -- slots with the items of the other words; the rights (`ways`) for the other words; the slots
+      -- with the items of the first word; the right for the first word].
       move ! (2 ∷ 0 ∷ []) $ use2 𝓛 (‵ (places (R E) (full c ++ full (rest m xs)) b o))
       (glue E 𝓛 b (full c) (full (rest m xs)) o far (next n xs o long)) $
       rewrite ! 0 (λ (l : List (Option X)). ‵ (places (R E) l b o)) (sym (parted xs)) refl $
@@ -473,8 +480,8 @@ module _ {M : Type 1} {𝓤 : Ura M} (𝓛 : Logic 𝓤) (T : RattleType) (L : L
     end_at : far ≡ past τ' j at
     end_at = end ∙ sym (past_is τ' j at)
 
-    -- turns empty slots, the `ways` of their words, and the memory that belongs to no slot into
-    -- empty words
+    -- Turns empty slots into empty words. This also needs the rights (`ways`) to convert the slots,
+    -- and the memory at the end that belongs to no slot.
     spare_words : ent 𝓤 (sep 𝓤 (sem 𝓛 (places (R E) (empty j) b at))
         (sep 𝓤 (sem 𝓛 (ways τ' m v b at)) (sem 𝓛 Spare)))
         (sem 𝓛 (places (R W) (empty v) b at))
@@ -488,8 +495,8 @@ module _ {M : Type 1} {𝓤 : Ura M} (𝓛 : Logic 𝓤) (T : RattleType) (L : L
         use2 𝓛 (‵ (froom (ty_array (word_of τ' m) v) b at)) (ways_in 𝓛 τ' m k b hd' v at) $
         by ! (of_raw W 𝓛 b v at)
 
-    -- turns empty words into empty slots, the `ways` of these words, and the memory that belongs to
-    -- no slot
+    -- Turns empty words into empty slots. The result also contains the rights (`ways`) to convert
+    -- the slots back, and the memory at the end that belongs to no slot.
     spare_slots : ent 𝓤 (sem 𝓛 (places (R W) (empty v) b at))
         (sep 𝓤 (sem 𝓛 (places (R E) (empty j) b at))
         (sep 𝓤 (sem 𝓛 (ways τ' m v b at)) (sem 𝓛 Spare)))
@@ -505,7 +512,8 @@ module _ {M : Type 1} {𝓤 : Ura M} (𝓛 : Logic 𝓤) (T : RattleType) (L : L
         rewrite ! 0 (λ (n : ℕ). ‵ (froom (ty_array τ' pad) b n)) (sym end_at) refl $
         move ! (1 ∷ 2 ∷ 0 ∷ []) $ done !
 
-  -- Section: all slots of a block: its c slots take w words, and n words hold items
+  -- Section: all slots of a block. The `c` slots lie in `w` words, and `n` of these words hold
+  -- items.
   module _ (xs : List X) (n j v w c o : ℕ) (long : length xs ≡ n * m) (all : c ≡ length xs + j)
       (total : w ≡ v + n) (le : c ≤ w * m) where
     abbrev after : ℕ
@@ -539,7 +547,7 @@ module _ {M : Type 1} {𝓤 : Ura M} (𝓛 : Logic 𝓤) (T : RattleType) (L : L
         ap (λ (x : ℕ). length xs * x) (size-raw σ) in
         let e = same_bytes in let a = at_after in omega arith
 
-    -- turns filled slots into items that can be made words, and empty slots into empty words
+    -- Turns filled slots into items that can be made words, and empty slots into empty words.
     pub words_in : ent 𝓤 (sep 𝓤 (sem 𝓛 (places (R E) (full xs ++ empty j) b o))
         (sem 𝓛 (slots_way τ' m w c b o)))
         (sep 𝓤 (sem 𝓛 (runs_at (R E) N (chunks n xs) b o)) (sem 𝓛 (places (R W) (empty v) b after)))
@@ -547,8 +555,9 @@ module _ {M : Type 1} {𝓤 : Ura M} (𝓛 : Logic 𝓤) (T : RattleType) (L : L
         qed 𝓛 (‵ (places (R E) (full xs ++ empty j) b o) ∷ ‵ (slots_way τ' m w c b o) ∷ []) ∵
         use1 𝓛 (‵ (places (R E) (full xs) b o) ⊛ ‵ (places (R E) (empty j) b after))
         (cut E 𝓛 b (full xs) (empty j) o after last) $ split ! $ move ! (2 ∷ []) $ fsplit ! $
-        -- The slots and their `slots_way` are split. The context holds, in this order: [the `ways`
-        -- of all words; the memory that belongs to no slot; the filled slots; the empty slots].
+        -- The slots and the right to convert them (`slots_way`) have been split. The proof context
+        -- holds, in this order: [the rights (`ways`) for all words; the memory at the end that
+        -- belongs to no slot; the filled slots; the empty slots].
         move ! (2 ∷ 0 ∷ []) $
         use2 𝓛 (‵ (runs_at (R E) N (chunks n xs) b o) ⊛ ‵ (ways τ' m v b after))
         (to_runs n w v xs o after long total at_after) $ split ! $ move ! (3 ∷ 1 ∷ 2 ∷ []) $
@@ -559,14 +568,14 @@ module _ {M : Type 1} {𝓤 : Ura M} (𝓛 : Logic 𝓤) (T : RattleType) (L : L
     last_word = ap (λ (x : ℕ). x * type_size (R W) + o)
         (sym (length-map (words n xs) Some ∙ words_long T m n xs))
 
-    -- joins the words and the empty words after them into one row
+    -- Joins the memory of words and the memory of the empty words after these words.
     pub words_joined : ent 𝓤 (sep 𝓤 (sem 𝓛 (places (R W) (full (words n xs)) b o))
         (sem 𝓛 (places (R W) (empty v) b after)))
         (sem 𝓛 (places (R W) (full (words n xs) ++ empty v) b o))
     words_joined = glue W 𝓛 b (full (words n xs)) (empty v) o after last_word
 
-    -- turns words into filled slots, and empty words into empty slots, and keeps the `slots_way`
-    -- that turns the slots back into words
+    -- Turns words into filled slots, and empty words into empty slots. The result also contains the
+    -- right (`slots_way`) to convert the slots back into words.
     pub words_back : ent 𝓤 (sem 𝓛 (places (R W) (full (words n xs) ++ empty v) b o))
         (sep 𝓤 (sem 𝓛 (places (R E) (full xs ++ empty j) b o)) (sem 𝓛 (slots_way τ' m w c b o)))
     words_back =
@@ -576,8 +585,9 @@ module _ {M : Type 1} {𝓤 : Ura M} (𝓛 : Logic 𝓤) (T : RattleType) (L : L
         use1 𝓛 (‵ (places (R E) (empty j) b after) ⊛ ‵ (ways τ' m v b after) ⊛ ‵
         (froom (ty_array τ' pad') b (o + c * size τ')))
         (spare_slots j v pad' after (o + c * size τ') whole end) $ split3 ! $
-        -- The empty words are turned into empty slots. The context holds, in this order: [the empty
-        -- slots; the `ways` of the empty words; the memory that belongs to no slot; the words].
+        -- The empty words have been turned into empty slots. The proof context holds, in this
+        -- order: [the empty slots; the rights (`ways`) to convert them back; the memory at the end
+        -- that belongs to no slot; the words].
         move ! (3 ∷ 1 ∷ []) $
         use2 𝓛 (‵ (places (R E) (full xs) b o) ⊛ ‵ (ways τ' m w b o))
         (of_runs n w v xs o after long total at_after) $ split ! $ move ! (0 ∷ 2 ∷ []) $

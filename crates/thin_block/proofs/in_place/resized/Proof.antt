@@ -1,4 +1,5 @@
--- `resized` returns what `grow` or `shrink` of the allocator returns. Assumes `Logic`.
+-- `resized` returns what the allocator's method `grow` or `shrink` returns. The proof assumes the
+-- laws of the separation logic (`Logic`).
 use mathlib.Core.Path.{◌≡◌, refl, sym, subst}
 use mathlib.Core.Bool.{Bool}
 use mathlib.Core.List.{List, [], ◌∷◌}
@@ -50,7 +51,7 @@ use Rattle.thin_block.specs.contracts.in_place.resized.Key as key
 use Rattle.thin_block.proofs.in_place.resized.Statement as stated
 use Rattle.thin_block.proofs.in_place.resized.Code as code
 
--- the two statements that return the value of the local k
+-- The two statements that return the value of the local variable `k`.
 abbrev gives : ℕ → Body
 gives k = seq (assign (place 0 []) (rv_opd (copy (place k [])))) return
 
@@ -118,8 +119,9 @@ module _ (E : El) (Y : Al) {M : Type 1} {𝓤 : Ura M} (𝓛 : Logic 𝓤) (at_m
   abbrev left : Ptr → Bool → ℕ → ℕ → Fml
   left x y b o = resized_if_ok (token Y r.now) (R E) x len held wanted xs (result_of y b o)
 
-  -- Ends the walk of `resized`. Before it the context holds, in this order: [what the call of
-  -- `grow` or `shrink` leaves; the lifetime tokens of the `&` to the allocator, of T and of A].
+  -- Ends the proof of `resized`. Before this step the proof context holds, in this order: [the
+  -- resources that the call of `grow` or `shrink` has returned; the lifetime tokens of the `&` to
+  -- the allocator, of `T` and of `A`].
   exits : (x : Ptr) (y : Bool) (b o : ℕ)
       → ent 𝓤 (⋆ 𝓛 (‵ (left x y b o) ∷ ‵ (flft κ q) ∷ ‵ (flft κT qT) ∷ (‵ (flft κA qA) ⊛ ‵ ftrue)
       ∷ [])) (Post x (answer_val y b o))
@@ -132,8 +134,8 @@ module _ (E : El) (Y : Al) {M : Type 1} {𝓤 : Ura M} (𝓛 : Logic 𝓤) (at_m
       fjoin ! $ nothing ! $ fjoin ! $ join ! $ move ! (3 ∷ 4 ∷ []) $ join ! $
       move ! (3 ∷ 0 ∷ []) $ join ! $ join ! $ done !
 
-  -- what must hold after an arm of the conditional, before the body continues after its first k
-  -- statements
+  -- What must hold at the end of each arm of the conditional. The body then continues after its
+  -- first `k` statements.
   abbrev from : Env 𝓤 H → Ptr → ℕ → After 𝓤 H
   from Ev x k = then_runs 𝓛 C Λ Ev (after k (here E Y).body) (at_ret Ev (Post x))
 
@@ -141,8 +143,9 @@ module _ (E : El) (Y : Al) {M : Type 1} {𝓤 : Ura M} (𝓛 : Logic 𝓤) (at_m
   entry x = (‵ (flft κ q) ⊛ ‵ (flft κT qT) ⊛ ‵ (flft κA qA) ⊛ ‵ ftrue) ⊛ ‵
       (owns (types_at (ended E Y).signature.params (bound x).0.0) (bound x).0.3 (bound x).0.4)
 
-  -- `Given x v` is the context entry after the call of `grow` or `shrink` for the block at x has
-  -- returned the machine value v: it holds what the call leaves
+  -- `Given x v` is the entry of the proof context for the resources that the call of `grow` or
+  -- `shrink` has returned. The old block is at the address `x`, and `v` is the machine value of the
+  -- result.
   abbrev Given : Ptr → Val → Item 𝓤
   Given x v = exists (λ (c : Bool × (ℕ × ℕ)). given (v ≡ answer_val c.0 c.1.0 c.1.1)
       (‵ (left x c.0 c.1.0 c.1.1)))
@@ -166,8 +169,8 @@ module _ (E : El) (Y : Al) {M : Type 1} {𝓤 : Ura M} (𝓛 : Logic 𝓤) (at_m
       let live : κ ⊑ Y.row.lives = ⊑_trans κ κA Y.row.lives out leA in
       move ! (1 ∷ []) $ split ! $ split3 ! $ move ! (3 ∷ []) $ fsplit ! $ fsplit ! $
       keep ! (6 ∷ 1 ∷ 3 ∷ 4 ∷ 5 ∷ []) $
-      -- The walk has read the `requires`. The context holds, in this order: [the block; the `&` to
-      -- the allocator; the lifetime tokens of this `&`, of T and of A].
+      -- The `requires` clauses have been read. The proof context holds, in this order: [the block;
+      -- the `&` to the allocator; the lifetime tokens of this `&`, of `T` and of `A`].
       enter ! C Λ (here E Y) (vs x) _ $ alloc_all ! (λ l. pass_all ! refl (
         (tt, tt),
         (

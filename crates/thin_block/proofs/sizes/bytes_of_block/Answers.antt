@@ -1,4 +1,5 @@
--- If the capacity fits, no sum or product in the computation exceeds `usize::MAX`.
+-- If a block of the given capacity is small enough to be allocated, no sum or product in the
+-- computation exceeds `usize::MAX`.
 use Rattle.std.proofs.Common.{◌≡◌, ℕ, ◌+◌, ◌*◌, ap, ◌∙◌, arith}
 use Rattle.std.specs.Mem.{type_size}
 use Rattle.std.specs.Align.{type_align}
@@ -10,7 +11,7 @@ use denote.Param.{param}
 use denote.RattleType.{RattleType}
 use Rattle.thin_block.proofs.sizes.bytes_of_block.Goals as goal
 
--- the sum that the code computes is the offset at which the last item ends
+-- The sum that the code computes is the offset of the end of the last item.
 summed : (R : RattleType) (c size : ℕ) → Fits R c → size ≡ capped (type_size R)
     → 16 + c * size ≡ items_offset (type_align R) + c * type_size R
 summed R c size fits is =

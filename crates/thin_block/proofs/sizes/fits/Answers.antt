@@ -1,5 +1,5 @@
--- `fits` compares the capacity with a quotient. This comparison is true if and only if `Fits`
--- holds.
+-- The function `fits` compares the capacity with a quotient. The comparison is true if and only if
+-- the predicate `Fits` holds.
 use Rattle.std.proofs.Common.{◌≡◌, ℕ, ◌-◌, ◌*◌, ◌/◌, ◌^◌, ◌<◌, true, refl, sym, ap, ◌∙◌, arith, leb}
 use Rattle.std.specs.Mem.{type_size}
 use Rattle.std.specs.Align.{type_align}
@@ -12,7 +12,7 @@ use denote.RattleType.{RattleType}
 use native.Mathlib.Nat.{mul-zero}
 use Rattle.thin_block.proofs.sizes.fits.Goals as goal
 
--- c items of size 0 take 0 bytes
+-- If an item takes 0 bytes, then `c` items take 0 bytes.
 nothing : (R : RattleType) (c size : ℕ) → size ≡ capped (type_size R)
     → size ≡ 0 → c * type_size R ≡ 0
 nothing R c size is none =
@@ -51,7 +51,7 @@ pub overflow_sub-result-2 : goal.overflow_sub-result-2
 overflow_sub-result-2 g c = let about = rounded (param 0 g.row.T) 0 in
     let is = c.align_of_block.ensures.value in omega arith
 
--- the code and the lemmas compare c with the same quotient
+-- The code and the lemmas compare the capacity `c` with the same quotient.
 same_limit : (R : RattleType) (c size align : ℕ) → align ≡ block_align (type_align R)
     → leb c ((2 ^ 63 - align - 16) / size) ≡ leb c
     ((2 ^ 63 - block_align (type_align R) - 16) / size)

@@ -1,4 +1,5 @@
--- `item_align` meets its contract, for every type. Assumes `Logic`.
+-- `item_align` satisfies its contract for every item type. The proof assumes the laws of the
+-- separation logic (`Logic`).
 use mathlib.Core.Path.{◌≡◌, refl, sym, subst, ◌∙◌}
 use native.Mathlib.Omega.{arith}
 use mathlib.Core.List.{List, [], ◌∷◌}
@@ -35,7 +36,7 @@ use Rattle.thin_block.specs.contracts.sizes.item_align.Key.{name as #self}
 use Rattle.thin_block.proofs.sizes.item_align.Statement as stated
 use Rattle.thin_block.proofs.sizes.item_align.Code as code
 
--- proves an `ensures` of two facts
+-- Proves an `ensures` clause that consists of two facts.
 module _ {M : Type 1} {𝓤 : Ura M} {𝓛 : Logic 𝓤} {K : Type 0} {Γ : List (Item 𝓤)} where
   says_both : K → {φ ψ : Type 0} {P : SProp 𝓤} → φ → ψ
       → Step K 𝓛 Γ (prop P) Γ (prop (sep 𝓤 P (sep 𝓤 (fact 𝓤 φ) (fact 𝓤 ψ))))
@@ -45,7 +46,7 @@ module _ {M : Type 1} {𝓤 : Ura M} {𝓛 : Logic 𝓤} {K : Type 0} {Γ : List
         use0 𝓛 (raw (fact 𝓤 φ)) (fact_i 𝓤 φ (emp 𝓤) x) $ done !));
   })
 
--- every alignment, which is 1, 2, 4, 8 or 16, is less than 2 ^ 64
+-- Every alignment is less than `2 ^ 64`, because it is 1, 2, 4, 8 or 16.
 below : (w : Width) → bytes w < 2 ^ 64
 below w8 = omega arith
 below w16 = omega arith

@@ -1,5 +1,5 @@
--- After i turns of the loop, the first i places of the row hold copies of the first i items. The
--- row still has the same places.
+-- The loop invariant: after `i` iterations, the first `i` places of `row` hold copies of the first
+-- `i` items. The memory of `row` is the same as before the loop.
 use Rattle.std.proofs.Common.{◌≡◌, take}
 use Rattle.core.specs.Mem.Slots.{SamePlaces, slots_filled, slots_items}
 use Rattle.core.specs.Mem.Slots.Ownership.{Filled}

@@ -1,5 +1,6 @@
--- `make_words` reads the items of each word and writes the word at their place, beginning with the
--- first word. Assumes `Logic`.
+-- For each word, `make_words` reads the items of the word and writes them back as one word at the
+-- same address. It begins with the first word. The proof assumes the laws of the separation logic
+-- (`Logic`).
 use mathlib.Core.Path.{◌≡◌, refl, sym, ap, ◌∙◌}
 use mathlib.Core.List.{List, [], ◌∷◌, map}
 use mathlib.Core.WellFounded.InvImage
@@ -84,7 +85,7 @@ module _ (E : El) (m : ℕ) where
     (stay_dropped (plain (λ _. usize)) yes, tt),
   )
 
-  -- the items of several words: one list for each word
+  -- The items of several words. Each inner list contains the items of one word.
   abbrev Runs : Type 0
   Runs = List (List (el_x E))
 
@@ -97,7 +98,7 @@ module _ (E : El) (m : ℕ) where
   abbrev Wr : RattleType
   Wr = word_row E.row m
 
-  -- the machine value of a word whose items have the machine value v
+  -- The machine value of a word. The items of the word have the machine value `v`, as one array.
   abbrev word_val : Val → Val
   word_val v = vstruct (vcons v (vcons (vstruct vnil) vnil))
 
@@ -107,7 +108,7 @@ module _ (E : El) (m : ℕ) where
   word_fits : (v : Val) → Fits (ty_array (layout E.row) m) v → Fits (layout Wr) (word_val v)
   word_fits v fits = (both (has_ty (ty_array (layout E.row) m) v) _ fits.0 tt, (fits.1, (tt, tt)))
 
-  -- a word owns what its items own
+  -- A word owns what its items own.
   word_made : {M : Type 1} {𝓤 : Ura M} (𝓛 : Logic 𝓤) (xs : List (el_x E)) (v : Val)
       → ent 𝓤 (sem 𝓛 (Arr.own_val xs (v ∷ [])))
       (sem 𝓛 (Wr.own_val (word (R E) N xs) (word_val v ∷ [])))
@@ -165,7 +166,8 @@ module _ (E : El) (m : ℕ) {M : Type 1} {𝓤 : Ura M} (𝓛 : Logic 𝓤) (at_
     abbrev To : Fml
     To = Made g o
 
-    -- what turns the row of the remaining words, once these are made, into the row of all words
+    -- `Then xss at` is the right to join the words that are made from the items `xss` with the
+    -- words before them. Joined, they are the memory of all words.
     abbrev Then : Runs E m → ℕ → SProp 𝓤
     Then xss at = wand 𝓤 (sem 𝓛 (Made xss at)) (sem 𝓛 To)
 
@@ -179,7 +181,8 @@ module _ (E : El) (m : ℕ) {M : Type 1} {𝓤 : Ura M} (𝓛 : Logic 𝓤) (at_
         feq_i ! (List Val) (vunit ∷ []) (vunit ∷ []) refl $ nothing ! $ nothing ! $ fjoin ! $
         nothing ! $ fjoin ! $ join ! $ move ! (2 ∷ 0 ∷ []) $ join ! $ join ! $ done !
 
-    -- the state of the loop: i words are made, and xss are the items of the other words
+    -- The state of the loop: `i` words have been made, and `xss` lists the items of the other
+    -- words.
     abbrev Left : Type 0
     Left = (i : ℕ) × ((xss : Runs E m) × (i + length xss ≡ n))
 
@@ -244,10 +247,10 @@ module _ (E : El) (m : ℕ) {M : Type 1} {𝓤 : Ura M} (𝓛 : Logic 𝓤) (at_
           sets ! (bin ! (get ! refl) (size_lit ! (record { fits = fs })) (record { fits = fm }))
           refl (tt, record { fits = fm }) $
           sets ! (bin ! (get ! refl) (get ! refl) tt) refl (tt, tt) $ fsplit ! $ fsplit ! $
-          -- The next word is split off. The context holds, in this order: [the items of the next
-          -- word; what turns the memory of these items into memory for the word; the items of the
-          -- other words; what turns the row of the other words into the row of all words; the
-          -- lifetime tokens].
+          -- The items of the next word have been split off. The proof context holds, in this order:
+          -- [the items of the next word; the right to convert the memory of these items into memory
+          -- for the word; the items of the other words; the right to join these other words with
+          -- the words before them; the lifetime tokens].
           use1 𝓛 (exists (λ (v : Val). ‵ (fat full_share σ b at v) ⊛ ‵
           ((Arr E m).own_val xs (v ∷ [])))) (part_out 𝓛 (Arr E m) refl full_share xs b at) $
           pick ! (λ v. split ! $ move ! (1 ∷ []) $

@@ -1,5 +1,6 @@
--- A `&` to a block lends each header word and each item present, as a `&` to that word or item
--- would. Assumes `Logic`.
+-- A `&` to a block lends the two words of the header and the items in the slots. It lends each of
+-- them in the same way as a `&` to that word or item. The proof assumes the laws of the separation
+-- logic (`Logic`).
 use mathlib.Core.List.{List, [], ◌∷◌, ◌++◌, not-mem-nil}
 use Prim.Native.Nat.{ℕ, ◌+◌}
 use mathlib.Core.Bool.{Bool, true}
@@ -71,7 +72,7 @@ module _ (R : RattleType) (L : RowLaws R) where
 module _ {M : Type 1} {𝓤 : Ura M} (𝓛 : Logic 𝓤) where
   open 𝓛 use {H, A}
 
-  -- what is lent forever can be lent once more
+  -- What is lent for the lifetime `'static` can be lent again for any lifetime `l`.
   Lends-kept : (t : Lft → Fml) → ShrLaws t → (l : Lft) → Lends 𝓛 (t []) t l
   Lends-kept t L l κ ts inc sp =
       let P : Fml = t [] in

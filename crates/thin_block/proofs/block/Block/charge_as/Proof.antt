@@ -1,4 +1,5 @@
--- `charge_as` does nothing at run time: it sets the cost of the block. Assumes `Logic`.
+-- `charge_as` does nothing at run time. It only sets the ghost cost of the block. The proof assumes
+-- the laws of the separation logic (`Logic`).
 use Rattle.std.proofs.Common.{ℕ, ◌∷◌, [], ◌++◌, refl}
 use mir.Val.{vptr, vunit}
 use mir.MapTy.{inst_fn}

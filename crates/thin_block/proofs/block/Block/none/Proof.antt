@@ -1,4 +1,5 @@
--- `none` returns a pointer to the static header, whose two words are lent forever. Assumes `Logic`.
+-- `none` returns a block that points to the static header. The two words of this header are lent
+-- for the lifetime `'static`. The proof assumes the laws of the separation logic (`Logic`).
 use Rattle.std.proofs.Common.{[], ◌∷◌, refl, arith, lit<, w64, None}
 use mir.Syntax.{Ty, Fn, Tys, ty_int, ty_array, ty_struct, tcons, tnil, w128}
 use mir.Val.{Val, Vals, vint, vstruct, vcons, vnil}

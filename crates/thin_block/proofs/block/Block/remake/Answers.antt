@@ -1,4 +1,5 @@
--- The run that `remake` moves is filled, and the old block is empty when `remake` frees it.
+-- The slots from which `remake` moves items are filled, and the old block is empty when `remake`
+-- frees it.
 use Rattle.std.proofs.Common.{◌≡◌, ℕ, length, List, None, sym, ap, ◌∙◌, arith}
 use Rattle.std.specs.Prelude.{Option}
 use Rattle.std.proofs.lemmas.List.{length-replicate}
@@ -7,8 +8,8 @@ use Rattle.thin_block.proofs.SlotsLemmas.{packed-filled, packed-le, packed-empti
 use Rattle.thin_block.proofs.block.Block.remake.Goals as goal
 use Rattle.thin_block.proofs.block.Block.remake.Goals.{then-len-gt0, else-len-gt0}
 
--- the precondition of `move_run_charging` holds: the items are in the first slots of the old block,
--- and all slots of the new block are empty
+-- The precondition of `move_run_charging` holds because the items are in the first slots of the old
+-- block and all slots of the new block are empty.
 pub move_run_charging-requires : goal.move_run_charging-requires
 move_run_charging-requires g c κs within =
     let old = c.args.self.now.slots in
@@ -35,7 +36,8 @@ move_run_charging-requires g c κs within =
       ),
     )
 
--- the old block is empty when `release` frees it, because its items were moved or it had none
+-- When `release` frees the old block, all its slots are empty. Either its items have been moved, or
+-- it had no items.
 pub release-requires-clause-empty : goal.release-requires-clause-empty
 release-requires-clause-empty g c =
     let old = c.args.self.now.slots in

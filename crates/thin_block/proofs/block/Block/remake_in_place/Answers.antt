@@ -1,12 +1,12 @@
--- The number of words that a block of the new capacity needs fits into a `usize`.
+-- A block of the new capacity takes so few words that their number fits into a `usize`.
 use Rattle.std.proofs.Common.{arith}
 use Rattle.thin_block.proofs.SizesLemmas.{opened, fits_tells}
 use Rattle.thin_block.proofs.WordsLemmas.{words_told}
 use denote.Param.{param}
 use Rattle.thin_block.proofs.block.Block.remake_in_place.Goals as goal
 
--- the sum does not overflow: the new capacity is less than 2 ^ 63, its slots need at most that many
--- words, and the header takes as many bytes as one or two words
+-- The sum does not overflow. The slots take at most as many words as the new capacity, which is
+-- less than `2 ^ 63`. The header takes one or two words.
 pub overflow_add-wanted : goal.overflow_add-wanted
 overflow_add-wanted g c =
     let T = param 0 g.row.T in

@@ -1,6 +1,7 @@
--- `resize_words` turns the items into words, and moves the last words to the place of the header,
--- so that the block is an array of words from its start. It passes this array to `resized`, and
--- turns the array that `resized` returns into a block of items again. Assumes `Logic`.
+-- `resize_words` converts the items of a block into words, and moves the last words to the place of
+-- the header. Then the block is one array of words. The function passes this array to `resized`,
+-- and converts the array that it gets back into a block of items. The proof assumes the laws of the
+-- separation logic (`Logic`).
 use Rattle.std.proofs.Common.{◌≡◌, ℕ, ◌+◌, ◌-◌, ◌*◌, ◌^◌, ◌<◌, ◌≤◌, List, [], ◌∷◌, ◌++◌, length, true, refl, sym, ap, subst, ◌∙◌, arith, lit<, w64, Some, None, Option}
 use Rattle.std.specs.Prelude.{take, drop as rest}
 use Rattle.std.specs.Int.{div_ceil}
@@ -80,7 +81,7 @@ resize_words_spec 𝓤 𝓛 𝓜 𝓡 wired T A m k LT LA fits_m fits_k g d dd m
     let H = 𝓛.H in
     let E : El = record { row = T; laws = LT } in
     let W : El = word_el T LT m in
-    -- the type of words, as the type argument of a call: it is made from the layout of a word
+    -- The type of words, as a type argument of a call. It is made from the memory layout of a word.
     let X : RattleType = arg (word_of (layout T) m) yes W.row in
     let EX : El = record {
       row = X;
@@ -160,7 +161,7 @@ resize_words_spec 𝓤 𝓛 𝓜 𝓡 wired T A m k LT LA fits_m fits_k g d dd m
     let held_is : held ≡ k + div_ceil old m = said.1.1.1.1.1.1.1.1.1.1.1.1.0 in
     let wanted_is : wanted ≡ k + div_ceil cap m = said.1.1.1.1.1.1.1.1.1.1.1.1.1.0 in
     let room : k ≤ count = said.1.1.1.1.1.1.1.1.1.1.1.1.1.1 in
-    -- how the numbers of items, of words and of bytes are related
+    -- These facts relate the numbers of items, of words and of bytes to each other.
     let hd : InWords (type_size Rt) (type_align Rt) m k = words_told Rt m k in_words in
     let sixteen : k * s ≡ 16 = ap (λ (n : ℕ). k * n) hd.size ∙ hd.room in
     let items : List T.Denot = items_in x.slots in
@@ -188,8 +189,8 @@ resize_words_spec 𝓤 𝓛 𝓜 𝓡 wired T A m k LT LA fits_m fits_k g d dd m
     let slots_are' : cap ≡ length items + j' = omega arith in
     let row : x.slots ≡ full items ++ empty j = packed.row
     ∙ (λ i. full items ++ empty (let e : length x.slots - length items ≡ j = omega arith in e i)) in
-    -- the items make `count` words: ws are all of them, ys are the last k, and xs are the words
-    -- before these
+    -- The items make `count` words. The list `ws` contains all words, `ys` contains the last `k`
+    -- words, and `xs` contains the words before these.
     let xss : List (List T.Denot) = first_chunks m count items in
     let ws : List W.row.Denot = words_made T m count items in
     let many : length ws ≡ count = words_long T m count items in
@@ -200,9 +201,9 @@ resize_words_spec 𝓤 𝓛 𝓜 𝓡 wired T A m k LT LA fits_m fits_k g d dd m
     let joined : ws ≡ xs ++ ys = sym (take-append-drop (count - k) ws) in
     split ! $ split3 ! $ move ! (2 ∷ []) $ split3 ! $ move ! (5 ∷ []) $ fsplit ! $
     block_had E Y ! x vss.0 (λ b o at told fits.
-    -- The block is split into its header and its slots. The context holds, in this order: [the
-    -- header; the slots; what the other parameters own; the lifetime tokens of A, M and K, of the
-    -- `&` to the allocator, and of T].
+    -- The block has been split into its header and its slots. The proof context holds, in this
+    -- order: [the header; the slots; what the other arguments own; the lifetime tokens of `A`, `M`
+    -- and `K`, of the `&` to the allocator, and of `T`].
     let here : Ptr = block_ptr b o in
     let there : ℕ = count * s + o in
     let same_bytes : count * s ≡ len * type_size Rt = ap (λ (n : ℕ). count * n) hd.size
@@ -230,9 +231,9 @@ resize_words_spec 𝓤 𝓛 𝓜 𝓡 wired T A m k LT LA fits_m fits_k g d dd m
     (words_in 𝓛 T LT m k b hd items count j v w old (o + 16) whole_words slots_are fill
     (hd.counts.covers old)) $ split ! $ move ! (4 ∷ []) $ fsplit ! $ fsplit ! $ drop ! $
     keep ! (2 ∷ 3 ∷ 4 ∷ 5 ∷ 0 ∷ 9 ∷ 10 ∷ 6 ∷ 7 ∷ 8 ∷ []) $
-    -- The slots are turned into items and empty words. The context holds, in this order: [the
-    -- items; the empty words; memory for the header; the right to free the block; the `&` to the
-    -- allocator; the lifetime tokens of this `&` and of T, A, M and K].
+    -- The slots have been converted into items and empty words. The proof context holds, in this
+    -- order: [the items; the empty words; memory for the header; the right to free the block; the
+    -- `&` to the allocator; the lifetime tokens of this `&` and of `T`, `A`, `M` and `K`].
     regoal ! (λ (us : List Val). prop (WpFn 𝓤 H C Λ fn us Post))
     (λ i. told i ++ (are.1.0.0 i ++ (are.1.1.0.0 i ++ (are.1.1.1.0.0 i ++ (are.1.1.1.1.0.0 i
     ++ (are.1.1.1.1.1.0.0 i ++ (are.1.1.1.1.1.1.0.0 i ++ (are.1.1.1.1.1.1.1.0.0 i ++ []))))))))
@@ -268,8 +269,8 @@ resize_words_spec 𝓤 𝓛 𝓜 𝓡 wired T A m k LT LA fits_m fits_k g d dd m
     (ap (vptr b) (let plus : 16 + o ≡ o + 16 = omega arith in plus))) refl (tt, tt) $
     sets ! (of_opd ! (get ! refl)) refl (tt, tt) $
     move ! (0 ∷ 6 ∷ 8 ∷ []) $
-    -- For the call of `make_words`, the context begins with [the items; the lifetime token of T;
-    -- the lifetime token of M].
+    -- Before the call of `make_words`, the proof context begins with [the items; the lifetime token
+    -- of `T`; the lifetime token of `M`].
     let G = triple_of 𝓛 (make.signature T Mr) (make.spec T Mr 𝓛 𝓜.mem 𝓡.returns) in
     let y₀ : G.Ghost = (
       (
@@ -304,9 +305,10 @@ resize_words_spec 𝓤 𝓛 𝓜 𝓡 wired T A m k LT LA fits_m fits_k g d dd m
     await ! tt $ pick ! (λ r₀. split ! $ split ! $ move ! (1 ∷ []) $ feq_l ! (λ is_unit.
     move ! (1 ∷ []) $ pick ! (λ us₀. split ! $ drop ! $
     lands_as ! (ap only is_unit) refl (tt, tt) $ move ! (0 ∷ 2 ∷ []) $
-    -- `make_words` has turned the items into words. The context holds, in this order: [the words;
-    -- the empty words; the lifetime tokens of T and M; memory for the header; the right to free the
-    -- block; the `&` to the allocator; the lifetime tokens of this `&`, of A and of K].
+    -- `make_words` has converted the items into words. The proof context holds, in this order: [the
+    -- words; the empty words; the lifetime tokens of `T` and `M`; memory for the header; the right
+    -- to free the block; the `&` to the allocator; the lifetime tokens of this `&`, of `A` and of
+    -- `K`].
     use2 𝓛 (‵ (places Rw (full ws ++ empty v) b (o + 16)))
     (words_joined 𝓛 T LT m k b hd items count j v w old (o + 16) whole_words slots_are fill
     (hd.counts.covers old)) $
@@ -315,15 +317,15 @@ resize_words_spec 𝓤 𝓛 𝓜 𝓡 wired T A m k LT LA fits_m fits_k g d dd m
     use1 𝓛 (‵ (places Rw (full xs) b (o + 16)) ⊛ ‵ (part_at (Array Rw k) full_share ys b there) ⊛ ‵
     (places Rw (empty v) b (k * s + there))) (turn_out 𝓛 W b k sixteen o xs ys long count v parted)
     $ split3 ! $ move ! (3 ∷ []) $ split3 ! $ move ! (2 ∷ []) $ drop ! $
-    -- The last words are split from the other words. The context holds, in this order: [the
-    -- lifetime tokens of T and M; the other words; the last words; the empty words; memory for the
-    -- header; the right to free the block; the `&` to the allocator; the lifetime tokens of this
-    -- `&`, of A and of K].
+    -- The last words have been split off the other words. The proof context holds, in this order:
+    -- [the lifetime tokens of `T` and `M`; the other words; the last words; the empty words; memory
+    -- for the header; the right to free the block; the `&` to the allocator; the lifetime tokens of
+    -- this `&`, of `A` and of `K`].
     move ! (1 ∷ 10 ∷ []) $ join ! $ move ! (9 ∷ 0 ∷ []) $ join ! $
     move ! (3 ∷ 2 ∷ 4 ∷ 5 ∷ 6 ∷ 7 ∷ 8 ∷ 1 ∷ 0 ∷ []) $
-    -- The entries are put into a new order: [the last words; the other words; the empty words;
-    -- memory for the header; the right to free the block; the `&` to the allocator; the lifetime
-    -- tokens of this `&` and of T; the other lifetime tokens].
+    -- The entries of the proof context have been put into a new order: [the last words; the other
+    -- words; the empty words; memory for the header; the right to free the block; the `&` to the
+    -- allocator; the lifetime tokens of this `&` and of `T`; the other lifetime tokens].
     use1 𝓛 (exists (λ (u : Val). ‵ (fat full_share (ty_array ω k) b there u) ⊛ ‵
     (Arr.own_val ys (u ∷ [])))) (part_out 𝓛 (Array Rw k) refl full_share ys b there) $
     pick ! (λ u₁. split ! $
@@ -340,17 +342,16 @@ resize_words_spec 𝓤 𝓛 𝓜 𝓡 wired T A m k LT LA fits_m fits_k g d dd m
     move ! (1 ∷ []) $
     sets ! (of_opd ! (load ! (through ! refl (stop !)) (look ! 0 refl))) refl good $
     assigns ! (of_opd ! (get ! refl)) (through ! refl (stop !)) (init ! 4 refl good) $
-    -- The bytes of the last words are copied to the place of the header. The context holds, in this
-    -- order: [these bytes at their old place, after the other words; what the last words own; the
-    -- other words; the empty words; the same bytes in the place of the header; the right to free
-    -- the block; the `&` to the allocator; the lifetime tokens].
+    -- The bytes of the last words have been copied to the place of the header. The proof context
+    -- holds, in this order: [these bytes at their old address; what the last words own; the other
+    -- words; the empty words; the same bytes in the place of the header; the right to free the
+    -- block; the `&` to the allocator; the lifetime tokens].
     use1 𝓛 (‵ (froom (ty_array ω k) b there)) (𝓛.laws.at_room (ty_array ω k) b there u₁) $
     move ! (4 ∷ 1 ∷ []) $ use2 𝓛 (‵ (part_at (Array Rw k) full_share ys b o))
     (part_in 𝓛 (Array Rw k) refl full_share ys b o u₁) $
-    -- The last words are now in the place of the header. The context holds, in this order: [the
-    -- last words; the memory after the other words, which was the old place of the last words; the
-    -- other words; the empty words; the right to free the block; the `&` to the allocator; the
-    -- lifetime tokens].
+    -- The last words are now in the place of the header. The proof context holds, in this order:
+    -- [the last words; uninitialized memory at their old address; the other words; the empty words;
+    -- the right to free the block; the `&` to the allocator; the lifetime tokens].
     move ! (0 ∷ 2 ∷ 1 ∷ 3 ∷ 4 ∷ []) $ group ! 5 $
     use1 𝓛 (‵ (block_with_items tok Rw here count held (ys ++ xs)))
     (turn_up 𝓛 W b k sixteen o xs ys long count v parted tok w held filled held_is) $
@@ -384,12 +385,13 @@ resize_words_spec 𝓤 𝓛 𝓜 𝓡 wired T A m k LT LA fits_m fits_k g d dd m
     (flft κA z.0.1.1.1.0)))
     (Resizing-gives EX Y 𝓛 𝓜.mem 𝓡.returns κ κT κA q qT z.0.1.1.1.0 z.0.2.0 handle_at h b o count
     held wanted (ys ++ xs) u) $ await ! tt $ split ! $ move ! (1 ∷ []) $ split3 ! $
-    -- `resized` has returned. The context holds, in this order: [the lifetime tokens of the `&` to
-    -- the allocator, of T and of A; what `resized` returned; the other lifetime tokens].
+    -- `resized` has returned. The proof context holds, in this order: [the lifetime tokens of the
+    -- `&` to the allocator, of `T` and of `A`; what `resized` has returned; the other lifetime
+    -- tokens].
     move ! (2 ∷ 4 ∷ []) $ join ! $ move ! (2 ∷ 0 ∷ []) $ join ! $ move ! (1 ∷ 0 ∷ []) $ join ! $
     move ! (1 ∷ []) $
-    -- The lifetime tokens are joined. The context holds, in this order: [what `resized` returned;
-    -- the lifetime tokens].
+    -- The lifetime tokens have been joined. The proof context holds, in this order: [what `resized`
+    -- has returned; the lifetime tokens].
     let inner : Body = inside (head (after 1 fn.body)) in
     let both : Body = head (after 12 inner) in
     let Last : After 𝓤 H = out_of_block 𝓛
@@ -442,10 +444,10 @@ resize_words_spec 𝓤 𝓛 𝓜 𝓡 wired T A m k LT LA fits_m fits_k g d dd m
     let good' = (((array_at_laws 3 Rw (param_laws 0 W.row W.laws) k).lawful 𝓛).typed ys (u₂ ∷ [])
     is_u₂).0 in
     move ! (1 ∷ []) $
-    -- The array that `resized` returned is split. The context holds, in this order: [the bytes of
-    -- the last words, in the place of the header; what the last words own; the memory after the
-    -- other words; the empty words; the right to free the block; the other words; the lifetime
-    -- tokens].
+    -- The array that `resized` has returned has been split. The proof context holds, in this order:
+    -- [the bytes of the last words, in the place of the header; what the last words own; the memory
+    -- after the other words; the empty words; the right to free the block; the other words; the
+    -- lifetime tokens].
     sets ! (of_opd ! (load ! (through ! refl (stop !)) (look ! 0 refl))) refl good' $
     assigns ! (of_opd ! (get ! refl)) (through ! refl (stop !)) (init ! 2 refl good') $
     use1 𝓛 (‵ (froom (ty_array ω k) b' o')) (𝓛.laws.at_room (ty_array ω k) b' o' u₂) $
@@ -470,10 +472,11 @@ resize_words_spec 𝓤 𝓛 𝓜 𝓡 wired T A m k LT LA fits_m fits_k g d dd m
     exec ! C Λ En (after 2 fn.body) (at_ret En Post) $
     sets ! (of_opd ! (get ! refl)) refl (tt, (record { fits = lit< tt }, (words, tt))) $
     returns ! (look_at ! 0 refl) $ free_all ! refl $
-    -- The bytes of the last words are copied to the place after the other words, and the header is
-    -- written. The context holds, in this order: [the two words of the header; what turns the
-    -- header back into words; what the last words own; the bytes of the last words; the empty
-    -- words; the right to free the block; the other words; the lifetime tokens].
+    -- The bytes of the last words have been copied to the memory after the other words, and the
+    -- header has been written. The proof context holds, in this order: [the two words of the
+    -- header; the right to convert memory for the header into memory for words; what the last words
+    -- own; the bytes of the last words; the empty words; the right to free the block; the other
+    -- words; the lifetime tokens].
     rewrite ! 1 (λ (n : ℕ). ‵ (fat full_share (ty_int w64) b' n (vint w64 len)))
     (let turned : 8 + o' ≡ o' + 8 = omega arith in turned) refl $
     use1 𝓛 (‵ (lies_at usize full_share (block_ptr b' o') cap))
@@ -490,10 +493,10 @@ resize_words_spec 𝓤 𝓛 𝓜 𝓡 wired T A m k LT LA fits_m fits_k g d dd m
     use1 𝓛 (‵ (places Rt news b' (o' + 16)) ⊛ ‵ (slots_way τ' m w' cap b' (o' + 16)))
     (words_back 𝓛 T LT m k b' hd items count j' v' w' cap (o' + 16) whole_words slots_are' fill'
     (hd.counts.covers cap)) $ split ! $
-    -- The words are turned into filled slots, and the empty words into empty slots. The context
-    -- holds, in this order: [the slots; what turns the slots back into words; the length; the
-    -- capacity; what turns the header back into words; the right to free the block; the lifetime
-    -- tokens].
+    -- The words have been converted into filled slots, and the empty words into empty slots. The
+    -- proof context holds, in this order: [the slots; the right to convert memory for the slots
+    -- into memory for words; the length; the capacity; the same right for the header; the right to
+    -- free the block; the lifetime tokens].
     move ! (3 ∷ 2 ∷ 4 ∷ 1 ∷ 5 ∷ []) $ group ! 5 $
     use1 𝓛 (‵ (frame tok Rt len cap b' o'))
     (header_whole 𝓛 T LT b' m k in_words o' tok len cap wanted wanted_is fits_cap) $
@@ -525,10 +528,10 @@ resize_words_spec 𝓤 𝓛 𝓜 𝓡 wired T A m k LT LA fits_m fits_k g d dd m
     let good' = (((array_at_laws 3 Rw (param_laws 0 W.row W.laws) k).lawful 𝓛).typed ys (u₂ ∷ [])
     is_u₂).0 in
     move ! (1 ∷ []) $
-    -- `resized` has failed, and the old array is split. The context holds, in this order: [the
-    -- bytes of the last words, in the place of the header; what the last words own; the memory
-    -- after the other words; the empty words; the right to free the block; the other words; the
-    -- lifetime tokens].
+    -- `resized` has failed, and the old array has been split. The proof context holds, in this
+    -- order: [the bytes of the last words, in the place of the header; what the last words own; the
+    -- memory after the other words; the empty words; the right to free the block; the other words;
+    -- the lifetime tokens].
     sets ! (of_opd ! (load ! (through ! refl (stop !)) (look ! 0 refl))) refl good' $
     assigns ! (of_opd ! (get ! refl)) (through ! refl (stop !)) (init ! 2 refl good') $
     use1 𝓛 (‵ (froom (ty_array ω k) b o)) (𝓛.laws.at_room (ty_array ω k) b o u₂) $
@@ -552,10 +555,11 @@ resize_words_spec 𝓤 𝓛 𝓜 𝓡 wired T A m k LT LA fits_m fits_k g d dd m
     exec ! C Λ En (after 2 fn.body) (at_ret En Post) $
     sets ! (of_opd ! (get ! refl)) refl (tt, (record { fits = lit< tt }, (words, tt))) $
     returns ! (look_at ! 0 refl) $ free_all ! refl $
-    -- The bytes of the last words are copied to the place after the other words, and the header is
-    -- written. The context holds, in this order: [the two words of the header; what turns the
-    -- header back into words; what the last words own; the bytes of the last words; the empty
-    -- words; the right to free the block; the other words; the lifetime tokens].
+    -- The bytes of the last words have been copied to the memory after the other words, and the
+    -- header has been written. The proof context holds, in this order: [the two words of the
+    -- header; the right to convert memory for the header into memory for words; what the last words
+    -- own; the bytes of the last words; the empty words; the right to free the block; the other
+    -- words; the lifetime tokens].
     rewrite ! 1 (λ (n : ℕ). ‵ (fat full_share (ty_int w64) b n (vint w64 len)))
     (let turned : 8 + o ≡ o + 8 = omega arith in turned) refl $
     use1 𝓛 (‵ (lies_at usize full_share (block_ptr b o) old)) (uint_in 𝓛 full_share w64 old b o) $
@@ -572,10 +576,10 @@ resize_words_spec 𝓤 𝓛 𝓜 𝓡 wired T A m k LT LA fits_m fits_k g d dd m
     (slots_way τ' m w old b (o + 16)))
     (words_back 𝓛 T LT m k b hd items count j v w old (o + 16) whole_words slots_are fill
     (hd.counts.covers old)) $ split ! $
-    -- The words are turned into filled slots, and the empty words into empty slots. The context
-    -- holds, in this order: [the slots; what turns the slots back into words; the length; the
-    -- capacity; what turns the header back into words; the right to free the block; the lifetime
-    -- tokens].
+    -- The words have been converted into filled slots, and the empty words into empty slots. The
+    -- proof context holds, in this order: [the slots; the right to convert memory for the slots
+    -- into memory for words; the length; the capacity; the same right for the header; the right to
+    -- free the block; the lifetime tokens].
     move ! (3 ∷ 2 ∷ 4 ∷ 1 ∷ 5 ∷ []) $ group ! 5 $
     use1 𝓛 (‵ (frame tok Rt len old b o))
     (header_whole 𝓛 T LT b m k in_words o tok len old held held_is fits_old) $

@@ -1,4 +1,4 @@
--- After `shrink`, the slots are the first slots of the old block.
+-- If `shrink` succeeds, the block has only the first slots of the old block.
 use Rattle.std.proofs.Common.{arith}
 use denote.Param.{param}
 use Rattle.thin_block.proofs.BlockLemmas.{slots-are}
@@ -7,14 +7,15 @@ use Rattle.thin_block.proofs.SlotsLemmas.{packed-shrunk}
 use Rattle.thin_block.proofs.Outcomes.{on-ok}
 use Rattle.thin_block.proofs.block.Block.shrink.Goals as goal
 
--- the new capacity fits, because it is less than the old capacity, which fits
+-- A block of the new capacity is small enough to be allocated, because the new capacity is less
+-- than the old capacity.
 pub resize-requires-clause-fits : goal.resize-requires-clause-fits
 resize-requires-clause-fits g c =
     let smaller = c.requires.smaller in
     let whole = c.cap-whole.ensures.value in
     fits-less (param 0 g.row.T) c.args.cap c.cap-whole.result c.cap-whole.ensures.fits (omega arith)
 
--- if `shrink` succeeds, the slots are the first slots of the old block
+-- If `shrink` succeeds, the slots of the block are the first `cap` slots of the old block.
 pub returns-clause-ok : goal.returns-clause-ok
 returns-clause-ok g c =
     let smaller = c.requires.smaller in

@@ -1,4 +1,5 @@
--- `store_len` writes the second of the two words of the header. Assumes `Logic`.
+-- `store_len` writes the length, which is the second of the two words of the header. The proof
+-- assumes the laws of the separation logic (`Logic`).
 use Rattle.std.proofs.Common.{◌≡◌, ℕ, ◌+◌, ◌≤◌, ◌∷◌, [], ◌++◌, length, refl, sym, arith, w64}
 use mir.Syntax.{ty_int}
 use mir.Val.{vint, vunit}
@@ -46,9 +47,9 @@ store_len_spec 𝓤 𝓛 𝓜 𝓡 wired T A LT LA g d dd met md =
     (uint_out 𝓛 full_share w64 x.len b (o + 8)) $
     rewrite ! 0 (λ (k : ℕ). ‵ (fat full_share (ty_int w64) b k (vint w64 x.len)))
     (let turned : o + 8 ≡ 8 + o = omega arith in turned) refl $
-    -- The header is split. The context holds, in this order: [the length; the rest of the header;
-    -- the capacity; the slots; the cell with the block's pointer; three entries for the open borrow
-    -- of the block; the other lifetime tokens].
+    -- The header has been split. The proof context holds, in this order: [the length; the right to
+    -- free the block; the capacity; the slots; the memory that holds the block's pointer; three
+    -- entries for the open borrow of the block; the other lifetime tokens].
     sets ! (of_opd ! (load ! (through ! refl (fld ! refl (stop !)))
     (look_in ! 4 (sub ! 0 refl (whole !))))) refl (tt, tt) $
     first ! $ blocks ! $

@@ -1,5 +1,5 @@
--- The walk of `take_replacing` is the walk of `swap` up to its first write, followed by the walk of
--- `take` at the second slot. Assumes `Logic`.
+-- The proof of `take_replacing` is the proof of `swap` up to the first write, followed by the proof
+-- of `take` for the second slot. It assumes the laws of the separation logic (`Logic`).
 use Rattle.std.proofs.Common.{◌≡◌, ℕ, Some, None, ◌+◌, ◌*◌, ◌<◌, List, ◌∷◌, [], ◌++◌, length, refl, sym, ap, ◌∙◌, arith, w64}
 use lib.ListN.{set, length-set}
 use lib.Seq.{set-set}
@@ -68,10 +68,11 @@ take_replacing_spec 𝓤 𝓛 𝓜 𝓡 wired T A LT LA g d dd met md =
       | inr apart ↦
           let p = two_slots E 𝓛 b (o + 16) x.slots i j apart low low' in
           takes_two E ! b (o + 16) x.slots i j p (one.1, two.1) (λ v v' good good'.
-          -- Both slots are out of the row. The context holds, in this order: [the bytes of the
-          -- second item; what the second item owns; the bytes of the first item; what the first
-          -- item owns; the other slots; the header; the cell with the block's pointer; three
-          -- entries for the open borrow of the block; the other lifetime tokens].
+          -- The two slots have been split off the other slots. The proof context holds, in this
+          -- order: [the bytes of the second item; what the second item owns; the bytes of the first
+          -- item; what the first item owns; the other slots; the header; the memory that holds the
+          -- block's pointer; three entries for the open borrow of the block; the other lifetime
+          -- tokens].
           sets ! (of_opd ! (load ! (through ! refl (stop !)) (look ! 2 refl))) refl good $
           sets ! (of_opd ! (load ! (through ! refl (stop !)) (look ! 0 refl))) refl good' $
           assigns ! (of_opd ! (get ! refl)) (through ! refl (stop !)) (store ! 2 refl good') $
@@ -83,10 +84,10 @@ take_replacing_spec 𝓤 𝓛 𝓜 𝓡 wired T A LT LA g d dd met md =
           move ! (2 ∷ 1 ∷ []) $ use2 𝓛 (‵ (place (R E) (Some two.0) b here))
           (el_in E 𝓛 b two.0 here v') $
           rewrite ! 0 (λ (c : Option T.Denot). ‵ (place (R E) c b here)) (sym two.1) refl $
-          -- The second item is now in slot i, and slot j is empty. The context holds, in
-          -- this order: [slot i; slot j; what the removed item owns; the other slots; the
-          -- header; the cell with the block's pointer; three entries for the open borrow of the
-          -- block; the other lifetime tokens].
+          -- The second item is now in slot `i`, and slot `j` is empty. The proof context holds, in
+          -- this order: [slot `i`; slot `j`; what the removed item owns; the other slots; the
+          -- header; the memory that holds the block's pointer; three entries for the open borrow of
+          -- the block; the other lifetime tokens].
           move ! (0 ∷ 1 ∷ 3 ∷ []) $ use3 𝓛 (‵ (places (R E) after_it b (o + 16)))
           (p.back (slot x.slots j) None) $
           move ! (0 ∷ 2 ∷ 3 ∷ 4 ∷ 5 ∷ 6 ∷ []) $
@@ -96,10 +97,10 @@ take_replacing_spec 𝓤 𝓛 𝓜 𝓡 wired T A LT LA g d dd met md =
           says_all ! (_ ∷ _ ∷ []) (one.1, refl) $ done !)
       | inl same ↦
           takes_item E ! b (o + 16) x.slots i low one.1 (λ v good.
-          -- The two slots are one slot, which is out of the row. The context holds, in this order:
-          -- [the bytes of the item; what the item owns; the other slots; the header; the cell with
-          -- the block's pointer; three entries for the open borrow of the block; the other lifetime
-          -- tokens].
+          -- The two slots are the same slot. This slot has been split off the other slots. The
+          -- proof context holds, in this order: [the bytes of the item; what the item owns; the
+          -- other slots; the header; the memory that holds the block's pointer; three entries for
+          -- the open borrow of the block; the other lifetime tokens].
           let Bits = λ (k : ℕ). ‵ (fat full_share (layout T) b (k * sz E + (o + 16)) v) in
           sets ! (of_opd ! (load ! (through ! refl (stop !)) (look ! 0 refl))) refl good $
           rewrite ! 0 Bits same refl $

@@ -1,5 +1,5 @@
--- The code reads the size of an item, capped at `usize::MAX`. This size exceeds the bound if and
--- only if the size of the item type does.
+-- The code compares the item size with a bound after capping the size at `usize::MAX`. The capped
+-- size exceeds the bound if and only if the real size exceeds the bound.
 use Rattle.std.proofs.Common.{arith}
 use Rattle.std.specs.Mem.{type_size}
 use Rattle.thin_block.proofs.SizesLemmas.{first_one, first_many}

@@ -1,5 +1,6 @@
--- The code returns the capacity that the rule chooses: both try the same capacity, or both try one
--- that does not fit.
+-- The code of `next_capacity` returns the capacity that the growth rule chooses. Either the code
+-- and the rule compute the same capacity, or each computes a capacity for which a block is too
+-- large to be allocated.
 use Rattle.std.proofs.Common.{◌≡◌, ℕ, ◌*◌, ◌-◌, ◌^◌, ◌∙◌, ap, min}
 use Rattle.std.specs.Mem.{type_size}
 use Rattle.std.specs.Align.{type_align}
