@@ -30,7 +30,7 @@ block_bytes s a c = next_multiple_of (items_offset a + c * s) (block_align a)
 
 -- Consider a block for `c` items of size `s` and alignment `a`. `is_small s a c` is true if neither
 -- `c` nor the size of this block in bytes exceeds `isize::MAX`. In std, `Layout::from_size_align`
--- has the same limit.
+-- sets the same limit on sizes.
 abbrev pub is_small : ℕ → ℕ → ℕ → Bool
 is_small s a c = nat_lt c (2 ^ 63) && nat_lt (block_bytes s a c) (2 ^ 63)
 

@@ -8,8 +8,8 @@ pub record Cost : Type 0 where
   -- The number of requests for memory that the allocator granted. A request allocates memory, or
   -- changes the size of an allocation.
   pub blocks : ℕ
-  -- The number of items that reallocations have copied. A reallocation counts every item of the
-  -- block as copied, even if the address of the block does not change.
+  -- The number of items that reallocations have copied. At each reallocation, every item of the
+  -- block counts as copied, even if the address of the block does not change.
   pub grown : ℕ
   -- The number of moves of items into the block or within the block. Putting a clone into the block
   -- counts as one move, and so does exchanging two items. Taking an item out of the block does not
@@ -27,7 +27,8 @@ cost_code =
 abbrev pub no_cost : Cost
 no_cost = record { blocks = 0; grown = 0; moves = 0 }
 
--- `growing k c` is the cost `c` after one more granted request for memory, which copied `k` items.
+-- `growing k c` is the cost `c` after one more granted request for memory and `k` more copied
+-- items.
 abbrev pub growing : ℕ → Cost → Cost
 growing k c = record { blocks = c.blocks + 1; grown = c.grown + k; moves = c.moves }
 

@@ -54,9 +54,10 @@ doubled_to (suc more) n p = if nat_le n p then p else doubled_to more n (2 * p)
 unfoldable pub least_power : ℕ → ℕ
 least_power n = doubled_to n n 1
 
--- The rule `PowerBytes` chooses the number of items that have room in `p` bytes after the header.
--- Here `p` is the least power of two with room for the header and `max w (2 * c)` items, if `w`
--- items need room and the old capacity is `c`. For items of size 0, the rule is `doubling`.
+-- Let `w` items need room, and let the old capacity be `c`. The rule `PowerBytes` takes the least
+-- power of two `p` such that `p` bytes have room for the header and `max w (2 * c)` items. It
+-- chooses the number of items that have room in `p` bytes after the header. For items of size 0,
+-- the rule is `doubling`.
 unfoldable pub power_bytes : Rule
 power_bytes s a c w = if s == 0 then doubling s a c w else fitting s a
     ((least_power (items_offset a + max w (2 * c) * s) - items_offset a) / s)
@@ -70,15 +71,15 @@ pub record FillsPower (s a c : ℕ) : Type 0 where
   pub holds : items_offset a + c * s ≤ power
   pub is_full : power < items_offset a + (c + 1) * s
 
--- `ruled_capacity rule R c w` is the capacity that a growth rule gives to a block of capacity `c`
--- if `w` items of the type `R` need room. It is `c` if `w <= c`. Otherwise it is `None` if `w`
--- exceeds `usize::MAX`, and the result of the rule if not.
+-- `ruled_capacity rule R c w` is the capacity of a block after it has reserved room for `w` items
+-- of the type `R` under a growth rule. It is the old capacity `c` if `w <= c`. Otherwise it is the
+-- result of the rule, or `None` if `w` exceeds `usize::MAX`.
 unfoldable pub ruled_capacity : Rule → RattleType → ℕ → ℕ → Option ℕ
 ruled_capacity rule R c w = if nat_le w c then Some c else
     (if nat_lt w (2 ^ 64) then rule (type_size R) (type_align R) c w else None)
 
--- `exact_capacity R c w` is the capacity that a block of capacity `c` gets, without a growth rule,
--- if `w` items of the type `R` need room. It is `c` if `w <= c`. Otherwise it is `w` if a block of
+-- `exact_capacity R c w` is the capacity of a block after it has reserved room for exactly `w`
+-- items of the type `R`. It is the old capacity `c` if `w <= c`. Otherwise it is `w` if a block of
 -- capacity `w` is small enough to be allocated, and `None` if not.
 unfoldable pub exact_capacity : RattleType → ℕ → ℕ → Option ℕ
 exact_capacity R c w = if nat_le w c then Some c else fitting (type_size R) (type_align R) w

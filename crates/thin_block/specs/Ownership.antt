@@ -5,8 +5,8 @@
 --                     is uninitialized.
 --     frame           A block without its slots: the two words of the header, the fact that the
 --                     block is small enough to be allocated, and the backing.
---     word_of         The type of a word. A word consists of one or more items, and is aligned as
---                     a block is.
+--     word_of         The type of a word. A word consists of one or more items, and has the
+--                     alignment of a block.
 --     way             The conversion of memory for the items of a word into memory for the word.
 --     backing         The conversion of the parts of a block back into the memory that was
 --                     allocated, and the right to free that memory.
@@ -77,8 +77,8 @@ bare R = raw (lone R.mir)
 abbrev pub whole : RattleType → ℕ → Ty
 whole R c = whole_of (bare R) c
 
--- `word_of τ m` is the type of a word. A word consists of `m` items of the type `τ`, and is aligned
--- as a block is.
+-- `word_of τ m` is the type of a word. A word consists of `m` items of the type `τ`, and has the
+-- alignment of a block.
 abbrev pub word_of : Ty → ℕ → Ty
 word_of τ m = ty_struct [] (tcons (ty_array τ m) (tcons (ty_array (ty_int w64) 0) tnil))
 
@@ -142,8 +142,8 @@ way_back None τ c b o = fwand (parts_for τ c b o) (froom (whole_of τ c) b o)
 way_back (Some w) τ c b o = fsep (header_way τ w.0 w.1 b o)
     (slots_way τ w.0 (div_ceil c w.0) c b (o + 16))
 
--- The backing of a block consists of the conversion of its parts back into memory for the whole
--- block, `way_back`, and the right to free the block.
+-- The backing of a block consists of two parts. `way_back` converts the parts of the block back
+-- into memory for the whole block, and `t` is the right to free the block.
 abbrev pub backing_for : (Ty → Ptr → Fml) → Option (ℕ × ℕ) → Ty → ℕ → ℕ → ℕ → Fml
 backing_for t w τ c b o = fsep (way_back w τ c b o) (t (asked_for w τ c) (block_ptr b o))
 

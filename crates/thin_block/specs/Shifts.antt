@@ -3,8 +3,9 @@ use Rattle.std.specs.Prelude.{◌≡◌, ℕ, Bool, true, false}
 use Rattle.core.specs.Ptr.{Ptr, ptr_add}
 use denote.RattleType.{RattleType}
 
--- `IsShifted R up d source target` holds if the pointers `source` and `target` are `d` items of the
--- type `R` apart. The target is above the source if `up` is true, and below the source otherwise.
+-- `IsShifted R up d source target` holds if the distance between the pointers `source` and `target`
+-- is `d` items of the type `R`. The target is above the source if `up` is true, and below the
+-- source otherwise.
 abbrev pub IsShifted : RattleType → Bool → ℕ → Ptr → Ptr → Type 0
 IsShifted R true d source target = target ≡ ptr_add R d source
 IsShifted R false d source target = source ≡ ptr_add R d target

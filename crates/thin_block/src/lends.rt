@@ -26,8 +26,8 @@ impl<T, A: Allocator> Block<T, A> {
         }
     }
 
-    /// Returns a mutable reference to the item in slot `i`. After the borrow has ended, the slot
-    /// holds the item that the caller last wrote through the reference.
+    /// Returns a mutable reference to the item in slot `i`. A value that the caller writes through
+    /// the reference replaces the item in the slot.
     pub fn slot_mut(&mut self, i: usize) -> &mut T
         requires filled { IsSome (slot self.old.slots i) }
         ensures* writes_back { sem 𝓛 (LendsItem T.row A.row A.Allocator self.entry i result) }
@@ -37,9 +37,9 @@ impl<T, A: Allocator> Block<T, A> {
         unsafe { &mut *(at.add(HEADER_WORDS) as *mut T).add(i) }
     }
 
-    /// Returns the items in the slots `start..end` as a mutable slice. After the borrow has ended,
-    /// the slots hold the items that the caller last wrote to the slice. The range may be empty,
-    /// even if the block has no allocation.
+    /// Returns the items in the slots `start..end` as a mutable slice. Values that the caller
+    /// writes to the slice replace the items in the slots. The range may be empty, even if the
+    /// block has no allocation.
     pub fn slice_mut(&mut self, start: usize, end: usize) -> &mut [T]
         requires start_le_end { start ≤ end }
         requires in_bounds { end ≤ length self.old.slots }

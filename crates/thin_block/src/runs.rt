@@ -82,7 +82,7 @@ impl<T, A: Allocator> Block<T, A> {
         ensures cap { length result.slots ≡ length self.slots }
     {
         let mut block = self;
-        // This call tells the prover that the number of slots is below 2 ^ 63.
+        // This call tells the prover that the number of slots is less than `2 ^ 63`.
         let _cap = block.cap();
         // In each arm with a number, LLVM knows the value of `gap` and turns the call into a
         // `memmove`.
@@ -142,7 +142,7 @@ impl<T, A: Allocator> Block<T, A> {
         ensures cap { length result.slots ≡ length self.slots }
     {
         let mut block = self;
-        // This call tells the prover that the number of slots is below 2 ^ 63.
+        // This call tells the prover that the number of slots is less than `2 ^ 63`.
         let _cap = block.cap();
         // In each arm with a number, LLVM knows the value of `gap` and turns the call into a
         // `memmove`.

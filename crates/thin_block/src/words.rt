@@ -1,12 +1,12 @@
-//! Defines words. A word is a value that consists of one or more items and is aligned as a block
-//! is. If the items of a block form words, the allocator treats the block as an array of words.
+//! Defines words. A word is a value that consists of one or more items and has the alignment of a
+//! block. If the items of a block form words, the allocator treats the block as an array of words.
 ghost use Rattle.std.specs.Prelude.{◌≡◌, ◌*◌, ◌^◌, ◌<◌, List, length};
 ghost use Rattle.std.specs.Mem.{type_size};
 ghost use types.Logic.{sem};
 ghost use Rattle.thin_block.specs.Words.{runs_from, words_from};
 ghost use Rattle.thin_block.specs.contracts.words.Words.{the_row};
 
-// A word consists of `M` items, and is aligned as a block is.
+// A word consists of `M` items, and has the alignment of a block.
 pub(crate) struct Words<T, const M: usize> {
     pub(crate) items: [T; M],
     pub(crate) aligned: [u64; 0],

@@ -1,6 +1,6 @@
--- These lemmas are about the list of a row's entries, which is sorted by column. A binary search
--- for a column finds an index in this list, and an edit at this index is an edit of the entry of
--- the column.
+-- These lemmas are about the list of a row's entries, which is sorted by column. They say what a
+-- binary search for a column returns, and how an edit of the list at the returned index changes the
+-- entries.
 use Rattle.std.proofs.Common.{◌≡◌, ℕ, zero, suc, ◌+◌, ◌<◌, ◌≤◌, ◌≢◌, Bool, true, false, cond, not, ◌&&◌, T, List, [], ◌∷◌, length, map, get_or, set, Some, None, Result, Ok, Err, IfOk, IfErr, refl, sym, ap, ◌∙◌, nat_cmp, is_lt, is_eq, Less, Equal, Greater, insert, remove, arith}
 use Rattle.std.specs.FinMap.{find, put}
 use Rattle.std.specs.FinMap.Entries.{below_all, by_order, where_key}

@@ -4,7 +4,7 @@ use Rattle.std.specs.Prelude.{ℕ, List, Option, slice_index_or, slice_set}
 use Rattle.std.specs.Ordering.{nat_cmp}
 use Rattle.std.specs.FinMap as map
 
--- A row is a finite map, which maps each column that has an entry to a value.
+-- A row is a finite map from columns to values.
 abbrev pub Columns : Type 0 → Type 0
 Columns V = map.FinMap nat_cmp V
 

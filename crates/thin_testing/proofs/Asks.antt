@@ -32,7 +32,8 @@ module _ {M : Type 1} {𝓤 : Ura M} (𝓛 : Logic 𝓤) (at_mem : Memory → SP
 
   -- These are the ghost arguments of the contract of `refuses` for a call that passes a reference
   -- to the counts. The counts have the address `c` and the value `k`. The reference has the
-  -- lifetime `κ`, and the call receives the share `q` of the token of `κ`.
+  -- lifetime `κ`, and the call receives the fraction `q` of the token that proves that `κ` has not
+  -- ended.
   abbrev pub at_asks : Lft → Share → ℕ × ℕ → Row.Denot → Asks.Ghost
   at_asks κ q c k = (
     (
@@ -49,7 +50,8 @@ module _ {M : Type 1} {𝓤 : Ura M} (𝓛 : Logic 𝓤) (at_mem : Memory → SP
     (κ : Lft) (q : Share) (c : ℕ × ℕ) (k : Row.Denot) where
   open 𝓛 use {H, A}
 
-  -- The precondition of `refuses` follows from the shared counts and the token of the lifetime `κ`.
+  -- If the counts are shared for the lifetime `κ`, and a token proves that `κ` has not ended, then
+  -- the precondition of `refuses` holds.
   pub Asks-goes : ent 𝓤 (sep 𝓤 (sem 𝓛 (hidden_shr Row κ k c.0 c.1)) (A.lft κ q))
       ((Asks 𝓛 at_mem run).pre (at_asks 𝓛 at_mem run κ q c k))
   Asks-goes =
@@ -58,7 +60,8 @@ module _ {M : Type 1} {𝓤 : Ura M} (𝓛 : Logic 𝓤) (at_mem : Memory → SP
       nothing ! $ move ! (1 ∷ []) $ fjoin ! $ nothing ! $ move ! (2 ∷ []) $ join ! $ join ! $
       nothing ! $ move ! (1 ∷ []) $ done !
 
-  -- A call of `refuses` returns a Boolean, and returns the token of the lifetime `κ` to the caller.
+  -- A call of `refuses` returns a Boolean. It also returns the token that proves that the lifetime
+  -- `κ` has not ended.
   pub Asks-gives : (v : Val) → ent 𝓤 ((Asks 𝓛 at_mem run).post (at_asks 𝓛 at_mem run κ q c k) v)
       (H.⇛ (ex 𝓤 (λ (y : Bool). guard 𝓤 (v ≡ vbool y) (A.lft κ q))))
   Asks-gives v =

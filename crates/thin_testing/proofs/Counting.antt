@@ -38,8 +38,8 @@ module _ {M : Type 1} {𝓤 : Ura M} (𝓛 : Logic 𝓤) (at_mem : Memory → SP
 
   -- These are the ghost arguments of the contract of `granted` for a call that passes a reference
   -- to the counts and an answer. The counts have the address `c` and the value `k`. The reference
-  -- has the lifetime `κ`, and the call receives the share `q` of the token of `κ`. The answer is
-  -- `y`, and its machine value is `v`.
+  -- has the lifetime `κ`, and the call receives the fraction `q` of the token that proves that `κ`
+  -- has not ended. The answer is `y`, and its machine value is `v`.
   abbrev pub at_granted : Lft → Share → ℕ × ℕ → Row.Denot → Answer.Denot → Val → Granted.Ghost
   at_granted κ q c k y v = (
     (
@@ -54,7 +54,8 @@ module _ {M : Type 1} {𝓤 : Ura M} (𝓛 : Logic 𝓤) (at_mem : Memory → SP
 
   -- These are the ghost arguments of the contract of `returned` for a call that passes a reference
   -- to the counts. The counts have the address `c` and the value `k`. The reference has the
-  -- lifetime `κ`, and the call receives the share `q` of the token of `κ`.
+  -- lifetime `κ`, and the call receives the fraction `q` of the token that proves that `κ` has not
+  -- ended.
   abbrev pub at_returned : Lft → Share → ℕ × ℕ → Row.Denot → Returned.Ghost
   at_returned κ q c k =
       (((κ, tt), (q, tt), tt, (record { ref_ptr = c; now = k }, tt), (vptr c.0 c.1 ∷ [], tt)), tt)
@@ -63,8 +64,9 @@ module _ {M : Type 1} {𝓤 : Ura M} (𝓛 : Logic 𝓤) (at_mem : Memory → SP
     (κ : Lft) (q : Share) (c : ℕ × ℕ) (k : Row.Denot) where
   open 𝓛 use {H, A}
 
-  -- If `v` is the machine value of the answer `y`, then the precondition of `granted` follows from
-  -- the shared counts and the token of the lifetime `κ`.
+  -- If the counts are shared for the lifetime `κ`, and a token proves that `κ` has not ended, then
+  -- the precondition of `granted` holds. Here `v` is the machine value of the answer `y`, an
+  -- argument of `granted`.
   pub Granted-goes : (y : Answer.Denot) (v : Val)
       → ent 𝓤 (emp 𝓤) (sem 𝓛 (Answer.own_val y (v ∷ [])))
       → ent 𝓤 (sep 𝓤 (sem 𝓛 (hidden_shr Row κ k c.0 c.1)) (A.lft κ q))
@@ -76,8 +78,8 @@ module _ {M : Type 1} {𝓤 : Ura M} (𝓛 : Logic 𝓤) (at_mem : Memory → SP
       move ! (1 ∷ []) $ fjoin ! $
       nothing ! $ move ! (2 ∷ []) $ join ! $ join ! $ nothing ! $ move ! (1 ∷ []) $ done !
 
-  -- A call of `granted` returns the unit value, and returns the token of the lifetime `κ` to the
-  -- caller.
+  -- A call of `granted` returns the unit value. It also returns the token that proves that the
+  -- lifetime `κ` has not ended.
   pub Granted-gives : (y : Answer.Denot) (w v : Val)
       → ent 𝓤 ((Granted 𝓛 at_mem run).post (at_granted 𝓛 at_mem run κ q c k y w) v)
       (H.⇛ (guard 𝓤 (v ≡ vunit) (A.lft κ q)))
@@ -91,8 +93,8 @@ module _ {M : Type 1} {𝓤 : Ura M} (𝓛 : Logic 𝓤) (at_mem : Memory → SP
       split ! $ split ! $ move ! (1 ∷ []) $
       feq_l ! (λ e. split ! $ at_once ! $ check ! (ap only e) $ keep ! (0 ∷ []) $ done !))
 
-  -- The precondition of `returned` follows from the shared counts and the token of the lifetime
-  -- `κ`.
+  -- If the counts are shared for the lifetime `κ`, and a token proves that `κ` has not ended, then
+  -- the precondition of `returned` holds.
   pub Returned-goes : ent 𝓤 (sep 𝓤 (sem 𝓛 (hidden_shr Row κ k c.0 c.1)) (A.lft κ q))
       ((Returned 𝓛 at_mem run).pre (at_returned 𝓛 at_mem run κ q c k))
   Returned-goes =
@@ -101,8 +103,8 @@ module _ {M : Type 1} {𝓤 : Ura M} (𝓛 : Logic 𝓤) (at_mem : Memory → SP
       nothing ! $ move ! (1 ∷ []) $ fjoin ! $ nothing ! $ move ! (2 ∷ []) $ join ! $ join ! $
       nothing ! $ move ! (1 ∷ []) $ done !
 
-  -- A call of `returned` returns the unit value, and returns the token of the lifetime `κ` to the
-  -- caller.
+  -- A call of `returned` returns the unit value. It also returns the token that proves that the
+  -- lifetime `κ` has not ended.
   pub Returned-gives : (v : Val)
       → ent 𝓤 ((Returned 𝓛 at_mem run).post (at_returned 𝓛 at_mem run κ q c k) v)
       (H.⇛ (guard 𝓤 (v ≡ vunit) (A.lft κ q)))

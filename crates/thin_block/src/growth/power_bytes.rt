@@ -9,12 +9,13 @@ use crate::growth::{Growth, fitting};
 use crate::sizes::{HEADER, item_size};
 
 /// A growth rule under which each block fills a power of two bytes. Let `p` be the least power of
-/// two such that `p` bytes have room for the header and either the wanted items or twice the old
-/// capacity, whichever is more. The new capacity is the number of items that have room in `p` bytes
-/// after the header. If an allocator rounds requests up to powers of two, a block then wastes less
-/// than the size of one item. For items of size 0, the rule is the same as `Doubling`.
+/// two such that `p` bytes have room for the header and for the greater of two numbers of items:
+/// the wanted number, and twice the old capacity. The new capacity is the number of items that have
+/// room in `p` bytes after the header. If an allocator rounds requests up to powers of two, a block
+/// then wastes less than the size of one item. For items of size 0, the rule is the same as
+/// `Doubling`.
 ///
-/// The Rust crate thin-vec has a similar rule for Gecko, on which this rule is modeled.
+/// This rule is modeled on a similar rule that the Rust crate thin-vec has for Gecko.
 pub struct PowerBytes {}
 
 impl Growth for PowerBytes {
@@ -24,8 +25,8 @@ impl Growth for PowerBytes {
     ghost rule = { power_bytes };
 
     // Returns the capacity that the rule chooses. If items take at least one byte, there is a power
-    // of two bytes that has room for the header and this number of items, but not for one more
-    // item.
+    // of two `p` such that `p` bytes have room for the header and this number of items, but not for
+    // one more item.
     fn next_capacity<T>(cap: usize, want: usize) -> Option<usize>
         requires { cap < want }
         ensures value { result ≡ power_bytes (type_size T.row) (type_align T.row) cap want }

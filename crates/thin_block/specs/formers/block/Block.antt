@@ -58,22 +58,22 @@ module _ (g : Former {0}) where
   slot_put X None n t = t
   slot_put X (Some y) n t = g.put X y n t
 
-  -- Splits a row of values into a slot of the shape `a` and the remaining `n` values. The slot
-  -- contains the first values of the row.
+  -- Splits a row of values into a slot and the remaining `n` values. The slot has the shape `a`,
+  -- and contains the first values of the row.
   abbrev pub slot_get : (X : Type 0) (a : Option g.Shape) (n : Count) → Row X (slot_count a n)
       → Option (g.Of X) × Row X n
   slot_get X None n v = (None, v)
   slot_get X (Some a) n v = let r : g.Of X × Row X n = g.get X a n v in (Some r.0, r.1)
 
-  -- If the values in the slot `o` are prepended to the row `t`, then taking a slot of the same
-  -- shape from the result returns `o` and `t`.
+  -- If the values in the slot `o` are prepended to the row `t` of values, then taking a slot of the
+  -- same shape from the result returns `o` and `t`.
   pub slot_get-put : (X : Type 0) (o : Option (g.Of X)) (n : Count) (t : Row X n)
       → slot_get X (on_slot (g.shape X) o) n (slot_put X o n t) ≡ (o, t)
   slot_get-put X None n t = refl
   slot_get-put X (Some y) n t = λ i. (Some (g.get-put X y n t i).0, (g.get-put X y n t i).1)
 
-  -- If a slot is taken from the row `v`, then prepending the values in the slot to the remaining
-  -- row restores `v`.
+  -- If a slot is taken from the row `v` of values, then prepending the values in the slot to the
+  -- remaining row restores `v`.
   pub slot_put-get : (X : Type 0) (a : Option g.Shape) (n : Count) (v : Row X (slot_count a n))
       → ◌≡◌ {A = (b : Option g.Shape) × Row X (slot_count b n)} (
         on_slot (g.shape X) (slot_get X a n v).0,
@@ -83,8 +83,8 @@ module _ (g : Former {0}) where
   slot_put-get X None n v = refl
   slot_put-get X (Some a) n v = λ i. (Some (g.put-get X a n v i).0, (g.put-get X a n v i).1)
 
-  -- Taking a slot from a row and applying the function `h` to all values can be done in either
-  -- order.
+  -- Taking a slot from a row of values and applying the function `h` to all values can be done in
+  -- either order.
   pub slot_get-map : (X Y : Type 0) (h : X → Y) (a : Option g.Shape) (n : Count)
       (v : Row X (slot_count a n))
       → slot_get Y a n (over h (slot_count a n) v) ≡ (
@@ -171,23 +171,23 @@ mapped h d = holding d (map (on_slot h) d.slots)
     (fits d (map (on_slot h) d.slots) (length-map d.slots (on_slot h)))
 
 module _ (g : Former {0}) (Z : Type 0) where
-  -- Let `a` be a list of shapes. If slots of these shapes are taken from a row, then the number of
-  -- slots is the length of `a`.
+  -- Let `a` be a list of shapes of slots. If slots of these shapes are taken from a row of values,
+  -- then the number of slots is the length of `a`.
   pub length_got : (X : Type 0) (a : List (Option g.Shape)) (n : Count)
       (v : Row X (list_count (slot g) a n)) → length (list_get (slot g) X a n v).0 ≡ length a
   length_got X [] n v = refl
   length_got X (a ∷ as') n v =
       ap suc (length_got X as' n ((slot g).get X a (list_count (slot g) as' n) v).1)
 
-  -- Splits a row of values into a block of the shape `a` and the remaining `n` values. The block
-  -- contains the first values of the row.
+  -- Splits a row of values into a block and the remaining `n` values. The block has the shape `a`,
+  -- and contains the first values of the row.
   abbrev pub got : (X : Type 0) (a : Block g.Shape Z) (n : Count)
       → Row X (list_count (slot g) a.slots n) → Block (g.Of X) Z × Row X n
   got X a n v = let r : List (Option (g.Of X)) × Row X n = list_get (slot g) X a.slots n v in
       (holding a r.0 (fits a r.0 (length_got X a.slots n v)), r.1)
 
-  -- If the values in the block `d` are prepended to the row `t`, then taking a block of the same
-  -- shape from the result returns `d` and `t`.
+  -- If the values in the block `d` are prepended to the row `t` of values, then taking a block of
+  -- the same shape from the result returns `d` and `t`.
   pub got-put : (X : Type 0) (d : Block (g.Of X) Z) (n : Count) (t : Row X n)
       → got X (mapped (g.shape X) d) n ((list (slot g)).put X d.slots n t) ≡ (d, t)
   got-put X d n t = λ i. (
@@ -196,8 +196,8 @@ module _ (g : Former {0}) (Z : Type 0) where
     ((list (slot g)).get-put X d.slots n t i).1,
   )
 
-  -- If a block is taken from the row `v`, then prepending the values in the block to the remaining
-  -- row restores `v`.
+  -- If a block is taken from the row `v` of values, then prepending the values in the block to the
+  -- remaining row restores `v`.
   pub put-got : (X : Type 0) (a : Block g.Shape Z) (n : Count)
       (v : Row X (list_count (slot g) a.slots n))
       → ◌≡◌ {A = (b : Block g.Shape Z) × Row X (list_count (slot g) b.slots n)} (
@@ -211,8 +211,8 @@ module _ (g : Former {0}) (Z : Type 0) where
     ((list (slot g)).put-get X a.slots n v i).1,
   )
 
-  -- Taking a block from a row and applying the function `h` to all values can be done in either
-  -- order.
+  -- Taking a block from a row of values and applying the function `h` to all values can be done in
+  -- either order.
   pub got-map : (X Y : Type 0) (h : X → Y) (a : Block g.Shape Z) (n : Count)
       (v : Row X (list_count (slot g) a.slots n))
       → got Y a n (over h (list_count (slot g) a.slots n) v)
@@ -261,8 +261,8 @@ the_empty Z z = record {
   sound = (omega arith, refl);
 }
 
--- With the former `this`, each item is itself a value. So the values in a row of slots are the
--- items in these slots.
+-- The former `this` treats each item as a value. So the values in a row of slots are the items in
+-- these slots.
 pub items_listed : (X : Type 0) (xs : List (Option X))
     → listed _ (children (list (slot this)) X xs) ≡ items_in xs
 items_listed X [] = refl
@@ -273,23 +273,24 @@ items_listed X (Some x ∷ xs) = ap (λ l. x ∷ l) (items_listed X xs)
 abbrev pub the_items : (Z X : Type 0) → Block X Z → List X
 the_items Z X d = items_in d.slots
 
--- With the former `this`, each item is itself a value. So the values in the block `d` are its
--- items.
+-- The former `this` treats each item as a value. So the values in the block `d` are its items.
 pub the_items_listed : (Z X : Type 0) (d : Block X Z)
     → listed _ (children (the_former this Z) X d) ≡ the_items Z X d
 the_items_listed Z X d = items_listed X d.slots
 
--- If the function `h` does not change the code of any item, then mapping `h` over a list does not
--- change the code of the list. The proofs for `ThinVec` use this lemma.
+-- If the function `h` does not change the encoding of any item, then mapping `h` over a list does
+-- not change the encoding of the list. The proofs for `ThinVec` use this lemma.
 pub codes_of : {X Y : Type 0} (c : X → Gv) (c' : Y → Gv) (h : X → Y) → ((x : X) → c' (h x) ≡ c x)
     → (xs : List X) → code_l c' (map h xs) ≡ code_l c xs
 codes_of = codes_placed
 
--- If the codes `a` and `b` are equal, then the pair of `a` and `c` equals the pair of `b` and `c`.
+-- If the encodings `a` and `b` are equal, then the pair of `a` and `c` equals the pair of `b` and
+-- `c`.
 first : {a b c : Gv} → a ≡ b → gcons a c ≡ gcons b c
 first {c = c} e = λ i. gcons (e i) c
 
--- If the codes `a` and `b` are equal, then the pair of `c` and `a` equals the pair of `c` and `b`.
+-- If the encodings `a` and `b` are equal, then the pair of `c` and `a` equals the pair of `c` and
+-- `b`.
 second : {a b c : Gv} → a ≡ b → gcons c a ≡ gcons c b
 second {c = c} e = λ i. gcons c (e i)
 
@@ -361,15 +362,15 @@ module _ (A : RattleType) (G : Ghosts A.Denot) (R R' : RattleType) (h : R.Denot 
         (block_lent_placed R R' h a d.at d.len d.slots d.alloc i) κ;
   }
 
-  -- If the function `h` does not change the code of any item, then applying `h` to the item in a
-  -- slot does not change the code of the slot.
+  -- If the function `h` does not change the encoding of any item, then applying `h` to the item in
+  -- a slot does not change the encoding of the slot.
   slot_recoded : Recodes R R' h → (x : Option R.Denot) → (coded_option R'.coded).code (on_slot h x)
       ≡ (coded_option R.coded).code x
   slot_recoded e None = refl
   slot_recoded e (Some x) = second (e x)
 
-  -- If the function `h` does not change the code of any item, then applying `h` to each item of a
-  -- block does not change the code of the block.
+  -- If the function `h` does not change the encoding of any item, then applying `h` to each item of
+  -- a block does not change the encoding of the block.
   pub the_codes_placed : Recodes R R' h → Recodes (C.the_row R A G) (C.the_row R' A G)
       ((the_former this A.Denot).map R.Denot R'.Denot h)
   the_codes_placed e d =
