@@ -8,7 +8,7 @@ module _ {T : Type 0} where
   abbrev pub full : List T → List (Option T)
   full xs = map Some xs
 
-  -- k empty slots
+  -- `empty k` is a row of `k` empty slots.
   abbrev pub empty : ℕ → List (Option T)
   empty k = replicate k None
 

@@ -47,7 +47,7 @@ module _ {V : Type 0} where
         | Greater ↦ λ o f. later e es (j, v) (found_at j v es f)
       ] refl found
 
-  -- If the table `t` has no row `i`, then it has no value at row `i` and column `j`.
+  -- If the table `t` has no row `i`, then the table has no value at row `i` and column `j`.
   pub outside : (t : Table V) (i j : ℕ) → length t ≤ i → value_at t i j ≡ None
   outside t i j past = ap (λ r. map.get r j) (get_or_past t i map.empty past) ∙ get-empty nat_cmp j
 
@@ -125,7 +125,7 @@ module _ {V : Type 0} where
   rows_kept t i k l other = ap (λ r. map.get r l)
       (get_or-set_other t i k map.empty map.empty other)
 
-  -- A new table of `n` rows has no value at any row and column.
+  -- A new table of `n` rows has no value at any row `i` and column `j`.
   pub unwritten : (n i j : ℕ) → value_at {V = V} (replicate n map.empty) i j ≡ None
   unwritten n i j = elim (cases_lt i n) [
     | inl inside ↦ ap (λ r. map.get r j) (get_or-replicate n i map.empty map.empty inside)

@@ -95,7 +95,7 @@ module _ (g : Former {0}) where
   slot_get-map X Y h (Some a) n v =
       λ i. (Some (g.get-map X Y h a n v i).0, (g.get-map X Y h a n v i).1)
 
-  -- the former of slots
+  -- The former of slots.
   abbrev pub slot : Former {0}
   slot = record {
     Of = λ X. Option (g.Of X);
@@ -152,8 +152,8 @@ module _ {X Y Z : Type 0} (d : Block X Z) where
   pub fits : (ys : List (Option Y)) → length ys ≡ length d.slots → Fits ys
   fits ys e = (let le = d.sound.0 in omega (arith, e, le), d.sound.1 ∙ sym (any_same d.slots ys e))
 
-  -- If the lists `ys` and `zs` are equal, then each proof of `Fits ys` equals each proof of `Fits
-  -- zs`.
+  -- If the lists `ys` and `zs` are equal, then each proof of `Fits ys` equals each proof of
+  -- `Fits zs`.
   pub Fits-along : (ys zs : List (Option Y)) (e : ys ≡ zs) (p : Fits ys) (q : Fits zs)
       → PathP (λ i. Fits (e i)) p q
   Fits-along ys zs e = is_prop→PathP (λ i. Fits (e i))
@@ -225,7 +225,7 @@ module _ (g : Former {0}) (Z : Type 0) where
         ((list (slot g)).get-map X Y h a.slots n v i).1,
       )
 
-  -- the former of blocks
+  -- The former of blocks.
   abbrev pub the_former : Former {0}
   the_former = record {
     Of = λ X. Block (g.Of X) Z;
