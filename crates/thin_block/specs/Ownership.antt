@@ -1,17 +1,13 @@
 -- This file describes what a block owns in memory, and what a `&` to a block lends. `R` is the type
 -- of an item with its layout. An address consists of an allocation `b` and an offset `o`. No public
 -- contract refers to this file.
---     place, places   One slot, and several adjacent slots. The memory of a slot holds an item, or
---                     is uninitialized.
---     frame           A block without its slots: the two words of the header, the fact that the
---                     block is small enough to be allocated, and the backing.
---     word_of         The type of a word. A word consists of one or more items, and has the
---                     alignment of a block.
+--     place, places   One slot in memory, and several adjacent slots.
+--     frame           A block without its slots.
+--     word_of         The type of a word. A word consists of one or more items.
 --     way             The conversion of memory for the items of a word into memory for the word.
 --     backing         The conversion of the parts of a block back into the memory that was
 --                     allocated, and the right to free that memory.
---     block_owns      What a block owns, which is its whole allocation. A block without an
---                     allocation only shares the static header.
+--     block_owns      What a block owns.
 --     .._lent         What a `&` to a slot, to several slots, to a header or to a block lends.
 use Rattle.std.specs.Prelude.{◌≡◌, ℕ, zero, suc, ◌+◌, ◌-◌, ◌*◌, List, [], ◌∷◌, length, Bool, true, false, Option}
 use Rattle.std.specs.declared.option.Option.TheVariants.{Some, None}

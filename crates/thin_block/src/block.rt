@@ -30,10 +30,10 @@ struct Header {
 /// the number of slots. Each slot is empty or holds an item. A block without an allocation has no
 /// slots, and its length is 0.
 ///
-/// A block is one pointer wide. It cannot be dropped: the caller empties every slot and then calls
-/// `release` to free the memory. Contracts mention the slots, the stored length, the allocator that
-/// the memory came from, and three counters. At run time, only the slots and the length take
-/// memory.
+/// A block is one pointer wide. It cannot be dropped: the caller must empty every slot and then
+/// call `release`, which frees the memory. Contracts mention the slots, the stored length, the
+/// allocator that the memory came from, and three counters. Of these, only the slots and the stored
+/// length exist at run time.
 pub struct Block<T, A: Allocator> {
     // This pointer points to the capacity. The length and then the slots follow the capacity in
     // memory. If the block has no allocation, the pointer points to `NO_BLOCK`.
