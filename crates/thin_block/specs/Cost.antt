@@ -27,7 +27,7 @@ cost_code =
 abbrev pub no_cost : Cost
 no_cost = record { blocks = 0; grown = 0; moves = 0 }
 
--- `growing k c` is the cost `c` after one more granted request for memory and `k` more copied
+-- `growing k c` is the cost `c` after one more granted request for memory. This request copied `k`
 -- items.
 abbrev pub growing : ℕ → Cost → Cost
 growing k c = record { blocks = c.blocks + 1; grown = c.grown + k; moves = c.moves }

@@ -36,8 +36,8 @@ module _ {T : Type 0} where
   abbrev pub front : List T → ℕ → List (Option T)
   front xs c = full xs ++ empty (c - length xs)
 
-  -- `IsPacked s n` holds if the row `s` contains exactly `n` items, and its first `n` slots hold
-  -- them.
+  -- `IsPacked s n` holds if the row `s` contains exactly `n` items, and all of these items are in
+  -- the first `n` slots.
   pub record IsPacked (s : List (Option T)) (n : ℕ) : Type 0 where
     pub row : s ≡ front (items_in s) (length s)
     pub len : n ≡ length (items_in s)
