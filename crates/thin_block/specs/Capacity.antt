@@ -1,6 +1,6 @@
--- The size of a block in bytes, and the capacities that fit. A capacity fits if a block of that
--- capacity is small enough to be allocated. In this file, s and a are the size and the alignment of
--- an item, in bytes.
+-- This file computes the size of a block in bytes, and says which capacities fit. A capacity fits
+-- if a block of that capacity is small enough to be allocated. In this file, `s` and `a` are the
+-- size and the alignment of an item, in bytes.
 use Rattle.std.specs.Prelude.{◌≡◌, ℕ, ◌+◌, ◌*◌, ◌-◌, ◌^◌, ◌&&◌, ◌==◌, Bool, IsTrue, Option, if◌then◌else◌, max, nat_lt}
 use Rattle.std.specs.declared.option.Option.TheVariants.{Some, None}
 use Rattle.std.specs.Int.{next_multiple_of}
@@ -10,48 +10,49 @@ use mir.Syntax.{Width}
 use mir.Val.{bytes}
 use denote.RattleType.{RattleType}
 
--- the number is 1, 2, 4, 8 or 16, which are the only alignments that types have
+-- `IsAlign a` holds if `a` is 1, 2, 4, 8 or 16. No type has any other alignment.
 abbrev pub IsAlign : ℕ → Type 0
 IsAlign a = (w : Width) × (a ≡ bytes w)
 
--- `items_offset a` is the offset in bytes of the first item in a block, after two words of 8 bytes
--- and padding; a is the alignment of an item
+-- `items_offset a` is the offset in bytes of the first item in a block, if items have the alignment
+-- `a`. Two words of 8 bytes, and padding if necessary, precede the first item.
 abbrev pub items_offset : ℕ → ℕ
 items_offset a = max 16 a
 
--- `block_align a` is the alignment in bytes of a block whose items have the alignment a
+-- `block_align a` is the alignment in bytes of a block whose items have the alignment `a`.
 abbrev pub block_align : ℕ → ℕ
 block_align a = max 8 a
 
--- `block_bytes s a c` is the size in bytes of a block for c items of size s and alignment a,
--- rounded up to the alignment of the block
+-- `block_bytes s a c` is the size in bytes of a block for `c` items of size `s` and alignment `a`.
+-- The size is rounded up to a multiple of the alignment of the block.
 abbrev pub block_bytes : ℕ → ℕ → ℕ → ℕ
 block_bytes s a c = next_multiple_of (items_offset a + c * s) (block_align a)
 
--- `is_small s a c` is true if neither c nor the size in bytes of a block for c items of size s and
--- alignment a exceeds `isize::MAX` (std: `Layout::from_size_align`)
+-- Consider a block for `c` items of size `s` and alignment `a`. `is_small s a c` is true if neither
+-- `c` nor the size of this block in bytes exceeds `isize::MAX`. In std, `Layout::from_size_align`
+-- sets the same limit on sizes.
 abbrev pub is_small : ℕ → ℕ → ℕ → Bool
 is_small s a c = nat_lt c (2 ^ 63) && nat_lt (block_bytes s a c) (2 ^ 63)
 
--- `fits s a c` says whether a block for c items of size s and alignment a is small enough to be
--- allocated. It equals `is_small s a c`, but the prover does not unfold it by itself.
+-- `fits s a c` says whether a block for `c` items of size `s` and alignment `a` is small enough to
+-- be allocated. It has the same value as `is_small s a c`, but the prover does not unfold `fits` by
+-- itself.
 unfoldable pub fits : ℕ → ℕ → ℕ → Bool
 fits s a c = is_small s a c
 
--- `Fits R c`: a block for c items of R is small enough to be allocated
+-- `Fits R c` holds if a block for `c` items of the type `R` is small enough to be allocated.
 abbrev pub Fits : RattleType → ℕ → Type 0
 Fits R c = IsTrue (fits (type_size R) (type_align R) c)
 
--- The capacity that the rule `Doubling` chooses for the first block of a list, unless more items
--- need room. It is 1 if the size s of an item exceeds `usize::MAX / 8` bytes, and 4 otherwise
--- (source: thin-vec).
+-- `first s` is the capacity that the rule `Doubling` chooses for the first block of a list, unless
+-- the list needs room for more items. It is 1 if the size `s` of an item exceeds `usize::MAX / 8`
+-- bytes, and 4 otherwise, as in the Rust crate thin-vec.
 unfoldable pub first : ℕ → ℕ
 first s = if nat_lt (2 ^ 61 - 1) s then 1 else 4
 
--- `in_words s` is a pair of numbers: how many items of s bytes make one word, and how many words
--- are as large as the header of 16 bytes. Items of 1, 2, 4 or 8 bytes make words of 8 bytes, and an
--- item of 16 bytes is a word. Items of all other sizes make no words, and then `in_words s` is
--- None.
+-- `in_words s` is `Some (m, k)` if `m` items of `s` bytes form one word, and `k` words are as large
+-- as the header of 16 bytes. Items of 1, 2, 4 or 8 bytes form words of 8 bytes, and an item of 16
+-- bytes is itself a word. For every other size, `in_words s` is `None`.
 abbrev pub in_words : ℕ → Option (ℕ × ℕ)
 in_words s = if s == 1 then Some (8, 2) else (if s == 2 then Some (4, 2) else
     (if s == 4 then Some (2, 2) else (if s == 8 then Some (1, 2) else

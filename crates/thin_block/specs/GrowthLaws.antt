@@ -1,5 +1,6 @@
--- The proof that doubling keeps the law of growth rules. (It is here and not in proofs/, because
--- the impl of `Growth` names it.)
+-- This file proves that the rule `doubling` satisfies the law of growth rules: each new capacity
+-- has room for the wanted items, is at least twice the old capacity, and is not too large. The
+-- proof is in `specs` and not in `proofs`, because the impl of `Growth` refers to it.
 use Rattle.std.specs.Prelude.{◌≡◌, ℕ, ◌*◌, ◌≤◌, ◌==◌, Bool, true, false, IsTrue, if◌then◌else◌, max, refl}
 use Rattle.std.specs.declared.option.Option.TheVariants.{Some, None}
 use Rattle.std.proofs.Common.{subst, arith}
@@ -7,22 +8,22 @@ use Rattle.std.proofs.lemmas.Bool.Decides.{nat_tests}
 use Rattle.thin_block.specs.Capacity.{fits, first}
 use Rattle.thin_block.specs.Growth.{KeepsLaw, doubling, fitting}
 
--- if a conditional with the branches Some m and None is Some n, then its condition is true, and m
--- is n
+-- If `if b then Some m else None` equals `Some n`, then `b` is true, and `m` equals `n`.
 when_some : (b : Bool) (m n : ℕ) → (if b then Some m else None) ≡ Some n → (b ≡ true) × (m ≡ n)
 when_some true m n e = (refl, cc)
 when_some false m n e = cc
 
--- if `fitting s a m` is Some n, then the capacity m fits, and m is n
+-- If `fitting s a m` is `Some n`, then `m` equals `n`, and a block of capacity `m` is small enough
+-- to be allocated.
 pub fitting_is : (s a m n : ℕ) → fitting s a m ≡ Some n → IsTrue (fits s a m) × (m ≡ n)
 unfolding fitting
 fitting_is s a m n e = when_some (fits s a m) m n e
 
--- the capacity that the rule `Doubling` computes is at least twice the old capacity
+-- The capacity that the rule `Doubling` computes is at least twice the old capacity `c`.
 twice : (s c w : ℕ) → 2 * c ≤ max w (if c == 0 then first s else 2 * c)
 twice s c w = grind (arith, nat_tests)
 
--- doubling keeps the law of growth rules
+-- The rule `doubling` satisfies the law of growth rules.
 pub doubling_law : KeepsLaw doubling
 unfolding doubling
 doubling_law s a c w n more word e =

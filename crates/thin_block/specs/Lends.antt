@@ -1,4 +1,5 @@
--- What a block holds once a mutable borrow (`&mut`) of some of its items has ended.
+-- This file defines what a block holds after a mutable borrow (`&mut`) of some of its items has
+-- ended.
 use Rattle.std.specs.Prelude.{◌≡◌, ℕ, zero, suc, ◌≤◌, List, [], ◌∷◌, length, Option, slice_set}
 use Rattle.std.specs.declared.option.Option.TheVariants.{None, Some}
 use Rattle.core.specs.declared.alloc.Allocator.{Ghosts}
@@ -10,8 +11,9 @@ use Rattle.thin_block.specs.declared.block.Block.{Block}
 use Rattle.thin_block.specs.contracts.block.Block.{the_row}
 
 module _ {X : Type 0} where
-  -- `over s i ws` is the row s after the items of ws were written over the items in the slots from
-  -- i on. Writing stops at the first empty slot, and at the end of s or of ws.
+  -- `over s i ws` is the list of slots `s` after the items of `ws` have overwritten the items in
+  -- the slots from index `i` onward. Writing stops at the first empty slot, and at the end of `s`
+  -- or of `ws`.
   abbrev pub over : List (Option X) → ℕ → List X → List (Option X)
   over [] i ws = []
   over (x ∷ s) (suc i) ws = x ∷ over s i ws
@@ -19,7 +21,7 @@ module _ {X : Type 0} where
   over (Some x ∷ s) zero [] = Some x ∷ s
   over (Some x ∷ s) zero (w ∷ ws) = Some w ∷ over s zero ws
 
-  -- writing over items does not change the number of slots
+  -- Overwriting items with `over` does not change the number of slots.
   pub length-over : (s : List (Option X)) (i : ℕ) (ws : List X) → length (over s i ws) ≡ length s
   length-over [] i ws = refl
   length-over (x ∷ s) (suc i) ws = ap suc (length-over s i ws)
@@ -28,7 +30,8 @@ module _ {X : Type 0} where
   length-over (Some x ∷ s) zero (w ∷ ws) = ap suc (length-over s zero ws)
 
 module _ {X Z : Type 0} where
-  -- the block b with s as its slots; s must have the same number of slots as b
+  -- `with_slots b s` is the block `b` with its slots replaced by `s`. The number of slots must not
+  -- change.
   abbrev pub with_slots : (b : Block X Z) (s : List (Option X))
       → length s ≡ length b.slots → Block X Z
   with_slots b s same =
@@ -41,21 +44,22 @@ module _ {X Z : Type 0} where
         );
       }
 
-  -- `with_item b i w` is the block b with the item w in slot i
+  -- `with_item b i w` is the block `b` with the item `w` in slot `i`.
   abbrev pub with_item : Block X Z → ℕ → X → Block X Z
   with_item b i w = with_slots b (slice_set b.slots i (Some w)) (length-set b.slots i (Some w))
 
-  -- `with_items b i ws` is the block b with the items ws in the slots from i on
+  -- `with_items b i ws` is the block `b` after the items of `ws` have overwritten the items in the
+  -- slots from index `i` onward.
   abbrev pub with_items : Block X Z → ℕ → List X → Block X Z
   with_items b i ws = with_slots b (over b.slots i ws) (length-over b.slots i ws)
 
 module _ (T A : RattleType) (g : Ghosts A.Denot) (b : MutBor (Block T.Denot A.Denot)) where
-  -- `LendsItem i r`: r is a `&mut` to the item in slot i of the block, and after r has ended,
-  -- this slot holds what was written to r
+  -- `LendsItem i r` says that `r` is a `&mut` to the item in slot `i` of the block. After the
+  -- borrow has ended, the slot holds the final value of `r`.
   abbrev pub LendsItem : ℕ → MutBor T.Denot → Fml
   LendsItem i r = Lends (the_row T A g) T b r (with_item b.now i)
 
-  -- `LendsItems i r`: r is a `&mut` to the items of the block in the slots from i on, and after r
-  -- has ended, these slots hold what was written to r
+  -- `LendsItems i r` says that `r` is a `&mut` slice of the items in the slots of the block from
+  -- index `i` onward. After the borrow has ended, the slots hold the final items of `r`.
   abbrev pub LendsItems : ℕ → MutBor (List T.Denot) → Fml
   LendsItems i r = Lends (the_row T A g) (Array T 0) b r (with_items b.now i)

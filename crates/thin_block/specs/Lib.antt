@@ -1,5 +1,6 @@
--- The definitions that the contracts use, the laws of the growth rules, and the former of blocks,
--- which tells the prover why a type may contain blocks of itself.
+-- These modules contain the definitions that the contracts use, the proofs that the growth rules
+-- satisfy their law, and the former of blocks. The former tells the prover why a type may contain
+-- blocks of values of the same type.
 pub mod Capacity
 pub mod Growth
 pub mod GrowthLaws

@@ -1,17 +1,14 @@
--- What a block owns in memory, and what a `&` to a block lends, as formulas. R is the type of an
--- item with its layout; b and o are the allocation and the offset of an address. No public clause
--- cites this module.
---     place, places   one slot, and a row of slots: each slot is an item in memory, or
---                     uninitialized memory for an item
---     frame           a block without its slots: the two words of the header, the fact that the
---                     block fits, and the backing
---     word_of, way    if items make words: the type of a word, and the conversion of memory for the
---                     items of a word into memory for the word
---     backing         the conversion of the parts of a block back into the memory that was
---                     allocated, and the right to free that memory
---     block_owns      what a block owns: all of its allocation; if it has none, it only shares the
---                     static header
---     .._lent         what a `&` to a slot, to slots, to a header or to a block shows
+-- This file describes what a block owns in memory, and what a `&` to a block lends. `R` is the type
+-- of an item with its layout. An address consists of an allocation `b` and an offset `o`. No public
+-- contract refers to this file.
+--     place, places   One slot in memory, and several adjacent slots.
+--     frame           A block without its slots.
+--     word_of         The type of a word. A word consists of one or more items.
+--     way             The conversion of memory for the items of a word into memory for the word.
+--     backing         The conversion of the parts of a block back into the memory that was
+--                     allocated, and the right to free that memory.
+--     block_owns      What a block owns.
+--     .._lent         What a `&` to a slot, to several slots, to a header or to a block lends.
 use Rattle.std.specs.Prelude.{◌≡◌, ℕ, zero, suc, ◌+◌, ◌-◌, ◌*◌, List, [], ◌∷◌, length, Bool, true, false, Option}
 use Rattle.std.specs.declared.option.Option.TheVariants.{Some, None}
 use Rattle.std.specs.Int.{div_ceil}
@@ -32,131 +29,138 @@ use denote.Sharing.{nothing, said, beside}
 use denote.Struct.Lending.{lent_at}
 use Rattle.thin_block.specs.Capacity.{is_small, in_words}
 
--- whether the list is non-empty
+-- `any xs` is true if the list `xs` is non-empty.
 abbrev pub any : {X : Type 0} → List X → Bool
 any [] = false
 any (x ∷ xs) = true
 
--- two lists of the same length are both empty, or both non-empty
+-- Two lists of the same length are both empty or both non-empty.
 pub any_same : {X Y : Type 0} (xs : List X) (ys : List Y) → length ys ≡ length xs → any ys ≡ any xs
 any_same [] [] e = refl
 any_same [] (y ∷ ys) e = absurd (omega arith)
 any_same (x ∷ xs) [] e = absurd (omega arith)
 any_same (x ∷ xs) (y ∷ ys) e = refl
 
--- `fits_block R c` says whether a block of c slots for items of R is small enough to be allocated
+-- `fits_block R c` says whether a block of `c` slots for items of the type `R` is small enough to
+-- be allocated.
 abbrev pub fits_block : RattleType → ℕ → Bool
 fits_block R c = is_small (type_size R) (type_align R) c
 
--- one slot at an address: the item in memory if the slot is filled, and uninitialized memory for an
--- item if the slot is empty
+-- `place R x b o` describes the slot `x` at the offset `o` of the allocation `b`. A filled slot is
+-- an item in memory. An empty slot is uninitialized memory for an item.
 abbrev pub place : (R : RattleType) → Option R.Denot → ℕ → ℕ → Fml
 place R (Some x) b o = lies_at R full_share (block_ptr b o) x
 place R None b o = room_for (raw (lone R.mir)) (block_ptr b o)
 
--- `places R xs b o`: the slots xs in memory, one after the other, from the offset o of the
--- allocation b on
+-- `places R xs b o` describes the slots `xs` in adjacent memory, starting at the offset `o` of the
+-- allocation `b`.
 abbrev pub places : (R : RattleType) → List (Option R.Denot) → ℕ → ℕ → Fml
 places R [] b o = ftrue
 places R (x ∷ xs) b o = fsep (place R x b o) (places R xs b (o + type_size R))
 
--- `whole_of τ c` is the type of a whole block of c slots for items of the type τ: a struct of the
--- two words of the header and an array of the slots
+-- `whole_of τ c` is the type of a whole block of `c` slots for items of the type `τ`. It is a
+-- struct that consists of the two words of the header and an array of the slots.
 abbrev pub whole_of : Ty → ℕ → Ty
 whole_of τ c = ty_struct []
     (tcons (ty_int w64) (tcons (ty_int w64) (tcons (ty_array τ c) tnil)))
 
--- the compiled type of an item without the names of its fields: two item types with the same layout
--- have the same bare type
+-- `bare R` is the compiled type of an item without the names of its fields. Two item types with the
+-- same layout have the same bare type.
 abbrev pub bare : RattleType → Ty
 bare R = raw (lone R.mir)
 
--- `whole R c` is the type of a whole block of c slots for items of R
+-- `whole R c` is the type of a whole block of `c` slots for items of the type `R`.
 abbrev pub whole : RattleType → ℕ → Ty
 whole R c = whole_of (bare R) c
 
--- `word_of τ m` is the type of a word: m items of the type τ, aligned as a block is
+-- `word_of τ m` is the type of a word. A word consists of `m` items of the type `τ`, and has the
+-- alignment of a block.
 abbrev pub word_of : Ty → ℕ → Ty
 word_of τ m = ty_struct [] (tcons (ty_array τ m) (tcons (ty_array (ty_int w64) 0) tnil))
 
--- `words_of R` is a pair of numbers: how many items of R make one word, and how many words are as
--- large as the header. It is None if items of R make no words. Only the size of the bare type of R
--- matters.
+-- `words_of R` is `Some (m, k)` if `m` items of the type `R` form one word, and `k` words are as
+-- large as the header. It is `None` if the items form no words. Only the size of an item matters.
 abbrev pub words_of : RattleType → Option (ℕ × ℕ)
 words_of R = in_words (size (bare R))
 
--- The type for which the memory of a block is allocated. If the items make words, it is an array of
--- words, which the allocator can grow in place. Otherwise it is the type of the whole block.
+-- The memory of a block is allocated as memory for a value of this type. If the items form words,
+-- the type is an array of words, which the allocator can resize in place. Otherwise it is the type
+-- of the whole block.
 abbrev pub asked_for : Option (ℕ × ℕ) → Ty → ℕ → Ty
 asked_for None τ c = whole_of τ c
 asked_for (Some w) τ c = ty_array (word_of τ w.0) (w.1 + div_ceil c w.0)
 
--- `asked R c` is the type for which the memory of a block of c slots for items of R is allocated
+-- The memory of a block of `c` slots for items of the type `R` is allocated as memory for a value
+-- of the type `asked R c`.
 abbrev pub asked : RattleType → ℕ → Ty
 asked R c = asked_for (words_of R) (bare R) c
 
--- uninitialized memory for the two words of the header
+-- `header_room b o` is uninitialized memory for the two words of the header.
 abbrev pub header_room : ℕ → ℕ → Fml
 header_room b o = fsep (froom (ty_int w64) b o) (froom (ty_int w64) b (o + 8))
 
--- uninitialized memory for the parts of a block: the capacity, the length, and the slots
+-- `parts_for τ c b o` is uninitialized memory for the three parts of a block: the capacity, the
+-- length, and the `c` slots.
 abbrev pub parts_for : Ty → ℕ → ℕ → ℕ → Fml
 parts_for τ c b o = fsep (froom (ty_int w64) b o)
     (fsep (froom (ty_int w64) b (o + 8)) (froom (ty_array τ c) b (o + 16)))
 
--- `parts R c b o` is uninitialized memory for the parts of a block of c slots for items of R
+-- `parts R c b o` is uninitialized memory for the capacity, the length and the `c` slots of a
+-- block. The items of the block have the type `R`.
 abbrev pub parts : RattleType → ℕ → ℕ → ℕ → Fml
 parts R c b o = parts_for (bare R) c b o
 
--- the conversion of uninitialized memory for the items of one word into uninitialized memory for
--- that word
+-- `way τ m b o` converts uninitialized memory for the `m` items of one word into uninitialized
+-- memory for the word.
 abbrev pub way : Ty → ℕ → ℕ → ℕ → Fml
 way τ m b o = fwand (froom (ty_array τ m) b o) (froom (word_of τ m) b o)
 
--- for each of several adjacent words: the conversion of uninitialized memory for the items of the
--- word into uninitialized memory for the word
+-- For each of `w` adjacent words, `ways τ m w b o` converts uninitialized memory for the items of
+-- the word into uninitialized memory for the word.
 abbrev pub ways : Ty → ℕ → ℕ → ℕ → ℕ → Fml
 ways τ m zero b o = ftrue
 ways τ m (suc w) b o = fsep (way τ m b o) (ways τ m w b (o + size (word_of τ m)))
 
--- the conversion of uninitialized memory for the header into uninitialized memory for words that
--- together are as large as the header
+-- `header_way τ m k b o` converts uninitialized memory for the header into uninitialized memory for
+-- `k` words. Together, these words are as large as the header.
 abbrev pub header_way : Ty → ℕ → ℕ → ℕ → ℕ → Fml
 header_way τ m k b o = fwand (header_room b o) (froom (ty_array (word_of τ m) k) b o)
 
--- all that is needed to turn the memory of the slots into memory for words: the conversion for each
--- word, and the memory at the end of the last word that belongs to no slot
+-- `slots_way τ m w c b o` contains all that is needed to turn the memory of the `c` slots into
+-- memory for `w` words: the conversion for each word, and the unused memory after the last slot.
 abbrev pub slots_way : Ty → ℕ → ℕ → ℕ → ℕ → ℕ → Fml
 slots_way τ m w c b o = fsep (ways τ m w b o) (froom (ty_array τ (w * m - c)) b (o + c * size τ))
 
--- the conversion of the uninitialized parts of a block back into uninitialized memory for the whole
--- block, padding included
+-- `way_back` converts the uninitialized parts of a block back into uninitialized memory for the
+-- whole block, including the padding.
 abbrev pub way_back : Option (ℕ × ℕ) → Ty → ℕ → ℕ → ℕ → Fml
 way_back None τ c b o = fwand (parts_for τ c b o) (froom (whole_of τ c) b o)
 way_back (Some w) τ c b o = fsep (header_way τ w.0 w.1 b o)
     (slots_way τ w.0 (div_ceil c w.0) c b (o + 16))
 
--- the backing of a block: the conversion of its parts back into memory for the whole block
--- (`way_back`), and the right to free the block
+-- The backing of a block consists of two parts. `way_back` converts the parts of the block back
+-- into memory for the whole block, and `t` is the right to free the block.
 abbrev pub backing_for : (Ty → Ptr → Fml) → Option (ℕ × ℕ) → Ty → ℕ → ℕ → ℕ → Fml
 backing_for t w τ c b o = fsep (way_back w τ c b o) (t (asked_for w τ c) (block_ptr b o))
 
--- `backing t R c b o` is the backing of a block of c slots for items of R: the conversion of the
--- parts of the block back into memory for the whole block, and the right t to free the block
+-- `backing t R c b o` is the backing of a block of `c` slots for items of the type `R`. It consists
+-- of the conversion of the parts of the block back into memory for the whole block, and of the
+-- right `t` to free the block.
 abbrev pub backing : (Ty → Ptr → Fml) → RattleType → ℕ → ℕ → ℕ → Fml
 backing t R c b o = backing_for t (words_of R) (bare R) c b o
 
--- `frame t R n c b o` is a block without its slots: the capacity c and the length n in memory, the
--- fact that the block fits, and the backing, with t as the right to free the block
+-- `frame t R n c b o` is a block without its slots: the capacity `c` and the length `n` in memory,
+-- the fact that the block is small enough to be allocated, and the backing. The backing contains
+-- `t`, the right to free the block.
 abbrev pub frame : (Ty → Ptr → Fml) → RattleType → ℕ → ℕ → ℕ → ℕ → Fml
 frame t R n c b o =
     fsep (lies_at usize full_share (block_ptr b o) c)
     (fsep (lies_at usize full_share (block_ptr b (o + 8)) n)
     (fsep (feq Bool (fits_block R c) true) (backing t R c b o)))
 
--- What a block owns: its header, its slots and its backing, if it has an allocation. A block
--- without an allocation only shares the two words of the static header, which are 0 and lent
--- forever.
+-- A block with an allocation owns its header, its slots, and the right to free the allocation. A
+-- block without an allocation owns nothing. It shares the two words of the static header, which are
+-- always 0.
 abbrev pub block_owns : {D : Type 0} → (D → Ty → Ptr → Fml) → (R : RattleType) → Ptr → ℕ
     → List (Option R.Denot) → Option D → Fml
 block_owns t R null_ptr n xs a = ffalse
@@ -165,24 +169,26 @@ block_owns t R (block_ptr b o) n xs None = fsep (lent_at usize (block_ptr b o) 0
 block_owns t R (block_ptr b o) n xs (Some a) = fsep (frame (t a) R n (length xs) b o)
     (places R xs b (o + 16))
 
--- a `&` to the item in a slot; for an empty slot, nothing
+-- `place_lent` is a `&` to the item in a slot, or nothing if the slot is empty.
 abbrev pub place_lent : (R : RattleType) → Option R.Denot → Ptr → Lft → Fml
 place_lent R (Some x) p = lent_at R p x
 place_lent R None p = nothing
 
--- a `&` to each item in a row of slots
+-- `places_lent` contains a `&` to each item in several adjacent slots.
 abbrev pub places_lent : (R : RattleType) → List (Option R.Denot) → ℕ → ℕ → Lft → Fml
 places_lent R [] b o = nothing
 places_lent R (x ∷ xs) b o = beside (place_lent R x (block_ptr b o))
     (places_lent R xs b (o + type_size R))
 
--- a `&` to each of the two words of the header, and the fact that the block fits
+-- `frame_lent` contains a `&` to each of the two words of the header. It also contains the fact
+-- that the block is small enough to be allocated.
 abbrev pub frame_lent : (R : RattleType) → ℕ → ℕ → ℕ → ℕ → Lft → Fml
 frame_lent R n c b o =
     beside (lent_at usize (block_ptr b o) c)
     (beside (lent_at usize (block_ptr b (o + 8)) n) (said (feq Bool (fits_block R c) true)))
 
--- a `&` to a block: a `&` to each of the two words of its header, and to each item in its slots
+-- A `&` to a block contains a `&` to each of the two words of its header, and a `&` to each item in
+-- its slots.
 abbrev pub block_lent : {D : Type 0} → (R : RattleType) → Ptr → ℕ
     → List (Option R.Denot) → Option D → Lft → Fml
 block_lent R null_ptr n xs a = said ffalse

@@ -1,5 +1,6 @@
--- The proof that `power_bytes` keeps the law of growth rules, and that its blocks fill a power of
--- two bytes. (It is here and not in proofs/, because the impl of `Growth` names it.)
+-- This file proves that the rule `power_bytes` satisfies the law of growth rules, and that its
+-- blocks fill a power of two bytes. The proof is in `specs` and not in `proofs`, because the impl
+-- of `Growth` refers to it.
 use Rattle.std.specs.Prelude.{◌≡◌, ℕ, zero, suc, ◌+◌, ◌-◌, ◌*◌, ◌/◌, ◌^◌, ◌<◌, ◌≤◌, ◌==◌, nat_le, Bool, true, false, IsTrue, if◌then◌else◌, max, refl}
 use Rattle.std.specs.declared.option.Option.TheVariants.{Some}
 use Rattle.std.specs.Int.{IsPowerOfTwo, IsNextPowerOfTwo}
@@ -15,21 +16,21 @@ use Rattle.thin_block.specs.GrowthLaws.{doubling_law, fitting_is}
 
 -- Section: the least power
 
--- each number n is less than 2 ^ n
+-- Each number `n` is less than `2 ^ n`.
 below_power : (n : ℕ) → n < 2 ^ n
 below_power zero = omega arith
 below_power (suc n) = omega (arith, below_power n, pow_more 2 n)
 
--- Let p be a power of two whose half is less than `max 1 n`. If p is at least n, then p is the
--- least power of two that is at least n. If p is less than n, the lemma assumes that `next` is this
--- least power. So `if b then p else next` is this least power in both cases.
+-- Let `p` be a power of two with `p / 2 < max 1 n`, and let `b` be the value of the test `n <= p`.
+-- If `p < n`, let `next` be the least power of two that is at least `n`. Then this least power is
+-- `if b then p else next`.
 one_step : (b : Bool) (n p next : ℕ) → nat_le n p ≡ b → IsPowerOfTwo p → p / 2 < max 1 n
     → (p < n → IsNextPowerOfTwo n next) → IsNextPowerOfTwo n (if b then p else next)
 one_step true n p next e power half later = (power, leb-true n p e, half)
 one_step false n p next e power half later = later (leb-false n p e)
 
--- if p is a power of two whose half is less than `max 1 n`, and k doublings of p reach n, then
--- `doubled_to` returns the least power of two that is at least n
+-- Let `p` be a power of two with `p / 2 < max 1 n` and `n <= 2 ^ k * p`. Then `doubled_to k n p` is
+-- the least power of two that is at least `n`.
 doubled_is : (k n p : ℕ) → IsPowerOfTwo p → p / 2 < max 1 n → n ≤ 2 ^ k * p
     → IsNextPowerOfTwo n (doubled_to k n p)
 doubled_is zero n p power half enough = (power, omega (arith, enough), half)
@@ -41,12 +42,12 @@ doubled_is (suc k) n p power half enough =
     (λ less. doubled_is k n (2 * p) (power.0 + 1, next) (omega (arith, less))
     (omega (arith, enough, twice)))
 
--- `least_power n` is the least power of two that is at least n
+-- `least_power n` is indeed the least power of two that is at least `n`.
 pub least_power_is : (n : ℕ) → IsNextPowerOfTwo n (least_power n)
 unfolding least_power
 least_power_is n = doubled_is n n 1 (0, refl) (omega arith) (omega (arith, below_power n))
 
--- if 2 ^ k is at least n, and half of 2 ^ j is less than `max 1 n`, then 2 ^ j is at most 2 ^ k
+-- If `n <= 2 ^ k` and `2 ^ j / 2 < max 1 n`, then `2 ^ j <= 2 ^ k`.
 not_more : (n j k : ℕ) → n ≤ 2 ^ k → 2 ^ j / 2 < max 1 n → 2 ^ j ≤ 2 ^ k
 not_more n zero k enough half = pow_pos k
 not_more n (suc j) k enough half = elim (cases_lt j k) [
@@ -55,7 +56,7 @@ not_more n (suc j) k enough half = elim (cases_lt j k) [
       let some = pow_pos j in absurd (omega (arith, half, enough, under, twice, some)))
 ]
 
--- if p and q are both the least power of two that is at least n, then p equals q
+-- If `p` and `q` are both the least power of two that is at least `n`, then `p` equals `q`.
 pub one_least_power : (n p q : ℕ) → IsNextPowerOfTwo n p → IsNextPowerOfTwo n q → p ≡ q
 one_least_power n p q first second =
     let under = not_more n first.0.0 second.0.0 (subst (λ x. n ≤ x) second.0.1 second.1)
@@ -66,39 +67,41 @@ one_least_power n p q first second =
 
 -- Section: the rule
 
--- for items of size 0, the rule `power_bytes` is `doubling`
+-- If the size `s` of an item is 0, the rule `power_bytes` chooses the same capacity as `doubling`.
 pub powers_of_none : (s a c w : ℕ) → s ≡ 0 → power_bytes s a c w ≡ doubling s a c w
 unfolding power_bytes
 powers_of_none s a c w none = let test : (s == 0) ≡ true = grind (arith, nat_tests) in rw test refl
 
--- Let items take at least one byte, and let p be the least power of two such that p bytes have room
--- for the header and for w or 2 * c items, whichever are more. Then `power_bytes` is the number of
--- items that have room in p bytes after the header if this capacity fits, and None otherwise.
+-- Let the size `s` of an item be positive, and let `p` be the least power of two such that `p`
+-- bytes have room for the header and `max w (2 * c)` items. Then `power_bytes` is the number of
+-- items that have room in `p` bytes after the header, or `None` if this capacity is too large.
 pub powers_of_some : (s a c w : ℕ) → 0 < s → power_bytes s a c w ≡ fitting s a
     ((least_power (items_offset a + max w (2 * c) * s) - items_offset a) / s)
 unfolding power_bytes
 powers_of_some s a c w some = let test : (s == 0) ≡ false = grind (arith, nat_tests) in rw test refl
 
--- assume that items take at least one byte, and that `power_bytes` chooses the capacity n
+-- In this module, items take at least one byte, and `power_bytes` chooses the capacity `n`.
 module _ (s a c w n : ℕ) (some : 0 < s) (e : power_bytes s a c w ≡ Some n) where
-  -- the size in bytes of w items or of 2 * c items, whichever is greater
+  -- `wanted` is the size in bytes of `w` items or of `2 * c` items, whichever is greater.
   abbrev wanted : ℕ
   wanted = max w (2 * c) * s
 
-  -- the least power of two that is at least the sum of `wanted` and the bytes before the first item
+  -- `power` is the least power of two that is at least the sum of `wanted` and the number of bytes
+  -- before the first item.
   abbrev power : ℕ
   power = least_power (items_offset a + wanted)
 
-  -- n is the number of items that have room in `power` bytes after the header, and a block of that
-  -- capacity is small enough to be allocated
+  -- The capacity `n` is the number of items that have room in `power` bytes after the header, and a
+  -- block of this capacity is small enough to be allocated.
   named : IsTrue (fits s a ((power - items_offset a) / s)) × ((power - items_offset a) / s ≡ n)
   named = fitting_is s a ((power - items_offset a) / s) n (sym (powers_of_some s a c w some) ∙ e)
 
-  -- `power` bytes have room for the header and for `wanted` bytes
+  -- `power` bytes have room for the header and for `wanted` more bytes.
   room : items_offset a + wanted ≤ power
   room = (least_power_is (items_offset a + wanted)).1
 
-  -- the capacity n has room for w items, is at least 2 * c, and fits
+  -- The capacity `n` has room for `w` items, is at least `2 * c`, and is small enough for a block
+  -- to be allocated.
   pub powers_grow : IsGrown s a c w n
   powers_grow =
       let more : max w (2 * c) ≤ (power - items_offset a) / s =
@@ -109,8 +112,8 @@ module _ (s a c w n : ℕ) (some : 0 < s) (e : power_bytes s a c w ≡ Some n) w
         fits = subst (λ (k : ℕ). IsTrue (fits s a k)) named.1 named.0;
       }
 
-  -- there is a power of two p such that p bytes have room for the header and n items, but not for
-  -- one more item
+  -- There is a power of two `p` such that `p` bytes have room for the header and `n` items, but not
+  -- for one more item.
   pub powers_filled : FillsPower s a n
   powers_filled =
       let parts = div-add-mod' (power - items_offset a) s in
@@ -124,7 +127,7 @@ module _ (s a c w n : ℕ) (some : 0 < s) (e : power_bytes s a c w ≡ Some n) w
         is_full = omega (arith, room, parts, whole, rest, next);
       }
 
--- `power_bytes` keeps the law of growth rules
+-- The rule `power_bytes` satisfies the law of growth rules.
 pub power_bytes_law : KeepsLaw power_bytes
 power_bytes_law s a c w n more word e = elim (eq-zero-or-pos s) [
   | inl none ↦ doubling_law s a c w n more word (sym (powers_of_none s a c w none) ∙ e)

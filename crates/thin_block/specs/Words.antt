@@ -1,8 +1,9 @@
--- The memory of items as memory of words. A word is a value of the struct `Words`, which holds m
--- items of T; M is the const parameter m. No public clause cites this module.
---     run_at, runs_from    the items of one word, and the items of several adjacent words, with
---                          what converts them into words
---     words_from           several adjacent words
+-- This file describes the memory of items as the memory of words. A word is a value of the struct
+-- `Words`, which holds `m` items of the type `T`. The const parameter `M` of the struct has the
+-- value `m`. No public contract refers to this file.
+--     run_at, runs_from    The items of one word, and the items of several adjacent words, with the
+--                          conversion of their memory into memory for words.
+--     words_from           Several adjacent words in memory.
 use Rattle.std.specs.Prelude.{ℕ, ◌+◌, List, [], ◌∷◌, map}
 use base.Fraction.{full_share}
 use base.Fml.{Fml, ftrue, ffalse, fsep}
@@ -16,30 +17,31 @@ use Rattle.thin_block.specs.Slots.{full}
 use Rattle.thin_block.specs.contracts.words.Words.{the_row}
 
 module _ (T M : RattleType) where
-  -- `word xs` is the word that holds the items xs
+  -- `word xs` is the word that holds the items `xs`.
   abbrev pub word : List T.Denot → (the_row T M).Denot
   word xs = record { items = xs; aligned = [] }
 
-  -- the items of one word in memory, and the conversion of memory for these items into memory for
-  -- the word
+  -- `run_at xs b o` contains the items `xs` of one word in memory. It also contains the conversion
+  -- of memory for these items into memory for the word.
   abbrev pub run_at : List T.Denot → ℕ → ℕ → Fml
   run_at xs b o = fsep (part_at (ArrayAt T M) full_share xs b o) (way (bare T) (value_of M) b o)
 
-  -- the items of several adjacent words in memory, and for each word the conversion of memory for
-  -- its items into memory for the word
+  -- `runs_at xss b o` contains the items of several adjacent words in memory. For each word, it
+  -- also contains the conversion of memory for the items into memory for the word.
   abbrev pub runs_at : List (List T.Denot) → ℕ → ℕ → Fml
   runs_at [] b o = ftrue
   runs_at (xs ∷ xss) b o = fsep (run_at xs b o)
       (runs_at xss b (o + size (word_of (bare T) (value_of M))))
 
-  -- `runs_from xss p`: the items of several adjacent words in memory, from the address of the
-  -- pointer p on, and for each word the conversion of memory for its items into memory for the word
+  -- `runs_from xss p` contains the items of several adjacent words in memory, starting at the
+  -- pointer `p`. For each word, it also contains the conversion of memory for the items into memory
+  -- for the word.
   abbrev pub runs_from : List (List T.Denot) → Ptr → Fml
   runs_from xss null_ptr = ffalse
   runs_from xss (block_ptr b o) = runs_at xss b o
 
-  -- `words_from xss p`: several adjacent words in memory, from the address of the pointer p on;
-  -- each word holds one list of xss
+  -- `words_from xss p` describes several adjacent words in memory, starting at the pointer `p`.
+  -- Each word holds the items of one list in `xss`.
   abbrev pub words_from : List (List T.Denot) → Ptr → Fml
   words_from xss null_ptr = ffalse
   words_from xss (block_ptr b o) = places (the_row T M) (full (map word xss)) b o

@@ -1,4 +1,5 @@
-//! The type `Block`: a pointer to an allocation that holds a capacity, a length and the slots.
+//! Defines the type `Block`, a pointer to an allocation that holds a capacity, a length and slots
+//! for items.
 ghost use Rattle.std.specs.Prelude.{◌≡◌, ℕ, ◌^◌, ◌<◌, ◌≤◌, List, [], length, Option};
 ghost use Rattle.std.specs.declared.option.Option.TheVariants.{None};
 ghost use Rattle.std.specs.Coded.{coded_list, coded_option};
@@ -10,32 +11,32 @@ ghost use Rattle.thin_block.specs.Ownership.{block_owns, block_lent, any};
 use std::alloc::Allocator;
 use std::marker::{Model, PhantomData, Send, Sync};
 
-// The header to which a block without an allocation points. All such blocks share this header, and
-// nothing ever writes to it.
+// All blocks without an allocation point to this header. It is never written to.
 static NO_BLOCK: Header = Header {
     cap: 0,
     len: 0,
     aligned: [],
 };
 
-// A capacity and a length. The array `aligned` is empty: it only aligns the header, so that items
-// of any alignment may follow.
+// A header holds a capacity and a length. The array `aligned` is empty. It only raises the
+// alignment of the header, so that items of any alignment can follow the header.
 struct Header {
     cap: usize,
     len: usize,
     aligned: [u128; 0],
 }
 
-/// A pointer to an allocation that holds a capacity, a stored length, and the slots, whose number
-/// is the capacity. Each slot is empty or holds an item. A block may also have no allocation: then
-/// it has no slots, and its length is 0.
+/// A pointer to an allocation that holds a capacity, a stored length, and slots. The capacity is
+/// the number of slots. Each slot is empty or holds an item. A block without an allocation has no
+/// slots, and its length is 0.
 ///
-/// A block is one pointer wide. It cannot be dropped: once every slot is empty, `release` frees the
-/// memory. Contracts see the slots, the stored length, the allocator that the memory came from, and
-/// three counters. Of these four, only the slots and the length take memory.
+/// A block is one pointer wide. It cannot be dropped: the caller must empty every slot and then
+/// call `release`, which frees the memory. Contracts mention the slots, the stored length, the
+/// allocator that the memory came from, and three counters. Of these, only the slots and the stored
+/// length exist at run time.
 pub struct Block<T, A: Allocator> {
-    // Points to the capacity, which is followed by the length and then by the slots. If the block
-    // has no allocation, points to `NO_BLOCK`.
+    // This pointer points to the capacity. The length and then the slots follow the capacity in
+    // memory. If the block has no allocation, the pointer points to `NO_BLOCK`.
     pub(crate) at: *mut usize,
     pub(crate) item: PhantomData<T>,
     pub(crate) handle: PhantomData<A>,
@@ -52,19 +53,19 @@ impl<T, A: Allocator> Model for Block<T, A> {
     ghost also_shares = { λ b _ κ. block_lent T.row b.at b.len b.slots b.alloc κ };
 }
 
-// A block either is the only owner of its allocation, or shares the static header, which is never
-// written to. So a block may be sent to another thread if its items and its allocator may be.
+// A block is the only owner of its allocation. If it has none, it only shares the static header,
+// which is never written to. So a block is `Send` if its items and its allocator are `Send`.
 unsafe impl<T: Send, A: Allocator + Send> Send for Block<T, A> {}
 
-// A `&` to a block only reads its header and its items. So a block may be shared between threads if
-// its items and its allocator may be.
+// Code that uses a `&` to a block only reads the header and the items. So a block is `Sync` if its
+// items and its allocator are `Sync`.
 unsafe impl<T: Sync, A: Allocator + Sync> Sync for Block<T, A> {}
 
 impl<T, A: Allocator> Block<T, A> {
     ghost use Rattle.thin_block.specs.Block.{seen};
 
-    /// Returns a block without an allocation: it has no slots, and its length is 0. There is no
-    /// memory to free.
+    /// Returns a block without an allocation. The block has no slots, its length is 0, and there is
+    /// no memory to free.
     pub fn none() -> Block<T, A>
         ensures new { seen result ≡ record {
           slots = [];
@@ -80,7 +81,7 @@ impl<T, A: Allocator> Block<T, A> {
         }
     }
 
-    /// Returns the stored length, in items.
+    /// Returns the stored length, which is a number of items.
     pub fn len(&self) -> usize
         ensures value { result ≡ self.now.len }
         ensures in_bounds { result ≤ length self.now.slots }
@@ -92,7 +93,7 @@ impl<T, A: Allocator> Block<T, A> {
         unsafe { *at.add(1) }
     }
 
-    /// Returns the number of slots. It is 0 if and only if the block has no allocation.
+    /// Returns the number of slots. This number is 0 if and only if the block has no allocation.
     pub fn cap(&self) -> usize
         ensures value { result ≡ length self.now.slots }
         ensures in_bounds { self.now.len ≤ result }
@@ -103,7 +104,7 @@ impl<T, A: Allocator> Block<T, A> {
         unsafe { *at }
     }
 
-    /// Stores `len` as the length, in items. No slot changes.
+    /// Sets the stored length to `len` items. No slot changes.
     pub fn set_len(&mut self, len: usize)
         requires in_bounds { len ≤ length self.old.slots }
         ensures changes { seen self.new ≡ record (seen self.old) { len = len } }
@@ -113,8 +114,8 @@ impl<T, A: Allocator> Block<T, A> {
         }
     }
 
-    /// Stores `len` as the length, as `set_len` does, but without testing whether there is an
-    /// allocation.
+    /// Sets the stored length to `len`, as `set_len` does, but does not test whether the block has
+    /// an allocation. The block must have one.
     pub fn store_len(&mut self, len: usize)
         requires block { 0 < length self.old.slots }
         requires in_bounds { len ≤ length self.old.slots }

@@ -1,4 +1,4 @@
-//! The error type `ThinVecError`, which says why a call failed.
+//! Defines the error type `ThinVecError`, which says why a call failed.
 ghost use Rattle.std.specs.IoError.{error_kind};
 ghost use Rattle.std.specs.Prelude.{◌≡◌};
 ghost use Rattle.std.specs.declared.io.ErrorKind.TheVariants as Kind;
@@ -9,10 +9,10 @@ use std::io;
 use std::io::ErrorKind;
 use thiserror::Error;
 
-/// Says why a call failed.
+/// The reason why a call on a list failed.
 #[derive(Debug, Clone, Copy, PartialEq, Eq, Error)]
 pub enum ThinVecError {
-    /// The capacity that the call needs is too large. No memory was requested for this capacity.
+    /// The call needs a capacity that is too large. It did not request memory for this capacity.
     #[error("capacity overflow")]
     CapacityOverflow,
     /// The allocator failed, or cloning an item failed.
@@ -29,7 +29,7 @@ impl From<AllocError> for ThinVecError {
 }
 
 impl From<ThinVecError> for AllocError {
-    // The cause is lost, because `AllocError` has no field for it.
+    // The cause of the error is lost, because `AllocError` has no field for the cause.
     fn from(_cause: ThinVecError) -> AllocError {
         AllocError
     }
@@ -38,7 +38,7 @@ impl From<ThinVecError> for AllocError {
 impl From<ThinVecError> for io::Error {
     ghost from_gives = { λ _ error. error_kind error ≡ Kind.OutOfMemory };
 
-    // `CapacityOverflow` also becomes `OutOfMemory`, because std has no `ErrorKind` for an
+    // Both errors become `ErrorKind::OutOfMemory`, because std has no `ErrorKind` for a capacity
     // overflow.
     fn from(_cause: ThinVecError) -> io::Error {
         io::Error::from(ErrorKind::OutOfMemory)

@@ -1,6 +1,6 @@
-//! Growing and shrinking a block in place. If the items of a block make words, the allocator can
-//! treat the block as an array of words. The allocator's `grow` and `shrink` may then leave the
-//! block at its address.
+//! Grows and shrinks a block in place. A word is a value of 8 or 16 bytes that consists of one or
+//! more items. If the items of a block form whole words, the allocator can treat the block as an
+//! array of words, and may then leave the block at its address.
 ghost use Rattle.std.specs.Prelude.{◌≡◌, ◌+◌, ◌*◌, ◌/◌, ◌<◌, ◌≤◌, IfErr, IfOk, List, OnErr, OnOk, length};
 ghost use Rattle.std.specs.declared.option.Option.TheVariants.{Some};
 ghost use Rattle.std.specs.Int.{div_ceil};
@@ -19,11 +19,12 @@ use std::alloc::{AllocError, Allocator};
 use std::marker::PhantomData;
 use std::mem::{ManuallyDrop, replace};
 
-// If the items of a block make at least this many words of 8 bytes, the allocator resizes the
-// block, and may leave the items where they are. For fewer words, a new block is cheaper.
+// If the items of a block form at least this number of words of 8 bytes, the allocator resizes the
+// block, and may leave the items at their address. For fewer words, it is cheaper to allocate a new
+// block.
 pub(crate) const LONG: usize = 32;
 
-// Calls `grow` of the allocator if `wanted` is greater than `held`, and `shrink` otherwise.
+// Calls `alloc.grow` if `wanted` is greater than `held`, and `alloc.shrink` otherwise.
 unsafe fn resized<T, A: Allocator>(
     alloc: &A,
     start: *mut T,
@@ -48,9 +49,9 @@ unsafe fn resized<T, A: Allocator>(
 impl<T, A: Allocator> Block<T, A> {
     ghost use Rattle.thin_block.specs.Block.{IsFrom, seen};
 
-    // Resizes the block to `cap` slots, and may leave the items at their address. `M` items make a
-    // word, the header is as large as `K` words, and the items make at least `K` words. The call
-    // fails only if the allocator does, and then nothing changes.
+    // Resizes the block to `cap` slots, and may leave the items at their address. `M` items form a
+    // word, and `K` words are as large as the header. The items must form whole words, and at least
+    // `K` of them. The call fails only if the allocator fails, and then nothing changes.
     #[cold]
     pub(crate) fn remake_in_place<const M: usize, const K: usize>(
         &mut self,
@@ -100,14 +101,14 @@ impl<T, A: Allocator> Block<T, A> {
         grown
     }
 
-    // Returns this block with `cap` slots and the same items. `M` items make a word, and the header
-    // is as large as `K` words. The items make `count` words, and `count` is at least `K`.
+    // Returns this block with `cap` slots and the same items. `M` items form a word, and `K` words
+    // are as large as the header. The items form `count` words, and `count` is at least `K`.
     //
     // The items are turned into words, and the last `K` words are kept in the place of the header
-    // until the allocator returns. So the block is an array of `count` words from its start, which
-    // the allocator can grow or shrink. The block has room for `held` words before the call, and
-    // for `wanted` words after it. The call fails only if the allocator does, and then returns the
-    // block unchanged.
+    // until the allocator returns. So the block starts with an array of `count` words, which the
+    // allocator can grow or shrink. The block has room for `held` words before the call, and for
+    // `wanted` words after the call. The call fails only if the allocator fails, and then returns
+    // the block unchanged.
     fn resize_words<const M: usize, const K: usize>(
         self,
         alloc: &A,

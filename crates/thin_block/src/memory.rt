@@ -1,4 +1,4 @@
-//! Calls on a whole block: allocating, growing, shrinking and freeing it.
+//! Allocates, grows, shrinks and frees whole blocks.
 ghost use Rattle.std.specs.Prelude.{◌≡◌, ◌-◌, ◌++◌, ◌<◌, ◌≤◌, [], take, IfErr, IfOk, OnErr, OnOk, length};
 ghost use Rattle.std.specs.declared.option.Option.TheVariants.{Some};
 ghost use Rattle.std.specs.Mem.{type_size};
@@ -18,11 +18,12 @@ use std::mem::{ManuallyDrop, replace};
 impl<T, A: Allocator> Block<T, A> {
     ghost use Rattle.thin_block.specs.Block.{IsFrom, seen};
 
-    /// Allocates a block of `cap` empty slots and length 0, by one request for memory.
+    /// Allocates a block of `cap` empty slots with one request for memory. The stored length of the
+    /// block is 0.
     ///
     /// # Errors
     ///
-    /// `OutOfMemory` if the allocator fails.
+    /// Fails with `OutOfMemory` if the allocator fails.
     pub fn allocate(alloc: &A, cap: usize) -> Result<Block<T, A>, ThinVecError>
         requires some { 0 < cap }
         requires fits { Fits T.row cap }
@@ -44,11 +45,12 @@ impl<T, A: Allocator> Block<T, A> {
         }
     }
 
-    /// Grows the block to `cap` slots by one request for memory. The items are copied at most once.
+    /// Grows the block to `cap` slots with one request for memory. Each item is copied at most
+    /// once.
     ///
     /// # Errors
     ///
-    /// `OutOfMemory` if the allocator fails. Then nothing changes.
+    /// Fails with `OutOfMemory` if the allocator fails. Then nothing changes.
     #[inline(always)]
     pub fn grow(&mut self, alloc: &A, cap: usize) -> Result<(), ThinVecError>
         requires from { IsFrom self.old.alloc alloc.now }
@@ -73,16 +75,16 @@ impl<T, A: Allocator> Block<T, A> {
         self.resize(alloc, cap)
     }
 
-    // Sets the ghost cost of this block to the cost of `from` plus one growth that copied
-    // `from.len()` items. The function does nothing at run time.
+    // Sets the ghost cost of this block to the cost of the block `from` plus one request for memory
+    // that copied `from.len()` items. At run time, this function does nothing.
     fn charge_as(&mut self, from: &Block<T, A>)
         ensures changes { seen self.new ≡ record (seen self.old) {
           cost = growing from.now.len from.now.cost;
         } }
     {}
 
-    // Does what `grow` does for a block without an allocation: nothing is copied, and nothing is
-    // freed. The call fails only if the allocator does, and then nothing changes.
+    // Grows a block that has no allocation to `cap` slots. Nothing is copied, and nothing is freed.
+    // The call fails only if the allocator fails, and then nothing changes.
     fn begin(&mut self, alloc: &A, cap: usize) -> Result<(), ThinVecError>
         requires none { self.old.slots ≡ [] }
         requires some { 0 < cap }
@@ -102,12 +104,12 @@ impl<T, A: Allocator> Block<T, A> {
         Ok(())
     }
 
-    /// Removes all slots except the first `cap`, by one request for memory. The items are copied at
-    /// most once.
+    /// Removes all slots except the first `cap` slots, with one request for memory. Each item is
+    /// copied at most once.
     ///
     /// # Errors
     ///
-    /// `OutOfMemory` if the allocator fails. Then nothing changes.
+    /// Fails with `OutOfMemory` if the allocator fails. Then nothing changes.
     pub fn shrink(&mut self, alloc: &A, cap: usize) -> Result<(), ThinVecError>
         requires from { IsFrom self.old.alloc alloc.now }
         requires some { 0 < cap }
@@ -126,14 +128,15 @@ impl<T, A: Allocator> Block<T, A> {
         ensures err { OnErr result (self.new ≡ self.old) }
         ensures cause { IfErr result (λ cause. cause ≡ ThinVecError.OutOfMemory) }
     {
-        // Tells the prover that the present capacity fits. So the smaller capacity `cap` fits too.
+        // This call tells the prover that a block of the present capacity is small enough to be
+        // allocated. So a block of the smaller capacity `cap` is small enough, too.
         let _whole = self.cap();
         self.resize(alloc, cap)
     }
 
-    // Changes the number of slots to `cap`. If there are many items and they make whole words, the
-    // allocator may leave the block at its address; otherwise the items are moved to a new block.
-    // The call fails only if the allocator does, and then nothing changes.
+    // Changes the number of slots to `cap`. If there are many items and they form whole words, the
+    // allocator may leave the block at its address. Otherwise the items are moved to a new block.
+    // The call fails only if the allocator fails, and then nothing changes.
     #[inline(always)]
     fn resize(&mut self, alloc: &A, cap: usize) -> Result<(), ThinVecError>
         requires from { IsFrom self.old.alloc alloc.now }
@@ -165,7 +168,7 @@ impl<T, A: Allocator> Block<T, A> {
     }
 
     // Moves the items to a new block of `cap` slots, and frees the old block. The call fails only
-    // if the allocator does, and then nothing changes.
+    // if the allocator fails, and then nothing changes.
     fn remake(&mut self, alloc: &A, cap: usize) -> Result<(), ThinVecError>
         requires from { IsFrom self.old.alloc alloc.now }
         requires some { 0 < cap }
@@ -197,7 +200,7 @@ impl<T, A: Allocator> Block<T, A> {
         Ok(())
     }
 
-    /// Frees the allocation, if there is one. Every slot must be empty.
+    /// Frees the allocation of the block, if there is one. Every slot must be empty.
     pub fn release(self, alloc: &A)
         requires from { IsFrom self.alloc alloc.now }
         requires empty { self.slots ≡ empty (length self.slots) }
@@ -210,16 +213,16 @@ impl<T, A: Allocator> Block<T, A> {
         }
     }
 
-    /// Consumes a block without slots, as `release` does, but without testing whether there is an
-    /// allocation.
+    /// Consumes a block without slots, as `release` does, but does not test whether the block has
+    /// an allocation.
     pub fn forget_none(self)
         requires none { self.slots ≡ [] }
     {
         let _none = unsafe { ManuallyDrop::new_unchecked(self) };
     }
 
-    // Allocates a block as `allocate` does. `bytes` and `align` are the size and the alignment of
-    // the block. The call fails only if the allocator does.
+    // Allocates a block as `allocate` does. `bytes` is the size of the block in bytes, and `align`
+    // is its alignment. The call fails only if the allocator fails.
     fn allocate_block(
         alloc: &A,
         cap: usize,
@@ -254,8 +257,8 @@ impl<T, A: Allocator> Block<T, A> {
         }
     }
 
-    // Frees the allocation, as `release` does for a block that has one. `bytes` and `align` are the
-    // size and the alignment of the block.
+    // Frees the allocation of the block as `release` does. The block must have an allocation.
+    // `bytes` is the size of the block in bytes, and `align` is its alignment.
     fn free_block(self, alloc: &A, bytes: usize, align: usize)
         requires from { self.alloc ≡ Some alloc.now }
         requires empty { self.slots ≡ empty (length self.slots) }

@@ -1,4 +1,5 @@
-//! Moving runs of items, within a block or to another block. A run is the items in adjacent slots.
+//! Moves runs of items within a block or to another block. A run consists of the items in adjacent
+//! slots.
 ghost use Rattle.std.specs.Prelude.{◌≡◌, ◌⊎◌, ℕ, ◌+◌, ◌-◌, ◌<◌, ◌≤◌, false, length, true};
 ghost use Rattle.std.specs.declared.option.Option.TheVariants.{None};
 ghost use Rattle.thin_block.specs.Cost.{Cost, moving};
@@ -12,8 +13,8 @@ use std::alloc::Allocator;
 impl<T, A: Allocator> Block<T, A> {
     ghost use Rattle.thin_block.specs.Block.{seen};
 
-    /// Moves the `k` items in the slots from `from` on to the slots from `to` on. The two ranges of
-    /// slots may overlap.
+    /// Moves the `k` items in the slots `from..from + k` to the slots `to..to + k`. The two ranges
+    /// of slots may overlap.
     pub fn move_run(&mut self, from: usize, to: usize, k: usize)
         requires source { from + k ≤ length self.old.slots }
         requires target { to + k ≤ length self.old.slots }
@@ -33,9 +34,9 @@ impl<T, A: Allocator> Block<T, A> {
         }
     }
 
-    /// Moves the `k` items in the slots from `to + gap` on to the slots from `to` on. The `gap`
-    /// slots from `to` on must be empty. If `gap` is a constant, LLVM turns this call into a
-    /// `memmove`.
+    /// Moves the `k` items that start at slot `to + gap` down to the slots that start at `to`. The
+    /// `gap` slots below the items must be empty. If `gap` is a constant, LLVM turns this call into
+    /// a `memmove`.
     #[inline(always)]
     pub fn move_down(&mut self, to: usize, gap: usize, k: usize)
         requires in_bounds { to + gap + k ≤ length self.old.slots }
@@ -50,9 +51,9 @@ impl<T, A: Allocator> Block<T, A> {
         self.slide_run(to, gap, 0, k, false);
     }
 
-    /// Moves the `k` items in the slots from `from` on to the slots from `from + gap` on. The `gap`
-    /// slots that follow the items must be empty. If `gap` is a constant, LLVM turns this call into
-    /// a `memmove`.
+    /// Moves the `k` items that start at slot `from` up to the slots that start at `from + gap`.
+    /// The `gap` slots above the items must be empty. If `gap` is a constant, LLVM turns this call
+    /// into a `memmove`.
     #[inline(always)]
     pub fn move_up(&mut self, from: usize, gap: usize, k: usize)
         requires in_bounds { from + gap + k ≤ length self.old.slots }
@@ -67,8 +68,8 @@ impl<T, A: Allocator> Block<T, A> {
         self.slide_run(from, 0, gap, k, true);
     }
 
-    /// Moves items down as `move_down` does, and returns the block. The block is passed by value,
-    /// so that its pointer stays in a register.
+    /// Moves items down as `move_down` does, and returns the block. The block is passed by value to
+    /// keep its pointer in a register.
     #[inline(never)]
     pub fn close_gap(self, to: usize, gap: usize, k: usize) -> Block<T, A>
         requires in_bounds { to + gap + k ≤ length self.slots }
@@ -81,9 +82,9 @@ impl<T, A: Allocator> Block<T, A> {
         ensures cap { length result.slots ≡ length self.slots }
     {
         let mut block = self;
-        // This call tells the prover that the number of slots is below 2 ^ 63.
+        // This call tells the prover that the number of slots is less than `2 ^ 63`.
         let _cap = block.cap();
-        // In each arm with a number, `gap` is a constant for LLVM, which turns the loop into a
+        // In each arm with a number, LLVM knows the value of `gap` and turns the call into a
         // `memmove`.
         match gap {
             1 => block.move_down(to, gap, k),
@@ -106,7 +107,7 @@ impl<T, A: Allocator> Block<T, A> {
         block
     }
 
-    /// Moves items down as `close_gap` does, but without calling `close_gap` if `gap` is 1 or 2.
+    /// Moves items down as `close_gap` does, but does not call `close_gap` if `gap` is 1 or 2.
     #[inline(always)]
     pub fn close_small_gap(self, to: usize, gap: usize, k: usize) -> Block<T, A>
         requires in_bounds { to + gap + k ≤ length self.slots }
@@ -127,8 +128,8 @@ impl<T, A: Allocator> Block<T, A> {
         block
     }
 
-    /// Moves items up as `move_up` does, and returns the block. The block is passed by value, so
-    /// that its pointer stays in a register.
+    /// Moves items up as `move_up` does, and returns the block. The block is passed by value to
+    /// keep its pointer in a register.
     #[inline(never)]
     pub fn open_gap(self, from: usize, gap: usize, k: usize) -> Block<T, A>
         requires in_bounds { from + gap + k ≤ length self.slots }
@@ -141,9 +142,9 @@ impl<T, A: Allocator> Block<T, A> {
         ensures cap { length result.slots ≡ length self.slots }
     {
         let mut block = self;
-        // This call tells the prover that the number of slots is below 2 ^ 63.
+        // This call tells the prover that the number of slots is less than `2 ^ 63`.
         let _cap = block.cap();
-        // In each arm with a number, `gap` is a constant for LLVM, which turns the loop into a
+        // In each arm with a number, LLVM knows the value of `gap` and turns the call into a
         // `memmove`.
         match gap {
             1 => block.move_up(from, gap, k),
@@ -166,7 +167,7 @@ impl<T, A: Allocator> Block<T, A> {
         block
     }
 
-    // Moves the items as `move_run` does. The old and the new range of slots must overlap.
+    // Moves items as `move_run` does. The old slots and the new slots of the items must overlap.
     fn move_overlapping(&mut self, from: usize, to: usize, k: usize)
         requires source { from + k ≤ length self.old.slots }
         requires target { to + k ≤ length self.old.slots }
@@ -183,12 +184,13 @@ impl<T, A: Allocator> Block<T, A> {
         self.slide_run(0, from, to, k, from < to);
     }
 
-    // Moves the `k` items in the slots from `low + from` on to the slots from `low + to` on. `up`
-    // says whether the items move up. The slots through which the items move must be empty.
+    // Moves the `k` items that start at slot `low + from` to the slots that start at `low + to`.
+    // `up` says whether the items move up. All other slots that the items pass or reach must be
+    // empty.
     //
-    // The addresses of the items and of their new slots are computed from the address of the slot
-    // `low`. So if `from` and `to` are constants, LLVM sees that the two addresses have a constant
-    // distance.
+    // Both the address of the items and the address of their new slots are computed from the
+    // address of the slot `low`. So if `from` and `to` are constants, LLVM sees that the distance
+    // between the two addresses is constant.
     #[inline(always)]
     fn slide_run(&mut self, low: usize, from: usize, to: usize, k: usize, up: bool)
         requires source { low + from + k ≤ length self.old.slots }
@@ -211,7 +213,8 @@ impl<T, A: Allocator> Block<T, A> {
         }
     }
 
-    // Moves the items as `move_run` does. The old and the new range of slots must not overlap.
+    // Moves items as `move_run` does. The old slots and the new slots of the items must not
+    // overlap.
     fn move_apart(&mut self, from: usize, to: usize, k: usize)
         requires source { from + k ≤ length self.old.slots }
         requires target { to + k ≤ length self.old.slots }
@@ -231,8 +234,8 @@ impl<T, A: Allocator> Block<T, A> {
         }
     }
 
-    /// Moves `k` items of this block, in the slots from `from` on, to the slots of `other` from
-    /// `to` on, which must be empty.
+    /// Moves the `k` items that start at slot `from` of this block to the slots of `other` that
+    /// start at `to`. The new slots must be empty.
     pub fn move_run_to(&mut self, from: usize, k: usize, other: &mut Block<T, A>, to: usize)
         requires source { from + k ≤ length self.old.slots }
         requires target { to + k ≤ length other.old.slots }
@@ -249,9 +252,9 @@ impl<T, A: Allocator> Block<T, A> {
         self.move_run_charging(from, other, to, k);
     }
 
-    // Moves `k` items of this block, in the slots from `from` on, to the slots of `to_block` from
-    // `to` on, which must be empty. The ghost parameter `cost` is the cost of `to_block` after the
-    // call.
+    // Moves the `k` items that start at slot `from` of this block to the slots of `to_block` that
+    // start at `to`. The new slots must be empty. The ghost parameter `cost` is the cost of
+    // `to_block` after the call.
     pub(crate) fn move_run_charging(
         &mut self,
         from: usize,

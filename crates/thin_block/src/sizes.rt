@@ -1,5 +1,5 @@
-//! The size of a block in bytes, and the test whether a capacity fits, that is, whether a block of
-//! that capacity is small enough to be allocated. The functions here only compute with numbers.
+//! Computes the size of a block in bytes, and tests whether a block of a given capacity is small
+//! enough to be allocated. The functions in this file only compute with numbers.
 ghost use Rattle.std.specs.Prelude.{◌≡◌, ◌↔◌, IsTrue};
 ghost use Rattle.std.specs.Mem.{type_size};
 ghost use Rattle.std.specs.Align.{type_align};
@@ -8,15 +8,15 @@ ghost use Rattle.thin_block.specs.Capacity.{IsAlign, block_align, block_bytes, F
 
 use std::mem::{align_of, size_of};
 
-// The size of the header in bytes. No type has an alignment above 16, so the first item is always
-// this many bytes after the start of the block.
+// The size of the header in bytes. No type has an alignment above 16, so this is always the offset
+// of the first item in a block.
 pub(crate) const HEADER: usize = 16;
 
-// The size of the header in words of 8 bytes, which are the capacity and the length. The first item
-// is this many words after the start of the block.
+// The size of the header in words of 8 bytes. The two words hold the capacity and the length, and
+// the first item follows them.
 pub(crate) const HEADER_WORDS: usize = 2;
 
-// Returns the size of an item in bytes, or `usize::MAX` if the size is greater than that.
+// Returns the size of an item in bytes, or `usize::MAX` if the size exceeds `usize::MAX`.
 pub(crate) fn item_size<T>() -> usize
     ensures value { result ≡ capped (type_size T.row) }
 {
@@ -46,8 +46,8 @@ pub(crate) fn bytes_of_block<T>(cap: usize) -> usize
     (HEADER + cap * item_size::<T>()).next_multiple_of(align_of_block::<T>())
 }
 
-/// Returns whether a block for `cap` items is small enough to be allocated: neither `cap` nor the
-/// size of the block in bytes exceeds `isize::MAX`.
+/// Returns whether a block for `cap` items is small enough to be allocated. This is the case if
+/// neither `cap` nor the size of the block in bytes exceeds `isize::MAX`.
 pub fn fits<T>(cap: usize) -> bool
     ensures value { IsTrue result ↔ Fits T.row cap }
 {

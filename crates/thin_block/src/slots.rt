@@ -1,4 +1,4 @@
-//! Moving items into slots and out of slots, one by one or as an array.
+//! Moves items into slots and out of slots, one at a time or as an array.
 ghost use Rattle.std.specs.Prelude.{◌≡◌, ◌+◌, ◌<◌, ◌≤◌, ◌==◌, if◌then◌else◌, IsSome, length, slice_set};
 ghost use Rattle.core.specs.Mem.Slots.{IsFull, SamePlaces, slots_items, slots_len};
 ghost use Rattle.std.specs.declared.option.Option.TheVariants.{None, Some};
@@ -10,13 +10,13 @@ use crate::sizes::HEADER_WORDS;
 use core::slots::Slots;
 use std::alloc::Allocator;
 
-// If there are at most this many items, `copied` copies them one by one.
+// The function `copied` copies items one by one if there are at most `FEW` items.
 const FEW: usize = 16;
 
 impl<T, A: Allocator> Block<T, A> {
     ghost use Rattle.thin_block.specs.Block.{seen};
 
-    /// Moves `value` into the empty slot `i`, which owns the value afterwards.
+    /// Moves `value` into slot `i`, which must be empty. Afterwards, the slot owns `value`.
     pub fn put(&mut self, i: usize, value: T)
         requires in_bounds { i < length self.old.slots }
         requires empty { slot self.old.slots i ≡ None }
@@ -29,8 +29,8 @@ impl<T, A: Allocator> Block<T, A> {
         unsafe { (at.add(HEADER_WORDS) as *mut T).add(i).write(value) }
     }
 
-    /// Moves `value` into the empty slot `i` and stores `len` as the length. Both writes use one
-    /// pointer, so that the compiler does not have to read the pointer again.
+    /// Moves `value` into slot `i`, which must be empty, and sets the stored length to `len`. Both
+    /// writes use the same pointer, so the compiler does not have to read the pointer twice.
     pub fn put_and_store(&mut self, i: usize, value: T, len: usize)
         requires in_bounds { i < length self.old.slots }
         requires empty { slot self.old.slots i ≡ None }
@@ -48,8 +48,8 @@ impl<T, A: Allocator> Block<T, A> {
         }
     }
 
-    /// Moves the item out of slot `i` to the caller. The slot is empty afterwards. Moving an
-    /// item out is not counted as a move.
+    /// Moves the item in slot `i` to the caller. Afterwards, the slot is empty. Moving an item out
+    /// of a block is not counted as a move.
     pub fn take(&mut self, i: usize) -> T
         requires filled { IsSome (slot self.old.slots i) }
         ensures value { slot self.old.slots i ≡ Some result }
@@ -61,7 +61,7 @@ impl<T, A: Allocator> Block<T, A> {
         unsafe { (at.add(HEADER_WORDS) as *mut T).add(i).read() }
     }
 
-    /// Exchanges the items in the slots `i` and `j`, which may be the same slot.
+    /// Exchanges the items in the slots `i` and `j`. These may be the same slot.
     pub fn swap(&mut self, i: usize, j: usize)
         requires first { IsSome (slot self.old.slots i) }
         requires second { IsSome (slot self.old.slots j) }
@@ -81,8 +81,8 @@ impl<T, A: Allocator> Block<T, A> {
         }
     }
 
-    /// Moves the item out of slot `i` to the caller, and then moves the item of slot `j`
-    /// into slot `i`. If `i` equals `j`, the slot is empty afterwards, and no move is counted.
+    /// Moves the item in slot `i` to the caller, and then moves the item in slot `j` into slot `i`.
+    /// If `i` equals `j`, the slot is empty afterwards, and no move is counted.
     pub fn take_replacing(&mut self, i: usize, j: usize) -> T
         requires first { IsSome (slot self.old.slots i) }
         requires second { IsSome (slot self.old.slots j) }
@@ -102,7 +102,7 @@ impl<T, A: Allocator> Block<T, A> {
         }
     }
 
-    /// Moves the items of `values` into the empty slots from `i` on.
+    /// Moves the items of `values` into the slots `i..i + N`, which must be empty.
     pub fn put_array<const N: usize>(&mut self, i: usize, values: [T; N])
         requires in_bounds { i + N ≤ length self.old.slots }
         requires empty { AreEmpty self.old.slots i N }
@@ -115,8 +115,8 @@ impl<T, A: Allocator> Block<T, A> {
         unsafe { ((at.add(HEADER_WORDS) as *mut T).add(i) as *mut [T; N]).write(values) }
     }
 
-    /// Moves the `N` items out of the slots from `i` on to the caller. The slots are empty
-    /// afterwards.
+    /// Moves the `N` items in the slots `i..i + N` to the caller. Afterwards, these slots are
+    /// empty.
     pub fn take_array<const N: usize>(&mut self, i: usize) -> [T; N]
         requires in_bounds { i + N ≤ length self.old.slots }
         requires filled { AreFilled self.old.slots i N }
@@ -133,7 +133,7 @@ impl<T, A: Allocator> Block<T, A> {
 impl<T: Copy, A: Allocator> Block<T, A> {
     ghost use Rattle.thin_block.specs.Block.{seen};
 
-    /// Copies `items` into the empty slots from `i` on.
+    /// Copies `items` into the slots that start at `i`. The new slots must be empty.
     pub fn copy_in(&mut self, i: usize, items: &[T])
         requires in_bounds { i + length items.now ≤ length self.old.slots }
         requires empty { AreEmpty self.old.slots i (length items.now) }
@@ -150,10 +150,10 @@ impl<T: Copy, A: Allocator> Block<T, A> {
     }
 }
 
-// Returns `row` filled with copies of `items`.
+// Fills `row` with copies of `items`, and returns `row`.
 //
-// A few items are copied one by one: a call of `Slots::copy_in`, which first tests whether the two
-// runs overlap, would cost more than the copy.
+// A few items are copied one by one. For them, a call of `Slots::copy_in` would cost more than the
+// copies, because `Slots::copy_in` first tests whether its source and its target overlap.
 fn copied<T: Copy>(mut row: Slots<T>, items: &[T]) -> Slots<T>
     requires room { slots_len row ≡ length items.now }
     ensures cap { SamePlaces row result }
@@ -167,7 +167,7 @@ fn copied<T: Copy>(mut row: Slots<T>, items: &[T]) -> Slots<T>
     row
 }
 
-// Copies `items` into `row` as `copied` does, one item after the other.
+// Fills `row` with copies of `items`, one item at a time, and returns `row`.
 fn copied_singly<T: Copy>(mut row: Slots<T>, items: &[T]) -> Slots<T>
     requires room { slots_len row ≡ length items.now }
     ensures cap { SamePlaces row result }

@@ -1,19 +1,19 @@
-//! Words: a word is a value that holds a few items and is aligned as a block is. To the allocator,
-//! a block whose items make words is an array of words.
+//! Defines words. A word is a value that consists of one or more items and has the alignment of a
+//! block. If the items of a block form words, the allocator treats the block as an array of words.
 ghost use Rattle.std.specs.Prelude.{◌≡◌, ◌*◌, ◌^◌, ◌<◌, List, length};
 ghost use Rattle.std.specs.Mem.{type_size};
 ghost use types.Logic.{sem};
 ghost use Rattle.thin_block.specs.Words.{runs_from, words_from};
 ghost use Rattle.thin_block.specs.contracts.words.Words.{the_row};
 
-// A word: `M` items, aligned as a block is.
+// A word consists of `M` items, and has the alignment of a block.
 pub(crate) struct Words<T, const M: usize> {
     pub(crate) items: [T; M],
     pub(crate) aligned: [u64; 0],
 }
 
-// Turns `count` arrays of `M` items, the first of which is at `items`, into `count` words, in
-// place. LLVM removes the loop.
+// Turns `count` arrays of `M` items into `count` words, in place. `items` points to the first
+// array. LLVM removes the loop.
 pub(crate) unsafe fn make_words<T, const M: usize>(items: *mut [T; M], count: usize)
     ghost runs: { List (List T) }
     requires count { length runs ≡ count }

@@ -1,5 +1,6 @@
--- Lemmas about a search for a column among the entries of a row, and about edits at the index that
--- the search finds.
+-- These lemmas are about the list of a row's entries, which is sorted by column. They say what a
+-- binary search for a column returns, and how an edit of the list at the returned index changes the
+-- entries.
 use Rattle.std.proofs.Common.{◌≡◌, ℕ, zero, suc, ◌+◌, ◌<◌, ◌≤◌, ◌≢◌, Bool, true, false, cond, not, ◌&&◌, T, List, [], ◌∷◌, length, map, get_or, set, Some, None, Result, Ok, Err, IfOk, IfErr, refl, sym, ap, ◌∙◌, nat_cmp, is_lt, is_eq, Less, Equal, Greater, insert, remove, arith}
 use Rattle.std.specs.FinMap.{find, put}
 use Rattle.std.specs.FinMap.Entries.{below_all, by_order, where_key}
@@ -15,7 +16,7 @@ both_hold : (a b : Bool) → T (a && b) → T a × T b
 both_hold true b h = (tt, h)
 both_hold false b h = absurd h
 
--- comparing two columns by `nat_cmp` agrees with comparing them as numbers
+-- If `c < k`, then `nat_cmp c k` is `Less`. The next two lemmas state the other two cases.
 is_less : (c k : ℕ) → c < k → nat_cmp c k ≡ Less
 is_less c k less = grind (arith, nat_tests)
 
@@ -28,8 +29,8 @@ is_more c k more = grind (arith, nat_tests)
 less_from : (c k : ℕ) → T (is_lt (nat_cmp c k)) → c < k
 less_from c k h = grind (arith, nat_tests)
 
--- `stays c k` is true if removing the entry of column c keeps the entry of column k, that is, if
--- the two columns differ
+-- `stays c k` is true if the columns `c` and `k` differ. Removing the entry of column `c` keeps the
+-- entry of column `k` if and only if `stays c k` is true.
 abbrev pub stays : ℕ → ℕ → Bool
 stays c k = not (eq_by_cmp nat_cmp c k)
 
@@ -37,8 +38,8 @@ other_stays : (c k : ℕ) → k ≢ c → stays c k ≡ true
 other_stays c k other = grind (arith, nat_tests)
 
 module _ {V : Type 0} where
-  -- the column of the entry at an index, or the column of a default entry if the list has no entry
-  -- at this index
+  -- `column_at entries k d` is the column of the entry at index `k`. If there is no such entry, it
+  -- is the column of the default entry `d`.
   abbrev column_at : List (ℕ × V) → ℕ → ℕ × V → ℕ
   column_at entries k d = (get_or entries k d).0
 
@@ -49,8 +50,8 @@ module _ {V : Type 0} where
   all_above c (e ∷ entries) h (suc k) d inside =
       all_above c entries (both_hold _ _ h).1 k d (omega arith)
 
-  -- if the columns of the entries are strictly increasing, the column at an index is less than the
-  -- column at each later index
+  -- If the columns of the entries are strictly increasing, then the column at an index `i` is less
+  -- than the column at any later index `k`.
   pub columns_rise : (entries : List (ℕ × V)) → IsRising entries → (i k : ℕ) (d : ℕ × V) → i < k
       → k < length entries → column_at entries i d < column_at entries k d
   columns_rise [] h i k d before inside = absurd (omega arith)
@@ -61,8 +62,8 @@ module _ {V : Type 0} where
   columns_rise (e ∷ entries) h (suc i) (suc k) d before inside =
       columns_rise entries (both_hold _ _ h).1 i k d (omega arith) (omega arith)
 
-  -- for the columns of the entries, `IsRising` implies std's `IsStrictlyIncreasing`: both say that
-  -- the columns are strictly increasing
+  -- If the columns of the entries satisfy `IsRising`, then they satisfy std's
+  -- `IsStrictlyIncreasing`. Both predicates say that the columns are strictly increasing.
   pub columns_increase : (entries : List (ℕ × V)) → IsRising entries
       → IsStrictlyIncreasing (map (λ entry. entry.0) entries)
   columns_increase (e ∷ entries) h k inside =
@@ -75,9 +76,9 @@ module _ {V : Type 0} where
   columns_increase [] h k inside = absurd (omega arith)
 
   module _ (c : ℕ) where
-    -- If the entry of column c is at the index at + 1, it is at the index `at` in the list without
-    -- the first entry. The same holds for the index at which an entry of column c would be
-    -- inserted.
+    -- If the entry of column `c` is at index `at + 1` of the list `e ∷ entries`, then it is at
+    -- index `at` of the list `entries`. The next lemma says the same about the index at which an
+    -- entry of column `c` would be inserted.
     place_after : (e : ℕ × V) (entries : List (ℕ × V)) (at : ℕ)
         → IsPlaceOf (e ∷ entries) c (suc at) → IsPlaceOf entries c at
     place_after e entries at p = record { in_bounds = omega (arith, p.in_bounds); same = p.same }
@@ -90,8 +91,8 @@ module _ {V : Type 0} where
       greater = λ k d from inside. g.greater (suc k) d (omega arith) (omega arith);
     }
 
-    -- if the columns are strictly increasing, and the entry of column c is not the first one, then
-    -- the column of the first entry is less than c
+    -- Let the columns of the entries be strictly increasing. If the entry of column `c` is not the
+    -- first entry, then the column of the first entry is less than `c`.
     before_place : (e : ℕ × V) (entries : List (ℕ × V)) (at : ℕ) → IsRising (e ∷ entries)
         → IsPlaceOf (e ∷ entries) c (suc at) → e.0 < c
     before_place e entries at h p =
@@ -174,8 +175,8 @@ module _ {V : Type 0} where
         (e ∷ put nat_cmp c v entries)) (is_more c e.0 (g.smaller 0 e (omega arith)))
         ∙ ap (λ rest. e ∷ rest) (put_gap entries at v (gap_after e entries at g))
 
-    -- if the columns of the entries are strictly increasing, the results of comparing them with c
-    -- do not decrease from entry to entry, as a binary search requires
+    -- If the columns of the entries are strictly increasing, then the results of comparing the
+    -- columns with `c` do not decrease from entry to entry. A binary search requires this.
     comparisons_rise : (entries : List (ℕ × V)) → IsRising entries
         → IsNonDecreasingBy (λ e. ordering_index (nat_cmp e.0 c)) entries
     comparisons_rise entries h i k d before inside =
@@ -187,9 +188,9 @@ module _ {V : Type 0} where
         ) in
         grind (arith, nat_tests)
 
-    -- if the columns of the entries are strictly increasing, a binary search for column c returns
-    -- the index of the entry of column c, or, as an `Err`, the index at which such an entry would
-    -- be inserted
+    -- If the columns of the entries are strictly increasing, a binary search for column `c` returns
+    -- the index of the entry of this column. If there is no such entry, the search returns, as an
+    -- `Err`, the index at which the entry would be inserted.
     pub searched : (entries : List (ℕ × V)) → IsRising entries → (r : Result ℕ ℕ)
         → IsSearchInRange r (length entries)
         → IsBinarySearchResult (λ e. nat_cmp e.0 c) entries r

@@ -1,5 +1,5 @@
--- The lemmas: `TableLemmas` is about tables, and is for callers; the other modules are about the
--- entries of a row, a row, and the type of a row.
+-- `TableLemmas` contains the lemmas about tables that callers use. The other modules contain lemmas
+-- about the entries of a row, about rows, and about the type of a row.
 pub mod TableLemmas
 pub mod EntriesLemmas
 pub mod RowLemmas

@@ -1,4 +1,5 @@
--- What an edit of the entries of a row does to the finite map that they represent.
+-- A list of entries represents a finite map. These lemmas say how an edit of the list changes the
+-- map.
 use Rattle.std.proofs.Common.{◌≡◌, ℕ, List, [], None, Some, cond, get_or, insert, length, remove, set, sym, ap, subst, ◌∙◌, nat_cmp, Equal, arith}
 use Rattle.std.proofs.lemmas.Bool.Decides.{nat_tests}
 use Rattle.std.specs.Cmp.{nat_cmp_total, ranked}
@@ -9,8 +10,8 @@ use Rattle.std.specs.Ordering.{eq_by_cmp}
 use Rattle.thin_rows.specs.Entries.{IsGapFor, IsPlaceOf, IsRising}
 use Rattle.thin_rows.proofs.EntriesLemmas.{find_at, find_gap, put_at, put_gap, stays, without_at, without_gap}
 
--- if the columns q and k compare as equal, then removing the entry of column c keeps the entries of
--- both q and k, or of neither
+-- If the columns `q` and `k` compare as equal, then removing the entry of column `c` keeps the
+-- entries of both columns or of neither column.
 alike : (c q k : ℕ) → nat_cmp q k ≡ Equal → stays c k ≡ stays c q
 alike c q k e = ap (stays c) (sym (ranked q k Equal (sym e)))
 
@@ -21,12 +22,13 @@ module _ {V : Type 0} (es : List (ℕ × V)) (rising : IsRising es) where
   abbrev row : map.FinMap nat_cmp V
   row = from_sorted es
 
-  -- the number of entries of the row is the length of the list es
+  -- The number of entries of the row is the length of the list `es`.
   pub len_is : map.len row ≡ length es
   len_is = len-entries row ∙ ap length (entries-from_sorted nat_cmp es rising)
 
   module _ (c : ℕ) where
-    -- context: `new` is the list es of entries after the value v was put at column c
+    -- In this module, the list `new` is the result of putting the value `v` at column `c` into the
+    -- list `es` of entries.
     module _ (v : V) (new : List (ℕ × V)) (is_put : put nat_cmp c v es ≡ new) where
       put_rises : IsRising new
       put_rises = subst IsRising is_put (is_sorted-put nat_cmp nat_cmp_total c v es rising)
@@ -36,7 +38,7 @@ module _ {V : Type 0} (es : List (ℕ × V)) (rising : IsRising es) where
           ∙ (sym is_put ∙ (ap (put nat_cmp c v) (sym (entries-from_sorted nat_cmp es rising))
           ∙ sym (entries-insert nat_cmp_total row c v))))
 
-    -- context: `new` is the list es of entries without the entry of column c
+    -- In this module, the list `new` is the list `es` of entries without the entry of column `c`.
     module _ (new : List (ℕ × V)) (is_left : where_key nat_cmp (stays c) es ≡ new) where
       left_rises : IsRising new
       left_rises = subst IsRising is_left (is_sorted-where_key nat_cmp (stays c) es rising)
@@ -53,7 +55,7 @@ module _ {V : Type 0} (es : List (ℕ × V)) (rising : IsRising es) where
       left_is = same_map nat_cmp_total nat_cmp-IsAntisymmetric (from_sorted new)
           (map.remove row c) left_finds
 
-    -- context: `at` is the index of the entry of column c in the list es
+    -- In this module, `at` is the index of the entry of column `c` in the list `es`.
     module _ (at : ℕ) (place : IsPlaceOf es c at) where
       pub get_at : (d : ℕ × V) → map.get row c ≡ Some (get_or es at d).1
       get_at d = get-from_sorted nat_cmp es c rising ∙ find_at c es at d rising place
@@ -70,8 +72,8 @@ module _ {V : Type 0} (es : List (ℕ × V)) (rising : IsRising es) where
       pub remove_is : from_sorted (remove es at) ≡ map.remove row c
       remove_is = left_is _ (without_at c es at rising place)
 
-    -- context: the list es has no entry of column c, and such an entry would be inserted at the
-    -- index `at`
+    -- In this module, the list `es` has no entry of column `c`. Such an entry would be inserted at
+    -- the index `at`.
     module _ (at : ℕ) (gap : IsGapFor es c at) where
       pub get_gap : map.get row c ≡ None
       get_gap = get-from_sorted nat_cmp es c rising ∙ find_gap c es at gap
@@ -85,6 +87,6 @@ module _ {V : Type 0} (es : List (ℕ × V)) (rising : IsRising es) where
       pub unchanged : row ≡ map.remove row c
       unchanged = left_is es (without_gap c es at gap)
 
--- the empty list of entries represents the empty map
+-- An empty list of entries represents the empty map.
 pub none_stored : {V : Type 0} → from_sorted {R = nat_cmp} [] ≡ map.empty {X = V}
 none_stored = empty_of_len _ (len_is [] tt)

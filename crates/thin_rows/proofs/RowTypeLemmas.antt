@@ -1,5 +1,5 @@
--- Lemmas about capacities, which depend on a type only through its size and alignment, and about
--- errors that a call passes on to its caller.
+-- These lemmas are about capacities, and about errors that a call passes on to its caller. A
+-- capacity depends on a type only through the size and the alignment of the type.
 use Rattle.std.proofs.Common.{◌≡◌, ◌↔◌, ℕ, IsErrOf, None, Option, Result, Ok, Err, ap, refl, sym, ◌∙◌}
 use Rattle.std.specs.Borrow.{RattleType}
 use Rattle.std.specs.Mem.{type_size}
@@ -10,31 +10,34 @@ use Rattle.thin_vec.specs.declared.ThinVecError.TheVariants.{CapacityOverflow}
 use Rattle.thin_vec.specs.List.Capacity.{TellsOverflow, TellsOverflowOf}
 use Rattle.thin_vec.specs.Growth.{Rule, exact_capacity, ruled_capacity}
 
--- if two types have the same size and alignment, `exact_capacity` is the same for both types
+-- If the types `R` and `S` have the same size and the same alignment, then `exact_capacity` is the
+-- same for both types.
 pub exact_of_same : (R S : RattleType) (c w : ℕ) → type_size R ≡ type_size S
     → type_align R ≡ type_align S → exact_capacity R c w ≡ exact_capacity S c w
 unfolding exact_capacity
 exact_of_same R S c w size align = rw (size, align) refl
 
--- if two types have the same size and alignment, a growth rule chooses the same capacities for them
+-- If the types `R` and `S` have the same size and the same alignment, then each growth rule chooses
+-- the same capacity for both types.
 pub ruled_of_same : (rule : Rule) (R S : RattleType) (c d v w : ℕ) → type_size R ≡ type_size S
     → type_align R ≡ type_align S → c ≡ d → v ≡ w
     → ruled_capacity rule R c v ≡ ruled_capacity rule S d w
 unfolding ruled_capacity
 ruled_of_same rule R S c d v w size align capacity want = rw (size, align, capacity, want) refl
 
--- a result `Ok x` is not an error
+-- The result `Ok x` is not an error. So the assumption that it is the error `e` is a contradiction,
+-- and implies every statement `P`.
 no_error : {X E P : Type 0} {x : X} {e : E} → IsErrOf (Ok x) e → P
 no_error same = cc
 
--- if the result `Err d` has the error e, then d equals e
+-- If the result `Err d` is the error `e`, then `d` equals `e`.
 pub same_cause : {X E : Type 0} {d e : E} → IsErrOf {T = X} (Err d) e → d ≡ e
 same_cause same = cc
 
--- `TellsOverflowOf R w` says that the error of a call is `CapacityOverflow` if and only if w items
--- of R are too large for a block. If this holds for `Err cause`, the operator `?` passes `cause` on
--- in `result`, and S has the size and alignment of R, then `TellsOverflowOf S w` holds for
--- `result`.
+-- `TellsOverflowOf R w` says that an error is `CapacityOverflow` if and only if `w` items of the
+-- type `R` are too large for a block. Let the operator `?` pass the error `cause` on in `result`.
+-- If `cause` satisfies `TellsOverflowOf R w`, and `S` has the same size and alignment as `R`, then
+-- `result` satisfies `TellsOverflowOf S w`.
 pub error_tells : {X Y : Type 0} (R S : RattleType) (w : ℕ) (cause : ThinVecError)
     (result : Result Y ThinVecError) → type_size S ≡ type_size R → type_align S ≡ type_align R
     → IsErrAnd result (λ e. e ≡ cause) → TellsOverflowOf {X = X} R w (Err cause)
@@ -48,9 +51,9 @@ error_tells R S w cause (Err e) size align passed told = record {
   );
 }
 
--- If a equals b, and `cause` is `CapacityOverflow` if and only if b is `None`, then a failure with
--- this cause satisfies `TellsOverflow a`: the cause is `CapacityOverflow` if and only if a is
--- `None`.
+-- If `a` equals `b`, and `cause` is `CapacityOverflow` if and only if `b` is `None`, then a call
+-- that fails with `cause` satisfies `TellsOverflow a`. This means that `cause` is
+-- `CapacityOverflow` if and only if `a` is `None`.
 pub failure_tells : {X Y : Type 0} {a b : Option ℕ} {cause : ThinVecError} → a ≡ b
     → IsErrOf {T = X} (Err cause) CapacityOverflow ↔ (b ≡ None)
     → TellsOverflow a (let r : Result Y ThinVecError = Err cause in r)
@@ -61,8 +64,9 @@ failure_tells same told = record {
   );
 }
 
--- For a successful call, `TellsOverflowOf R w` says that w items of R are not too large for a
--- block. If this holds for R, and S has the size and alignment of R, then it holds for S.
+-- If a call succeeds, `TellsOverflowOf R w` says that `w` items of the type `R` are not too large
+-- for a block. If this is true for `R`, it is also true for each type `S` of the same size and
+-- alignment.
 pub made_tells : {X Y : Type 0} (R S : RattleType) (w : ℕ) (x : X) (y : Y)
     → type_size S ≡ type_size R → type_align S ≡ type_align R
     → TellsOverflowOf R w (Ok x) → TellsOverflowOf S w (Ok y)

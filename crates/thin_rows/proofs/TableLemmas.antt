@@ -1,4 +1,5 @@
--- Lemmas for callers, about the values of a table after a call.
+-- These lemmas say which values a table contains after a call. Callers use them in their own
+-- proofs.
 use Rattle.std.proofs.Common.{◌≡◌, ◌≢◌, ℕ, suc, ◌<◌, ◌≤◌, List, [], ◌∷◌, Some, None, true, false, inl, inr, length, length-set, set, ap, refl, sym, ◌∙◌, nat_cmp, is_eq, Less, Equal, Greater, arith, cond}
 use Rattle.std.specs.FinMap as map
 use Rattle.std.specs.FinMap.{entries_sorted, find, get-empty, get-entries, get-insert, get-remove}
@@ -12,24 +13,25 @@ use Rattle.std.proofs.lemmas.Option.{same_Some}
 use Rattle.thin_rows.specs.Table.{Columns, Table, row_of, value_at, with_empty_row, with_value, without_value}
 use Rattle.thin_rows.proofs.EntriesLemmas.{columns_rise, find_at}
 
--- a column compares as equal to itself
+-- Each column compares as equal to itself.
 same_column : (j : ℕ) → eq_by_cmp nat_cmp j j ≡ true
 same_column j = grind (arith, nat_tests)
 
--- two different columns do not compare as equal
+-- Two different columns do not compare as equal.
 other_column : (j l : ℕ) → l ≢ j → eq_by_cmp nat_cmp l j ≡ false
 other_column j l other = grind (arith, nat_tests)
 
 module _ {V : Type 0} where
-  -- `IsAmong es e` holds if e is an item of the list es
+  -- `IsAmong es e` holds if `e` is an item of the list `es`.
   abbrev pub IsAmong : List (ℕ × V) → ℕ × V → Type 0
   IsAmong es e = (k : ℕ) × (k < length es) × ((d : ℕ × V) → slice_index_or es k d ≡ e)
 
-  -- if e is an item of the list es, then e is also an item of `f ∷ es`
+  -- If `e` is an item of the list `es`, then `e` is also an item of the list `f ∷ es`.
   later : (f : ℕ × V) (es : List (ℕ × V)) (e : ℕ × V) → IsAmong es e → IsAmong (f ∷ es) e
   later f es e among = (suc among.0, omega (arith, among.1), among.2)
 
-  -- if the value v is found at column j in the list es, then es contains the pair of j and v
+  -- If `find` returns the value `v` for column `j` in the list `es`, then `es` contains the pair of
+  -- `j` and `v`.
   found_at : (j : ℕ) (v : V) (es : List (ℕ × V)) → find nat_cmp j es ≡ Some v
       → IsAmong es (j, v)
   found_at j v [] found = cc
@@ -45,12 +47,12 @@ module _ {V : Type 0} where
         | Greater ↦ λ o f. later e es (j, v) (found_at j v es f)
       ] refl found
 
-  -- if the table t has no row i, then it has no value at row i and column j
+  -- If the table `t` has no row `i`, then the table has no value at row `i` and column `j`.
   pub outside : (t : Table V) (i j : ℕ) → length t ≤ i → value_at t i j ≡ None
   outside t i j past = ap (λ r. map.get r j) (get_or_past t i map.empty past) ∙ get-empty nat_cmp j
 
-  -- if row i is replaced by a row with the same value at column l, then all rows keep their values
-  -- at column l
+  -- If row `i` of a table is replaced by a row with the same value at column `l`, then each row
+  -- keeps its value at column `l`.
   other_columns : (t : Table V) (i k l : ℕ) (row : Columns V)
       → map.get row l ≡ value_at t i l → value_at (set t i row) k l ≡ value_at t k l
   other_columns t i k l row same = elim (cases_eq k i) [
@@ -64,8 +66,8 @@ module _ {V : Type 0} where
     | inr other ↦ ap (λ r. map.get r l) (get_or-set_other t i k row map.empty other)
   ]
 
-  -- if row i is replaced by a row without a value at column l, then the table has no value at row i
-  -- and column l
+  -- If row `i` of a table is replaced by a row without a value at column `l`, then the new table
+  -- has no value at row `i` and column `l`.
   no_value : (t : Table V) (i l : ℕ) (row : Columns V) → map.get row l ≡ None
       → value_at (set t i row) i l ≡ None
   no_value t i l row none = elim (cases_lt i (length t)) [
@@ -73,7 +75,7 @@ module _ {V : Type 0} where
     | inr past ↦ outside (set t i row) i l (omega (arith, past, length-set t i row))
   ]
 
-  -- after the value v is written at row i and column j, the value there is v
+  -- After the value `v` has been written at row `i` and column `j`, the value there is `v`.
   pub written : (t : Table V) (i j : ℕ) (v : V) → i < length t
       → value_at (with_value t i j v) i j ≡ Some v
   written t i j v inside =
@@ -81,49 +83,49 @@ module _ {V : Type 0} where
       ∙ (get-insert nat_cmp_total (row_of t i) j v j
       ∙ ap (λ b. cond b (Some v) (map.get (row_of t i) j)) (same_column j))
 
-  -- writing a value at column j does not change the values at the other columns
+  -- Writing a value at column `j` does not change the values at any other column `l`.
   pub columns_unchanged : (t : Table V) (i j k l : ℕ) (v : V) → l ≢ j
       → value_at (with_value t i j v) k l ≡ value_at t k l
   columns_unchanged t i j k l v other = other_columns t i k l (map.insert (row_of t i) j v)
       (get-insert nat_cmp_total (row_of t i) j v l
       ∙ ap (λ b. cond b (Some v) (map.get (row_of t i) l)) (other_column j l other))
 
-  -- writing a value in a row does not change the values of the other rows
+  -- Writing a value in row `i` does not change the values in any other row `k`.
   pub rows_unchanged : (t : Table V) (i j k l : ℕ) (v : V) → k ≢ i
       → value_at (with_value t i j v) k l ≡ value_at t k l
   rows_unchanged t i j k l v other = ap (λ r. map.get r l)
       (get_or-set_other t i k (map.insert (row_of t i) j v) map.empty other)
 
-  -- after the entry at row i and column j is removed, there is no value there
+  -- After the entry at row `i` and column `j` has been removed, there is no value there.
   pub removed : (t : Table V) (i j : ℕ) → value_at (without_value t i j) i j ≡ None
   removed t i j = no_value t i j (map.remove (row_of t i) j)
       (get-remove nat_cmp_total (row_of t i) j j
       ∙ ap (λ b. cond b None (map.get (row_of t i) j)) (same_column j))
 
-  -- removing an entry at column j does not change the values at the other columns
+  -- Removing an entry at column `j` does not change the values at any other column `l`.
   pub columns_left : (t : Table V) (i j k l : ℕ) → l ≢ j
       → value_at (without_value t i j) k l ≡ value_at t k l
   columns_left t i j k l other = other_columns t i k l (map.remove (row_of t i) j)
       (get-remove nat_cmp_total (row_of t i) j l
       ∙ ap (λ b. cond b None (map.get (row_of t i) l)) (other_column j l other))
 
-  -- removing an entry does not change the values of the other rows
+  -- Removing an entry of row `i` does not change the values in any other row `k`.
   pub rows_left : (t : Table V) (i j k l : ℕ) → k ≢ i
       → value_at (without_value t i j) k l ≡ value_at t k l
   rows_left t i j k l other = ap (λ r. map.get r l)
       (get_or-set_other t i k (map.remove (row_of t i) j) map.empty other)
 
-  -- after all entries of row i are removed, the row has no value at any column
+  -- After all entries of row `i` have been removed, the row has no value at any column `j`.
   pub cleared : (t : Table V) (i j : ℕ) → value_at (with_empty_row t i) i j ≡ None
   cleared t i j = no_value t i j map.empty (get-empty nat_cmp j)
 
-  -- removing all entries of a row does not change the values of the other rows
+  -- Removing all entries of row `i` does not change the values in any other row `k`.
   pub rows_kept : (t : Table V) (i k l : ℕ) → k ≢ i
       → value_at (with_empty_row t i) k l ≡ value_at t k l
   rows_kept t i k l other = ap (λ r. map.get r l)
       (get_or-set_other t i k map.empty map.empty other)
 
-  -- a new table has no value at any row and column
+  -- A new table of `n` rows has no value at any row `i` and column `j`.
   pub unwritten : (n i j : ℕ) → value_at {V = V} (replicate n map.empty) i j ≡ None
   unwritten n i j = elim (cases_lt i n) [
     | inl inside ↦ ap (λ r. map.get r j) (get_or-replicate n i map.empty map.empty inside)
@@ -132,8 +134,8 @@ module _ {V : Type 0} where
         (omega (arith, past, length-replicate n (map.empty {X = V} {R = nat_cmp})))
   ]
 
-  -- in the list of a row's entries, the value of each entry is the value of the row at the column
-  -- of this entry
+  -- If the list of a row's entries contains a pair of a column and a value, then the row has this
+  -- value at this column.
   pub listed : (row : Columns V) (k : ℕ) (d : ℕ × V) → k < length (map.entries row)
       → map.get row (slice_index_or (map.entries row) k d).0
       ≡ Some (slice_index_or (map.entries row) k d).1
@@ -145,18 +147,20 @@ module _ {V : Type 0} where
         same = λ e. ap (λ x. x.0) (get_or_default (map.entries row) k e d inside);
       })
 
-  -- if a row has the value v at column j, the list of its entries contains the pair of j and v
+  -- If a row has the value `v` at column `j`, then the list of its entries contains the pair of `j`
+  -- and `v`.
   pub is_listed : (row : Columns V) (j : ℕ) (v : V) → map.get row j ≡ Some v
       → IsAmong (map.entries row) (j, v)
   is_listed row j v there = found_at j v (map.entries row) (sym (get-entries row j) ∙ there)
 
-  -- the columns in the list of a row's entries strictly increase
+  -- The columns in the list of a row's entries are strictly increasing.
   pub in_order : (row : Columns V) (k m : ℕ) (d : ℕ × V) → k < m → m < length (map.entries row)
       → (slice_index_or (map.entries row) k d).0 < (slice_index_or (map.entries row) m d).0
   in_order row k m d before inside =
       columns_rise (map.entries row) (entries_sorted row) k m d before inside
 
--- the lemmas about the values of a table after a call, and about the entries of a row
+-- The rule set `values` contains the lemmas about the values of a table after a call, and the
+-- lemmas about the entries of a row.
 pub ruleset values = (
   written,
   columns_unchanged,

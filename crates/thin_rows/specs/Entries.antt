@@ -1,5 +1,5 @@
--- How a row stores its entries: in a list, in increasing order of their columns. The list owns a
--- block only if it has an entry.
+-- A row stores its entries in a list, in increasing order of their columns. The list owns a block
+-- of memory only if it has an entry.
 use Rattle.std.specs.Prelude.{◌≡◌, ◌↔◌, ℕ, ◌<◌, ◌≤◌, List, T, length, slice_index_or}
 use Rattle.std.specs.Ordering.{nat_cmp}
 use Rattle.std.specs.FinMap.{from_sorted, is_sorted}
@@ -7,18 +7,18 @@ use Rattle.thin_vec.specs.ThinVec.{Thin}
 use Rattle.thin_rows.specs.Table.{Columns}
 
 module _ {V : Type 0} where
-  -- the columns of the entries are strictly increasing
+  -- `IsRising entries` holds if the columns of the entries are strictly increasing.
   abbrev pub IsRising : List (ℕ × V) → Type 0
   IsRising entries = T (is_sorted nat_cmp entries)
 
-  -- the entry at index i has the column `column`
+  -- `IsPlaceOf entries column i` holds if the entry at index `i` has the column `column`.
   pub record IsPlaceOf (entries : List (ℕ × V)) (column i : ℕ) : Type 0 where
     pub in_bounds : i < length entries
     pub same : (d : ℕ × V) → (slice_index_or entries i d).0 ≡ column
 
-  -- no entry has the column `column`, and i is the index at which an entry of this column would be
-  -- inserted: the entries before i have smaller columns, and the entries from i on have greater
-  -- columns
+  -- `IsGapFor entries column i` holds if no entry has the column `column`, and such an entry would
+  -- be inserted at index `i`. The entries before index `i` have smaller columns, and all other
+  -- entries have greater columns.
   pub record IsGapFor (entries : List (ℕ × V)) (column i : ℕ) : Type 0 where
     pub in_bounds : i ≤ length entries
     pub smaller : (k : ℕ) (d : ℕ × V) → k < i → (slice_index_or entries k d).0 < column
@@ -26,12 +26,12 @@ module _ {V : Type 0} where
         → column < (slice_index_or entries k d).0
 
 module _ {V A : Type 0} where
-  -- the columns of the list's entries are strictly increasing, and the list owns a block if and
-  -- only if it has an entry
+  -- `IsRow list` holds if the columns of the entries are strictly increasing, and the list owns a
+  -- block of memory if and only if it has an entry.
   pub record IsRow (list : Thin (ℕ × V) A) : Type 0 where
     pub rising : IsRising list.items
     pub block : (0 < list.capacity) ↔ (0 < length list.items)
 
-  -- the finite map that the entries of the list represent
+  -- `columns_of list` is the finite map that the entries of the list represent.
   abbrev pub columns_of : Thin (ℕ × V) A → Columns V
   columns_of list = from_sorted list.items

@@ -1,8 +1,9 @@
--- The type of an entry. Its size and alignment decide how many entries fit into the block of a row.
+-- This file defines the type of an entry. The size and the alignment of this type decide how many
+-- entries fit into the block of a row.
 use Rattle.std.specs.Prelude.{[], ◌∷◌}
 use Rattle.std.specs.Borrow.{RattleType, usize}
 use denote.Struct.Tuple.{Tuple}
 
--- the type of a pair of a column and a value of type V
+-- `entry_type V` is the type of a pair of a column and a value of the type `V`.
 abbrev pub entry_type : RattleType → RattleType
 entry_type V = Tuple (usize ∷ V ∷ [])

@@ -1,5 +1,5 @@
--- The definitions that the contracts use: the table, how a row is stored, the types of a row and of
--- an entry, and what a row or a table contains after a borrow.
+-- These modules contain the definitions that the contracts use: the table, the storage of a row,
+-- the types of a row and of an entry, and the contents of a row or a table after a borrow.
 pub mod Table
 pub mod Entries
 pub mod RowType

@@ -1,8 +1,9 @@
--- The type of a row. Its size and alignment decide how many rows fit into the block of a table.
+-- This file defines the type of a row. The size and the alignment of this type decide how many rows
+-- fit into the block of a table.
 use Rattle.std.specs.Borrow.{RattleType}
 use Rattle.std.specs.declared.alloc.Allocator.{Ghosts as AllocatorGhosts}
 use Rattle.thin_rows.specs.contracts.row.Row.{the_row}
 
--- the type of a row of values of type V, with an allocator of type A
+-- `row_type V A` is the type of a row with values of the type `V` and an allocator of the type `A`.
 abbrev pub row_type : (V A : RattleType) → AllocatorGhosts A.Denot → RattleType
 row_type V A allocator = the_row V A allocator

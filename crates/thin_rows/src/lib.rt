@@ -1,4 +1,4 @@
-//! A sparse table, whose rows are `ThinVec`s. A row without entries owns no block (no allocation).
+//! A sparse table whose rows are stored as `ThinVec`s. A row without entries owns no allocation.
 #![tactic(auto)]
 
 mod row;

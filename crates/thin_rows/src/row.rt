@@ -1,4 +1,5 @@
-//! A row of a table: a list of its entries, in increasing order of their columns.
+//! Defines the type `Row`. A row of a table stores its entries in a list, in increasing order of
+//! their columns.
 ghost use Rattle.std.specs.Prelude.{◌≡◌, ◌↔◌, ◌+◌, ◌<◌, IfErr, IfOk, IsOk, IsSome, IsTrue, OnErr, OnOk, Some, length};
 ghost use Rattle.std.specs.FinMap as map;
 ghost use Rattle.std.specs.Option.{option_copied};
@@ -9,7 +10,7 @@ use std::marker::Model;
 use std::{fmt, mem};
 use thin_vec::{Rejected, ThinVec};
 
-// A finite map from columns to values. It owns a block only if it has an entry.
+// A finite map from columns to values. The map owns a block of memory only if it has an entry.
 #[derive(Drop)]
 pub(crate) struct Row<V, A: Allocator> {
     entries: ThinVec<(usize, V), A>,
@@ -39,7 +40,7 @@ impl<V, A: Allocator> Row<V, A> {
     ghost use Rattle.thin_rows.specs.EntryType.{entry_type};
     ghost use Rattle.thin_rows.specs.Lends.{LendsColumn, LendsIfThere};
 
-    // Makes a row without entries. It takes no memory.
+    // Returns a row without entries. No memory is allocated.
     pub(crate) fn new(alloc: A) -> Row<V, A>
         ensures new { result ≡ map.empty }
     {
@@ -48,7 +49,7 @@ impl<V, A: Allocator> Row<V, A> {
         }
     }
 
-    // Returns the entries, in increasing order of their columns.
+    // Returns the entries in increasing order of their columns.
     pub(crate) fn entries(&self) -> &[(usize, V)]
         ensures value { result.now ≡ map.entries self.now }
         ensures rising { IsRising result.now }
@@ -63,14 +64,14 @@ impl<V, A: Allocator> Row<V, A> {
         self.entries.len()
     }
 
-    // Returns whether the row owns a block. It owns one if and only if it has an entry.
+    // Returns whether the row owns a block. This is the case if and only if the row has an entry.
     pub(crate) fn owns_block(&self) -> bool
         ensures value { IsTrue result ↔ (0 < map.len self.now) }
     {
         self.entries.has_capacity()
     }
 
-    // Returns the value at `column`, if there is an entry.
+    // Returns the value at `column`, or `None` if there is no entry.
     pub(crate) fn get(&self, column: usize) -> Option<&V>
         ensures value { option_copied result ≡ map.get self.now column }
     {
@@ -81,7 +82,7 @@ impl<V, A: Allocator> Row<V, A> {
         }
     }
 
-    // Returns a mutable reference to the value at `column`, if there is an entry.
+    // Returns a mutable reference to the value at `column`, or `None` if there is no entry.
     pub(crate) fn get_mut(&mut self, column: usize) -> Option<&mut V>
         ensures* writes_back { sem 𝓛
             (LendsIfThere V.row A.row A.Allocator self.entry column result) }
@@ -93,7 +94,8 @@ impl<V, A: Allocator> Row<V, A> {
         }
     }
 
-    // Returns a mutable reference to the value at `column`, whose entry has the index `at`.
+    // Returns a mutable reference to the value at `column`. The entry of this column must have the
+    // index `at`.
     fn value_mut(&mut self, column: usize, at: usize) -> &mut V
         requires place { IsPlaceOf (map.entries self.old) column at }
         ensures* writes_back { sem 𝓛
@@ -103,8 +105,9 @@ impl<V, A: Allocator> Row<V, A> {
         &mut self.entries[at].1
     }
 
-    // Writes `value` at `column`, and returns the value that was there. Only a new entry may need
-    // memory. If this memory cannot be allocated, the call fails, and the error holds `value`.
+    // Writes `value` at `column`, and returns the old value, if there was one. Only a new entry may
+    // need memory. If this memory cannot be allocated, the call fails, and the error contains
+    // `value`.
     pub(crate) fn set(&mut self, column: usize, value: V) -> Result<Option<V>, Rejected<V>>
         ensures succeeds { IsSome (map.get self.old column) → IsOk result }
         ensures value { IfOk result (λ old. old ≡ map.get self.old column) }
@@ -132,7 +135,7 @@ impl<V, A: Allocator> Row<V, A> {
     }
 
     // Removes the entry at `column`, if there is one, and returns its value. Removing the last
-    // entry frees the block.
+    // entry frees the block of the row.
     pub(crate) fn remove(&mut self, column: usize) -> Option<V>
         ensures value { result ≡ map.get self.old column }
         ensures columns { self.new ≡ map.remove self.old column }
@@ -148,7 +151,7 @@ impl<V, A: Allocator> Row<V, A> {
 }
 
 impl<V: Drop, A: Allocator> Row<V, A> {
-    // Removes all entries, drops their values, and frees the block.
+    // Removes all entries, drops their values, and frees the block of the row.
     pub(crate) fn clear(&mut self)
         ensures columns { self.new ≡ map.empty }
     {
@@ -158,7 +161,7 @@ impl<V: Drop, A: Allocator> Row<V, A> {
 }
 
 impl<V: fmt::Debug, A: Allocator> fmt::Debug for Row<V, A> {
-    // Prints the row as std prints a map.
+    // Prints the row in the same way as std prints a map.
     fn fmt<W: fmt::Write>(&self, f: &mut fmt::Formatter<W>) -> fmt::Result {
         let mut map = f.debug_map();
         for (column, value) in self.entries.as_slice() {
@@ -168,7 +171,8 @@ impl<V: fmt::Debug, A: Allocator> fmt::Debug for Row<V, A> {
     }
 }
 
-// Frees the block of `list`, if `list` is empty. This requests no memory, so it cannot fail.
+// Frees the block of `list` if `list` is empty. This function requests no memory, so it cannot
+// fail.
 fn give_block_back<T, A: Allocator>(list: &mut ThinVec<T, A>)
     ensures items { list.new.items ≡ list.old.items }
     ensures block { (0 < list.new.capacity) ↔ (0 < length list.new.items) }
@@ -181,8 +185,8 @@ fn give_block_back<T, A: Allocator>(list: &mut ThinVec<T, A>)
     }
 }
 
-// Returns the index of the entry at `column`. If there is none, returns the index at which a new
-// entry would be inserted, as an `Err`.
+// Returns the index of the entry at `column`. If there is no such entry, returns an `Err` with the
+// index at which the entry would be inserted.
 fn place<V>(entries: &[(usize, V)], column: usize) -> Result<usize, usize>
     requires rising { IsRising entries.now }
     ensures found { IfOk result (IsPlaceOf entries.now column) }

@@ -1,4 +1,4 @@
-//! The sparse table `Rows`: its type, its model in contracts, and its methods.
+//! Defines the sparse table `Rows`: its type, its model in contracts, and its methods.
 ghost use Rattle.std.specs.Prelude.{◌≡◌, ◌↔◌, ◌+◌, ◌-◌, ◌^◌, ◌<◌, IfErr, IfOk, IsOk, IsSome, IsTrue, OnErr, OnOk, length, map, min, replicate, sum};
 ghost use Rattle.std.specs.FinMap as columns;
 ghost use Rattle.std.specs.List.Sorted.{IsStrictlyIncreasing};
@@ -11,12 +11,12 @@ use std::fmt;
 use std::marker::Model;
 use thin_vec::{Rejected, ThinVec, ThinVecError};
 
-/// A sparse table: a finite map from row and column to value. The number of rows is fixed.
+/// A sparse table, which maps a row and a column to a value. The number of rows is fixed.
 ///
 /// A row keeps its entries in one block, in increasing order of their columns. A row without
-/// entries owns no block, and takes only the bytes of a pointer and of its allocator. A row number
-/// must be less than the number of rows. This is a precondition of the methods, which they do not
-/// test at run time.
+/// entries owns no block, and takes only the bytes of a pointer and of its allocator. Each row
+/// number that is passed to a method must be less than the number of rows. This is a precondition,
+/// which the methods do not test at run time.
 #[derive(Drop)]
 pub struct Rows<V, A: Allocator = Global> {
     rows: ThinVec<Row<V, A>, A>,
@@ -38,13 +38,13 @@ impl<V, A: Allocator + Copy> Rows<V, A> {
     ghost use Rattle.thin_vec.specs.List.Capacity.{TellsOverflowOf};
     ghost use Rattle.thin_rows.specs.RowType.{row_type};
 
-    /// Makes a table of `rows` rows without entries. It allocates one block, or none if `rows` is
-    /// 0. The table and each row keep a copy of `alloc`.
+    /// Returns a table of `rows` rows without entries. The call allocates one block, or none if
+    /// `rows` is 0. The table and each row keep a copy of `alloc`.
     ///
     /// # Errors
     ///
-    /// Fails with `CapacityOverflow` if `rows` rows do not fit into a block, and with `OutOfMemory`
-    /// if the allocator fails.
+    /// Fails with `CapacityOverflow` if a block for `rows` rows is too large, and with
+    /// `OutOfMemory` if the allocator fails.
     pub fn with_rows(alloc: A, rows: usize) -> Result<Rows<V, A>, ThinVecError>
         // On success.
         ensures table { IfOk result (λ table. table ≡ replicate rows columns.empty) }
@@ -79,7 +79,7 @@ impl<V, A: Allocator> Rows<V, A> {
     }
 
     /// Returns the number of entries in all rows, or `usize::MAX` if there are more. (No memory has
-    /// room for more entries than `usize::MAX`.) It visits each row.
+    /// room for more than `usize::MAX` entries.) The call visits each row.
     pub fn len(&self) -> usize
         ensures value { result ≡ min (sum (map (λ row. columns.len row) self.now)) (2 ^ 64 - 1) }
     {
@@ -90,7 +90,7 @@ impl<V, A: Allocator> Rows<V, A> {
         count
     }
 
-    /// Returns the value at a row and a column, if there is an entry.
+    /// Returns the value at the given row and column, or `None` if there is no entry.
     pub fn get(&self, row: usize, column: usize) -> Option<&V>
         requires in_bounds { row < length self.now }
         ensures value { option_copied result ≡ value_at self.now row column }
@@ -98,8 +98,8 @@ impl<V, A: Allocator> Rows<V, A> {
         self.rows[row].get(column)
     }
 
-    /// Returns a mutable reference to the value at a row and a column, if there is an entry. A
-    /// value that is written through the reference replaces the old value in the table.
+    /// Returns a mutable reference to the value at the given row and column, or `None` if there is
+    /// no entry. A value that is written through the reference replaces the old value in the table.
     pub fn get_mut(&mut self, row: usize, column: usize) -> Option<&mut V>
         requires in_bounds { row < length self.old }
         ensures* writes_back { sem 𝓛
@@ -109,15 +109,15 @@ impl<V, A: Allocator> Rows<V, A> {
         self.rows[row].get_mut(column)
     }
 
-    /// Writes `value` at a row and a column, and returns the value that was there. Afterwards the
-    /// table owns `value`, and the caller owns the returned value.
+    /// Writes `value` at the given row and column, and returns the old value, if there was one.
+    /// Afterwards, the table owns `value`, and the caller owns the returned value.
     ///
     /// # Errors
     ///
-    /// Fails only if there was no entry at this row and column, and the row could not get room for
-    /// a new one. The cause is `OutOfMemory` if the allocator fails, and `CapacityOverflow` if the
-    /// new capacity of the row would be too large. The error holds `value`, which the caller owns
-    /// again, and the table is unchanged: a row that owned no block still owns none.
+    /// Fails only if a new entry is needed and the row cannot get room for it. The cause is
+    /// `OutOfMemory` if the allocator fails, and `CapacityOverflow` if the new capacity of the row
+    /// would be too large. The error returns `value` to the caller. The table is unchanged, and a
+    /// row that owned no block before the call owns no block after it.
     pub fn set(&mut self, row: usize, column: usize, value: V) -> Result<Option<V>, Rejected<V>>
         requires in_bounds { row < length self.old }
 
@@ -138,8 +138,8 @@ impl<V, A: Allocator> Rows<V, A> {
         self.rows[row].set(column, value)
     }
 
-    /// Removes the entry at a row and a column, if there is one, and returns its value. It requests
-    /// no memory. A row that loses its last entry frees its block.
+    /// Removes the entry at the given row and column, if there is one, and returns its value. The
+    /// call requests no memory. A row that loses its last entry frees its block.
     pub fn remove(&mut self, row: usize, column: usize) -> Option<V>
         requires in_bounds { row < length self.old }
         ensures value { result ≡ value_at self.old row column }
@@ -148,7 +148,7 @@ impl<V, A: Allocator> Rows<V, A> {
         self.rows[row].remove(column)
     }
 
-    /// Returns the entries of a row, as pairs of a column and a value, in increasing order of the
+    /// Returns the entries of a row as pairs of a column and a value, in increasing order of the
     /// columns.
     #[tactic(auto, using(crate::proofs::EntriesLemmas::columns_increase))]
     pub fn row(&self, row: usize) -> &[(usize, V)]
@@ -159,7 +159,7 @@ impl<V, A: Allocator> Rows<V, A> {
         self.rows[row].entries()
     }
 
-    /// Returns whether a row owns a block. It owns one if and only if it has an entry.
+    /// Returns whether a row owns a block. This is the case if and only if the row has an entry.
     pub fn owns_block(&self, row: usize) -> bool
         requires in_bounds { row < length self.now }
         ensures value { IsTrue result ↔ (0 < columns.len (row_of self.now row)) }
@@ -169,8 +169,8 @@ impl<V, A: Allocator> Rows<V, A> {
 }
 
 impl<V: Drop, A: Allocator> Rows<V, A> {
-    /// Removes all entries of a row, and drops their values. It requests no memory, and frees the
-    /// block of the row.
+    /// Removes all entries of a row and drops their values. The call requests no memory, and frees
+    /// the block of the row.
     pub fn clear_row(&mut self, row: usize)
         requires in_bounds { row < length self.old }
         ensures table { self.new ≡ with_empty_row self.old row }
@@ -180,7 +180,7 @@ impl<V: Drop, A: Allocator> Rows<V, A> {
 }
 
 impl<V: fmt::Debug, A: Allocator> fmt::Debug for Rows<V, A> {
-    // Prints the rows in order, each as std prints a map.
+    // Prints the rows in order. Each row is printed as std prints a map.
     fn fmt<W: fmt::Write>(&self, f: &mut fmt::Formatter<W>) -> fmt::Result {
         self.rows.fmt(f)
     }

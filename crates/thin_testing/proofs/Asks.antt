@@ -1,5 +1,6 @@
--- Lemmas about a call of `refuses`: the shared counts satisfy its precondition, and it returns a
--- Boolean. Assumes `Logic`.
+-- These lemmas are about a call of `refuses`. A shared reference to the counts satisfies its
+-- precondition, and the call returns a Boolean. The lemmas assume the laws of the separation logic
+-- (`Logic`).
 use Rattle.std.proofs.Common.{◌≡◌, ℕ, Bool, List, [], ◌∷◌, refl, ap}
 use seplogic.Ra.Ura.{Ura}
 use mir.Val.{Val, vbool, vptr}
@@ -19,19 +20,20 @@ use denote.Triple.Spec.{triple_of}
 use Rattle.thin_testing.specs.contracts.refusing.Counts as CT
 use Rattle.thin_testing.specs.contracts.refusing.refuses as RF
 
--- the type `Counts`
+-- The type `Counts`.
 abbrev pub Row : RattleType
 Row = CT.the_row
 
 module _ {M : Type 1} {𝓤 : Ura M} (𝓛 : Logic 𝓤) (at_mem : Memory → SProp 𝓤)
     (run : Routine → Fun 𝓤) where
-  -- the contract of `refuses`
+  -- The contract of `refuses`.
   abbrev pub Asks : Contract 𝓤
   Asks = triple_of 𝓛 RF.signature (RF.spec 𝓛 at_mem run)
 
-  -- The ghost arguments of the contract of `refuses`, for a call that passes a reference to the
-  -- counts. κ is the lifetime of the reference, q is the share of κ's token that is passed, c is
-  -- the address of the counts, and k is their value.
+  -- These are the ghost arguments of the contract of `refuses` for a call that passes a reference
+  -- to the counts. The counts have the address `c` and the value `k`. The reference has the
+  -- lifetime `κ`, and the call receives the fraction `q` of the token that proves that `κ` has not
+  -- ended.
   abbrev pub at_asks : Lft → Share → ℕ × ℕ → Row.Denot → Asks.Ghost
   at_asks κ q c k = (
     (
@@ -48,7 +50,8 @@ module _ {M : Type 1} {𝓤 : Ura M} (𝓛 : Logic 𝓤) (at_mem : Memory → SP
     (κ : Lft) (q : Share) (c : ℕ × ℕ) (k : Row.Denot) where
   open 𝓛 use {H, A}
 
-  -- the precondition of `refuses` follows from the shared counts and the token of the lifetime κ
+  -- If the counts are shared for the lifetime `κ`, and a token proves that `κ` has not ended, then
+  -- the precondition of `refuses` holds.
   pub Asks-goes : ent 𝓤 (sep 𝓤 (sem 𝓛 (hidden_shr Row κ k c.0 c.1)) (A.lft κ q))
       ((Asks 𝓛 at_mem run).pre (at_asks 𝓛 at_mem run κ q c k))
   Asks-goes =
@@ -57,7 +60,8 @@ module _ {M : Type 1} {𝓤 : Ura M} (𝓛 : Logic 𝓤) (at_mem : Memory → SP
       nothing ! $ move ! (1 ∷ []) $ fjoin ! $ nothing ! $ move ! (2 ∷ []) $ join ! $ join ! $
       nothing ! $ move ! (1 ∷ []) $ done !
 
-  -- a call of `refuses` returns some Boolean, and gives the lifetime token back
+  -- A call of `refuses` returns a Boolean. It also returns the token that proves that the lifetime
+  -- `κ` has not ended.
   pub Asks-gives : (v : Val) → ent 𝓤 ((Asks 𝓛 at_mem run).post (at_asks 𝓛 at_mem run κ q c k) v)
       (H.⇛ (ex 𝓤 (λ (y : Bool). guard 𝓤 (v ≡ vbool y) (A.lft κ q))))
   Asks-gives v =

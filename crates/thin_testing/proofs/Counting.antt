@@ -1,5 +1,6 @@
--- Lemmas about calls of `granted` and `returned`: the shared counts satisfy the preconditions of
--- both functions, and each of the two functions returns the unit value. Assumes `Logic`.
+-- These lemmas are about calls of `granted` and `returned`. A shared reference to the counts
+-- satisfies the preconditions of both functions, and both functions return the unit value. The
+-- lemmas assume the laws of the separation logic (`Logic`).
 use Rattle.std.proofs.Common.{◌≡◌, ℕ, List, [], ◌∷◌, refl, ap}
 use seplogic.Ra.Ura.{Ura}
 use mir.Val.{Val, vunit, vptr}
@@ -21,24 +22,24 @@ use Rattle.thin_testing.specs.contracts.refusing.Counts as CT
 use Rattle.thin_testing.specs.contracts.refusing.granted as GR
 use Rattle.thin_testing.specs.contracts.refusing.returned as RE
 
--- the type `Counts`
+-- The type `Counts`.
 abbrev pub Row : RattleType
 Row = CT.the_row
 
 module _ {M : Type 1} {𝓤 : Ura M} (𝓛 : Logic 𝓤) (at_mem : Memory → SProp 𝓤)
     (run : Routine → Fun 𝓤) where
-  -- the contract of `granted`
+  -- The contract of `granted`.
   abbrev pub Granted : Contract 𝓤
   Granted = triple_of 𝓛 GR.signature (GR.spec 𝓛 at_mem run)
 
-  -- the contract of `returned`
+  -- The contract of `returned`.
   abbrev pub Returned : Contract 𝓤
   Returned = triple_of 𝓛 RE.signature (RE.spec 𝓛 at_mem run)
 
-  -- The ghost arguments of the contract of `granted`, for a call that passes a reference to the
-  -- counts and an answer. κ is the lifetime of the reference, q is the share of κ's token that is
-  -- passed, c is the address of the counts, and k is their value. y is the answer, and v is its
-  -- machine value.
+  -- These are the ghost arguments of the contract of `granted` for a call that passes a reference
+  -- to the counts and an answer. The counts have the address `c` and the value `k`. The reference
+  -- has the lifetime `κ`, and the call receives the fraction `q` of the token that proves that `κ`
+  -- has not ended. The answer is `y`, and its machine value is `v`.
   abbrev pub at_granted : Lft → Share → ℕ × ℕ → Row.Denot → Answer.Denot → Val → Granted.Ghost
   at_granted κ q c k y v = (
     (
@@ -51,9 +52,10 @@ module _ {M : Type 1} {𝓤 : Ura M} (𝓛 : Logic 𝓤) (at_mem : Memory → SP
     tt,
   )
 
-  -- The ghost arguments of the contract of `returned`, for a call that passes a reference to the
-  -- counts. κ is the lifetime of the reference, q is the share of κ's token that is passed, c is
-  -- the address of the counts, and k is their value.
+  -- These are the ghost arguments of the contract of `returned` for a call that passes a reference
+  -- to the counts. The counts have the address `c` and the value `k`. The reference has the
+  -- lifetime `κ`, and the call receives the fraction `q` of the token that proves that `κ` has not
+  -- ended.
   abbrev pub at_returned : Lft → Share → ℕ × ℕ → Row.Denot → Returned.Ghost
   at_returned κ q c k =
       (((κ, tt), (q, tt), tt, (record { ref_ptr = c; now = k }, tt), (vptr c.0 c.1 ∷ [], tt)), tt)
@@ -62,8 +64,9 @@ module _ {M : Type 1} {𝓤 : Ura M} (𝓛 : Logic 𝓤) (at_mem : Memory → SP
     (κ : Lft) (q : Share) (c : ℕ × ℕ) (k : Row.Denot) where
   open 𝓛 use {H, A}
 
-  -- if v is a machine value of the answer y, the precondition of `granted` follows from the shared
-  -- counts and the lifetime token
+  -- If the counts are shared for the lifetime `κ`, and a token proves that `κ` has not ended, then
+  -- the precondition of `granted` holds. Here `v` is the machine value of the answer `y`, an
+  -- argument of `granted`.
   pub Granted-goes : (y : Answer.Denot) (v : Val)
       → ent 𝓤 (emp 𝓤) (sem 𝓛 (Answer.own_val y (v ∷ [])))
       → ent 𝓤 (sep 𝓤 (sem 𝓛 (hidden_shr Row κ k c.0 c.1)) (A.lft κ q))
@@ -75,7 +78,8 @@ module _ {M : Type 1} {𝓤 : Ura M} (𝓛 : Logic 𝓤) (at_mem : Memory → SP
       move ! (1 ∷ []) $ fjoin ! $
       nothing ! $ move ! (2 ∷ []) $ join ! $ join ! $ nothing ! $ move ! (1 ∷ []) $ done !
 
-  -- a call of `granted` returns the unit value, and gives the lifetime token back
+  -- A call of `granted` returns the unit value. It also returns the token that proves that the
+  -- lifetime `κ` has not ended.
   pub Granted-gives : (y : Answer.Denot) (w v : Val)
       → ent 𝓤 ((Granted 𝓛 at_mem run).post (at_granted 𝓛 at_mem run κ q c k y w) v)
       (H.⇛ (guard 𝓤 (v ≡ vunit) (A.lft κ q)))
@@ -89,7 +93,8 @@ module _ {M : Type 1} {𝓤 : Ura M} (𝓛 : Logic 𝓤) (at_mem : Memory → SP
       split ! $ split ! $ move ! (1 ∷ []) $
       feq_l ! (λ e. split ! $ at_once ! $ check ! (ap only e) $ keep ! (0 ∷ []) $ done !))
 
-  -- the precondition of `returned` follows from the shared counts and the token of the lifetime κ
+  -- If the counts are shared for the lifetime `κ`, and a token proves that `κ` has not ended, then
+  -- the precondition of `returned` holds.
   pub Returned-goes : ent 𝓤 (sep 𝓤 (sem 𝓛 (hidden_shr Row κ k c.0 c.1)) (A.lft κ q))
       ((Returned 𝓛 at_mem run).pre (at_returned 𝓛 at_mem run κ q c k))
   Returned-goes =
@@ -98,7 +103,8 @@ module _ {M : Type 1} {𝓤 : Ura M} (𝓛 : Logic 𝓤) (at_mem : Memory → SP
       nothing ! $ move ! (1 ∷ []) $ fjoin ! $ nothing ! $ move ! (2 ∷ []) $ join ! $ join ! $
       nothing ! $ move ! (1 ∷ []) $ done !
 
-  -- a call of `returned` returns the unit value, and gives the lifetime token back
+  -- A call of `returned` returns the unit value. It also returns the token that proves that the
+  -- lifetime `κ` has not ended.
   pub Returned-gives : (v : Val)
       → ent 𝓤 ((Returned 𝓛 at_mem run).post (at_returned 𝓛 at_mem run κ q c k) v)
       (H.⇛ (guard 𝓤 (v ≡ vunit) (A.lft κ q)))

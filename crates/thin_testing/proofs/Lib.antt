@@ -1,4 +1,4 @@
--- Lemmas for the hand-written proofs of `Refusing`, about its calls of `refuses`, `granted` and
--- `returned`.
+-- These lemmas are about calls of `refuses`, `granted` and `returned`. The hand-written proofs of
+-- the allocator `Refusing` use them.
 mod Asks
 mod Counting

@@ -1,6 +1,6 @@
-//! Tools that the tests of several crates share: an allocator that refuses one request, which the
-//! test chooses; two more growth rules; and all growth rules as plain functions, by which tests
-//! compute the capacities that they expect.
+//! Provides tools for the tests of several crates. The allocator `Refusing` refuses one request,
+//! which the test chooses. `Fourfold` and `Threefold` are two more growth rules. The trait `Ruled`
+//! computes the capacities that tests expect.
 #![tactic(auto)]
 
 mod multiples;

@@ -1,5 +1,5 @@
-//! Two growth rules that only tests use. With them, tests check that the methods of a list, and
-//! runs of commands, keep their contracts under rules other than those of `thin_vec`.
+//! Defines two growth rules that only tests use. With these rules, tests check that lists satisfy
+//! their contracts under growth rules that `thin_vec` does not define.
 ghost use Rattle.std.specs.Prelude.{◌≡◌};
 ghost use Rattle.std.specs.Mem.{type_size};
 ghost use Rattle.std.specs.Align.{type_align};
@@ -7,7 +7,8 @@ ghost use Rattle.thin_testing.specs.Multiples.{multiple};
 
 use thin_vec::{Growth, fits};
 
-/// A growth rule: four times the capacity, or the number of items needed if that is greater.
+/// A growth rule that chooses four times the old capacity, or the number of wanted items if that
+/// number is greater.
 pub struct Fourfold {}
 
 impl Growth for Fourfold {
@@ -22,7 +23,8 @@ impl Growth for Fourfold {
     ghost law = { fourfold_law };
 }
 
-/// A growth rule: three times the capacity, or the number of items needed if that is greater.
+/// A growth rule that chooses three times the old capacity, or the number of wanted items if that
+/// number is greater.
 pub struct Threefold {}
 
 impl Growth for Threefold {

@@ -1,24 +1,25 @@
-//! An allocator for tests, which refuses one request that the test chooses.
+//! Defines `Refusing`, an allocator for tests. It refuses one request, which the test chooses.
 //!
-//! Pass it by reference, as `&Refusing<Global>`: a reference to an allocator is itself an
-//! allocator, and it is `Copy`. A request is a call of `allocate`, `grow` or `shrink`, so each
-//! growth of a list is one request. `grow` and `shrink` call the same methods of `inner`, which may
-//! resize a block in place.
+//! A request is a call of `allocate`, `grow` or `shrink`, so each growth of a list is one request.
+//! The methods `grow` and `shrink` call the same method of `inner`, which may resize a block in
+//! place. Pass the allocator by reference, as `&Refusing<Global>`. A reference to an allocator is
+//! itself an allocator, and it is `Copy`.
 //!
-//! `blocks` counts the blocks that are allocated and not yet freed. So a test can detect a leak,
-//! although no contract says that a list frees its block. A block that is grown or shrunk still
-//! counts once. The sizes of blocks are not counted: a call that asks for too many bytes is not
-//! detected here.
+//! The method `blocks` returns the number of blocks that are allocated and have not been freed yet.
+//! So a test can detect a leak, although no contract says that a list frees its block. A block that
+//! is grown or shrunk still counts as one block. The sizes of blocks are not counted, so a call
+//! that requests too many bytes is not detected.
 //!
-//! Contracts cannot say what a `Cell` holds. So no contract says which request is refused, or what
-//! `requests` and `blocks` return: the tests show these. It is proved that the blocks come from
-//! `inner` and are given back to `inner`.
+//! Contracts cannot mention the content of a `Cell`. So only tests show which request is refused,
+//! and what `requests` and `blocks` return. It is proved that all blocks come from `inner` and are
+//! returned to `inner`.
 use std::alloc::{AllocError, Allocator};
 use std::cell::Cell;
 
-// What a `Refusing` counts: the `requests` since it was made, or since the last call of `refuse`,
-// and the `blocks` that are allocated and not yet freed. `refused` is the number of the request
-// that is refused, counting from 1. If `refused` is 0, no request is refused.
+// The counts of a `Refusing`. The field `requests` counts the requests since the allocator was
+// created or since the last call of `refuse`. The field `blocks` counts the blocks that are
+// allocated and have not been freed yet. The request with the number `refused` is refused, or none
+// if `refused` is 0.
 #[derive(Drop)]
 struct Counts {
     requests: Cell<u64>,
@@ -26,34 +27,34 @@ struct Counts {
     blocks: Cell<u64>,
 }
 
-// Counts a request, and returns whether it is refused.
+// Counts a request, and returns whether the request is refused.
 fn refuses(counts: &Counts) -> bool {
     let request = counts.requests.get().saturating_add(1);
     counts.requests.set(request);
     request == counts.refused.get()
 }
 
-// Adds 1 to the number of blocks if `answer` is an `Ok`.
+// Adds 1 to the number of blocks if `answer` is `Ok`.
 fn granted(counts: &Counts, answer: Result<*mut u8, AllocError>) {
     if answer.is_ok() {
         counts.blocks.set(counts.blocks.get().saturating_add(1));
     }
 }
 
-// Subtracts 1 from the number of blocks, because a block is freed.
+// Subtracts 1 from the number of blocks, because the caller frees a block.
 fn returned(counts: &Counts) {
     counts.blocks.set(counts.blocks.get().saturating_sub(1));
 }
 
-/// An allocator that passes each request on to `inner`, except one, which it refuses.
+/// An allocator that refuses one request and passes all other requests on to `inner`.
 pub struct Refusing<B: Allocator> {
     inner: B,
     counts: Counts,
 }
 
 impl<B: Allocator> Refusing<B> {
-    /// Makes an allocator that refuses the request with the number `refused`, counting from 1. If
-    /// `refused` is 0, no request is refused. The new allocator owns `inner`.
+    /// Returns an allocator that refuses the request with the number `refused`. The first request
+    /// has the number 1. If `refused` is 0, no request is refused. The new allocator owns `inner`.
     pub fn new(inner: B, refused: u64) -> Refusing<B> {
         Refusing {
             inner,
@@ -65,21 +66,21 @@ impl<B: Allocator> Refusing<B> {
         }
     }
 
-    /// Restarts the count of requests at 0, and from then on refuses the request with the number
-    /// `refused`, or no request if `refused` is 0.
+    /// Restarts the count of requests at 0. From now on, the request with the number `refused` is
+    /// refused, or no request if `refused` is 0.
     pub fn refuse(&self, refused: u64) {
         self.counts.requests.set(0);
         self.counts.refused.set(refused);
     }
 
-    /// Returns the number of requests since the allocator was made, or since the last call of
-    /// `refuse`. A refused request counts too.
+    /// Returns the number of requests since the allocator was created or since the last call of
+    /// `refuse`. A refused request counts, too.
     pub fn requests(&self) -> u64 {
         self.counts.requests.get()
     }
 
-    /// Returns the number of blocks that are allocated and not yet freed. A call of `refuse` does
-    /// not change this number.
+    /// Returns the number of blocks that are allocated and have not been freed yet. A call of
+    /// `refuse` does not change this number.
     pub fn blocks(&self) -> u64 {
         self.counts.blocks.get()
     }

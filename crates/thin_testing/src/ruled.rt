@@ -1,13 +1,13 @@
-//! The growth rules written a second time, as functions on numbers. Tests use these functions to
-//! compute the capacities that they expect. Unlike a rule, such a function has no upper limit: it
-//! never refuses a capacity as too large.
+//! Defines the growth rules a second time, as functions on numbers. Tests use these functions to
+//! compute the capacities that they expect. Unlike the rules, the functions never reject a capacity
+//! because it is too large.
 use crate::multiples::{Fourfold, Threefold};
 use thin_vec::{Doubling, Growth, PowerBytes};
 
-/// A growth rule whose capacities tests can compute.
+/// A growth rule with a function that computes the capacities that tests expect.
 pub trait Ruled: Growth {
     /// Returns the capacity to which a list of capacity `capacity` grows if it needs room for
-    /// `want` items of `size` bytes each. `want` is greater than `capacity`.
+    /// `want` items of `size` bytes each. `want` must be greater than `capacity`.
     fn expected_capacity(size: usize, capacity: usize, want: usize) -> usize;
 }
 
@@ -22,8 +22,8 @@ impl Ruled for Doubling {
 }
 
 impl Ruled for PowerBytes {
-    // Returns the capacity that fills a block whose number of bytes is a power of two. The first 16
-    // bytes of the block hold the capacity and the length. Items that take no bytes follow
+    // Returns the capacity of a block that fills a power of two bytes. The first 16 bytes of the
+    // block hold the capacity and the length. For items of size 0, the result is the same as under
     // `Doubling`.
     fn expected_capacity(size: usize, capacity: usize, want: usize) -> usize {
         if size == 0 {

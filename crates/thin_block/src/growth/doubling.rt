@@ -1,4 +1,4 @@
-//! `Doubling`, the default growth rule: the capacity doubles.
+//! Defines the default growth rule `Doubling`, which doubles the capacity.
 ghost use Rattle.std.specs.Prelude.{◌≡◌};
 ghost use Rattle.std.specs.Mem.{type_size};
 ghost use Rattle.thin_block.specs.Capacity.{first};
@@ -7,8 +7,9 @@ ghost use Rattle.thin_block.specs.Growth.{doubling, ruled_capacity};
 use crate::growth::{Growth, fitting};
 use crate::sizes::item_size;
 
-/// The growth rule of the Rust crate thin-vec: the new capacity is twice the old one, or
-/// `first_capacity` if the old one is 0. If more items than that need room, it is their number.
+/// A growth rule that doubles the capacity, or chooses `first_capacity` if the old capacity is 0.
+/// If more items than that need room, the new capacity is the number of these items. The Rust crate
+/// thin-vec uses the same rule.
 pub struct Doubling {}
 
 impl Growth for Doubling {
@@ -29,8 +30,9 @@ impl Growth for Doubling {
     ghost law = { doubling_law };
 }
 
-/// Returns the capacity that `Doubling` chooses for the first block of a list, unless more items
-/// need room. It is 1 for items of more than `usize::MAX / 8` bytes, and 4 for all others.
+/// Returns the capacity that `Doubling` chooses for the first block of a list, unless the list
+/// needs room for more items. It is 1 for items of more than `usize::MAX / 8` bytes, and 4 for all
+/// other items.
 pub fn first_capacity<T>() -> usize
     ensures value { result ≡ first (type_size T.row) }
 {
@@ -41,9 +43,9 @@ pub fn first_capacity<T>() -> usize
     }
 }
 
-/// Returns the capacity that a list of capacity `cap` has under `Doubling` once it has room for
-/// `want` items. This is `cap` if `cap` is at least `want`, and `None` if the new capacity
-/// overflows.
+/// Returns the capacity that a list of capacity `cap` has under `Doubling` after it has reserved
+/// room for `want` items. The result is `cap` if `cap` is at least `want`, and `None` if the new
+/// capacity is too large.
 pub fn next_capacity<T>(cap: usize, want: usize) -> Option<usize>
     ensures value { result ≡ ruled_capacity doubling T.row cap want }
 {

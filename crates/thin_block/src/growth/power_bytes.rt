@@ -1,4 +1,4 @@
-//! `PowerBytes`, a growth rule whose blocks fill a power of two bytes.
+//! Defines the growth rule `PowerBytes`, under which each block fills a power of two bytes.
 ghost use Rattle.std.specs.Prelude.{◌≡◌, ◌+◌, ◌*◌, ◌^◌, ◌<◌, ◌≤◌, IfNone, IfSome};
 ghost use Rattle.std.specs.Mem.{type_size};
 ghost use Rattle.std.specs.Align.{type_align};
@@ -8,13 +8,14 @@ use crate::growth::doubling::Doubling;
 use crate::growth::{Growth, fitting};
 use crate::sizes::{HEADER, item_size};
 
-/// A growth rule by which each block fills a power of two bytes. Let p be the least power of two
-/// such that p bytes have room for the header and either the wanted items or twice the old
-/// capacity, whichever is more. The rule chooses the number of items that have room in p bytes
-/// after the header. If an allocator rounds requests up to powers of two, a block then wastes less
-/// than the size of one item. For items of size 0, the rule is the same as `Doubling`.
+/// A growth rule under which each block fills a power of two bytes. Let `p` be the least power of
+/// two such that `p` bytes have room for the header and for the greater of two numbers of items:
+/// the wanted number, and twice the old capacity. The new capacity is the number of items that have
+/// room in `p` bytes after the header. If an allocator rounds requests up to powers of two, a block
+/// then wastes less than the size of one item. For items of size 0, the rule is the same as
+/// `Doubling`.
 ///
-/// The rule is this port's own, modelled on the one that the Rust crate thin-vec has for Gecko.
+/// This rule is modeled on a similar rule that the Rust crate thin-vec has for Gecko.
 pub struct PowerBytes {}
 
 impl Growth for PowerBytes {
@@ -23,8 +24,9 @@ impl Growth for PowerBytes {
 
     ghost rule = { power_bytes };
 
-    // Returns the capacity that the rule chooses. If items take at least one byte, the header and
-    // this many items fit into some power of two bytes, but one more item does not.
+    // Returns the capacity that the rule chooses. If items take at least one byte, there is a power
+    // of two `p` such that `p` bytes have room for the header and this number of items, but not for
+    // one more item.
     fn next_capacity<T>(cap: usize, want: usize) -> Option<usize>
         requires { cap < want }
         ensures value { result ≡ power_bytes (type_size T.row) (type_align T.row) cap want }
@@ -44,9 +46,9 @@ impl Growth for PowerBytes {
     ghost law = { power_bytes_law };
 }
 
-// Returns the least power of two that is at least the size in bytes of a header and `items` items,
-// each of `size` bytes. Returns `None` if that power is greater than 2 ^ 63: then a block for these
-// items is too large to be allocated.
+// Returns the least power of two that is at least the size in bytes of a header and `items` items
+// of `size` bytes each. Returns `None` if that power exceeds `2 ^ 63`. In this case, a block for
+// these items is too large to be allocated.
 fn power_for(items: usize, size: usize) -> Option<usize>
     ensures none { IfNone result (2 ^ 63 < 16 + items * size) }
     ensures value { IfSome result (λ power. power ≡ least_power (16 + items * size)) }

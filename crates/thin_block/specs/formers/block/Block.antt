@@ -1,5 +1,6 @@
--- The former of `Block`: it tells the prover why a type may contain blocks of itself. A block is
--- determined by the items in its slots, and by values that contain no items.
+-- This file defines the former of `Block`. The former tells the prover why a type may contain
+-- blocks of values of the same type. A block is determined by the items in its slots, and by values
+-- that contain no items.
 use Rattle.std.specs.Prelude.{◌≡◌, ℕ, suc, max, ◌+◌, ◌≤◌, List, [], ◌∷◌, map, length, Option}
 use Rattle.std.specs.declared.option.Option.TheVariants.{Some, None}
 use mathlib.Core.Path.{PathP, refl, sym, ap, ◌∙◌}
@@ -36,39 +37,43 @@ use Rattle.std.specs.Coded.{coded_option}
 use Rattle.thin_block.specs.declared.block.Block.{Block}
 use Rattle.thin_block.specs.contracts.block.Block as C
 
--- `on_slot h x` is slot x, with h applied to its item
+-- `on_slot h x` is the slot `x` with the function `h` applied to its item. An empty slot does not
+-- change.
 abbrev pub on_slot : {X Y : Type 0} → (X → Y) → Option X → Option Y
 on_slot h None = None
 on_slot h (Some x) = Some (h x)
 
--- the former of slots, made from the former g of items: it says how a slot contains values of a
--- type X
+-- This module builds the former of slots from the former `g` of items. The former of slots says
+-- which values of a type `X` a slot contains.
 module _ (g : Former {0}) where
-  -- `slot_count a n` is n plus the number of values in a slot of the shape a
+  -- `slot_count a n` is `n` plus the number of values in a slot of the shape `a`. The shape of a
+  -- slot is the slot without its values.
   abbrev pub slot_count : Option g.Shape → Count → Count
   slot_count None n = n
   slot_count (Some a) n = g.count a n
 
-  -- prepends to a row the values of X that a slot contains
+  -- Prepends the values in the slot `o` to a row of `n` values.
   abbrev pub slot_put : (X : Type 0) (o : Option (g.Of X)) (n : Count) → Row X n
       → Row X (slot_count (on_slot (g.shape X) o) n)
   slot_put X None n t = t
   slot_put X (Some y) n t = g.put X y n t
 
-  -- takes a slot of the shape a from a row: the slot contains the first values of the row
+  -- Splits a row of values into a slot and the remaining `n` values. The slot has the shape `a`,
+  -- and contains the first values of the row.
   abbrev pub slot_get : (X : Type 0) (a : Option g.Shape) (n : Count) → Row X (slot_count a n)
       → Option (g.Of X) × Row X n
   slot_get X None n v = (None, v)
   slot_get X (Some a) n v = let r : g.Of X × Row X n = g.get X a n v in (Some r.0, r.1)
 
-  -- if the values in a slot are prepended to a row, then taking a slot of the same shape returns
-  -- that slot and the old row
+  -- If the values in the slot `o` are prepended to the row `t` of values, then taking a slot of the
+  -- same shape from the result returns `o` and `t`.
   pub slot_get-put : (X : Type 0) (o : Option (g.Of X)) (n : Count) (t : Row X n)
       → slot_get X (on_slot (g.shape X) o) n (slot_put X o n t) ≡ (o, t)
   slot_get-put X None n t = refl
   slot_get-put X (Some y) n t = λ i. (Some (g.get-put X y n t i).0, (g.get-put X y n t i).1)
 
-  -- if a slot is taken from a row, then prepending the values in the slot restores the row
+  -- If a slot is taken from the row `v` of values, then prepending the values in the slot to the
+  -- remaining row restores `v`.
   pub slot_put-get : (X : Type 0) (a : Option g.Shape) (n : Count) (v : Row X (slot_count a n))
       → ◌≡◌ {A = (b : Option g.Shape) × Row X (slot_count b n)} (
         on_slot (g.shape X) (slot_get X a n v).0,
@@ -78,7 +83,8 @@ module _ (g : Former {0}) where
   slot_put-get X None n v = refl
   slot_put-get X (Some a) n v = λ i. (Some (g.put-get X a n v i).0, (g.put-get X a n v i).1)
 
-  -- taking a slot from the front of a row commutes with mapping the row
+  -- Taking a slot from a row of values and applying the function `h` to all values can be done in
+  -- either order.
   pub slot_get-map : (X Y : Type 0) (h : X → Y) (a : Option g.Shape) (n : Count)
       (v : Row X (slot_count a n))
       → slot_get Y a n (over h (slot_count a n) v) ≡ (
@@ -89,7 +95,7 @@ module _ (g : Former {0}) where
   slot_get-map X Y h (Some a) n v =
       λ i. (Some (g.get-map X Y h a n v i).0, (g.get-map X Y h a n v i).1)
 
-  -- the former of slots
+  -- The former of slots.
   abbrev pub slot : Former {0}
   slot = record {
     Of = λ X. Option (g.Of X);
@@ -105,30 +111,30 @@ module _ (g : Former {0}) where
   }
 
 module _ {g : Former {0}} (w : Weighed g) where
-  -- the depth of a slot is the depth of its item, or 0 if the slot is empty
+  -- The depth of a filled slot is the depth of its item. The depth of an empty slot is 0.
   abbrev pub slot_weight : (X : Type 0) → (X → ℕ) → Option (g.Of X) → ℕ
   slot_weight X μ None = 0
   slot_weight X μ (Some y) = w.weight X μ y
 
-  -- if the values in a slot are prepended to a row, then the depth of the result is the maximum of
-  -- the depth of the slot and the depth of the row
+  -- If the values in a slot are prepended to a row, then the depth of the new row is the maximum of
+  -- the depth of the slot and the depth of the old row.
   pub slot_puts : (X : Type 0) (μ : X → ℕ) (o : Option (g.Of X)) (n : Count) (t : Row X n)
       → deepest μ (slot_count g (on_slot (g.shape X) o) n) (slot_put g X o n t) ≡ max
       (slot_weight X μ o) (deepest μ n t)
   slot_puts X μ None n t = none_max (deepest μ n t)
   slot_puts X μ (Some y) n t = w.puts X μ y n t
 
-  -- the former of slots, together with the depth of a slot
+  -- `w_slot` is the former of slots together with the depth of a slot.
   abbrev pub w_slot : Weighed (slot g)
   w_slot = record { weight = slot_weight; puts = slot_puts }
 
 module _ {X Y Z : Type 0} (d : Block X Z) where
-  -- `Fits ys`: the block d may have ys as its slots. This means that the length of ys is at least
-  -- the length of d, and that ys is non-empty if and only if d has an allocation.
+  -- `Fits ys` holds if the block `d` may have the slots `ys`. The number of these slots must be at
+  -- least the stored length of `d`, and it must be 0 if and only if `d` has no allocation.
   abbrev pub Fits : List (Option Y) → Type 0
   Fits ys = (d.len ≤ length ys) × (is_some d.alloc ≡ any ys)
 
-  -- the block d with the slots ys
+  -- `holding ys` is the block `d` with its slots replaced by `ys`.
   abbrev pub holding : (ys : List (Option Y)) → Fits ys → Block Y Z
   holding ys sound = record {
     at = d.at;
@@ -141,43 +147,47 @@ module _ {X Y Z : Type 0} (d : Block X Z) where
     sound = sound;
   }
 
-  -- if ys has the same number of slots as the block d, then d may have ys as its slots
+  -- If the length of `ys` is the number of slots of the block `d`, then `d` may have the slots
+  -- `ys`.
   pub fits : (ys : List (Option Y)) → length ys ≡ length d.slots → Fits ys
   fits ys e = (let le = d.sound.0 in omega (arith, e, le), d.sound.1 ∙ sym (any_same d.slots ys e))
 
-  -- if ys and zs are equal, then each proof of `Fits ys` equals each proof of `Fits zs`
+  -- If the lists `ys` and `zs` are equal, then each proof of `Fits ys` equals each proof of
+  -- `Fits zs`.
   pub Fits-along : (ys zs : List (Option Y)) (e : ys ≡ zs) (p : Fits ys) (q : Fits zs)
       → PathP (λ i. Fits (e i)) p q
   Fits-along ys zs e = is_prop→PathP (λ i. Fits (e i))
       (λ i p q j. (le_prop p.0 q.0 j, Coded-set coded_bool _ _ p.1 q.1 j))
 
-  -- if ys and zs are equal, then the block d with the slots ys equals the block d with the slots zs
+  -- If the lists `ys` and `zs` are equal, then the block `d` with the slots `ys` equals the block
+  -- `d` with the slots `zs`.
   abbrev pub holding_along : (ys zs : List (Option Y)) (e : ys ≡ zs) (p : Fits ys) (q : Fits zs)
       → holding ys p ≡ holding zs q
   holding_along ys zs e p q = λ i. holding (e i) (Fits-along ys zs e p q i)
 
--- `mapped h d` is the block d with h applied to each of its items
+-- `mapped h d` is the block `d` with the function `h` applied to each item.
 abbrev pub mapped : {X Y Z : Type 0} → (X → Y) → Block X Z → Block Y Z
 mapped h d = holding d (map (on_slot h) d.slots)
     (fits d (map (on_slot h) d.slots) (length-map d.slots (on_slot h)))
 
 module _ (g : Former {0}) (Z : Type 0) where
-  -- if slots whose shapes are listed in a are taken from a row, then the number of slots is the
-  -- length of a
+  -- Let `a` be a list of shapes of slots. If slots of these shapes are taken from a row of values,
+  -- then the number of slots is the length of `a`.
   pub length_got : (X : Type 0) (a : List (Option g.Shape)) (n : Count)
       (v : Row X (list_count (slot g) a n)) → length (list_get (slot g) X a n v).0 ≡ length a
   length_got X [] n v = refl
   length_got X (a ∷ as') n v =
       ap suc (length_got X as' n ((slot g).get X a (list_count (slot g) as' n) v).1)
 
-  -- takes a block of the shape a from a row: the block contains the first values of the row
+  -- Splits a row of values into a block and the remaining `n` values. The block has the shape `a`,
+  -- and contains the first values of the row.
   abbrev pub got : (X : Type 0) (a : Block g.Shape Z) (n : Count)
       → Row X (list_count (slot g) a.slots n) → Block (g.Of X) Z × Row X n
   got X a n v = let r : List (Option (g.Of X)) × Row X n = list_get (slot g) X a.slots n v in
       (holding a r.0 (fits a r.0 (length_got X a.slots n v)), r.1)
 
-  -- if the values in a block are prepended to a row, then taking a block of the same shape returns
-  -- that block and the old row
+  -- If the values in the block `d` are prepended to the row `t` of values, then taking a block of
+  -- the same shape from the result returns `d` and `t`.
   pub got-put : (X : Type 0) (d : Block (g.Of X) Z) (n : Count) (t : Row X n)
       → got X (mapped (g.shape X) d) n ((list (slot g)).put X d.slots n t) ≡ (d, t)
   got-put X d n t = λ i. (
@@ -186,7 +196,8 @@ module _ (g : Former {0}) (Z : Type 0) where
     ((list (slot g)).get-put X d.slots n t i).1,
   )
 
-  -- if a block is taken from a row, then prepending the values in the block restores the row
+  -- If a block is taken from the row `v` of values, then prepending the values in the block to the
+  -- remaining row restores `v`.
   pub put-got : (X : Type 0) (a : Block g.Shape Z) (n : Count)
       (v : Row X (list_count (slot g) a.slots n))
       → ◌≡◌ {A = (b : Block g.Shape Z) × Row X (list_count (slot g) b.slots n)} (
@@ -200,7 +211,8 @@ module _ (g : Former {0}) (Z : Type 0) where
     ((list (slot g)).put-get X a.slots n v i).1,
   )
 
-  -- taking a block from a row commutes with mapping the row
+  -- Taking a block from a row of values and applying the function `h` to all values can be done in
+  -- either order.
   pub got-map : (X Y : Type 0) (h : X → Y) (a : Block g.Shape Z) (n : Count)
       (v : Row X (list_count (slot g) a.slots n))
       → got Y a n (over h (list_count (slot g) a.slots n) v)
@@ -213,7 +225,7 @@ module _ (g : Former {0}) (Z : Type 0) where
         ((list (slot g)).get-map X Y h a.slots n v i).1,
       )
 
-  -- the former of blocks
+  -- The former of blocks.
   abbrev pub the_former : Former {0}
   the_former = record {
     Of = λ X. Block (g.Of X) Z;
@@ -228,14 +240,15 @@ module _ (g : Former {0}) (Z : Type 0) where
     get-map = got-map;
   }
 
--- the depth of a block is the depth of its deepest item
+-- The depth of a block is the depth of its deepest item.
 abbrev pub the_weighed : {g : Former {0}} → Weighed g → (Z : Type 0) → Weighed (the_former g Z)
 the_weighed w Z = record {
   weight = λ X μ d. most (slot_weight w X μ) d.slots;
   puts = λ X μ d. List-puts (w_slot w) X μ d.slots;
 }
 
--- a block without slots and without an allocation, whose item type has no values
+-- `the_empty Z z` is a block without slots and without an allocation. Its item type `⊥` has no
+-- values.
 abbrev pub the_empty : (Z : Type 0) → Z → Block ⊥ Z
 the_empty Z z = record {
   at = null_ptr;
@@ -248,48 +261,50 @@ the_empty Z z = record {
   sound = (omega arith, refl);
 }
 
--- if each item is itself a value (the former `this`), then the values in a row of slots are the
--- items that the slots hold
+-- The former `this` treats each item as a value. So the values in a row of slots are the items in
+-- these slots.
 pub items_listed : (X : Type 0) (xs : List (Option X))
     → listed _ (children (list (slot this)) X xs) ≡ items_in xs
 items_listed X [] = refl
 items_listed X (None ∷ xs) = items_listed X xs
 items_listed X (Some x ∷ xs) = ap (λ l. x ∷ l) (items_listed X xs)
 
--- the items of a block, in order
+-- `the_items Z X d` is the list of the items in the block `d`, in order.
 abbrev pub the_items : (Z X : Type 0) → Block X Z → List X
 the_items Z X d = items_in d.slots
 
--- if each item is itself a value (the former `this`), then the values in a block are its items
+-- The former `this` treats each item as a value. So the values in the block `d` are its items.
 pub the_items_listed : (Z X : Type 0) (d : Block X Z)
     → listed _ (children (the_former this Z) X d) ≡ the_items Z X d
 the_items_listed Z X d = items_listed X d.slots
 
--- if h does not change the code of any item, then mapping h over a list does not change the code of
--- the list (`ThinVec` uses this)
+-- If the function `h` does not change the encoding of any item, then mapping `h` over a list does
+-- not change the encoding of the list. The proofs for `ThinVec` use this lemma.
 pub codes_of : {X Y : Type 0} (c : X → Gv) (c' : Y → Gv) (h : X → Y) → ((x : X) → c' (h x) ≡ c x)
     → (xs : List X) → code_l c' (map h xs) ≡ code_l c xs
 codes_of = codes_placed
 
--- replacing the first part of a pair of codes by an equal code yields an equal pair
+-- If the encodings `a` and `b` are equal, then the pair of `a` and `c` equals the pair of `b` and
+-- `c`.
 first : {a b c : Gv} → a ≡ b → gcons a c ≡ gcons b c
 first {c = c} e = λ i. gcons (e i) c
 
--- replacing the second part of a pair of codes by an equal code yields an equal pair
+-- If the encodings `a` and `b` are equal, then the pair of `c` and `a` equals the pair of `c` and
+-- `b`.
 second : {a b c : Gv} → a ≡ b → gcons c a ≡ gcons c b
 second {c = c} e = λ i. gcons c (e i)
 
 module _ (R R' : RattleType) (h : R.Denot → R'.Denot) (a : Alike R R' h) where
-  -- an item and its image under h have the same size
+  -- The item types `R` and `R'` have the same size.
   abbrev width : type_size R' ≡ type_size R
   width = λ i. size (lone (a.mir_same i))
 
-  -- a slot takes the same memory as its image under h
+  -- A slot owns the same memory as its image under the function `h`.
   place_placed : (x : Option R.Denot) (b o : ℕ) → place R' (on_slot h x) b o ≡ place R x b o
   place_placed None b o = λ i. room_for (raw (lone (a.mir_same i))) (block_ptr b o)
   place_placed (Some x) b o = lies_placed R R' h a full_share (block_ptr b o) x
 
-  -- a row of slots takes the same memory as its image under h
+  -- A row of slots owns the same memory as its image under the function `h`.
   places_placed : (xs : List (Option R.Denot)) (b o : ℕ)
       → places R' (map (on_slot h) xs) b o ≡ places R xs b o
   places_placed [] b o = refl
@@ -297,7 +312,7 @@ module _ (R R' : RattleType) (h : R.Denot → R'.Denot) (a : Alike R R' h) where
       (λ i. fsep (place_placed x b o i) (places R' (map (on_slot h) xs) b (o + width i)))
       ∙ ap (fsep (place R x b o)) (places_placed xs b (o + type_size R))
 
-  -- a block owns the same memory as its image under h
+  -- A block owns the same memory as its image under the function `h`.
   pub block_placed : {D : Type 0} (t : D → Ty → Ptr → Fml) (p : Ptr) (n : ℕ)
       (xs : List (Option R.Denot)) (w : Option D) → block_owns t R' p n (map (on_slot h) xs)
       w ≡ block_owns t R p n xs w
@@ -307,13 +322,14 @@ module _ (R R' : RattleType) (h : R.Denot → R'.Denot) (a : Alike R R' h) where
       λ i. fsep (frame (t w) (record R { mir = a.mir_same i }) n (length-map xs (on_slot h) i) b o)
       (places_placed xs b (o + 16) i)
 
-  -- a `&` to a slot shows the same memory as a `&` to its image under h
+  -- A `&` to a slot lends the same memory as a `&` to the image of the slot under the function `h`.
   place_lent_placed : (x : Option R.Denot) (p : Ptr)
       → place_lent R' (on_slot h x) p ≡ place_lent R x p
   place_lent_placed None p = refl
   place_lent_placed (Some x) p = lent_at_placed R R' h a p x
 
-  -- a `&` to a row of slots shows the same memory as a `&` to its image under h
+  -- A `&` to a row of slots lends the same memory as a `&` to the image of the row under the
+  -- function `h`.
   places_lent_placed : (xs : List (Option R.Denot)) (b o : ℕ) → places_lent R' (map (on_slot h) xs)
       b o ≡ places_lent R xs b o
   places_lent_placed [] b o = refl
@@ -322,7 +338,8 @@ module _ (R R' : RattleType) (h : R.Denot → R'.Denot) (a : Alike R R' h) where
       (places_lent R' (map (on_slot h) xs) b (o + width i)))
       ∙ ap (beside (place_lent R x (block_ptr b o))) (places_lent_placed xs b (o + type_size R))
 
-  -- a `&` to a block shows the same memory as a `&` to its image under h
+  -- A `&` to a block lends the same memory as a `&` to the image of the block under the function
+  -- `h`.
   pub block_lent_placed : {D : Type 0} (p : Ptr) (n : ℕ) (xs : List (Option R.Denot)) (w : Option D)
       → block_lent R' p n (map (on_slot h) xs) w ≡ block_lent R p n xs w
   block_lent_placed null_ptr n xs w = refl
@@ -332,8 +349,8 @@ module _ (R R' : RattleType) (h : R.Denot → R'.Denot) (a : Alike R R' h) where
       (places_lent_placed xs b (o + 16) i)
 
 module _ (A : RattleType) (G : Ghosts A.Denot) (R R' : RattleType) (h : R.Denot → R'.Denot) where
-  -- if each item has the same memory as its image under h, then each block of such items has the
-  -- same memory as its image under h
+  -- If each item owns the same memory as its image under the function `h`, then each block of such
+  -- items owns the same memory as its image under `h`.
   pub the_places : Alike R R' h → Alike (C.the_row R A G) (C.the_row R' A G)
       ((the_former this A.Denot).map R.Denot R'.Denot h)
   the_places a = record {
@@ -345,13 +362,15 @@ module _ (A : RattleType) (G : Ghosts A.Denot) (R R' : RattleType) (h : R.Denot 
         (block_lent_placed R R' h a d.at d.len d.slots d.alloc i) κ;
   }
 
-  -- if h does not change the code of any item, then a slot has the same code as its image under h
+  -- If the function `h` does not change the encoding of any item, then applying `h` to the item in
+  -- a slot does not change the encoding of the slot.
   slot_recoded : Recodes R R' h → (x : Option R.Denot) → (coded_option R'.coded).code (on_slot h x)
       ≡ (coded_option R.coded).code x
   slot_recoded e None = refl
   slot_recoded e (Some x) = second (e x)
 
-  -- if h does not change the code of any item, then a block has the same code as its image under h
+  -- If the function `h` does not change the encoding of any item, then applying `h` to each item of
+  -- a block does not change the encoding of the block.
   pub the_codes_placed : Recodes R R' h → Recodes (C.the_row R A G) (C.the_row R' A G)
       ((the_former this A.Denot).map R.Denot R'.Denot h)
   the_codes_placed e d =

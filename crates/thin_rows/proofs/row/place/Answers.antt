@@ -1,12 +1,13 @@
--- The closure returns the column of an entry, and the columns are increasing. So the search finds
--- the index of the column's entry, or the index at which this entry would be inserted.
+-- The columns of the entries are strictly increasing, and the closure returns the column of an
+-- entry. So the binary search finds the index of the column's entry, or the index at which such an
+-- entry would be inserted.
 use Rattle.std.proofs.Common.{rules}
 use Rattle.std.proofs.lemmas.List.Sorted.{answers_always}
 use Rattle.thin_rows.proofs.EntriesLemmas.{searched}
 use Rattle.thin_rows.proofs.row.place.Goals as goal
 
--- the search returns the index of the entry of the column, or the index at which such an entry
--- would be inserted
+-- The search returns the index of the column's entry, or the index at which such an entry would be
+-- inserted.
 pub returns : goal.returns
 returns g c =
     let told = c.binary_search_by_key.ensures in

@@ -1,4 +1,4 @@
--- A list without entries represents the empty map.
+-- After `clear`, the row is the empty map, because a list without entries represents the empty map.
 use Rattle.std.proofs.Common.{ap, ◌∙◌}
 use Rattle.std.specs.FinMap.{from_sorted}
 use Rattle.thin_rows.proofs.RowLemmas.{none_stored}

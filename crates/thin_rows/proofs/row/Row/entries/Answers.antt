@@ -1,5 +1,4 @@
--- The stored entries are in strictly increasing order of their columns. So the stored list is the
--- list of the entries of the map.
+-- `entries` returns the entries of the map in order, because the stored list is sorted by column.
 use Rattle.std.proofs.Common.{nat_cmp, ap, sym, ◌∙◌}
 use Rattle.std.specs.FinMap.{entries, entries-from_sorted}
 use Rattle.thin_rows.proofs.row.Row.entries.Goals as goal

@@ -1,5 +1,5 @@
--- If the column has an entry, the value in this entry is the map's value at the column; if not, the
--- map has no value there.
+-- `get` returns the value of the map at the column. If the column has an entry, the value in this
+-- entry is the value of the map. Otherwise the map has no value at the column.
 use Rattle.std.proofs.Common.{sym}
 use Rattle.thin_rows.proofs.RowLemmas.{get_at, get_gap}
 use Rattle.thin_rows.proofs.row.Row.get.Goals as goal

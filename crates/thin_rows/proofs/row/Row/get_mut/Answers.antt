@@ -1,5 +1,5 @@
--- If the search finds an index, the entry of the column is at this index among the entries of the
--- map. If the search finds none, the map has no value at the column.
+-- If the search finds an index, this is the index of the column's entry among the entries of the
+-- map. If the search finds no entry, the map has no value at the column.
 use Rattle.std.proofs.Common.{nat_cmp, refl, sym}
 use Rattle.std.specs.FinMap.{entries-from_sorted}
 use Rattle.thin_rows.proofs.RowLemmas.{get_gap}

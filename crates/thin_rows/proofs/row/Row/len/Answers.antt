@@ -1,4 +1,4 @@
--- The length of the map is the number of entries in the list.
+-- `len` returns the length of the map, which is the number of entries in the stored list.
 use Rattle.std.proofs.Common.{sym, ap, ◌∙◌}
 use Rattle.std.specs.FinMap.{len}
 use Rattle.thin_rows.proofs.RowLemmas.{len_is}

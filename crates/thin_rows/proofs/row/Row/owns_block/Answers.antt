@@ -1,5 +1,5 @@
--- By the invariant, there is a block if and only if there is an entry, and the length of the map is
--- the number of entries.
+-- By the invariant of the row, the row owns a block if and only if it has an entry. The number of
+-- entries is the length of the map.
 use Rattle.std.proofs.Common.{◌≡◌, ◌∙◌, length, sym, ap}
 use Rattle.std.specs.FinMap.{len}
 use Rattle.thin_rows.proofs.RowLemmas.{len_is}

@@ -1,5 +1,5 @@
--- After the entry of the column is removed, the map no longer has the column. If the column had no
--- entry, the map did not have the column before either.
+-- Removing the entry of a column from the list removes the column from the map. If the column has
+-- no entry, neither the list nor the map changes.
 use Rattle.std.proofs.Common.{Some, sym, ap, ◌∙◌}
 use Rattle.std.proofs.lemmas.Option.{get_or_from_slice_get}
 use Rattle.thin_rows.proofs.RowLemmas.{get_at, get_gap, remove_is, remove_rises, unchanged}

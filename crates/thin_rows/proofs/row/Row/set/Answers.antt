@@ -1,5 +1,5 @@
--- `set` overwrites the entry of the column, or inserts a new entry. Afterwards the entries
--- represent the old map with the value inserted at the column.
+-- `set` overwrites the entry of the column, or inserts a new entry. Afterwards, the entries
+-- represent the old map with the new value at the column.
 use Rattle.std.proofs.Common.{inl, inr, ◌≡◌, ◌+◌, sym, ap, ◌∙◌, length, length-set, arith, refl, Some}
 use Rattle.std.proofs.lemmas.Bool.{cases_lt, false≢true}
 use Rattle.std.specs.FinMap.{len}
@@ -10,7 +10,7 @@ use Rattle.thin_rows.proofs.RowLemmas.{get_at, get_gap, insert_is, insert_rises,
 use Rattle.thin_rows.proofs.RowTypeLemmas.{failure_tells, ruled_of_same}
 use Rattle.thin_rows.proofs.row.Row.set.Goals as goal
 
--- if the column had an entry, overwriting this entry keeps the invariant of the row
+-- If the column has an entry, overwriting this entry preserves the invariant of the row.
 pub invariant_of-self : goal.invariant_of-self
 invariant_of-self g c =
     let row = c.self.inside.entries in
@@ -40,7 +40,8 @@ returns-in-Ok-clause-columns g c =
     rw (c.replace-column.ensures.after, ← c.self.view_is)
     (set_is row.items c.self.invariant.rising c.args.column c.in-Ok.at place c.args.value)
 
--- if the column had no entry, inserting an entry at the index found keeps the invariant of the row
+-- If the column has no entry, inserting an entry at the index that the search returned preserves
+-- the invariant of the row.
 pub invariant_of-self-in-Err : goal.invariant_of-self-in-Err
 invariant_of-self-in-Err g c =
     let row = c.self.inside.entries in
@@ -63,8 +64,9 @@ returns-in-Err-insert-clause-succeeds g c some =
     rw (← c.self.view_is, get_gap row.items c.self.invariant.rising c.args.column c.in-Err.at gap)
     at some
 
--- If the insertion fails, the cause is `CapacityOverflow` if and only if there is no ruled capacity
--- for one more entry. The list was full, so its capacity was the number of entries.
+-- If the insertion fails, the cause is `CapacityOverflow` if and only if the growth rule returns
+-- `None` for one more entry. The list was full before the call, so its capacity was the number of
+-- its entries.
 pub returns-in-Err-insert-clause-overflow : goal.returns-in-Err-insert-clause-overflow
 returns-in-Err-insert-clause-overflow g c =
     let row = c.self.inside.entries in

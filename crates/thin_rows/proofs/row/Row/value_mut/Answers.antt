@@ -1,5 +1,5 @@
--- The borrowed entry keeps its column. So a value that is written through the borrow becomes the
--- map's value at this column.
+-- The caller can change the value of the borrowed entry, but not its column. So a value that is
+-- written through the reference becomes the value of the map at this column.
 use Rattle.std.proofs.Common.{◌≡◌, Some, nat_cmp, length-set, refl, sym, ap, ◌∙◌}
 use Rattle.std.proofs.lemmas.Option.{get_or_from_slice_get}
 use Rattle.std.specs.FinMap.{entries-from_sorted}
@@ -14,8 +14,8 @@ index_mut-requires g c =
     ) at
     c.requires.place).in_bounds
 
--- the row keeps its invariant whatever value is written through the borrow, since the borrowed
--- entry keeps its column
+-- The row satisfies its invariant after any value has been written through the reference, because
+-- the borrowed entry keeps its column.
 pub invariant_of-self-lent : goal.invariant_of-self-lent
 invariant_of-self-lent g c w =
     let row = c.self.inside.entries in

@@ -1,5 +1,5 @@
--- `get_mut` borrows the row of the table at the index `row`. Writing this row back unchanged does
--- not change the table.
+-- `get_mut` borrows one row of the table. Writing this row back unchanged does not change the
+-- table.
 use Rattle.std.proofs.Common.{◌≡◌, ap, slice_index_or, slice_set, sym, ◌∙◌}
 use Rattle.std.proofs.lemmas.List.{set-get_or}
 use Rattle.std.proofs.lemmas.Option.{get_or_from_slice_get}
@@ -9,8 +9,8 @@ use borrow.Follows.Closed.{read_of}
 use Rattle.thin_rows.specs.Table.{value_at}
 use Rattle.thin_rows.proofs.table.Rows.get_mut.Goals as goal
 
--- if there is an entry, the returned reference borrows the value of the table at `row` and
--- `column`, and nothing else changes
+-- If there is an entry at `row` and `column`, the returned reference borrows the value of this
+-- entry. Nothing else in the table changes.
 pub returns : goal.returns
 returns g c =
     let rows = c.self.inside.rows.items in

@@ -1,5 +1,5 @@
--- If `set` fails, the row has not changed, so the table has not changed either. The cause of the
--- error is the one that `set` of the row returns.
+-- If `set` fails, the row does not change, and so the table does not change. The error has the
+-- cause that `set` of the row returned.
 use Rattle.std.proofs.Common.{◌≡◌, ◌+◌, subst, ℕ, List, OnErr, Result, Ok, Err, Some, slice_get, slice_set, sym, ap, ◌∙◌}
 use Rattle.std.proofs.lemmas.List.{set-get_or}
 use Rattle.std.proofs.lemmas.Option.{get_or_from_slice_get}
@@ -11,8 +11,8 @@ use Rattle.thin_rows.specs.EntryType.{entry_type}
 use Rattle.thin_rows.specs.Table.{row_of}
 use Rattle.thin_rows.proofs.table.Rows.set.Goals as goal
 
--- if a failed call has not changed the item at index i, writing this item back does not change the
--- list
+-- If a failed call has not changed the item at index `i`, then writing this item back does not
+-- change the list `xs`.
 left : {X Y E : Type 0} (result : Result Y E) (xs : List X) (i : ℕ) (old new : X)
     → slice_get xs i ≡ Some old → OnErr result (new ≡ old) → OnErr result (slice_set xs i new ≡ xs)
 left (Ok _) xs i old new there same = tt

@@ -1,10 +1,11 @@
--- Each turn of the loop has added one empty row, and the capacity is the number of rows that the
--- table will have.
+-- In the loop of `with_rows`, each iteration adds one empty row. The capacity is the number of rows
+-- that the table will have.
 use Rattle.std.proofs.Common.{◌≡◌, replicate}
 use Rattle.std.specs.FinMap as map
 use Rattle.thin_rows.proofs.table.Rows.with_rows.Given as goal
 
--- the list has one empty row for each turn of the loop so far, and its capacity is `rows`
+-- The list contains one empty row for each completed iteration of the loop, and its capacity is
+-- `rows`.
 abbrev pub invariant-loop : goal.invariant-loop
 invariant-loop g l = (l.empty_rows.items ≡ replicate l.counter map.empty)
     × (l.empty_rows.capacity ≡ l.rows)

@@ -1,6 +1,6 @@
--- `allocate` calls `refuses`. If this request is refused, it returns an error. Otherwise it calls
--- `allocate` of the inner allocator, passes the answer to `granted`, which counts the block if
--- there is one, and returns the answer. Assumes `Logic`.
+-- `allocate` calls `refuses`. If this request is refused, `allocate` returns an error. Otherwise it
+-- passes the answer of the inner allocator to `granted`, which counts the new block, and then
+-- returns this answer. The proof assumes the laws of the separation logic (`Logic`).
 use Rattle.std.proofs.Common.{◌≡◌, ℕ, zero, suc, ◌+◌, ◌^◌, ◌<◌, true, false, Bool, List, [], ◌∷◌, Ok, Err, refl, w64, Bor}
 use seplogic.Ra.Ura.{Ura}
 use mir.Syntax.{Ty, Args, Fn, Body, seq, skip, a_type, dnil, dcons}
@@ -51,7 +51,7 @@ use Rattle.thin_testing.specs.contracts.refusing.RefusingAllocator.allocate.Key 
 use Rattle.thin_testing.proofs.refusing.RefusingAllocator.allocate.Statement as stated
 use Rattle.thin_testing.proofs.refusing.RefusingAllocator.allocate.Code as code
 
--- `after n b` is the body b without its first n statements
+-- `after n b` is the function body `b` without its first `n` statements.
 abbrev after : ℕ → Body → Body
 after zero b = b
 after (suc n) (seq _ b) = after n b
@@ -106,8 +106,8 @@ module _ (Z : Al) {M : Type 1} {𝓤 : Ura M} (𝓛 : Logic 𝓤) (at_mem : Memo
     abbrev Post : Val → SProp 𝓤
     Post = (walk_of 𝓛 (ended Z) (stayed Z) held).post bound
 
-    -- the postcondition holds if `allocate` returns an error, whether the request was refused or
-    -- the inner allocator failed
+    -- The postcondition holds if `allocate` returns an error, whether the request was refused or
+    -- the inner allocator failed.
     refused : Sq 𝓛 (‵ (flft κ₁ q₁) ∷ (‵ (flft κ₂ q₂) ⊛ ‵ ftrue) ∷ [])
         (prop (Post (answer_val false 0 0)))
     refused =
@@ -138,8 +138,9 @@ module _ (Z : Al) {M : Type 1} {𝓤 : Ura M} (𝓛 : Logic 𝓤) (at_mem : Memo
         fsplit ! $ use1 𝓛 (‵ (hidden_shr Row κ₁ r.now.counts c.0 c.1)) (id⊢ 𝓤 _) $
         shr_dup ! Row the_row_laws.shr_laws r.now.counts c.0 c.1 κ₁ $
         keep ! (0 ∷ 7 ∷ 3 ∷ 8 ∷ 1 ∷ []) $
-        -- enters the body of `allocate`, in this context: [the shared counts; the token of κ₁; the
-        -- inner allocator; the token of κ₂; the shared counts once more]
+        -- The context now holds, in this order: [the shared counts; the token of the lifetime `κ₁`;
+        -- the inner allocator; the token of the lifetime `κ₂`; the shared counts once more]. The
+        -- proof enters the body of `allocate`.
         enter ! 𝓣.C 𝓣.Λ (here Z) vs _ $
         alloc_all ! (λ l. pass_all ! refl
         ((tt, tt), ((tt, record { fits = fn }), ((tt, record { fits = fa }), tt))) $

@@ -1,5 +1,5 @@
--- `deallocate` calls `returned`, which counts one block less. Then it gives the block back to the
--- inner allocator. Assumes `Logic`.
+-- `deallocate` calls `returned`, which subtracts 1 from the number of blocks. Then it returns the
+-- block to the inner allocator. The proof assumes the laws of the separation logic (`Logic`).
 use Rattle.std.proofs.Common.{◌≡◌, ℕ, ◌+◌, ◌^◌, ◌<◌, List, [], ◌∷◌, refl, w64, Bor}
 use seplogic.Ra.Ura.{Ura}
 use mir.Syntax.{Ty, Args, Fn, a_type, dnil, dcons}

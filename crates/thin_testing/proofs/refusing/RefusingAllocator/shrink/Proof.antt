@@ -1,5 +1,6 @@
--- `shrink` calls `refuses`. If this request is refused, it returns an error, and the block is
--- unchanged. Otherwise it returns what `shrink` of the inner allocator returns. Assumes `Logic`.
+-- `shrink` calls `refuses`. If this request is refused, `shrink` returns an error, and the block
+-- does not change. Otherwise it returns the result of `shrink` of the inner allocator. The proof
+-- assumes the laws of the separation logic (`Logic`).
 use Rattle.std.proofs.Common.{◌≡◌, ℕ, zero, suc, ◌+◌, ◌^◌, ◌<◌, false, Bool, List, [], ◌∷◌, refl, w64, Bor}
 use seplogic.Ra.Ura.{Ura}
 use mir.Syntax.{Args, Fn, Body, seq, skip, a_type, dnil, dcons}
@@ -48,7 +49,7 @@ use Rattle.thin_testing.specs.contracts.refusing.RefusingAllocator.shrink.Key as
 use Rattle.thin_testing.proofs.refusing.RefusingAllocator.shrink.Statement as stated
 use Rattle.thin_testing.proofs.refusing.RefusingAllocator.shrink.Code as code
 
--- `after n b` is the body b without its first n statements
+-- `after n b` is the function body `b` without its first `n` statements.
 abbrev after : ℕ → Body → Body
 after zero b = b
 after (suc n) (seq _ b) = after n b
@@ -122,21 +123,21 @@ module _ (Z : Al) (X : RattleType) {M : Type 1} {𝓤 : Ura M} (𝓛 : Logic �
     abbrev block : Ptr → Fml
     block x = block_with_items (token Z r.now.inner) (param 1 X) x len old xs
 
-    -- p is the address of the inner allocator, and c is the address of the counts; both are fields
-    -- of the `Refusing`
+    -- `p` is the address of the inner allocator, and `c` is the address of the counts. The inner
+    -- allocator and the counts are fields of `Refusing`.
     abbrev p : ℕ × ℕ
     p = (r.ref_ptr.0, r.ref_ptr.1 + up (align (α Z)) 0)
 
     abbrev c : ℕ × ℕ
     c = (r.ref_ptr.0, r.ref_ptr.1 + up 8 (up (align (α Z)) 0 + size (α Z)))
 
-    -- `left b o y` is the block that the caller owns after a call with the answer y, if the old
-    -- block was at the offset o of the allocation b
+    -- `left b o y` is the block that the caller owns after a call with the result `y`. Before the
+    -- call, the block was at the offset `o` of the allocation `b`.
     abbrev left : ℕ → ℕ → Answer.Denot → Fml
     left b o = left_by Z X (Shrinks X) 𝓛 at_mem run κ κT q qT p r.now.inner b o len old new xs
 
-    -- the postcondition holds for every answer of `shrink`, whether the request was refused or
-    -- passed on to the inner allocator
+    -- The postcondition holds for every result of `shrink`, whether the request was refused or
+    -- passed on to the inner allocator.
     ends : (b o : ℕ) (y : Bool) (b' o' : ℕ)
         → Sq 𝓛 (‵ (left b o (result_of y b' o')) ∷ ‵ (flft κ q) ∷ ‵ (flft κT qT) ∷ ‵ (flft ρ s)
         ∷ []) (prop (Post (block_ptr b o) (answer_val y b' o')))
@@ -147,8 +148,9 @@ module _ (Z : Al) (X : RattleType) {M : Type 1} {𝓤 : Ura M} (𝓛 : Logic �
         use0 𝓛 (‵ (Answer.own_val (result_of y b' o') (answer_val y b' o' ∷ [])))
         (result_own 𝓛 y b' o') $ nothing ! $ nothing ! $ fjoin ! $ nothing ! $ fjoin ! $
         nothing ! $ fjoin ! $ nothing ! $ fjoin ! $ nothing ! $ fjoin ! $ join ! $
-        -- joins these resources into the postcondition: [the result; the block; the token of κ; the
-        -- token of κT; the token of ρ]
+        -- These steps join the following resources into the postcondition: [the result; the block;
+        -- the token of the lifetime `κ`; the token of the lifetime `κT`; the token of the lifetime
+        -- `ρ`].
         nothing ! $ move ! (4 ∷ 0 ∷ []) $ join ! $ move ! (4 ∷ 0 ∷ []) $ join ! $
         move ! (3 ∷ 0 ∷ []) $ join ! $ join ! $ done !
 
@@ -176,8 +178,9 @@ module _ (Z : Al) (X : RattleType) {M : Type 1} {𝓤 : Ura M} (𝓛 : Logic �
         use1 𝓛 (‵ (seen Z κ p h)) (id⊢ 𝓤 _) $ move ! (1 ∷ []) $ fsplit ! $
         use1 𝓛 (‵ (hidden_shr Row κ r.now.counts c.0 c.1)) (id⊢ 𝓤 _) $
         keep ! (0 ∷ 8 ∷ 2 ∷ 10 ∷ 6 ∷ 9 ∷ []) $
-        -- enters the body of `shrink`, in this context: [the shared counts; the token of κ; the
-        -- inner allocator; the block; the token of κT; the token of ρ]
+        -- The context now holds, in this order: [the shared counts; the token of the lifetime `κ`;
+        -- the inner allocator; the block; the token of the lifetime `κT`; the token of the lifetime
+        -- `ρ`]. The proof enters the body of `shrink`.
         enter ! 𝓣.C 𝓣.Λ (here Z X) (vs x) _ $
         alloc_all ! (λ l. pass_all ! refl (
           (tt, tt),
