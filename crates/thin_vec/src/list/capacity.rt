@@ -1,5 +1,5 @@
-//! How the capacity of a list grows: only `capacity_for` calls the growth rule, and only `grow_to`
-//! grows a list.
+//! The methods that reserve room in a list. Only `capacity_for` calls the growth rule, and only
+//! `grow_to` grows a list.
 ghost use Rattle.std.specs.Prelude.{◌≡◌, ◌+◌, ◌<◌, ◌≤◌, [], IfErr, IfOk, IfSome, IsErrOf, IsFalse, IsOk, IsTrue, None, OnErr, OnOk, Some, length};
 ghost use Rattle.thin_block.specs.Capacity.{Fits};
 ghost use Rattle.thin_block.specs.Cost.{growing};
@@ -19,7 +19,7 @@ impl<T, A: Allocator, G: Growth> ThinVec<T, A, G> {
     /// grows to the capacity that the growth rule chooses, which is at least twice the old
     /// capacity. Otherwise, nothing changes.
     ///
-    /// A growth may move the block to another address, which copies every item.
+    /// When a list grows, its block may be moved to another address. Then every item is copied.
     ///
     /// # Errors
     ///
@@ -55,8 +55,8 @@ impl<T, A: Allocator, G: Growth> ThinVec<T, A, G> {
     /// Reserves room for exactly `additional` more items. If there is not enough room, the capacity
     /// becomes the length plus `additional`. Otherwise, nothing changes.
     ///
-    /// A list that grows only by this call may copy all its items at each call. `reserve` avoids
-    /// this: whenever it grows the list, it at least doubles the capacity.
+    /// If a list grows only by calls of this method, each call may copy all its items. `reserve`
+    /// avoids this: whenever it grows the list, it at least doubles the capacity.
     ///
     /// # Errors
     ///
@@ -95,8 +95,8 @@ impl<T, A: Allocator, G: Growth> ThinVec<T, A, G> {
         }
     }
 
-    // Reserves room for exactly `capacity` items in a list that has no block. Unlike
-    // `reserve_exact`, does not test for spare capacity first.
+    // Reserves room for exactly `capacity` items in a list that has no block. In contrast to
+    // `reserve_exact`, this function does not test whether there is room already.
     #[tactic(auto, using(thin_block::proofs::CapacityLemmas::exact))]
     pub(crate) fn reserve_first(&mut self, capacity: usize) -> Result<(), ThinVecError>
         requires none { self.old.capacity ≡ 0 }
@@ -131,9 +131,9 @@ impl<T, A: Allocator, G: Growth> ThinVec<T, A, G> {
     }
 
     // Reserves room for at least `additional` more items, with the same contract as `reserve`. This
-    // function is meant for several items. If their number is known at compile time, as the length
-    // of a literal is, the test for room is one comparison. (For one item, the test in `reserve` is
-    // one comparison, too.)
+    // function is meant for calls that add several items. If `additional` is known at compile time,
+    // such as the length of a literal, the test for room is a single comparison. (In `reserve`, the
+    // test is a single comparison only for one item.)
     #[tactic(auto, using(thin_block::proofs::CapacityLemmas::ruled))]
     pub(crate) fn reserve_run(&mut self, additional: usize) -> Result<(), ThinVecError>
         // On success.
@@ -157,9 +157,9 @@ impl<T, A: Allocator, G: Growth> ThinVec<T, A, G> {
         Ok(())
     }
 
-    // Returns whether there is room for `additional` more items. The sum of the length and
-    // `additional` is computed only if `additional` is at most `isize::MAX`. The sum cannot
-    // overflow, because the length is at most `isize::MAX`, too.
+    // Returns whether there is room for `additional` more items. The length and `additional` are
+    // added only if `additional` is at most `isize::MAX`. The length is at most `isize::MAX`, too,
+    // so the sum cannot overflow.
     fn has_room_for(&self, additional: usize) -> bool
         ensures within { IsWithin T.row self.now }
         ensures room { IsTrue result → HasRoomFor self.now additional }
@@ -173,9 +173,9 @@ impl<T, A: Allocator, G: Growth> ThinVec<T, A, G> {
         len + additional <= cap
     }
 
-    // Grows the list so that it has room for `additional` more items. The list must not have this
-    // room before the call. This part of `reserve` is a separate function, marked as cold, because
-    // most calls of `reserve` find enough room.
+    // Grows the list to make room for `additional` more items. There must be too little room for
+    // these items before the call. This part of `reserve` is a separate function, marked as cold,
+    // because most calls of `reserve` find enough room.
     #[cold]
     fn grow_for(&mut self, additional: usize) -> Result<(), ThinVecError>
         requires more { self.old.capacity < length self.old.items + additional }
@@ -204,8 +204,8 @@ impl<T, A: Allocator, G: Growth> ThinVec<T, A, G> {
     }
 
     // Returns the capacity that the growth rule chooses for `additional` more items, or `None` if
-    // the rule chooses none. There must be too little room for these items. No other function of
-    // the list calls the growth rule.
+    // the rule chooses none. The list must have too little room for these items. No other function
+    // of the list calls the growth rule.
     #[tactic(auto, using(thin_block::proofs::CapacityLemmas::ruled))]
     fn capacity_for(&self, additional: usize) -> Option<usize>
         requires more { self.now.capacity < length self.now.items + additional }
@@ -221,8 +221,8 @@ impl<T, A: Allocator, G: Growth> ThinVec<T, A, G> {
     }
 
     // Grows the list to the capacity `cap`. No other function grows a list. This function is
-    // inlined, as `Block::grow` is, so that growing a new list needs no test for an old block at
-    // run time.
+    // inlined, and so is `Block::grow`. So growing a new list needs no test for an old block at run
+    // time.
     #[inline(always)]
     pub(crate) fn grow_to(&mut self, cap: usize) -> Result<(), ThinVecError>
         requires larger { self.old.capacity < cap }
@@ -250,8 +250,8 @@ impl<T, A: Allocator, G: Growth> ThinVec<T, A, G> {
     }
 
     // Makes an empty list whose capacity is exactly `capacity`. `fits` must return true for
-    // `capacity`. If `capacity` is 0, the list has no block. All methods that make a list of an
-    // exact capacity call this function, except `from_iter`, which calls `reserve_first`.
+    // `capacity`. If `capacity` is 0, the list has no block. Every method that makes a list of an
+    // exact capacity calls this function, except `from_iter`, which calls `reserve_first`.
     pub(crate) fn with_fitting_capacity(
         alloc: A,
         capacity: usize,

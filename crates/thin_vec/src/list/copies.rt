@@ -1,4 +1,4 @@
-//! The methods that copy items of a `Copy` type. They copy the items as one run.
+//! The methods that copy items of a `Copy` type. They copy all items in a single memory copy.
 ghost use Rattle.std.specs.Prelude.{◌≡◌, ◌+◌, ◌<◌, ◌++◌, IfErr, IfOk, IsOk, OnErr, OnOk, length};
 ghost use Rattle.thin_block.specs.Cost.{moving};
 ghost use Rattle.thin_vec.specs.List.Capacity.{Costs, Keeps, Reserves, IsMade};
@@ -11,8 +11,8 @@ impl<T: Copy, A: Allocator, G: Growth> ThinVec<T, A, G> {
     ghost use Rattle.thin_vec.specs.ThinVec.{HasRoomFor, cost_new};
 
     /// Appends a copy of each item of `items`, in order. If there is not enough spare capacity, the
-    /// list first grows to the capacity that the growth rule chooses. The items are copied as one
-    /// run, which is faster than `extend_from_slice`.
+    /// list first grows to the capacity that the growth rule chooses. All items are copied in a
+    /// single memory copy, which is faster than `extend_from_slice`.
     ///
     /// This method is our own: neither Rust's `Vec` nor the Rust crate thin-vec has it.
     ///
@@ -33,8 +33,8 @@ impl<T: Copy, A: Allocator, G: Growth> ThinVec<T, A, G> {
         // On failure, the list is unchanged.
         ensures err { OnErr result (self.new ≡ self.old) }
 
-        // In every case. The capacity grows, and the call fails, exactly as
-        // `reserve(items.len())` would.
+        // In every case. The new capacity, and whether the call fails, are the same as for a call
+        // of `reserve(items.len())`.
         ensures reserves { Reserves G.rule T.row (length items.now) self.old self.new result }
         ensures keeps { Keeps T.row self.old self.new }
     {
@@ -47,8 +47,8 @@ impl<T: Copy, A: Allocator, G: Growth> ThinVec<T, A, G> {
     }
 
     /// Makes a list of copies of the items, in order, on `alloc`. The new list has the same growth
-    /// rule, and its capacity is exactly the number of items. The copy of an empty list allocates
-    /// nothing. The items are copied as one run, which is faster than `clone`.
+    /// rule, and its capacity is exactly the number of items. If there are no items, nothing is
+    /// allocated. All items are copied in a single memory copy, which is faster than `clone`.
     ///
     /// This method is our own: neither Rust's `Vec` nor the Rust crate thin-vec has it.
     ///
@@ -74,8 +74,8 @@ impl<T: Copy, A: Allocator, G: Growth> ThinVec<T, A, G> {
         Ok(list)
     }
 
-    /// Appends a copy of each item of `items`, in order, without growing. The list must have room
-    /// for the items; `reserve` makes such room. So the call cannot fail, and returns no `Result`.
+    /// Appends a copy of each item of `items`, in order. The list does not grow: it must have room
+    /// for the items. `reserve` makes such room. So the call cannot fail, and returns no `Result`.
     ///
     /// This method is our own: neither Rust's `Vec` nor the Rust crate thin-vec has it.
     pub fn extend_from_copies_reserved(&mut self, items: &[T])
