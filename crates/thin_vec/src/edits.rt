@@ -1,6 +1,6 @@
 //! The methods that edit a range of a list, and the iterators `Drain`, `ExtractIf` and `Splice`,
-//! which some of these methods return. During an edit, there may be empty slots between the items
-//! of the list. A method such as `retain` closes them before it returns. An iterator closes them
+//! which some of these methods return. During an edit, there may be gaps of empty slots between the
+//! items. A method such as `retain` closes the gaps before it returns. An iterator closes the gaps
 //! when it is dropped or finished.
 
 mod dedup;

@@ -53,8 +53,8 @@ pub struct CollectRefused<T, I, A: Allocator = Global> {
 pub struct SpliceRefused<T, I, A: Allocator = Global> {
     /// Says why the call failed.
     pub cause: ThinVecError,
-    /// The items that were taken from the iterator after the items that are in the list. The vector
-    /// uses the allocator that was passed to `finish`.
+    /// The items that were collected from the iterator, but could not be moved into the list. The
+    /// vector uses the allocator that was passed to `finish`.
     pub held: Vec<T, A>,
     /// The last item that was taken from the iterator, after the items in `held`. There was no room
     /// for it. `in_hand` is `None` if the list could not reserve room for the size hint, or for the

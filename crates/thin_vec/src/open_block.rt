@@ -109,8 +109,8 @@ impl<T, A: Allocator, G: Growth> ThinVec<T, A, G> {
     }
 
     // Takes the block out of the list, and makes a gap of `count` empty slots before the item at
-    // index `at`. To make this gap, the items from index `at` onward are moved up in a single
-    // memory copy. After the call, the list is empty and has no block.
+    // index `at`. To make this gap, the items from index `at` onward are moved up. After the call,
+    // the list is empty and has no block.
     pub(crate) fn open_wide(&mut self, at: usize, count: usize) -> OpenBlock<T, A>
         requires in_bounds { at ≤ length self.old.items }
         requires room { HasRoomFor self.old count }
@@ -139,8 +139,8 @@ impl<T, A: Allocator, G: Growth> ThinVec<T, A, G> {
     }
 
     // Puts the block back into the list. If there is a gap, the items after the gap are first moved
-    // down in a single memory copy. The code for a gap of one or two slots is inlined. If the list
-    // already has a block, that block is freed.
+    // down. The code for a gap of one or two slots is inlined. If the list already has a block,
+    // that block is freed.
     #[inline(always)]
     pub(crate) fn close(&mut self, block: OpenBlock<T, A>)
         requires empty { self.old.items ≡ [] }
@@ -203,7 +203,7 @@ impl<T, A: Allocator> OpenBlock<T, A> {
         self.block.slice(self.rest_start, self.rest_end)
     }
 
-    // Returns whether there is an item after the range.
+    // Returns whether there is an item after the range, that is, in the tail.
     pub(crate) fn has_tail(&self) -> bool
         ensures value { IsTrue result ↔ (0 < length self.now.tail) }
         ensures in_bounds { reach self.now ≤ self.now.capacity }
@@ -229,8 +229,8 @@ impl<T, A: Allocator> OpenBlock<T, A> {
         self.rest_end = self.tail_start;
     }
 
-    // Moves the items after the gap down to the start of the gap, in a single memory copy. Stores
-    // the number of items as the length of the block, and returns the block.
+    // Moves the items after the gap down to the start of the gap. Stores the number of items as the
+    // length of the block, and returns the block.
     #[inline(always)]
     fn into_closed(self) -> Block<T, A>
         requires gap_after { self.gap_after ≡ 0 }
@@ -258,7 +258,7 @@ impl<T, A: Allocator> OpenBlock<T, A> {
         closed
     }
 
-    // Moves the items after the range up by `count` slots, in a single memory copy.
+    // Moves the items after the range (the tail) up by `count` slots.
     pub(crate) fn widen(&mut self, count: usize)
         requires some { 0 < count }
         requires room { reach self.old + count ≤ self.old.capacity }

@@ -48,8 +48,8 @@ pub(crate) fn put_vec<T, A: Allocator, B: Allocator>(
       cost = moving (length items.items) block.old.cost;
     } }
 {
-    // This call is needed only for the proof: by its contract, the number of slots is less than
-    // 2^63. So each index is less than 2^63, too.
+    // This call is needed only for the proof: the contract of `cap` says that the number of slots
+    // is less than 2^63. So each index is less than 2^63, too.
     let _whole = block.cap();
     while let Some(item) = items.pop() {
         block.put(start + items.len(), item);
@@ -75,8 +75,8 @@ pub(crate) fn put_clones<T: Clone, A: Allocator>(
     ensures refused { result < length items.now
         → HoldsAt (λ x. ¬ (T.is_infallible x)) items.now result }
 {
-    // This call is needed only for the proof: by its contract, the number of slots is less than
-    // 2^63. So each index is less than 2^63, too.
+    // This call is needed only for the proof: the contract of `cap` says that the number of slots
+    // is less than 2^63. So each index is less than 2^63, too.
     let _whole = block.cap();
     for i in 0..items.len() {
         match items[i].clone() {
@@ -106,8 +106,8 @@ pub(crate) fn put_repeated<T: Clone, A: Allocator>(
     } }
     ensures refused { result < count → ¬ (T.is_infallible value.now) }
 {
-    // This call is needed only for the proof: by its contract, the number of slots is less than
-    // 2^63. So each index is less than 2^63, too.
+    // This call is needed only for the proof: the contract of `cap` says that the number of slots
+    // is less than 2^63. So each index is less than 2^63, too.
     let _whole = block.cap();
     for i in 0..count {
         match value.clone() {
@@ -136,8 +136,8 @@ pub(crate) fn put_results<T, A: Allocator, F: FnMut() -> T>(
       cost = moving count block.old.cost;
     } }
 {
-    // This call is needed only for the proof: by its contract, the number of slots is less than
-    // 2^63. So each index is less than 2^63, too.
+    // This call is needed only for the proof: the contract of `cap` says that the number of slots
+    // is less than 2^63. So each index is less than 2^63, too.
     let _whole = block.cap();
     for i in 0..count {
         block.put(start + i, make());

@@ -62,7 +62,7 @@ impl<T, A: Allocator> ThinVec<T, A> {
     }
 
     /// Moves the items of a vector into a new list, in order. The capacity of the list is exactly
-    /// the number of items. The vector may use any allocator. Its allocation is freed. An empty
+    /// the number of items. The vector may use any allocator, and its allocation is freed. An empty
     /// vector needs no allocation.
     ///
     /// # Errors
@@ -102,8 +102,8 @@ impl<T, A: Allocator> ThinVec<T, A> {
     }
 
     /// Moves the items of a boxed slice into a new list, in order. The capacity of the list is
-    /// exactly the number of items. The boxed slice may use any allocator. Its allocation is freed.
-    /// An empty slice needs no allocation.
+    /// exactly the number of items. The boxed slice may use any allocator, and its allocation is
+    /// freed. An empty slice needs no allocation.
     ///
     /// # Errors
     ///
@@ -164,8 +164,8 @@ impl<T, A: Allocator> ThinVec<T, A> {
 
 impl<T: Copy, A: Allocator> ThinVec<T, A> {
     /// Copies the items of a slice into a new list, in order. The capacity of the list is exactly
-    /// the number of items. An empty slice needs no allocation. All items are copied in a single
-    /// memory copy, which is faster than `from_slice`.
+    /// the number of items. An empty slice needs no allocation. The items are copied byte for byte,
+    /// which is faster than `from_slice`.
     ///
     /// This method is our own: neither Rust's `Vec` nor the Rust crate thin-vec has it.
     ///

@@ -10,14 +10,14 @@ use std::boxed::BoxedSlice;
 use thin_block::{Growth, ThinVecError};
 
 impl<T, A: Allocator, G: Growth> ThinVec<T, A, G> {
-    /// Moves the items of the list, in order, into a new `Vec` on `alloc`. The capacity of the
-    /// `Vec` is exactly the number of items. The allocation of the list is freed. An empty list
-    /// needs no allocation.
+    /// Moves the items of the list, in order, into a new `Vec` that uses the allocator `alloc`. The
+    /// capacity of the `Vec` is exactly the number of items. The allocation of the list is freed.
+    /// An empty list needs no allocation.
     ///
     /// # Errors
     ///
-    /// Fails with `OutOfMemory` if `alloc` fails. On failure, the error holds the unchanged list,
-    /// so the caller owns it again. `alloc` is dropped.
+    /// Fails with `OutOfMemory` if `alloc` cannot allocate the memory. On failure, the error holds
+    /// the unchanged list, so the caller owns it again. `alloc` is dropped.
     pub fn into_vec(self, alloc: A) -> Result<Vec<T, A>, Rejected<ThinVec<T, A, G>>>
         // On success.
         ensures items { IfOk result (λ vec. vec.items ≡ self.items) }
@@ -58,13 +58,13 @@ impl<T, A: Allocator, G: Growth> ThinVec<T, A, G> {
         vec
     }
 
-    /// Moves the items of the list, in order, into a new boxed slice on `alloc`. The allocation of
-    /// the list is freed. An empty list needs no allocation.
+    /// Moves the items of the list, in order, into a new boxed slice that uses the allocator
+    /// `alloc`. The allocation of the list is freed. An empty list needs no allocation.
     ///
     /// # Errors
     ///
-    /// Fails with `OutOfMemory` if `alloc` fails. On failure, the error holds the unchanged list,
-    /// so the caller owns it again. `alloc` is dropped.
+    /// Fails with `OutOfMemory` if `alloc` cannot allocate the memory. On failure, the error holds
+    /// the unchanged list, so the caller owns it again. `alloc` is dropped.
     pub fn into_boxed_slice(self, alloc: A) -> Result<BoxedSlice<T, A>, Rejected<ThinVec<T, A, G>>>
         // On success.
         ensures items { IfOk result (λ boxed. boxed_slice_items boxed ≡ self.items) }

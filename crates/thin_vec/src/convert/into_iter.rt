@@ -181,9 +181,9 @@ impl<T: Clone, A: Allocator, G: Growth> IntoIter<T, A, G> {
     ghost use Rattle.thin_vec.specs.Cheap.{IsCheap};
     ghost use Rattle.thin_vec.specs.ThinVec.{cost_new};
 
-    /// Makes a new iterator on `alloc`. It yields clones of the items that this iterator has not
-    /// yielded yet, in order. The new iterator has room for exactly these clones. If there are no
-    /// clones, the call allocates nothing. This iterator is unchanged.
+    /// Makes a new iterator that uses the allocator `alloc`. The new iterator yields clones of the
+    /// items that this iterator has not yielded yet, in order. It has room for exactly these
+    /// clones. If there are no clones, the call allocates nothing. This iterator is unchanged.
     ///
     /// # Errors
     ///

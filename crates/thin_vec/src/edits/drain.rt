@@ -36,8 +36,8 @@ pub struct Drain<
 
 impl<'a, T: Drop, A: Allocator, G: Growth, H: Holds<Inner = OpenBlock<T, A>>> Drop
     for Drain<'a, T, A, G, H> {
-    // Drops the items that were not yielded. Moves the items after the range to the start of the
-    // range, in a single memory copy, and puts the block back into the list.
+    // Drops the items that were not yielded. Moves the items after the range down to the start of
+    // the range, and puts the block back into the list.
     #[inline(always)]
     fn drop(self)
         ensures items { self.exit.0.now.items ≡ (H.inner self.entry.holder).front

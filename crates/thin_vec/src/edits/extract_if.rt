@@ -70,9 +70,8 @@ impl<T, F: FnMut(&mut T) -> bool> Test<T> for Picks<F> {
 
 impl<'a, T: Drop, F: Drop, A: Allocator, G: Growth, H: Holds<Inner = Extracting<T, F, A>>> Drop
     for ExtractIf<'a, T, F, A, G, H> {
-    // Moves the items that were not tested, together with the items after the range, down into the
-    // empty slots, in a single memory copy. Then puts the block back into the list, and drops the
-    // closure.
+    // Moves the items that were not tested, and the items after the range, down to close the gap.
+    // Then puts the block back into the list, and drops the closure.
     fn drop(self)
         ensures items { self.exit.0.now.items ≡ items_of (H.inner self.entry.holder).block }
         ensures capacity { self.exit.0.now.capacity ≡ (H.inner self.entry.holder).block.capacity }
@@ -82,8 +81,8 @@ impl<'a, T: Drop, F: Drop, A: Allocator, G: Growth, H: Holds<Inner = Extracting<
         let ExtractIf { list, holder } = self;
         let Extracting { block, picks } = holder.into_inner();
         let Picks { pick } = picks;
-        // The list is empty already. This call is only for the prover: `close` requires an empty
-        // list.
+        // The list is already empty. This call is needed only for the proof: `close` requires an
+        // empty list.
         list.clear();
         list.close(block);
         drop(pick);
@@ -95,7 +94,8 @@ impl<T, F: FnMut(&mut T) -> bool, A: Allocator> Extracting<T, F, A> {
 
     // Tests the items that have not been tested yet, in order, until the closure `pick` returns
     // true for an item. Removes that item and returns it. Returns `None` if all items are kept. If
-    // there are empty slots before the tested items, the kept items are moved down.
+    // there are empty slots before the tested items, the kept items are moved down into these
+    // slots.
     fn next_picked(&mut self) -> Option<T>
         requires callable { F.IsAlwaysCallable self.old.picks.pick }
         ensures extracts { Extracts (CalledAtMut F.FnMut) self.old result self.new }
@@ -122,8 +122,8 @@ impl<T: Drop, A: Allocator, G: Growth> ThinVec<T, A, G> {
     /// its old capacity and allocator. Items that were not tested are kept, as with Rust's
     /// `Vec::extract_if`.
     ///
-    /// No memory is allocated. Each item that is kept after the first removed item moves once. Such
-    /// items include the items after the range. No other item moves.
+    /// No memory is allocated. Each item after the first removed item moves once, unless it is
+    /// removed, too. This includes the items after the range. No other item moves.
     ///
     /// The function `bounds` converts a Rust range into `start` and `end`, and checks them.
     pub fn extract_if<F: FnMut(&mut T) -> bool>(

@@ -94,8 +94,8 @@ impl<T, A: Allocator, G: Growth> ThinVec<T, A, G> {
 }
 
 impl<T: Drop, A: Allocator, G: Growth> ThinVec<T, A, G> {
-    // Collects the items of `iter` in a vector on `alloc`, and then inserts them before the item at
-    // index `at`. If `iter` yields no item, nothing is allocated.
+    // Collects the items of `iter` in a vector that uses `alloc`, and then inserts them before the
+    // item at index `at`. If `iter` yields no item, nothing is allocated.
     #[inline(always)]
     fn insert_held<I: Iterator<Item = T>>(
         &mut self,
@@ -280,8 +280,8 @@ struct Drawn<T, I, A: Allocator> {
     rest: I,
 }
 
-// Collects the item `first`, and then the items of `iter`, in a vector on `alloc`. Stops when
-// `iter` returns `None`, or when the vector cannot allocate memory for an item.
+// Collects the item `first`, and then the items of `iter`, in a vector that uses `alloc`. Stops
+// when `iter` returns `None`, or when the vector cannot allocate memory for an item.
 fn draw<T, A: Allocator, I: Iterator<Item = T>>(first: T, iter: I, alloc: A) -> Drawn<T, I, A>
     requires can_next { I.can_next iter }
     requires finite { IsFinite (I.remaining iter) }

@@ -165,8 +165,7 @@ impl<T: Clone, A: Allocator, G: Growth> ThinVec<T, A, G> {
 }
 
 impl<T: Drop, A: Allocator, G: Growth> ThinVec<T, A, G> {
-    // Drops the items `start..end`, and moves the items after this range down, in a single memory
-    // copy.
+    // Drops the items `start..end`, and moves the items after this range down.
     fn drop_range(&mut self, start: usize, end: usize)
         requires start_le_end { start ≤ end }
         requires in_bounds { end ≤ length self.old.items }
@@ -183,8 +182,8 @@ impl<T: Drop, A: Allocator, G: Growth> ThinVec<T, A, G> {
     }
 
     // Drops the items `start..end`, and moves the last `count` items of the list into the places of
-    // these items, in a single memory copy. If some of the places are not filled, the other items
-    // after the range are moved down to close the gap.
+    // these items. If some of the places are not filled, the other items after the range are moved
+    // down to close the gap.
     fn replace_by_last(&mut self, start: usize, end: usize, count: usize)
         requires start_le_end { start ≤ end }
         requires few { count ≤ end - start }

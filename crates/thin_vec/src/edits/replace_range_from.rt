@@ -169,9 +169,8 @@ impl<T: Drop, A: Allocator, G: Growth> ThinVec<T, A, G> {
     }
 
     // Drops the items `start..end`, and takes the block out of the list, with a gap of empty slots
-    // in the place of these items. If the gap has fewer than `count` slots, the items after it are
-    // moved up, in a single memory copy, until it has `count` slots. After the call, the list is
-    // empty and has no block.
+    // in the place of these items. If the gap has fewer than `count` slots, the items after the gap
+    // are moved up until it has `count` slots. After the call, the list is empty and has no block.
     fn open_range(&mut self, start: usize, end: usize, count: usize) -> OpenBlock<T, A>
         requires start_le_end { start ≤ end }
         requires in_bounds { end ≤ length self.old.items }

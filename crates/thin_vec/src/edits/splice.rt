@@ -135,11 +135,11 @@ impl<
     /// If items follow the range, `finish` takes three steps:
     ///
     /// 1. It moves items of the iterator into the places of the range. If the iterator ends before
-    ///    the places are filled, the items after the range are moved down in a single memory copy.
+    ///    the places are filled, the items after the range are moved down to close the gap.
     /// 2. It calls `size_hint` on the iterator once, reserves room for the lower bound before the
     ///    items after the range, and fills this room.
-    /// 3. It collects all further items in a vector on `alloc`, reserves room for them, and moves
-    ///    them into the list in a single memory copy.
+    /// 3. It collects all further items in a vector that uses `alloc`, reserves room for them in
+    ///    the list, and moves them into this room.
     ///
     /// If no item follows the range, `finish` appends the items of the iterator in the same way as
     /// `extend`.
@@ -153,8 +153,8 @@ impl<
     ///
     /// # Errors
     ///
-    /// `finish` cannot fail if the iterator cannot yield more items than the range has places. If
-    /// no item follows the range, `finish` cannot fail if there is room for all items. (If items
+    /// `finish` cannot fail if the iterator cannot yield more items than the range has places. It
+    /// also cannot fail if no item follows the range and there is room for all items. (If items
     /// follow the range, such room does not guarantee success: `size_hint` may return a lower bound
     /// that is too low, and then step 3 allocates.)
     ///
@@ -175,7 +175,7 @@ impl<
     /// case 4, the `cause` is `OutOfMemory`. In case 5, `next` must not be called on `rest`.
     ///
     /// Rust's `Vec` does all this when a `Splice` is dropped. Here, a separate call is needed,
-    /// because it can fail.
+    /// because the replacement can fail.
     #[inline(always)]
     pub fn finish(self, alloc: A) -> Result<(), SpliceRefused<T, I, A>>
         requires can_next { I.can_next (splice_iter self) }

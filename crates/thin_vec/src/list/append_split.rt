@@ -17,7 +17,7 @@ impl<T, A: Allocator, G: Growth> ThinVec<T, A, G> {
     ///
     /// # Errors
     ///
-    /// Fails only if there is not enough spare capacity. Then neither list changes.
+    /// Fails only if there is not enough spare capacity. On failure, neither list changes.
     ///
     /// - `CapacityOverflow`: the new capacity would be too large.
     /// - `OutOfMemory`: the allocator failed.
@@ -48,14 +48,15 @@ impl<T, A: Allocator, G: Growth> ThinVec<T, A, G> {
         Ok(())
     }
 
-    /// Moves the items from index `at` onward to a new list on `alloc`, in order, and returns the
-    /// new list. The capacity of the new list is exactly the number of these items. This list keeps
-    /// its first `at` items and its capacity. If `at` is the length, the call needs no allocation.
+    /// Moves the items from index `at` onward to a new list, in order, and returns the new list. It
+    /// uses the allocator `alloc`, and its capacity is exactly the number of these items. This list
+    /// keeps its first `at` items and its capacity. If `at` is the length, the call needs no
+    /// allocation.
     ///
     /// # Errors
     ///
-    /// Fails with `OutOfMemory` if `alloc` fails. Then the list is unchanged, and `alloc` is
-    /// dropped.
+    /// Fails with `OutOfMemory` if `alloc` cannot allocate the memory. On failure, the list is
+    /// unchanged, and `alloc` is dropped.
     pub fn split_off(&mut self, alloc: A, at: usize) -> Result<ThinVec<T, A, G>, ThinVecError>
         requires in_bounds { at ≤ length self.old.items }
 
@@ -100,8 +101,8 @@ impl<T, A: Allocator, G: Growth> ThinVec<T, A, G> {
         self.append_from(other, 0);
     }
 
-    // Moves the items of `other` from index `start` onward to the end of this list, in a single
-    // memory copy. This list must have room for these items.
+    // Moves the items of `other` from index `start` onward to the end of this list. This list must
+    // have room for these items.
     fn append_from(&mut self, other: &mut ThinVec<T, A, G>, start: usize)
         requires in_bounds { start ≤ length other.old.items }
         requires room { HasRoomFor self.old (length other.old.items - start) }

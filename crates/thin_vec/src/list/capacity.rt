@@ -23,7 +23,7 @@ impl<T, A: Allocator, G: Growth> ThinVec<T, A, G> {
     ///
     /// # Errors
     ///
-    /// Fails only if there is not enough room. Then the list is unchanged.
+    /// Fails only if there is not enough room. On failure, the list is unchanged.
     ///
     /// - `CapacityOverflow`: the growth rule chooses no capacity, because it would be too large.
     /// - `OutOfMemory`: the allocator failed.
@@ -60,7 +60,7 @@ impl<T, A: Allocator, G: Growth> ThinVec<T, A, G> {
     ///
     /// # Errors
     ///
-    /// Fails only if there is not enough room. Then the list is unchanged.
+    /// Fails only if there is not enough room. On failure, the list is unchanged.
     ///
     /// - `CapacityOverflow`: the length plus `additional` is too large for a capacity.
     /// - `OutOfMemory`: the allocator failed.
@@ -132,8 +132,8 @@ impl<T, A: Allocator, G: Growth> ThinVec<T, A, G> {
 
     // Reserves room for at least `additional` more items, with the same contract as `reserve`. This
     // function is meant for calls that add several items. If `additional` is known at compile time,
-    // such as the length of a literal, the test for room is a single comparison. (In `reserve`, the
-    // test is a single comparison only for one item.)
+    // such as the length of a literal, the test for room is a single comparison. (In `reserve`,
+    // this is true only for one item.)
     #[tactic(auto, using(thin_block::proofs::CapacityLemmas::ruled))]
     pub(crate) fn reserve_run(&mut self, additional: usize) -> Result<(), ThinVecError>
         // On success.

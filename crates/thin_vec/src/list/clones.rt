@@ -55,14 +55,14 @@ impl<T: Clone, A: Allocator, G: Growth> ThinVec<T, A, G> {
         self.extend_from_slice_reserved(items)
     }
 
-    /// Makes a list of clones of the items, in order, on `alloc`. The new list has the same growth
-    /// rule, and its capacity is exactly the number of items. If there are no items, nothing is
-    /// allocated. For items that are `Copy`, `clone_copies` is faster.
+    /// Makes a list of clones of the items, in order. The new list uses the allocator `alloc` and
+    /// the same growth rule, and its capacity is exactly the number of items. If there are no
+    /// items, nothing is allocated. For items that are `Copy`, `clone_copies` is faster.
     ///
     /// # Errors
     ///
-    /// Fails with `OutOfMemory` if `alloc` or a clone fails. Then no list is made. The clones that
-    /// were already made are dropped, and so is `alloc`.
+    /// Fails with `OutOfMemory` if `alloc` or a clone fails. On failure, no list is made. The
+    /// clones that were already made are dropped, and so is `alloc`.
     pub fn clone(&self, alloc: A) -> Result<ThinVec<T, A, G>, ThinVecError>
         // On success.
         ensures items { IfOk result (λ list. AllZip T.is_clone self.now.items list.items) }
@@ -82,8 +82,8 @@ impl<T: Clone, A: Allocator, G: Growth> ThinVec<T, A, G> {
         ThinVec::from_fitting_slice(alloc, self.as_slice())
     }
 
-    // Makes a list of clones of `items`, in order, on `alloc`. The capacity of the list is exactly
-    // the number of items. `fits` must return true for this number.
+    // Makes a list of clones of `items`, in order. The list uses the allocator `alloc`. The
+    // capacity of the list is exactly the number of items. `fits` must return true for this number.
     pub(crate) fn from_fitting_slice(
         alloc: A,
         items: &[T],
@@ -121,7 +121,7 @@ impl<T: Clone, A: Allocator, G: Growth> ThinVec<T, A, G> {
     ///
     /// # Errors
     ///
-    /// Fails with `OutOfMemory` if a clone fails. Then the clones that were already made are
+    /// Fails with `OutOfMemory` if a clone fails. On failure, the clones that were already made are
     /// dropped, and the list has its old items and its old capacity.
     pub fn extend_from_slice_reserved(&mut self, items: &[T]) -> Result<(), ThinVecError>
         requires room { HasRoomFor self.old (length items.now) }

@@ -21,8 +21,8 @@ impl<T, A: Allocator, G: Growth> ThinVec<T, A, G> {
     ///
     /// # Errors
     ///
-    /// Fails only if there is no spare capacity. Then the list is unchanged, and the error holds
-    /// `value`, which the caller owns again.
+    /// Fails only if there is no spare capacity. On failure, the list is unchanged, and the error
+    /// holds `value`, which the caller owns again.
     ///
     /// - `CapacityOverflow`: the new capacity would be too large.
     /// - `OutOfMemory`: the allocator failed.
@@ -79,8 +79,8 @@ impl<T, A: Allocator, G: Growth> ThinVec<T, A, G> {
     ///
     /// # Errors
     ///
-    /// Fails only if there is no spare capacity. Then the list is unchanged, and the error holds
-    /// `value`, which the caller owns again.
+    /// Fails only if there is no spare capacity. On failure, the list is unchanged, and the error
+    /// holds `value`, which the caller owns again.
     ///
     /// - `CapacityOverflow`: the new capacity would be too large.
     /// - `OutOfMemory`: the allocator failed.
@@ -117,8 +117,8 @@ impl<T, A: Allocator, G: Growth> ThinVec<T, A, G> {
     ///
     /// # Errors
     ///
-    /// Fails only if there is no spare capacity. Then the list is unchanged, and the error holds
-    /// `value`, which the caller owns again.
+    /// Fails only if there is no spare capacity. On failure, the list is unchanged, and the error
+    /// holds `value`, which the caller owns again.
     ///
     /// - `CapacityOverflow`: the new capacity would be too large.
     /// - `OutOfMemory`: the allocator failed.

@@ -140,8 +140,8 @@ impl<T: Drop, A: Allocator, G: Growth> ThinVec<T, A, G> {
     ///
     /// # Errors
     ///
-    /// Fails only if `len` exceeds the capacity. Then the list is unchanged, and `make` is dropped
-    /// without being called.
+    /// Fails only if `len` exceeds the capacity. On failure, the list is unchanged, and `make` is
+    /// dropped without being called.
     ///
     /// - `CapacityOverflow`: the new capacity would be too large.
     /// - `OutOfMemory`: the allocator failed.

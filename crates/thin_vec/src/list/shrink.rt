@@ -12,13 +12,13 @@ impl<T, A: Allocator, G: Growth> ThinVec<T, A, G> {
 
     /// Shrinks the capacity to `min_capacity`, or to the length if the length is greater. If the
     /// capacity is already that small, nothing changes. If the new capacity is 0, the block is
-    /// freed, and the cost in contracts becomes 0.
+    /// freed, and the `cost` of the list in contracts becomes 0.
     ///
     /// Rust's `Vec` has a method of this name, but the Rust crate thin-vec does not.
     ///
     /// # Errors
     ///
-    /// Fails only with `OutOfMemory`, if the allocator fails. Then the list is unchanged. If an
+    /// Fails with `OutOfMemory` if the allocator fails. On failure, the list is unchanged. If an
     /// empty list is shrunk to capacity 0, the call cannot fail, because it only frees the block.
     pub fn shrink_to(&mut self, min_capacity: usize) -> Result<(), ThinVecError>
         // On success.
@@ -52,11 +52,11 @@ impl<T, A: Allocator, G: Growth> ThinVec<T, A, G> {
     }
 
     /// Shrinks the capacity to the length. If the list is full, nothing changes. If the list is
-    /// empty, its block is freed, and the cost in contracts becomes 0.
+    /// empty, its block is freed, and the `cost` of the list in contracts becomes 0.
     ///
     /// # Errors
     ///
-    /// Fails only with `OutOfMemory`, if the allocator fails. Then the list is unchanged. If the
+    /// Fails with `OutOfMemory` if the allocator fails. On failure, the list is unchanged. If the
     /// list is empty, the call cannot fail, because it only frees the block.
     pub fn shrink_to_fit(&mut self) -> Result<(), ThinVecError>
         // On success.
@@ -79,8 +79,8 @@ impl<T, A: Allocator, G: Growth> ThinVec<T, A, G> {
         self.shrink_to(0)
     }
 
-    // Shrinks the capacity to `cap`. `cap` must be less than the capacity, and at least the length.
-    // It must not be 0.
+    // Shrinks the capacity to `cap`, which must not be 0. It must be at least the length, and less
+    // than the old capacity.
     fn shrink_block(&mut self, cap: usize) -> Result<(), ThinVecError>
         requires some { 0 < cap }
         requires room { length self.old.items ≤ cap }

@@ -1,8 +1,8 @@
 //! The steps of the `dedup` methods. They test each item against the last item that was kept before
 //! it, and drop the items that the test removes.
 //!
-//! The front of the block contains the items that have been kept so far. Then follow the gap, which
-//! consists of empty slots, and the middle run, which contains the remaining items.
+//! The front of the block contains the items that have been kept so far. After the front, there is
+//! a gap of empty slots. After the gap, the middle run contains the remaining items.
 ghost use Rattle.std.specs.Prelude.{◌≡◌, ◌+◌, ◌-◌, ◌^◌, ◌<◌, ◌≤◌, ◌∷◌, ◌++◌, [], Bool, length};
 ghost use Rattle.thin_block.specs.Block.{seen};
 ghost use Rattle.thin_block.specs.Cost.{moving};
@@ -75,7 +75,7 @@ impl<T, A: Allocator> OpenBlock<T, A> {
         test.test(self.block.slot_mut(self.rest_start), kept)
     }
 
-    // Moves `value` into the first slot of the gap. It becomes the last of the kept items.
+    // Moves the item `value` into the first empty slot after the kept items.
     pub(crate) fn append_to_front(&mut self, value: T)
         requires gap { 0 < self.old.gap }
         ensures { self.new ≡ record self.old {
@@ -135,8 +135,7 @@ impl<T: Drop, A: Allocator> OpenBlock<T, A> {
         }
     }
 
-    // Continues `dedup_rest` after the first removal of an item. There must be a gap, which the
-    // removed item has left.
+    // Continues `dedup_rest` after the first removal. The removed item has left an empty slot.
     fn dedup_past_gap<J: PairTest<T>>(&mut self, test: &mut J)
         requires some { 0 < length self.old.front }
         requires gap { 0 < self.old.gap }
@@ -151,10 +150,10 @@ impl<T: Drop, A: Allocator> OpenBlock<T, A> {
     }
 
     // Tests the remaining items, in order, up to the first item that is removed. Drops that item,
-    // and moves the items before it down into the gap. At least two items must remain before the
-    // call. The first of them is taken out of the block before its test. The reason is that the
-    // block cannot lend this item and the last kept item at the same time, because empty slots lie
-    // between the two items.
+    // and moves the items before it down, directly after the kept items. At least two items must
+    // remain before the call. The first of them is taken out of the block before its test: the
+    // block cannot lend this item and the last kept item at the same time, because there are empty
+    // slots between the two items.
     fn dedup_two<J: PairTest<T>>(&mut self, test: &mut J)
         requires some { 0 < length self.old.front }
         requires two { 1 < length self.old.rest }
@@ -185,8 +184,8 @@ impl<T: Drop, A: Allocator> OpenBlock<T, A> {
         }
     }
 
-    // Tests the last remaining item, if there is one. Then drops this item, or moves it down into
-    // the gap.
+    // Tests the last remaining item, if there is one. Then drops this item, or moves it down,
+    // directly after the kept items.
     fn dedup_last<J: PairTest<T>>(&mut self, test: &mut J)
         requires some { 0 < length self.old.front }
         requires short { length self.old.rest ≤ 1 }

@@ -1,5 +1,5 @@
-//! Methods that put items into the gap of an open block. The gap consists of the empty slots after
-//! the front, and each item becomes the last item of the front.
+//! Methods that put items into the gap of an open block, that is, into the empty slots in the
+//! middle of the block. The items are placed directly after the items that are before the gap.
 ghost use Rattle.std.specs.Prelude.{◌≡◌, ◌-◌, ◌<◌, ◌≤◌, [], ◌++◌, HoldsAt, List, drop, length, take};
 ghost use Rattle.std.specs.Iterator.{IsFinite};
 ghost use Rattle.std.specs.List.{AllZip};
@@ -51,8 +51,8 @@ impl<T, A: Allocator> OpenBlock<T, A> {
         self.front_end += count;
     }
 
-    // Moves the items of the list `other` into the gap of empty slots, in a single memory copy.
-    // After the call, `other` is empty, and keeps its block.
+    // Moves the items of the list `other` into the gap of empty slots, in order. After the call,
+    // `other` is empty, and keeps its block.
     pub(crate) fn fill_from_list<G: Growth>(&mut self, other: &mut ThinVec<T, A, G>)
         requires room { length other.old.items ≤ self.old.gap }
         ensures changes { self.new ≡ record self.old {
@@ -70,8 +70,7 @@ impl<T, A: Allocator> OpenBlock<T, A> {
         self.front_end += count;
     }
 
-    // Moves the last `count` items of the block into the gap of empty slots, in a single memory
-    // copy.
+    // Moves the last `count` items of the block into the gap of empty slots, in order.
     pub(crate) fn move_last_down(&mut self, count: usize)
         requires room { count ≤ self.old.gap }
         requires in_bounds { count ≤ length self.old.tail }
@@ -89,7 +88,7 @@ impl<T, A: Allocator> OpenBlock<T, A> {
 }
 
 impl<T: Copy, A: Allocator> OpenBlock<T, A> {
-    // Copies the items of the slice `items` into the gap of empty slots, in a single memory copy.
+    // Copies the items of the slice `items` into the gap of empty slots, in order.
     pub(crate) fn fill_from_copies(&mut self, items: &[T])
         requires room { length items.now ≤ self.old.gap }
         ensures { self.new ≡ record self.old {

@@ -1,8 +1,8 @@
 //! The steps of `retain`, `retain_mut` and `extract_if`. They test the items of a range where they
 //! are, and then move the kept items down.
 //!
-//! The front of the block contains the items that have been kept so far. Then follow the gap, which
-//! consists of empty slots, and the middle run, which contains the remaining items.
+//! The front of the block contains the items that have been kept so far. After the front, there may
+//! be a gap of empty slots. After the gap, the middle run contains the remaining items.
 ghost use Rattle.std.specs.Prelude.{◌≡◌, ◌↔◌, ◌+◌, ◌<◌, ◌≤◌, ◌==◌, ◌++◌, [], Bool, IsTrue, drop, length, take};
 ghost use Rattle.thin_block.specs.Cost.{moving};
 
@@ -11,7 +11,7 @@ use std::alloc::Allocator;
 use std::mem;
 use thin_block::Block;
 
-// If at least this number of items is moved, a single memory copy is faster than moving the items
+// If at least this number of items has to be moved, moving them together is faster than moving them
 // one by one.
 const MANY: usize = 8;
 
@@ -62,8 +62,7 @@ impl<T, A: Allocator> OpenBlock<T, A> {
         self.rest_start += k;
     }
 
-    // Moves the first of the remaining items down into the gap. It becomes the last of the kept
-    // items.
+    // Moves the first of the remaining items down into the first empty slot after the kept items.
     pub(crate) fn move_one_down(&mut self)
         requires some { 0 < length self.old.rest }
         requires gap { 0 < self.old.gap }
@@ -79,9 +78,9 @@ impl<T, A: Allocator> OpenBlock<T, A> {
         self.rest_start += 1;
     }
 
-    // Moves the first `k` of the remaining items down to the start of the gap. If `k` is at least
-    // `MANY`, they are moved in a single memory copy, and otherwise one by one. Two items are moved
-    // without a loop.
+    // Moves the first `k` of the remaining items down, directly after the kept items. If `k` is at
+    // least `MANY`, they are moved together, and otherwise one by one. Two items are moved without
+    // a loop.
     #[inline(always)]
     pub(crate) fn move_down(&mut self, k: usize)
         requires in_bounds { k ≤ length self.old.rest }
@@ -106,9 +105,8 @@ impl<T, A: Allocator> OpenBlock<T, A> {
         }
     }
 
-    // Moves the first `k` of the remaining items down to the start of the gap, in a single memory
-    // copy. The block is passed by value, so that the other fields of the open block can stay in
-    // registers.
+    // Moves the first `k` of the remaining items down together, directly after the kept items. The
+    // block is passed by value, so that the other fields of the open block can stay in registers.
     #[inline(always)]
     fn move_run_down(&mut self, k: usize)
         requires in_bounds { k ≤ length self.old.rest }
@@ -128,9 +126,9 @@ impl<T, A: Allocator> OpenBlock<T, A> {
         self.rest_start += k;
     }
 
-    // Returns whether at least two items remain. There must be a gap, so that `rest_end` is not 0.
-    // The comparison is written in this form so that `rest_end - 1` can stay in a register during a
-    // loop.
+    // Returns whether at least two items remain. There must be a gap: then `rest_end` is not 0, and
+    // the subtraction cannot overflow. The comparison is written in this form so that
+    // `rest_end - 1` can stay in a register during a loop.
     pub(crate) fn has_two(&self) -> bool
         requires gap { 0 < self.now.gap }
         ensures value { IsTrue result ↔ (1 < length self.now.rest) }
@@ -163,9 +161,8 @@ impl<T, A: Allocator> OpenBlock<T, A> {
     ghost use Rattle.thin_vec.specs.OpenBlock.Sift.{Advances};
 
     // Tests the remaining items up to the first item that is to be removed, and returns whether
-    // there is such an item. The items before it are added to the kept items. If there is a gap,
-    // they are moved down into it. The item that is to be removed is then the first of the
-    // remaining items.
+    // there is such an item. This item is then the first of the remaining items. The items before
+    // it are added to the kept items. If there is a gap, they are moved down.
     pub(crate) fn advance<J: Test<T>>(&mut self, test: &mut J) -> bool
         requires ready { J.ready test.old }
         ensures advances { Advances J.tests test.old self.old test.new self.new }
@@ -180,7 +177,7 @@ impl<T, A: Allocator> OpenBlock<T, A> {
         self.rest_len() > 0
     }
 
-    // Does the same as `advance`, but only in a block with a gap.
+    // Does the same as `advance`, for a block with empty slots after the kept items.
     fn advance_past_gap<J: Test<T>>(&mut self, test: &mut J) -> bool
         requires gap { 0 < self.old.gap }
         requires ready { J.ready test.old }
@@ -195,9 +192,9 @@ impl<T, A: Allocator> OpenBlock<T, A> {
         }
     }
 
-    // Does the same as `advance`, but only in a block with a gap and at least two remaining items.
-    // The first two items are tested before the loop. So if fewer than two items are kept before a
-    // removal, no counter is needed.
+    // Does the same as `advance`, for a block with empty slots after the kept items and at least
+    // two remaining items. The first two items are tested before the loop. So if fewer than two
+    // items are kept before a removal, no counter is needed.
     fn advance_two<J: Test<T>>(&mut self, test: &mut J) -> bool
         requires two { 1 < length self.old.rest }
         requires gap { 0 < self.old.gap }
@@ -218,7 +215,8 @@ impl<T, A: Allocator> OpenBlock<T, A> {
         self.rest_len() > 0
     }
 
-    // Does the same as `advance`, but only in a block with a gap and at most one remaining item.
+    // Does the same as `advance`, for a block with empty slots after the kept items and at most one
+    // remaining item.
     fn advance_last<J: Test<T>>(&mut self, test: &mut J) -> bool
         requires short { length self.old.rest ≤ 1 }
         requires gap { 0 < self.old.gap }
@@ -242,8 +240,8 @@ impl<T: Drop, A: Allocator> OpenBlock<T, A> {
     ghost use Rattle.thin_vec.specs.OpenBlock.Sift.{IsSifted, Sifts};
 
     // Tests each remaining item, in order, and drops the items that are not kept. After the first
-    // removal, each kept item is moved down into the gap. After the call, no item remains to be
-    // tested.
+    // removal, the kept items are moved down to close the gap. After the call, no item remains to
+    // be tested.
     pub(crate) fn sift<J: Test<T>>(&mut self, test: &mut J)
         requires none { self.old.gap ≡ 0 }
         requires ready { J.ready test.old }
@@ -257,8 +255,7 @@ impl<T: Drop, A: Allocator> OpenBlock<T, A> {
         }
     }
 
-    // Continues `sift` after the first removal of an item. There must be a gap, which the removed
-    // item has left.
+    // Continues `sift` after the first removal. The removed item has left an empty slot.
     fn sift_past_gap<J: Test<T>>(&mut self, test: &mut J)
         requires gap { 0 < self.old.gap }
         requires ready { J.ready test.old }
@@ -272,8 +269,8 @@ impl<T: Drop, A: Allocator> OpenBlock<T, A> {
     }
 
     // Tests the remaining items, in order, up to the first item that is removed. Drops that item,
-    // and moves the items before it down into the gap. At least two items must remain before the
-    // call.
+    // and moves the items before it down, directly after the kept items. At least two items must
+    // remain before the call.
     fn sift_two<J: Test<T>>(&mut self, test: &mut J)
         requires two { 1 < length self.old.rest }
         requires gap { 0 < self.old.gap }
@@ -287,8 +284,8 @@ impl<T: Drop, A: Allocator> OpenBlock<T, A> {
         }
     }
 
-    // Tests the last remaining item, if there is one. Then moves this item down into the gap, or
-    // drops it.
+    // Tests the last remaining item, if there is one. Then moves this item down, directly after the
+    // kept items, or drops it.
     fn sift_last<J: Test<T>>(&mut self, test: &mut J)
         requires short { length self.old.rest ≤ 1 }
         requires gap { 0 < self.old.gap }
