@@ -187,8 +187,8 @@ impl<T: Clone, A: Allocator, G: Growth> IntoIter<T, A, G> {
     ///
     /// # Errors
     ///
-    /// Fails with `OutOfMemory` if `alloc` or a clone fails. Then no iterator is made. The clones
-    /// that were already made are dropped, and so is `alloc`.
+    /// Fails with `OutOfMemory` if `alloc` or a clone fails. On failure, no iterator is made. The
+    /// clones that were already made are dropped, and so is `alloc`.
     pub fn clone(&self, alloc: A) -> Result<IntoIter<T, A, G>, ThinVecError>
         // On success.
         ensures items { IfOk result (λ it. AllZip T.is_clone self.now.items it.items) }

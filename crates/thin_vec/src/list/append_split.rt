@@ -48,10 +48,10 @@ impl<T, A: Allocator, G: Growth> ThinVec<T, A, G> {
         Ok(())
     }
 
-    /// Moves the items from index `at` onward to a new list, in order, and returns the new list. It
-    /// uses the allocator `alloc`, and its capacity is exactly the number of these items. This list
-    /// keeps its first `at` items and its capacity. If `at` is the length, the call needs no
-    /// allocation.
+    /// Moves the items from index `at` onward to a new list, in order, and returns the new list.
+    /// The new list uses the allocator `alloc`, and its capacity is exactly the number of these
+    /// items. This list keeps its first `at` items and its capacity. If `at` is the length, the
+    /// call needs no allocation.
     ///
     /// # Errors
     ///

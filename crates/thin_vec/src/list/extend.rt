@@ -202,8 +202,8 @@ impl<T, A: Allocator, G: Growth> ThinVec<T, A, G> {
 }
 
 impl<T, A: Allocator> ThinVec<T, A> {
-    /// Makes a list of the items that `iter` yields before its first `None`. The list uses the
-    /// allocator `alloc`. After this `None`, `next` is not called again.
+    /// Makes a list of the items that `iter` yields before its first `None`. After this `None`,
+    /// `next` is not called again. The list uses the allocator `alloc`.
     ///
     /// First, the call asks `iter` for its size hint, once, and makes a block whose capacity is
     /// exactly the lower bound. Then it moves items into the block until it is full, and pushes
