@@ -97,7 +97,7 @@ impl<T: Clone, A: Allocator, G: Growth> ThinVec<T, A, G> {
         ensures cost { OnOk result (self.new.cost
             ≡ moving (moves_cloning self.old start end (length items.now)) self.old.cost) }
 
-        // In every case, only the items and the cost may change.
+        // In every case, only the fields `items` and `cost` of the list may change.
         ensures changes { self.new ≡ record self.old {
           items = self.new.items;
           cost = self.new.cost;
@@ -138,7 +138,7 @@ impl<T: Clone, A: Allocator, G: Growth> ThinVec<T, A, G> {
         ensures cost { OnOk result (self.new.cost
             ≡ moving (moves_replacing self.old at at (length items.now)) self.old.cost) }
 
-        // In every case, only the items and the cost may change.
+        // In every case, only the fields `items` and `cost` of the list may change.
         ensures changes { self.new ≡ record self.old {
           items = self.new.items;
           cost = self.new.cost;

@@ -109,7 +109,8 @@ impl<T, A: Allocator, G: Growth> ThinVec<T, A, G> {
             → IsErrOf result ThinVecError.CapacityOverflow }
         ensures cause { IfErr result (IsCause (exact_capacity T.row 0 capacity)) }
 
-        // On success, only the capacity and the cost change. On failure, nothing changes.
+        // On success, only the fields `capacity` and `cost` of the list change. On failure, nothing
+        // changes.
         ensures changes { self.new ≡ record self.old {
           capacity = self.new.capacity;
           cost = self.new.cost;
@@ -184,7 +185,8 @@ impl<T, A: Allocator, G: Growth> ThinVec<T, A, G> {
         // capacity.
         ensures overflow { TellsOverflow (capacity_for G.rule T.row self.old additional) result }
 
-        // On success, only the capacity and the cost change. On failure, nothing changes.
+        // On success, only the fields `capacity` and `cost` of the list change. On failure, nothing
+        // changes.
         ensures changes { self.new ≡ record self.old {
           capacity = self.new.capacity;
           cost = self.new.cost;
@@ -229,7 +231,7 @@ impl<T, A: Allocator, G: Growth> ThinVec<T, A, G> {
         requires fits { Fits T.row cap }
         requires within { IsWithin T.row self.old }
 
-        // In every case, only the capacity and the cost change.
+        // In every case, only the fields `capacity` and `cost` of the list may change.
         ensures changes { self.new ≡ record self.old {
           capacity = self.new.capacity;
           cost = self.new.cost;

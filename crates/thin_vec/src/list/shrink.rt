@@ -87,7 +87,7 @@ impl<T, A: Allocator, G: Growth> ThinVec<T, A, G> {
         requires smaller { cap < self.old.capacity }
         requires within { IsWithin T.row self.old }
 
-        // In every case, only the capacity and the cost change.
+        // In every case, only the fields `capacity` and `cost` of the list may change.
         ensures changes { self.new ≡ record self.old {
           capacity = self.new.capacity;
           cost = self.new.cost;
