@@ -1,20 +1,20 @@
--- Lemmas about changes of a text: how a change is undone, and which texts a list of changes
--- produces.
+-- These lemmas show how a change of a text is undone, and which texts are produced if a list of
+-- changes is carried out.
 use Rattle.std.proofs.Common.{◌≡◌, ℕ, zero, suc, ◌+◌, ◌-◌, ◌≤◌, List, [], ◌∷◌, ◌++◌, length, take, drop, reverse, slice_range, refl, sym, ap, subst, ◌∙◌, arith, length-append, append_assoc}
 use Rattle.std.proofs.lemmas.List.{drop-drop, drop_at, length-drop, length-reverse, length-take-le, reverse-append, take-append-drop, take_at}
 use Rattle.std.specs.List.{replace_range}
 use Rattle.text_editor.specs.Changes.{AllFit, FitAlong, Fits, changed, texts_along, texts_of}
 use Rattle.text_editor.specs.declared.change.Change.{Change}
 
--- context: a change that fits the text `text` and inserts n characters, and `new`, the text after
--- the change
+-- The next lemmas are about a change `change` of the text `text`. Its range is within `text`, and
+-- it inserts `n` characters. The text after the change is `new`.
 module _ (change : Change) (n : ℕ) (text new : List ℕ) (fits : Fits change text)
     (count : n ≡ length change.characters.items) (made : new ≡ changed change text) where
-  -- the part of the text before the range of the change has `change.start` characters
+  -- The part of `text` before the range of the change has `change.start` characters.
   short : length (take change.start text) ≡ change.start
   short = length-take-le change.start text (omega (arith, fits.start_le_end, fits.in_bounds))
 
-  -- the range of the inserted characters is within the new text
+  -- The range of the inserted characters is within the new text.
   pub comes_in : change.start + n ≤ length new
   comes_in =
       let front : List ℕ = take change.start text in
@@ -26,8 +26,8 @@ module _ (change : Change) (n : ℕ) (text new : List ℕ) (fits : Fits change t
         length-append front change.characters.items,
       )
 
-  -- if `old` is the list of characters that the change replaced, then replacing the inserted
-  -- characters with `old` restores the text before the change
+  -- Let `old` be the characters that the change replaced. If the inserted characters are replaced
+  -- with `old`, the result is the text before the change.
   pub takes_back : (old : List ℕ) → old ≡ slice_range text change.start change.end
       → text ≡ replace_range new change.start (change.start + n) old
   takes_back old is =
@@ -47,47 +47,47 @@ module _ (change : Change) (n : ℕ) (text new : List ℕ) (fits : Fits change t
       ∙ (ap (λ (l : List ℕ). take s text ++ l) (take-append-drop (e - s) (drop s text))
       ∙ take-append-drop s text)))
 
--- context: `changes` is `rest` followed by `change`, and `after` is the text after `change` is
--- carried out on `text`
+-- In the next lemmas, the list `changes` consists of the list `rest` and a last change, `change`.
+-- If `change` is carried out on the text `text`, the result is the text `after`.
 module _ (changes rest : List Change) (change : Change) (text after : List ℕ)
     (is : changes ≡ rest ++ change ∷ []) (made : after ≡ changed change text) where
-  -- the reverse of `changes` is the last change, followed by the reverse of the other changes
+  -- The reverse of `changes` is `change` followed by the reverse of `rest`.
   turned : reverse changes ≡ change ∷ reverse rest
   turned = ap (λ (cs : List Change). reverse cs) is ∙ reverse-append rest (change ∷ [])
 
-  -- if the changes are carried out from the last to the first, the first text produced is `after`,
-  -- and the further texts are the ones that the other changes produce from `after`
+  -- `texts_of` carries out changes from the last to the first. So the first text that it produces
+  -- is `after`, and the other texts are `texts_of rest after`.
   pub texts_of-last : texts_of changes text ≡ after ∷ texts_of rest after
   texts_of-last =
       ap (λ (cs : List Change). texts_along cs text) turned
       ∙ ap (λ (t : List ℕ). t ∷ texts_along (reverse rest) t) (sym made)
 
-  -- if the last change fits the text, and the other changes fit the text that the last change
-  -- produces, then all the changes fit the text (`AllFit`)
+  -- If the last change fits `text`, and the changes of `rest` fit the text `after`, then all the
+  -- changes fit `text`. (`AllFit` carries out the changes from the last to the first.)
   pub AllFit-last : Fits change text → AllFit rest after → AllFit changes text
   AllFit-last fits all =
       subst (λ (cs : List Change). FitAlong cs text) (sym turned)
       (fits, subst (λ (t : List ℕ). AllFit rest t) made all)
 
--- if the number of changes is 0, the list of changes is empty
+-- If a list of changes has length 0, it is empty.
 nothing : (changes : List Change) → length changes ≡ 0 → changes ≡ []
 nothing [] e = refl
 nothing (change ∷ changes) e = absurd (omega arith)
 
--- `texts_along` has one text for each change
+-- `texts_along changes text` contains one text for each change.
 length-texts_along : (changes : List Change) (text : List ℕ)
     → length (texts_along changes text) ≡ length changes
 length-texts_along [] text = refl
 length-texts_along (change ∷ changes) text =
     ap (λ (n : ℕ). suc n) (length-texts_along changes (changed change text))
 
--- `texts_of` has one text for each change
+-- `texts_of changes text` contains one text for each change.
 pub length-texts_of : (changes : List Change) (text : List ℕ)
     → length (texts_of changes text) ≡ length changes
 length-texts_of changes text =
     length-texts_along (reverse changes) text ∙ length-reverse changes
 
--- the texts that the first k changes produce are the first k texts that all the changes produce
+-- The first `k` changes produce the first `k` of the texts that all the changes produce.
 texts_along-take : (k : ℕ) (changes : List Change) (text : List ℕ)
     → texts_along (take k changes) text ≡ take k (texts_along changes text)
 texts_along-take zero changes text = refl
@@ -96,7 +96,8 @@ texts_along-take (suc k) (change ∷ changes) text =
     ap (λ (ts : List (List ℕ)). changed change text ∷ ts)
     (texts_along-take k changes (changed change text))
 
--- if all the changes can be carried out in order (`FitAlong`), so can the first k changes
+-- If all the changes of a list fit a text when they are carried out in order, then so do the first
+-- `k` changes.
 FitAlong-take : (k : ℕ) (changes : List Change) (text : List ℕ) → FitAlong changes text
     → FitAlong (take k changes) text
 FitAlong-take zero changes text all = tt
@@ -104,8 +105,7 @@ FitAlong-take (suc k) [] text all = tt
 FitAlong-take (suc k) (change ∷ changes) text all =
     (all.0, FitAlong-take k changes (changed change text) all.1)
 
--- removing the first m changes and then reversing the list gives the same list as reversing it and
--- then removing the last m changes
+-- The reverse of `drop m changes` is the reverse of `changes` without its last `m` changes.
 reverse-drop : (m : ℕ) (changes : List Change)
     → reverse (drop m changes) ≡ take (length changes - m) (reverse changes)
 reverse-drop m changes =
@@ -117,22 +117,23 @@ reverse-drop m changes =
     length-reverse (drop m changes) ∙ length-drop m changes in
     rw whole (sym (take_at left (reverse (take m changes)) (length changes - m) count))
 
--- context: a list of changes, from which the first m are removed, and a text
+-- The next lemmas are about a list of changes from which the first `m` changes are removed.
 module _ (m : ℕ) (changes : List Change) (text : List ℕ) where
-  -- the remaining changes produce the texts that all the changes produce, except the last m texts
+  -- If the first `m` changes are removed, the list produces the same texts without the last `m`
+  -- texts. The reason is that `texts_of` carries out the first changes last.
   pub texts_of-drop : texts_of (drop m changes) text
       ≡ take (length changes - m) (texts_of changes text)
   texts_of-drop =
       ap (λ (cs : List Change). texts_along cs text) (reverse-drop m changes)
       ∙ texts_along-take (length changes - m) (reverse changes) text
 
-  -- if all the changes fit the text, then the remaining changes fit the text (`AllFit`)
+  -- If all the changes fit the text (`AllFit`), then the changes without the first `m` fit it, too.
   pub AllFit-drop : AllFit changes text → AllFit (drop m changes) text
   AllFit-drop all =
       subst (λ (cs : List Change). FitAlong cs text) (sym (reverse-drop m changes))
       (FitAlong-take (length changes - m) (reverse changes) text all)
 
--- if the changes produce no text, then there is no change
+-- If a list of changes produces no text, then the list is empty.
 pub no_text : (changes : List Change) (text : List ℕ) → texts_of changes text ≡ []
     → changes ≡ []
 no_text changes text none =

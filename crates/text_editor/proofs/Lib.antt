@@ -1,2 +1,2 @@
--- The module of lemmas about changes of a text.
+-- This crate has one module of lemmas. The lemmas are about changes of a text.
 mod ChangesLemmas

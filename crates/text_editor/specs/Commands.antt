@@ -1,12 +1,12 @@
--- What each command does to the editor.
+-- This definition says how each command changes the editor.
 use Rattle.std.specs.Prelude.{◌≡◌, [], ◌∷◌, take}
 use Rattle.std.specs.List.{replace_range}
 use Rattle.text_editor.specs.History.{History}
 use Rattle.text_editor.specs.declared.command.Command.{Command}
 use Rattle.text_editor.specs.declared.command.Command.TheVariants.{Forget, Print, Redo, Replace, Undo}
 
--- `Does command old new` says what `command` does if it succeeds: `old` is the editor before the
--- command, and `new` is the editor after it
+-- `Does command old new` says what `command` does if it succeeds. `old` is the state of the editor
+-- before the command, and `new` is its state after the command.
 abbrev pub Does : Command → History → History → Type 0
 Does (Replace start end characters) old new =
     (new.text ≡ replace_range old.text start end characters.items)

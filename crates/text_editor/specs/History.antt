@@ -1,14 +1,15 @@
--- The value that contracts see for an editor: a `History`.
+-- In contracts, the state of an editor is a `History`.
 use Rattle.std.specs.Prelude.{◌≡◌, ℕ, List, []}
 
--- the current text, the texts that repeated calls of `undo` restore (`past`), and the texts that
--- repeated calls of `redo` restore (`future`); `past` and `future` are in the order of these calls
+-- A `History` contains the current text, the texts that repeated calls of `undo` restore (`past`),
+-- and the texts that repeated calls of `redo` restore (`future`). The first text of each list is
+-- the one that the next call restores.
 pub record History : Type 0 where
   pub past : List (List ℕ)
   pub text : List ℕ
   pub future : List (List ℕ)
 
--- holds if the text is empty, and there is nothing to undo and nothing to redo
+-- `IsNew history` holds if the text is empty, and there is nothing to undo and nothing to redo.
 pub record IsNew (history : History) : Type 0 where
   pub past : history.past ≡ []
   pub text : history.text ≡ []

@@ -1,4 +1,4 @@
--- The definitions that the contracts use: changes, commands, and the value of an editor.
+-- The contracts of the editor use the definitions in these modules.
 pub mod Changes
 pub mod Commands
 pub mod History

@@ -1,10 +1,9 @@
-//! A change of a text: it replaces a range of the characters.
+//! The type `Change`. A change replaces a range of the characters of a text.
 ghost use Rattle.std.specs.Prelude.{◌≡◌, ◌∷◌, OnErr, OnOk};
 
 use thin_vec::{ThinVec, ThinVecError};
 
-/// A change that replaces the characters from `start` up to, but not including, `end` with
-/// `characters`.
+/// A change that replaces the characters `start..end` of a text with `characters`.
 #[derive(Drop)]
 pub struct Change {
     pub start: usize,
@@ -15,13 +14,13 @@ pub struct Change {
 impl Change {
     ghost use Rattle.text_editor.specs.Changes.{AllFit, Fits, changed, texts_of};
 
-    /// Carries out the change on `text`, and appends the change that undoes it to `back`. The
-    /// appended change owns the replaced characters.
+    /// Carries out the change on `text`, and appends to `back` a change that undoes it. The
+    /// appended change owns the characters that were replaced.
     ///
     /// # Errors
     ///
-    /// Fails if there is no room for the replaced characters, for the new text or for one more item
-    /// of `back`. Then neither `text` nor the items of `back` change.
+    /// Fails if there is not enough memory for the replaced characters, for the new text, or for
+    /// one more item of `back`. On failure, neither `text` nor the items of `back` change.
     pub fn make(
         &self,
         text: &mut ThinVec<char>,

@@ -1,4 +1,4 @@
-//! The commands of the editor. Each is written as one line of the input.
+//! The commands of the editor. Each line of the input is one command.
 ghost use Rattle.std.specs.Prelude.{◌≡◌, OnErr, OnOk};
 
 use crate::edit_error::EditError;
@@ -9,18 +9,18 @@ use thin_vec::ThinVec;
 /// A command, which is read from one line of the input.
 #[derive(Drop)]
 pub enum Command {
-    /// Replaces the characters from the first index up to, but not including, the second index with
-    /// the text in the third field. It is written `insert AT TEXT`, `delete FROM TO` or
-    /// `replace FROM TO TEXT`.
+    /// Replaces the characters from the first index up to, but not including, the second index. The
+    /// third field is the new text. In the input, the command is written `insert AT TEXT`,
+    /// `delete FROM TO` or `replace FROM TO TEXT`.
     Replace(usize, usize, ThinVec<char>),
-    /// Undoes the last edit that has not been undone. It is written `undo`.
+    /// Undoes the last edit that has not been undone. In the input, the command is written `undo`.
     Undo,
-    /// Redoes the edit that was undone last. It is written `redo`.
+    /// Redoes the edit that was undone last. In the input, the command is written `redo`.
     Redo,
-    /// Forgets the oldest edits, so that at most COUNT edits can be undone. It is written
-    /// `forget COUNT`.
+    /// Forgets the oldest edits. At most COUNT edits can be undone after this. In the input, the
+    /// command is written `forget COUNT`.
     Forget(usize),
-    /// Prints the text. It is written `print`.
+    /// Prints the text. In the input, the command is written `print`.
     Print,
 }
 
@@ -31,8 +31,8 @@ impl Command {
     ///
     /// # Errors
     ///
-    /// Returns `NotACommand` if the line is not a command, and `NoRoom` if there is no room for the
-    /// text in the command.
+    /// Returns `NotACommand` if the line is not a command, and `NoRoom` if there is not enough
+    /// memory for the text in the command.
     pub fn parse(alloc: Global, line: &str) -> Result<Command, EditError> {
         let (name, rest) = first_word(line);
         match name {
@@ -58,11 +58,11 @@ impl Command {
         }
     }
 
-    /// Runs the command on `editor`. `Print` does nothing here, because `main` prints the text.
+    /// Runs the command on `editor`. `Print` does nothing here: the text is printed in `main.rt`.
     ///
     /// # Errors
     ///
-    /// Fails if the edit, the undo or the redo fails. Then the editor does not change.
+    /// Fails if the edit, the undo or the redo fails. On failure, the editor does not change.
     pub fn run(self, editor: &mut Editor) -> Result<(), EditError>
         ensures ok { OnOk result (Does self editor.old editor.new) }
         ensures err { OnErr result (editor.new ≡ editor.old) }
@@ -89,13 +89,13 @@ fn replacement(alloc: Global, start: usize, end: usize, text: &str) -> Result<Co
 }
 
 // Returns the text before the first space, and the text after that space. If there is no space,
-// returns the whole text and an empty one.
+// returns the whole text and an empty string.
 fn first_word(text: &str) -> (&str, &str) {
     text.split_once(' ').unwrap_or((text, ""))
 }
 
-// Parses the first word as a number. Returns the number, and the text after the space that follows
-// the word. Fails with `NotACommand` if the word is not a number.
+// Parses the first word of `text` as a number. Returns the number, and the text after the space
+// that follows the word. Fails with `NotACommand` if the word is not a number.
 fn number(text: &str) -> Result<(usize, &str), EditError> {
     let (word, rest) = first_word(text);
     match word.parse::<usize>() {

@@ -1,4 +1,4 @@
-//! The error of a command that was not carried out.
+//! The type `EditError`, which says why a command was not carried out.
 
 use thin_vec::ThinVecError;
 use thiserror::Error;
@@ -15,11 +15,11 @@ pub enum EditError {
     /// There is no edit to undo: none was made, or every edit has been undone or forgotten.
     #[error("nothing to undo")]
     NothingToUndo,
-    /// There is no edit to redo: no edit was undone since the last new edit, or every undone edit
-    /// has been redone.
+    /// There is no edit to redo: no edit has been undone since the last new edit, or every undone
+    /// edit has been redone.
     #[error("nothing to redo")]
     NothingToRedo,
-    /// There is no room for the edit. The field is the cause of the failure.
+    /// There is not enough memory for the edit. The field holds the cause of the failure.
     #[error("{0}")]
     NoRoom(ThinVecError),
 }

@@ -1,4 +1,5 @@
-//! The editor: a text, the changes that undo its edits, and the changes that redo undone edits.
+//! The type `Editor`. An editor owns a text, the changes that undo edits of the text, and the
+//! changes that redo undone edits.
 ghost use Rattle.std.specs.Prelude.{◌≡◌, ◌↔◌, ◌⊎◌, ◌<◌, [], ◌∷◌, IsErrOf, OnErr, OnOk, length, take};
 ghost use Rattle.std.specs.List.{replace_range};
 ghost use Rattle.text_editor.specs.Changes.{AllFit, texts_of};
@@ -10,8 +11,9 @@ use std::alloc::Global;
 use std::marker::Model;
 use thin_vec::{ThinVec, ThinVecError};
 
-/// A text with the history of its edits. Contracts see it as a `History`: the text, the texts that
-/// repeated calls of `undo` restore, and the texts that repeated calls of `redo` restore.
+/// A text with the history of its edits. In contracts, an editor is a `History`: the text, the
+/// texts that repeated calls of `undo` restore, and the texts that repeated calls of `redo`
+/// restore.
 #[derive(Drop)]
 pub struct Editor {
     text: ThinVec<char>,
@@ -37,8 +39,8 @@ impl Model for Editor {
 }
 
 impl Editor {
-    /// Makes an editor with an empty text, and with nothing to undo or to redo. It requests no
-    /// memory.
+    /// Makes an editor with an empty text. There is nothing to undo and nothing to redo. The call
+    /// allocates no memory.
     pub fn new(alloc: Global) -> Editor
         ensures new { IsNew result }
     {
@@ -56,14 +58,14 @@ impl Editor {
         self.text.as_slice()
     }
 
-    /// Replaces the characters from `start` up to, but not including, `end` with `characters`.
-    /// Edits that were undone before the call can no longer be redone.
+    /// Replaces the characters `start..end` with `characters`. Edits that were undone before the
+    /// call can no longer be redone.
     ///
     /// # Errors
     ///
-    /// Returns `OutOfBounds` if `end` is less than `start` or greater than the length of the text,
-    /// and `NoRoom` if there is no room for the edit. Then the editor does not change, and
-    /// `characters` is dropped.
+    /// Returns `OutOfBounds` if `end` is less than `start` or greater than the length of the text.
+    /// Returns `NoRoom` if there is not enough memory for the edit. On failure, the editor does not
+    /// change, and `characters` is dropped.
     pub fn replace(
         &mut self,
         start: usize,
@@ -95,8 +97,8 @@ impl Editor {
     ///
     /// # Errors
     ///
-    /// Returns `NothingToUndo` if there is no such edit, and `NoRoom` if there is no room for the
-    /// changes. Then the editor does not change.
+    /// Returns `NothingToUndo` if there is no such edit, and `NoRoom` if there is not enough
+    /// memory. On failure, the editor does not change.
     pub fn undo(&mut self) -> Result<(), EditError>
         ensures nothing { IsErrOf result EditError.NothingToUndo ↔ (self.old.past ≡ []) }
         ensures text { OnOk result (self.old.past ≡ self.new.text ∷ self.new.past) }
@@ -114,8 +116,8 @@ impl Editor {
     ///
     /// # Errors
     ///
-    /// Returns `NothingToRedo` if there is no such edit, and `NoRoom` if there is no room for the
-    /// changes. Then the editor does not change.
+    /// Returns `NothingToRedo` if there is no such edit, and `NoRoom` if there is not enough
+    /// memory. On failure, the editor does not change.
     pub fn redo(&mut self) -> Result<(), EditError>
         ensures nothing { IsErrOf result EditError.NothingToRedo ↔ (self.old.future ≡ []) }
         ensures text { OnOk result (self.old.future ≡ self.new.text ∷ self.new.future) }
@@ -129,8 +131,8 @@ impl Editor {
         Ok(())
     }
 
-    /// Forgets the oldest edits, so that at most `count` edits can be undone. The text does not
-    /// change.
+    /// Forgets the oldest edits. At most `count` edits can be undone after the call. The text does
+    /// not change.
     pub fn forget(&mut self, count: usize)
         ensures past { self.new.past ≡ take count self.old.past }
         ensures text { self.new.text ≡ self.old.text }
@@ -142,8 +144,8 @@ impl Editor {
     }
 }
 
-// Removes the last change of `from`, carries it out on `text`, and appends the change that undoes
-// it to `to`. If `step` fails, `text` and the items of both lists do not change.
+// Removes the last change of `from`, carries it out on `text`, and appends to `to` a change that
+// undoes it. On failure, `text` and the items of `from` and `to` do not change.
 fn step(
     text: &mut ThinVec<char>,
     from: &mut ThinVec<Change>,

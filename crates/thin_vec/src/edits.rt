@@ -1,6 +1,7 @@
-//! The methods that work on an open block, and the edits `Drain`, `ExtractIf` and `Splice`. An edit
-//! keeps the block open until the edit ends. Methods such as `retain` close the block before they
-//! return.
+//! The methods that edit a range of a list, and the iterators `Drain`, `ExtractIf` and `Splice`,
+//! which some of these methods return. During an edit, there may be gaps of empty slots between the
+//! items. A method such as `retain` closes the gaps before it returns. An iterator closes the gaps
+//! when it is dropped or finished.
 
 mod dedup;
 mod drain;

@@ -1,5 +1,5 @@
-//! The errors of calls that take an argument by value. An error holds the parts of the argument
-//! that the call did not use, so that the caller owns them again.
+//! The errors of calls that take an argument by value. Each error returns to the caller the parts
+//! of the argument that the call did not use.
 ghost use Rattle.std.specs.Prelude.{◌≡◌};
 ghost use Rattle.std.specs.IoError.{error_kind};
 ghost use Rattle.std.specs.declared.io.ErrorKind.TheVariants as Kind;
@@ -21,56 +21,55 @@ pub struct Rejected<S> {
     pub cause: ThinVecError,
 }
 
-/// The error of `extend`. The items that were placed before the failure stay in the list.
+/// The error of `extend`. The items that were appended before the failure stay in the list.
 #[derive(Drop)]
 pub struct ExtendRefused<T, I> {
     /// Says why the call failed.
     pub cause: ThinVecError,
-    /// The item that was taken from the iterator but for which the list had no room. It is `None`
-    /// if the room for the size hint could not be reserved: in that case, no item was taken.
+    /// The last item that was taken from the iterator. The list had no room for it. `in_hand` is
+    /// `None` if no item was taken, because the list could not reserve room for the size hint.
     pub in_hand: Option<T>,
-    /// The iterator, which yields the items that were not taken from it.
+    /// The iterator. It yields the items that have not been taken from it.
     pub rest: I,
 }
 
 /// The error of `from_iter`. It holds every item that was taken from the iterator.
 #[derive(Drop)]
 pub struct CollectRefused<T, I, A: Allocator = Global> {
-    /// The list. It has the items that were placed, and the allocator that was passed to
-    /// `from_iter`.
+    /// The list. It holds the items that were appended before the failure, and owns the allocator
+    /// that was passed to `from_iter`.
     pub list: ThinVec<T, A>,
     /// Says why the call failed.
     pub cause: ThinVecError,
-    /// The item that was taken from the iterator but for which the list had no room. It is `None`
-    /// if the room for the size hint could not be reserved: in that case, no item was taken.
+    /// The last item that was taken from the iterator. The list had no room for it. `in_hand` is
+    /// `None` if no item was taken, because the list could not reserve room for the size hint.
     pub in_hand: Option<T>,
-    /// The iterator, which yields the items that were not taken from it.
+    /// The iterator. It yields the items that have not been taken from it.
     pub rest: I,
 }
 
-/// The error of `finish` of a `Splice`. The items that were placed before the failure stay in the
-/// list.
+/// The error of `Splice::finish`. The items that were placed before the failure stay in the list.
 #[derive(Drop)]
 pub struct SpliceRefused<T, I, A: Allocator = Global> {
     /// Says why the call failed.
     pub cause: ThinVecError,
-    /// The items that were taken from the iterator after those that were placed in the list. The
-    /// vector has the allocator that was passed to `finish`.
+    /// The items that were collected from the iterator, but could not be moved into the list. The
+    /// vector uses the allocator that was passed to `finish`.
     pub held: Vec<T, A>,
-    /// The item that was taken from the iterator after the items in `held`, and for which there was
-    /// no room. It is `None` if the list could not get room for the size hint, or for the items in
-    /// `held`.
+    /// The last item that was taken from the iterator, after the items in `held`. There was no room
+    /// for it. `in_hand` is `None` if the list could not reserve room for the size hint, or for the
+    /// items in `held`.
     pub in_hand: Option<T>,
-    /// The iterator, which yields the items that were not taken from it. If `held` is not empty and
-    /// `in_hand` is `None`, the iterator has returned `None`, and `next` must not be called on it
-    /// again. In all other cases, `next` may be called.
+    /// The iterator. It yields the items that have not been taken from it. If `held` is not empty
+    /// and `in_hand` is `None`, the iterator has returned `None`, and `next` must not be called on
+    /// it again. In all other cases, `next` may be called.
     pub rest: I,
 }
 
 impl<S: Drop> From<Rejected<S>> for ThinVecError {
     ghost from_gives = { λ refused cause. cause ≡ refused.cause };
 
-    // Returns the cause, and drops the value.
+    // Returns the field `cause` of the error, and drops the field `value`.
     fn from(refused: Rejected<S>) -> ThinVecError {
         refused.cause
     }
@@ -79,7 +78,7 @@ impl<S: Drop> From<Rejected<S>> for ThinVecError {
 impl<T: Drop, I: Drop> From<ExtendRefused<T, I>> for ThinVecError {
     ghost from_gives = { λ refused cause. cause ≡ refused.cause };
 
-    // Returns the cause, and drops the item in hand and the iterator.
+    // Returns the field `cause` of the error, and drops the fields `in_hand` and `rest`.
     fn from(refused: ExtendRefused<T, I>) -> ThinVecError {
         refused.cause
     }
@@ -88,7 +87,7 @@ impl<T: Drop, I: Drop> From<ExtendRefused<T, I>> for ThinVecError {
 impl<T: Drop, I: Drop, A: Allocator> From<CollectRefused<T, I, A>> for ThinVecError {
     ghost from_gives = { λ refused cause. cause ≡ refused.cause };
 
-    // Returns the cause, and drops the list, the item in hand and the iterator.
+    // Returns the field `cause` of the error, and drops the fields `list`, `in_hand` and `rest`.
     fn from(refused: CollectRefused<T, I, A>) -> ThinVecError {
         refused.cause
     }
@@ -97,38 +96,35 @@ impl<T: Drop, I: Drop, A: Allocator> From<CollectRefused<T, I, A>> for ThinVecEr
 impl<T: Drop, I: Drop, A: Allocator> From<SpliceRefused<T, I, A>> for ThinVecError {
     ghost from_gives = { λ refused cause. cause ≡ refused.cause };
 
-    // Returns the cause, and drops the held items, the item in hand and the iterator.
+    // Returns the field `cause` of the error, and drops the fields `held`, `in_hand` and `rest`.
     fn from(refused: SpliceRefused<T, I, A>) -> ThinVecError {
         refused.cause
     }
 }
 
 impl<S: Drop> From<Rejected<S>> for AllocError {
-    // Drops the value. The cause is lost, because `AllocError` has no field for it.
+    // Drops all fields of the error. The cause is lost, because `AllocError` has no field for it.
     fn from(_refused: Rejected<S>) -> AllocError {
         AllocError
     }
 }
 
 impl<T: Drop, I: Drop> From<ExtendRefused<T, I>> for AllocError {
-    // Drops the item in hand and the iterator. The cause is lost, because `AllocError` has no field
-    // for it.
+    // Drops all fields of the error. The cause is lost, because `AllocError` has no field for it.
     fn from(_refused: ExtendRefused<T, I>) -> AllocError {
         AllocError
     }
 }
 
 impl<T: Drop, I: Drop, A: Allocator> From<CollectRefused<T, I, A>> for AllocError {
-    // Drops the list, the item in hand and the iterator. The cause is lost, because `AllocError`
-    // has no field for it.
+    // Drops all fields of the error. The cause is lost, because `AllocError` has no field for it.
     fn from(_refused: CollectRefused<T, I, A>) -> AllocError {
         AllocError
     }
 }
 
 impl<T: Drop, I: Drop, A: Allocator> From<SpliceRefused<T, I, A>> for AllocError {
-    // Drops the held items, the item in hand and the iterator. The cause is lost, because
-    // `AllocError` has no field for it.
+    // Drops all fields of the error. The cause is lost, because `AllocError` has no field for it.
     fn from(_refused: SpliceRefused<T, I, A>) -> AllocError {
         AllocError
     }
@@ -137,8 +133,8 @@ impl<T: Drop, I: Drop, A: Allocator> From<SpliceRefused<T, I, A>> for AllocError
 impl<S: Drop> From<Rejected<S>> for io::Error {
     ghost from_gives = { λ _ error. error_kind error ≡ Kind.OutOfMemory };
 
-    // Drops the value. The kind of the error is `OutOfMemory` even if the cause was
-    // `CapacityOverflow`, because std has no `ErrorKind` for an overflow.
+    // Drops all fields of the old error. The kind of the new error is `OutOfMemory`, even if the
+    // cause was `CapacityOverflow`, because std has no `ErrorKind` for a capacity overflow.
     fn from(_refused: Rejected<S>) -> io::Error {
         io::Error::from(ErrorKind::OutOfMemory)
     }
@@ -147,7 +143,7 @@ impl<S: Drop> From<Rejected<S>> for io::Error {
 impl<T: Drop, I: Drop> From<ExtendRefused<T, I>> for io::Error {
     ghost from_gives = { λ _ error. error_kind error ≡ Kind.OutOfMemory };
 
-    // Drops the item in hand and the iterator. The kind of the error is `OutOfMemory`, whatever the
+    // Drops all fields of the old error. The kind of the new error is `OutOfMemory`, whatever the
     // cause was.
     fn from(_refused: ExtendRefused<T, I>) -> io::Error {
         io::Error::from(ErrorKind::OutOfMemory)
@@ -157,8 +153,8 @@ impl<T: Drop, I: Drop> From<ExtendRefused<T, I>> for io::Error {
 impl<T: Drop, I: Drop, A: Allocator> From<CollectRefused<T, I, A>> for io::Error {
     ghost from_gives = { λ _ error. error_kind error ≡ Kind.OutOfMemory };
 
-    // Drops the list, the item in hand and the iterator. The kind of the error is `OutOfMemory`,
-    // whatever the cause was.
+    // Drops all fields of the old error. The kind of the new error is `OutOfMemory`, whatever the
+    // cause was.
     fn from(_refused: CollectRefused<T, I, A>) -> io::Error {
         io::Error::from(ErrorKind::OutOfMemory)
     }
@@ -167,15 +163,15 @@ impl<T: Drop, I: Drop, A: Allocator> From<CollectRefused<T, I, A>> for io::Error
 impl<T: Drop, I: Drop, A: Allocator> From<SpliceRefused<T, I, A>> for io::Error {
     ghost from_gives = { λ _ error. error_kind error ≡ Kind.OutOfMemory };
 
-    // Drops the held items, the item in hand and the iterator. The kind of the error is
-    // `OutOfMemory`, whatever the cause was.
+    // Drops all fields of the old error. The kind of the new error is `OutOfMemory`, whatever the
+    // cause was.
     fn from(_refused: SpliceRefused<T, I, A>) -> io::Error {
         io::Error::from(ErrorKind::OutOfMemory)
     }
 }
 
-// Of the fields of an error, `Debug` and `Display` print only the cause. So the other fields need
-// not implement these traits.
+// `Debug` and `Display` print only the cause of an error. So the types of the other fields need not
+// implement these traits.
 impl<S> fmt::Debug for Rejected<S> {
     fn fmt<W: fmt::Write>(&self, f: &mut fmt::Formatter<W>) -> fmt::Result {
         f.debug_struct("Rejected")

@@ -1,5 +1,5 @@
-//! The type `ThinVec`, what contracts see of a list, and the methods that most callers use. The
-//! other methods are in the folder `list`, and in `convert` and `edits`.
+//! The type `ThinVec`, its model in contracts, and its most common methods. The other methods are
+//! in the folders `list`, `convert` and `edits`.
 ghost use Rattle.std.specs.Prelude.{◌≡◌, ◌↔◌, ◌+◌, ◌-◌, ◌<◌, ◌==◌, [], ◌∷◌, ◌++◌, IfErr, IsOk, IsSome, IsTrue, None, OnErr, OnOk, Some, length, slice_index_or, take};
 ghost use Rattle.std.specs.Option.{option_to_list};
 ghost use Rattle.thin_block.specs.Block.{IsFrom};
@@ -25,9 +25,9 @@ use std::alloc::{Allocator, Global};
 use std::marker::{Model, PhantomData};
 use thin_block::{Block, Doubling, Growth, ThinVecError};
 
-/// A growable list, like Rust's `Vec`, but one pointer wide if its allocator is zero-sized, as
-/// `Global` is. The length and the capacity are stored at the start of the allocation, which is
-/// called the *block* of the list. A list of capacity 0 has no block.
+/// A growable list like Rust's `Vec`. If its allocator is zero-sized, as `Global` is, the list is
+/// only one pointer wide. The length and the capacity are stored at the start of the allocation,
+/// which is called the *block* of the list. A list of capacity 0 has no block.
 ///
 /// The list owns its items, its block and its allocator. It needs the allocator to grow, and to
 /// free the block. Dropping a list drops its items and frees its block.
@@ -55,8 +55,8 @@ impl<T, A: Allocator, G: Growth> Model for ThinVec<T, A, G> {
 impl<T, A: Allocator> ThinVec<T, A> {
     ghost use Rattle.thin_vec.specs.ThinVec.{IsNew, IsWithin};
 
-    /// Returns an empty list of capacity 0, which keeps `alloc`. The call allocates nothing. The
-    /// growth rule of the list is `Doubling`.
+    /// Returns an empty list of capacity 0, which owns the allocator `alloc`. The call allocates
+    /// nothing. The growth rule of the list is `Doubling`.
     pub fn new(alloc: A) -> ThinVec<T, A>
         ensures new { IsNew result alloc }
         ensures within { IsWithin T.row result }
@@ -64,9 +64,8 @@ impl<T, A: Allocator> ThinVec<T, A> {
         ThinVec::ruled(alloc)
     }
 
-    /// Does the same as `new`: returns an empty list of capacity 0, which keeps `alloc`, and
-    /// allocates nothing. This method replaces the trait `Default`, whose method takes no
-    /// allocator.
+    /// Returns an empty list of capacity 0, like `new`. The list owns the allocator `alloc`. This
+    /// method replaces the trait `Default`, whose method takes no allocator.
     pub fn default_in(alloc: A) -> ThinVec<T, A>
         ensures new { IsNew result alloc }
         ensures within { IsWithin T.row result }
@@ -81,8 +80,8 @@ impl<T, A: Allocator, G: Growth> ThinVec<T, A, G> {
     ghost use Rattle.thin_vec.specs.Lends.{LendsItems};
     ghost use Rattle.thin_vec.specs.ThinVec.{HasRoomFor, IsNew, IsWithin};
 
-    /// Returns an empty list of capacity 0 with the growth rule `G`, which keeps `alloc`. The call
-    /// allocates nothing.
+    /// Returns an empty list of capacity 0 with the growth rule `G`. The list owns the allocator
+    /// `alloc`. The call allocates nothing.
     ///
     /// This method is our own: the Rust crate thin-vec has a single growth rule.
     pub fn ruled(alloc: A) -> ThinVec<T, A, G>
@@ -105,9 +104,9 @@ impl<T, A: Allocator, G: Growth> ThinVec<T, A, G> {
         self.block.len()
     }
 
-    /// Returns a reference to the allocator that the list keeps.
+    /// Returns a reference to the allocator of the list.
     ///
-    /// The Rust crate thin-vec has no such method, because its lists keep no allocator.
+    /// The Rust crate thin-vec has no such method, because its lists do not store an allocator.
     pub fn allocator(&self) -> &A
         ensures value { result.now ≡ self.now.alloc }
     {
@@ -140,13 +139,13 @@ impl<T, A: Allocator, G: Growth> ThinVec<T, A, G> {
     }
 
     /// Appends `value`, which the list then owns. If there is no spare capacity, the list first
-    /// grows to the capacity that the growth rule chooses. A push takes amortised constant time,
+    /// grows to the capacity that the growth rule chooses. A push takes amortized constant time,
     /// because each growth at least doubles the capacity, even after `reserve_exact`.
     ///
     /// # Errors
     ///
-    /// Fails only if there is no spare capacity. Then the list is unchanged, and the error holds
-    /// `value`, which the caller owns again.
+    /// Fails only if there is no spare capacity. On failure, the list is unchanged, and the error
+    /// holds `value`, which the caller owns again.
     ///
     /// - `CapacityOverflow`: the new capacity would be too large.
     /// - `OutOfMemory`: the allocator failed.
@@ -162,7 +161,8 @@ impl<T, A: Allocator, G: Growth> ThinVec<T, A, G> {
         ensures err { OnErr result (self.new ≡ self.old) }
         ensures value_returned { IfErr result (λ error. error.value ≡ value) }
 
-        // In every case. The capacity grows, and the call fails, exactly as `reserve(1)` would.
+        // In every case. The new capacity, and whether the call fails, are the same as for a call
+        // of `reserve(1)`.
         ensures reserves { Reserves G.rule T.row 1 self.old self.new (causes result) }
         ensures keeps { Keeps T.row self.old self.new }
     {
@@ -181,8 +181,8 @@ impl<T, A: Allocator, G: Growth> ThinVec<T, A, G> {
         self.block.slice(0, self.block.len())
     }
 
-    /// Returns the items, in order, as a mutable slice. What the caller writes to the slice is
-    /// written to the items of the list.
+    /// Returns the items, in order, as a mutable slice. Writing to the slice changes the items of
+    /// the list.
     pub fn as_mut_slice(&mut self) -> &mut [T]
         ensures* writes_back { sem 𝓛
             (LendsItems T.row A.row G.row A.Allocator G.Growth self.entry result) }
@@ -194,10 +194,10 @@ impl<T, A: Allocator, G: Growth> ThinVec<T, A, G> {
         self.block.slice_mut(0, len)
     }
 
-    /// Appends `value`, which the list then owns, without growing. The list must have room for one
-    /// more item; `reserve(1)` makes such room. So the call cannot fail, and returns no `Result`.
+    /// Appends `value`, which the list then owns. The list does not grow: it must have room for one
+    /// more item. `reserve(1)` makes such room. So the call cannot fail, and returns no `Result`.
     ///
-    /// Rattle's `Vec` has a method of this name, and the Rust crate thin-vec has none.
+    /// Rattle's `Vec` has a method of this name, but the Rust crate thin-vec does not.
     pub fn push_reserved(&mut self, value: T)
         requires room { HasRoomFor self.old 1 }
         ensures items { self.new.items ≡ self.old.items ++ value ∷ [] }
@@ -239,8 +239,8 @@ impl<T, A: Allocator, G: Growth> ThinVec<T, A, G> {
         value
     }
 
-    // Takes the list apart into its block and its allocator. The caller then owns both, and the
-    // items in the block.
+    // Splits the list into its block and its allocator, and returns the two. The caller then owns
+    // them, and the items in the block.
     pub(crate) fn into_parts(self) -> (Block<T, A>, A)
         ensures slots { result.0.slots ≡ front self.items self.capacity }
         ensures len { result.0.len ≡ length self.items }

@@ -1,5 +1,5 @@
-//! The macro `thin_vec!`, which makes a list of the items that are written in it, and the functions
-//! that the macro calls.
+//! The macro `thin_vec!`, which makes a list of its arguments, and the functions that the macro
+//! calls.
 ghost use Rattle.std.specs.Prelude.{◌≡◌, [], ◌∷◌, ◌++◌, IfOk, IsOk, Some, replicate};
 ghost use Rattle.thin_block.specs.Cost.{moving};
 ghost use Rattle.thin_block.specs.Growth.{doubling, ruled_capacity};
@@ -14,26 +14,26 @@ use thin_block::ThinVecError;
 /// Makes a list with the growth rule `Doubling`. The macro has three forms:
 ///
 /// - `thin_vec![alloc =>]` makes an empty list of capacity 0. It allocates nothing.
-/// - `thin_vec![alloc => x, y]` makes a list of the items that are written, in order. Its capacity
-///   is exactly the number of items.
-/// - `thin_vec![alloc => x; k]` makes a list of `k` items: clones of `x`, and `x` itself as the
-///   last item. Its capacity is the one that `Doubling` chooses for `k` items. If `k` is 0, the
-///   capacity is 0, and `x` is dropped.
+/// - `thin_vec![alloc => x, y]` makes a list of the given items, in order. The capacity is exactly
+///   the number of items.
+/// - `thin_vec![alloc => x; k]` makes a list of `k` items: clones of `x`, and then `x` itself as
+///   the last item. `Doubling` chooses the capacity for `k` items. If `k` is 0, the capacity is 0,
+///   and `x` is dropped.
 ///
-/// In each form, `in alloc;` may be written instead of `alloc =>`, as in
-/// `thin_vec![in alloc; x, y]`. The first form is then `thin_vec![in alloc]`. A trailing comma is
-/// allowed after items, but not after `k`.
+/// Instead of `alloc =>`, you can write `in alloc;`, as in `thin_vec![in alloc; x, y]`. The first
+/// form is then `thin_vec![in alloc]`. A trailing comma is allowed after items, but not after `k`.
 ///
-/// The macro evaluates to a `Result<ThinVec<T, A>, ThinVecError>`. It may be used in the body of
-/// any function, whatever the function returns.
+/// The macro evaluates to a `Result<ThinVec<T, A>, ThinVecError>`. It can be used in any function,
+/// whatever type the function returns.
 ///
 /// The macro evaluates `alloc` once, before everything else. In the second form, it then requests
-/// the memory, and evaluates each item once, in order, only if the memory was granted. In the third
-/// form, it evaluates `x` and then `k`, and then requests the memory.
+/// the memory. If the memory is granted, it evaluates each item once, in order. In the third form,
+/// it evaluates `x` and then `k`, and then requests the memory.
 ///
 /// # Errors
 ///
-/// On failure, no list is made. The third form then drops `x` and the clones already made.
+/// On failure, no list is made. The third form then drops `x` and the clones that were already
+/// made.
 ///
 /// - `CapacityOverflow`: the capacity would be too large.
 /// - `OutOfMemory`: the allocator failed or, in the third form, a clone failed.
@@ -68,8 +68,8 @@ macro_rules! thin_vec {
     };
 }
 
-/// Counts the items that are written in `thin_vec!`, and evaluates none of them. `thin_vec!` calls
-/// this macro to compute the capacity.
+/// Counts the arguments without evaluating them. `thin_vec!` calls this macro to compute the
+/// capacity of the list.
 #[doc(hidden)]
 #[macro_export]
 macro_rules! count_items {
@@ -81,8 +81,8 @@ macro_rules! count_items {
     };
 }
 
-/// Appends `value` to a list that has room for one more item, without growing. The list then owns
-/// `value`. `thin_vec!` calls this function once for each item that is written in it.
+/// Appends `value` to a list, which then owns it. The list must have room for one more item.
+/// `thin_vec!` calls this function once for each item.
 #[doc(hidden)]
 pub fn place<T, A: Allocator>(list: &mut ThinVec<T, A>, value: T)
     requires room { HasRoomFor list.old 1 }
@@ -94,13 +94,13 @@ pub fn place<T, A: Allocator>(list: &mut ThinVec<T, A>, value: T)
     list.push_reserved(value);
 }
 
-/// Makes a list of `count` items: clones of `value`, and `value` itself as the last item. If
+/// Makes a list of `count` items: clones of `value`, and then `value` itself as the last item. If
 /// `count` is 0, `value` is dropped. `thin_vec!` calls this function for
 /// `thin_vec![alloc => value; count]`.
 ///
 /// # Errors
 ///
-/// On failure, `value` and the clones already made are dropped.
+/// On failure, no list is made. `value` and the clones that were already made are dropped.
 ///
 /// - `CapacityOverflow`: the capacity that `Doubling` needs for `count` items would be too large.
 /// - `OutOfMemory`: the allocator or a clone failed.

@@ -1,4 +1,5 @@
-//! The open block: the block of a list while an edit, or a call such as `retain`, works on it.
+//! The type `OpenBlock`: the block of a list during an edit of a range, for example during a call
+//! of `retain`. There may be empty slots between the items of the block.
 ghost use Rattle.std.specs.Prelude.{◌≡◌, ◌↔◌, ◌+◌, ◌-◌, ◌==◌, ◌<◌, ◌≤◌, ◌∷◌, ◌++◌, [], IsTrue, drop, if◌then◌else◌, length, slice_range, take};
 ghost use Rattle.std.specs.Iterator.{YieldsFirst, YieldsLast};
 ghost use Rattle.thin_block.specs.Cost.{moving, no_cost};
@@ -17,11 +18,11 @@ use std::marker::Model;
 use std::mem;
 use thin_block::{Block, Growth};
 
-/// The block of a list while an edit, or a call such as `retain`, works on a range of the list.
-/// There may be empty slots between the items.
+/// The block of a list during an edit of a range of the list, for example during a call of
+/// `retain`. There may be empty slots between the items.
 ///
-/// The slots have six parts, each of which may have length 0. The fields of this struct say in
-/// which slot a part begins. `capacity` is the number of slots.
+/// The slots have six parts, each of which may be empty. The fields of this struct say in which
+/// slot each part begins. `capacity` is the number of slots.
 ///
 /// ```text
 ///   0       front_end    rest_start     rest_end    tail_start      len        capacity
@@ -32,31 +33,31 @@ use thin_block::{Block, Growth};
 ///       front        gap       middle run   gap_after       tail      spare slots
 /// ```
 ///
-/// - The *front* has the items before the range, and the items that were kept or inserted so far.
-///   They do not move again while the block is open.
-/// - The *gap* has the empty slots between the front and the middle run.
-/// - The *middle run* has the items of the range not yet yielded or tested. In names of fields and
-///   in contracts, it is called `rest`.
-/// - `gap_after` has the empty slots between the middle run and the tail. There are such slots only
-///   after items were removed from the end of the middle run, or the tail was moved up.
-/// - The *tail* has the items after the range.
+/// - The *front* contains the items before the range, and the items that have been kept or inserted
+///   so far. They do not move again while the block is open.
+/// - The *gap* consists of the empty slots between the front and the middle run.
+/// - The *middle run* contains the items of the range that have not been yielded or tested yet. In
+///   names of fields and in contracts, it is called `rest`.
+/// - `gap_after` consists of the empty slots between the middle run and the tail. There are such
+///   slots only after items were removed from the end of the middle run, or the tail was moved up.
+/// - The *tail* contains the items after the range.
 /// - The *spare slots* are the empty slots after the tail.
 ///
 /// A *test* decides whether an item is kept or removed, and may write to the item. The *verdict* on
 /// an item is this decision, together with the item as the test left it.
 ///
 /// An `OpenBlock` owns the block and all items in it. It does not implement `Drop`: `close` puts
-/// the block back into the list. Contracts see an `OpenBlock` as an `Open`, which is defined in
+/// the block back into the list. In contracts, an `OpenBlock` is an `Open`, which is defined in
 /// `specs/Open.antt`.
 pub struct OpenBlock<T, A: Allocator> {
     // The length that is stored in the block is not used while the block is open.
     pub(crate) block: Block<T, A>,
-    // The front is in the slots from 0 up to `front_end`.
+    // The front (the items before the gap) is in the slots `0..front_end`.
     pub(crate) front_end: usize,
-    // The middle run is in the slots from `rest_start` up to `rest_end`.
+    // The middle run (the remaining items of the range) is in the slots `rest_start..rest_end`.
     pub(crate) rest_start: usize,
     pub(crate) rest_end: usize,
-    // The tail is in the slots from `tail_start` up to `len`.
+    // The tail (the items after the range) is in the slots `tail_start..len`.
     pub(crate) tail_start: usize,
     pub(crate) len: usize,
 }
@@ -76,8 +77,8 @@ impl<T, A: Allocator> Model for OpenBlock<T, A> {
 }
 
 impl<T, A: Allocator, G: Growth> ThinVec<T, A, G> {
-    // Takes the block out of the list. The items from index `start` up to, but not including, `end`
-    // become the middle run. The list is left empty, without a block.
+    // Takes the block out of the list. The items `start..end` become the middle run: the range that
+    // is edited. After the call, the list is empty and has no block.
     pub(crate) fn open(&mut self, start: usize, end: usize) -> OpenBlock<T, A>
         requires start_le_end { start ≤ end }
         requires in_bounds { end ≤ length self.old.items }
@@ -107,9 +108,9 @@ impl<T, A: Allocator, G: Growth> ThinVec<T, A, G> {
         }
     }
 
-    // Takes the block out of the list, with a gap of `count` empty slots before the item at `at`.
-    // To make this gap, the item at `at` and all items after it are moved up by `count` slots, as
-    // one run. The list is left empty, without a block.
+    // Takes the block out of the list, and makes a gap of `count` empty slots before the item at
+    // index `at`. To make this gap, the items from index `at` onward are moved up. After the call,
+    // the list is empty and has no block.
     pub(crate) fn open_wide(&mut self, at: usize, count: usize) -> OpenBlock<T, A>
         requires in_bounds { at ≤ length self.old.items }
         requires room { HasRoomFor self.old count }
@@ -137,9 +138,9 @@ impl<T, A: Allocator, G: Growth> ThinVec<T, A, G> {
         block
     }
 
-    // Puts the block back into the list. If there is a gap, all items after the gap are first moved
-    // down, as one run; the code for a gap of one or two slots is inlined. If the list has another
-    // block, that block is freed.
+    // Puts the block back into the list. If there is a gap, the items after the gap are first moved
+    // down. The code for a gap of one or two slots is inlined. If the list already has a block,
+    // that block is freed.
     #[inline(always)]
     pub(crate) fn close(&mut self, block: OpenBlock<T, A>)
         requires empty { self.old.items ≡ [] }
@@ -158,14 +159,16 @@ impl<T, A: Allocator, G: Growth> ThinVec<T, A, G> {
 }
 
 impl<T, A: Allocator> OpenBlock<T, A> {
-    // Returns the number of items in the middle run.
+    // Returns the number of items in the middle run, that is, the number of remaining items of the
+    // range.
     pub(crate) fn rest_len(&self) -> usize
         ensures value { result ≡ length self.now.rest }
     {
         self.rest_end - self.rest_start
     }
 
-    // Removes the first item of the middle run and returns it. Its slot becomes a part of the gap.
+    // Removes the first of the remaining items of the range, and returns this item. Its slot
+    // becomes a part of the gap before the remaining items.
     pub(crate) fn take_first(&mut self) -> T
         requires some { 0 < length self.old.rest }
         ensures rest { self.old.rest ≡ result ∷ self.new.rest }
@@ -179,8 +182,8 @@ impl<T, A: Allocator> OpenBlock<T, A> {
         self.block.take(first)
     }
 
-    // Removes the last item of the middle run and returns it. Its slot becomes a part of
-    // `gap_after`.
+    // Removes the last of the remaining items of the range, and returns this item. Its slot becomes
+    // a part of the gap after the remaining items.
     pub(crate) fn take_last(&mut self) -> T
         requires some { 0 < length self.old.rest }
         ensures rest { self.old.rest ≡ self.new.rest ++ result ∷ [] }
@@ -193,14 +196,14 @@ impl<T, A: Allocator> OpenBlock<T, A> {
         self.block.take(self.rest_end)
     }
 
-    // Returns the items of the middle run, in order.
+    // Returns the remaining items of the range, in order.
     pub(crate) fn rest_slice(&self) -> &[T]
         ensures value { result.now ≡ self.now.rest }
     {
         self.block.slice(self.rest_start, self.rest_end)
     }
 
-    // Returns whether the tail has an item.
+    // Returns whether there is an item after the range, that is, in the tail.
     pub(crate) fn has_tail(&self) -> bool
         ensures value { IsTrue result ↔ (0 < length self.now.tail) }
         ensures in_bounds { reach self.now ≤ self.now.capacity }
@@ -208,15 +211,15 @@ impl<T, A: Allocator> OpenBlock<T, A> {
         self.tail_start < self.len
     }
 
-    // Returns whether there is an empty slot between the front and the middle run.
+    // Returns whether there is an empty slot before the remaining items of the range.
     pub(crate) fn has_gap(&self) -> bool
         ensures value { IsTrue result ↔ (0 < self.now.gap) }
     {
         self.front_end < self.rest_start
     }
 
-    // Makes one gap of all empty slots between the front and the tail. The middle run must be
-    // empty.
+    // Joins the gaps before and after the middle run into one gap. The middle run must be empty: no
+    // item of the range remains.
     pub(crate) fn join(&mut self)
         requires none { self.old.rest ≡ [] }
         ensures { self.new
@@ -226,8 +229,8 @@ impl<T, A: Allocator> OpenBlock<T, A> {
         self.rest_end = self.tail_start;
     }
 
-    // Moves the items after the gap down to the start of the gap, as one run. Stores the number of
-    // items as the length of the block, and returns the block.
+    // Moves the items after the gap down to the start of the gap. Stores the number of items as the
+    // length of the block, and returns the block.
     #[inline(always)]
     fn into_closed(self) -> Block<T, A>
         requires gap_after { self.gap_after ≡ 0 }
@@ -255,7 +258,7 @@ impl<T, A: Allocator> OpenBlock<T, A> {
         closed
     }
 
-    // Moves the tail up by `count` slots, as one run.
+    // Moves the items after the range (the tail) up by `count` slots.
     pub(crate) fn widen(&mut self, count: usize)
         requires some { 0 < count }
         requires room { reach self.old + count ≤ self.old.capacity }
@@ -273,7 +276,8 @@ impl<T, A: Allocator> OpenBlock<T, A> {
         self.len += count;
     }
 
-    // Yields the first item of the middle run, or returns `None` if the middle run is empty.
+    // Removes the first of the remaining items of the range, and returns this item. Returns `None`
+    // if no item remains.
     pub(crate) fn next(&mut self) -> Option<T>
         ensures yields { YieldsFirst rest_of self.old result self.new }
         ensures range { range_len self.new ≡ range_len self.old }
@@ -288,7 +292,8 @@ impl<T, A: Allocator> OpenBlock<T, A> {
         Some(self.take_first())
     }
 
-    // Yields the last item of the middle run, or returns `None` if the middle run is empty.
+    // Removes the last of the remaining items of the range, and returns this item. Returns `None`
+    // if no item remains.
     pub(crate) fn next_back(&mut self) -> Option<T>
         ensures yields { YieldsLast rest_of self.old result self.new }
         ensures range { range_len self.new ≡ range_len self.old }
@@ -305,8 +310,8 @@ impl<T, A: Allocator> OpenBlock<T, A> {
 }
 
 impl<T: Drop, A: Allocator> OpenBlock<T, A> {
-    // Drops the items of the middle run, and makes one gap of all empty slots between the front and
-    // the tail. No item moves.
+    // Drops the remaining items of the range. Their slots and the gaps around them become one gap.
+    // No item is moved.
     pub(crate) fn drop_rest(&mut self)
         ensures { self.new ≡ record self.old {
           gap = self.old.gap + length self.old.rest + self.old.gap_after;

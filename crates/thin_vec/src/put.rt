@@ -1,4 +1,5 @@
-//! Loops that put items into the empty slots of a block, or take them out and drop them.
+//! Loops that put items into the empty slots of a block, and a loop that drops all items of a
+//! block.
 ghost use Rattle.std.specs.Iterator.{IsFinite};
 ghost use Rattle.std.specs.List.{FoldsTo};
 ghost use Rattle.std.specs.Prelude.{◌≡◌, ℕ, ◌+◌, ◌-◌, ◌<◌, ◌≤◌, List, HoldsAt, length, replicate};
@@ -14,7 +15,7 @@ use thin_block::Block;
 
 /// The result of moving items of an iterator into empty slots, in order.
 pub(crate) struct Filled<I> {
-    /// The iterator, which yields the items that were not placed.
+    /// The iterator. It yields the items that were not placed in a slot.
     pub(crate) rest: I,
     /// The index of the slot after the last item that was placed.
     pub(crate) end: usize,
@@ -22,7 +23,7 @@ pub(crate) struct Filled<I> {
     pub(crate) ended: bool,
 }
 
-// Drops all items of `block`, which are in its first `len` slots.
+// Drops all items of `block`. The items are in the first `len` slots.
 pub(crate) fn drop_items<T: Drop, A: Allocator>(block: &mut Block<T, A>, len: usize)
     requires packed { IsPacked block.old.slots len }
     ensures changes { seen block.new
@@ -33,8 +34,8 @@ pub(crate) fn drop_items<T: Drop, A: Allocator>(block: &mut Block<T, A>, len: us
     }
 }
 
-// Moves the items of `items` into the empty slots from `start` on, in order, and frees the vector.
-// The last item is moved first.
+// Moves the items of the vector `items` into the empty slots from index `start` onward, in order,
+// and frees the vector. The last item is moved first.
 pub(crate) fn put_vec<T, A: Allocator, B: Allocator>(
     block: &mut Block<T, A>,
     start: usize,
@@ -47,7 +48,8 @@ pub(crate) fn put_vec<T, A: Allocator, B: Allocator>(
       cost = moving (length items.items) block.old.cost;
     } }
 {
-    // This call tells the prover that the number of slots, and so each index, is below 2 ^ 63.
+    // This call is needed only for the proof: the contract of `cap` says that the number of slots
+    // is less than 2^63. So each index is less than 2^63, too.
     let _whole = block.cap();
     while let Some(item) = items.pop() {
         block.put(start + items.len(), item);
@@ -55,8 +57,8 @@ pub(crate) fn put_vec<T, A: Allocator, B: Allocator>(
     items.destroy_empty();
 }
 
-// Puts clones of `items` into the empty slots from `start` on, in order, until a clone fails.
-// Returns the number of clones made.
+// Puts clones of `items` into the empty slots from index `start` onward, in order, until a clone
+// fails. Returns the number of clones that were made.
 pub(crate) fn put_clones<T: Clone, A: Allocator>(
     block: &mut Block<T, A>,
     start: usize,
@@ -73,7 +75,8 @@ pub(crate) fn put_clones<T: Clone, A: Allocator>(
     ensures refused { result < length items.now
         → HoldsAt (λ x. ¬ (T.is_infallible x)) items.now result }
 {
-    // This call tells the prover that the number of slots, and so each index, is below 2 ^ 63.
+    // This call is needed only for the proof: the contract of `cap` says that the number of slots
+    // is less than 2^63. So each index is less than 2^63, too.
     let _whole = block.cap();
     for i in 0..items.len() {
         match items[i].clone() {
@@ -84,8 +87,8 @@ pub(crate) fn put_clones<T: Clone, A: Allocator>(
     items.len()
 }
 
-// Puts clones of `value` into the `count` empty slots from `start` on, until a clone fails. Returns
-// the number of clones made.
+// Puts clones of `value` into the `count` empty slots from index `start` onward, until a clone
+// fails. Returns the number of clones that were made.
 pub(crate) fn put_repeated<T: Clone, A: Allocator>(
     block: &mut Block<T, A>,
     start: usize,
@@ -103,7 +106,8 @@ pub(crate) fn put_repeated<T: Clone, A: Allocator>(
     } }
     ensures refused { result < count → ¬ (T.is_infallible value.now) }
 {
-    // This call tells the prover that the number of slots, and so each index, is below 2 ^ 63.
+    // This call is needed only for the proof: the contract of `cap` says that the number of slots
+    // is less than 2^63. So each index is less than 2^63, too.
     let _whole = block.cap();
     for i in 0..count {
         match value.clone() {
@@ -114,7 +118,8 @@ pub(crate) fn put_repeated<T: Clone, A: Allocator>(
     count
 }
 
-// Fills the `count` empty slots from `start` on with the results of calls of `make`, in order.
+// Fills the `count` empty slots from index `start` onward with the results of calls of `make`, in
+// order.
 pub(crate) fn put_results<T, A: Allocator, F: FnMut() -> T>(
     block: &mut Block<T, A>,
     start: usize,
@@ -131,16 +136,17 @@ pub(crate) fn put_results<T, A: Allocator, F: FnMut() -> T>(
       cost = moving count block.old.cost;
     } }
 {
-    // This call tells the prover that the number of slots, and so each index, is below 2 ^ 63.
+    // This call is needed only for the proof: the contract of `cap` says that the number of slots
+    // is less than 2^63. So each index is less than 2^63, too.
     let _whole = block.cap();
     for i in 0..count {
         block.put(start + i, make());
     }
 }
 
-// Moves items of `iter` into the empty slots from `start` up to, but not including, `end`, until
-// the slots are full or `iter` returns `None`. The block is passed by value and returned, so that
-// its pointer stays in a register and LLVM vectorizes the loop.
+// Moves items of `iter` into the empty slots `start..end`, until the slots are full or `iter`
+// returns `None`. The block is passed by value and returned. So its pointer stays in a register,
+// and LLVM vectorizes the loop.
 pub(crate) fn put_iter<T, A: Allocator, I: Iterator<Item = T>>(
     block: Block<T, A>,
     start: usize,

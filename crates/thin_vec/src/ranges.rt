@@ -1,18 +1,18 @@
-//! The function `bounds`, which converts a range of Rust into the two numbers that `drain`,
+//! The function `bounds`, which converts the bounds of a range into the two indices that `drain`,
 //! `extract_if` and `splice` take.
 ghost use Rattle.std.specs.Prelude.{◌≡◌, ◌≤◌, IfSome};
 ghost use Rattle.thin_vec.specs.Ranges.{range_between};
 
 use std::ops::Bound;
 
-/// Converts the range with the bounds `start` and `end`, of a list of `len` items, into two
-/// numbers: the index at which the range begins, and the index before which it ends. Returns `None`
-/// if the range begins after its end, or if it ends after the end of the list.
+/// Converts the bounds `start` and `end` of a range into two indices. The range begins at the first
+/// index, and ends before the second index. `len` is the length of the list. Returns `None` if the
+/// range begins after its end, or if it ends after the end of the list.
 ///
-/// The two numbers meet the preconditions on the range of `drain`, `extract_if` and `splice`.
-/// Rust's `slice::range` returns the same numbers, and panics if this function returns `None`.
+/// The two indices satisfy the preconditions of `drain`, `extract_if` and `splice`. Rust's
+/// `slice::range` returns the same indices, and panics if this function returns `None`.
 ///
-/// This function is our own: the Rust crate thin-vec has none like it.
+/// This function is our own: the Rust crate thin-vec has no such function.
 pub fn bounds(start: Bound<usize>, end: Bound<usize>, len: usize) -> Option<(usize, usize)>
     ensures value { result ≡ range_between start end len }
     ensures start_le_end { IfSome result (λ range. range.0 ≤ range.1) }

@@ -1,4 +1,4 @@
-//! Methods of lists of bytes: `from_str`, and the methods of std's trait `Write`.
+//! Methods of lists of bytes: `from_str`, and the implementation of std's trait `Write`.
 ghost use Rattle.std.specs.Prelude.{◌≡◌, ◌+◌, ◌++◌, IfErr, IfOk, IsErr, IsOk, None, OnErr, OnOk, Some, length};
 ghost use Rattle.std.specs.Borrow.{u8};
 ghost use Rattle.std.specs.IoError.{error_kind};
@@ -53,8 +53,8 @@ impl<A: Allocator, G: Growth> Write for ThinVec<u8, A, G> {
     /// # Errors
     ///
     /// Fails only if the list has to grow, and either the new capacity would be too large or the
-    /// allocator fails. Then the list is unchanged. In both cases, the kind of the error is
-    /// `OutOfMemory`, because std has no `ErrorKind` for an overflow.
+    /// allocator fails. In both cases, the kind of the error is `OutOfMemory`, because std has no
+    /// `ErrorKind` for a capacity overflow. On failure, the list is unchanged.
     fn write(&mut self, buf: &[u8]) -> io::Result<usize>
         // On success.
         ensures value { IfOk result (λ count. count ≡ length buf.now) }
@@ -86,8 +86,8 @@ impl<A: Allocator, G: Growth> Write for ThinVec<u8, A, G> {
     /// # Errors
     ///
     /// Fails only if the list has to grow, and either the new capacity would be too large or the
-    /// allocator fails. Then the list is unchanged. In both cases, the kind of the error is
-    /// `OutOfMemory`, because std has no `ErrorKind` for an overflow.
+    /// allocator fails. In both cases, the kind of the error is `OutOfMemory`, because std has no
+    /// `ErrorKind` for a capacity overflow. On failure, the list is unchanged.
     fn write_all(&mut self, buf: &[u8]) -> io::Result<()>
         // On success.
         ensures items { OnOk result (self.new.items ≡ self.old.items ++ buf.now) }
@@ -121,7 +121,7 @@ impl<A: Allocator, G: Growth> Write for ThinVec<u8, A, G> {
         ensures succeeds { IsOk result }
         ensures unchanged { self.new ≡ self.old }
     {
-        // No written byte is kept outside the list, so there is nothing to write.
+        // Every byte that was written is already in the list, so there is nothing to flush.
         Ok(())
     }
 }

@@ -1,4 +1,4 @@
-//! Lists made from an array, a vector, a boxed slice or a slice.
+//! Methods that make a list from an array, a vector, a boxed slice or a slice.
 ghost use Rattle.std.specs.Prelude.{◌≡◌, ◌≤◌, [], IfErr, IfOk, IsOk, length};
 ghost use Rattle.std.specs.Box.{boxed_slice_items};
 ghost use Rattle.std.specs.List.{AllZip};
@@ -20,13 +20,13 @@ impl<T, A: Allocator> ThinVec<T, A> {
     /// `N`. An empty array needs no allocation.
     ///
     /// Like every array, `items` must take fewer than 2^63 bytes. If `T` is a concrete type, the
-    /// checker proves this by itself. A function that is generic in `T` needs the precondition
-    /// `N * type_size T.row < 2 ^ 63`, where `type_size` is the one of `Rattle.std.specs.Mem`.
-    /// `thin_vec!` has no such condition.
+    /// checker proves this without help. A function that is generic in `T` needs the precondition
+    /// `N * type_size T.row < 2 ^ 63`. Here, `type_size` is defined in `Rattle.std.specs.Mem`. The
+    /// macro `thin_vec!` has no such condition.
     ///
     /// # Errors
     ///
-    /// On failure, the error holds the array, which the caller owns again, and `alloc` is dropped.
+    /// On failure, the error holds the array, so the caller owns it again. `alloc` is dropped.
     ///
     /// - `CapacityOverflow`: a capacity of `N` would be too large.
     /// - `OutOfMemory`: the allocator failed.
@@ -62,12 +62,12 @@ impl<T, A: Allocator> ThinVec<T, A> {
     }
 
     /// Moves the items of a vector into a new list, in order. The capacity of the list is exactly
-    /// the number of items. The vector, which may use any allocator, is freed. An empty vector
-    /// needs no allocation.
+    /// the number of items. The vector may use any allocator, and its allocation is freed. An empty
+    /// vector needs no allocation.
     ///
     /// # Errors
     ///
-    /// On failure, the error holds the vector, which the caller owns again, and `alloc` is dropped.
+    /// On failure, the error holds the vector, so the caller owns it again. `alloc` is dropped.
     ///
     /// - `CapacityOverflow`: the capacity would be too large.
     /// - `OutOfMemory`: the allocator failed.
@@ -102,12 +102,12 @@ impl<T, A: Allocator> ThinVec<T, A> {
     }
 
     /// Moves the items of a boxed slice into a new list, in order. The capacity of the list is
-    /// exactly the number of items. The boxed slice, which may use any allocator, is freed. An
-    /// empty slice needs no allocation.
+    /// exactly the number of items. The boxed slice may use any allocator, and its allocation is
+    /// freed. An empty slice needs no allocation.
     ///
     /// # Errors
     ///
-    /// On failure, the error holds the boxed slice, which the caller owns again, and `alloc` is
+    /// On failure, the error holds the boxed slice, so the caller owns it again. `alloc` is
     /// dropped.
     ///
     /// - `CapacityOverflow`: the capacity would be too large.
@@ -144,8 +144,8 @@ impl<T, A: Allocator> ThinVec<T, A> {
         }
     }
 
-    // Moves the items of `items` into this list, in order, and frees the vector. The list must be
-    // empty and have room for the items.
+    // Moves the items of the vector `items` into this list, in order, and frees the vector. The
+    // list must be empty, and must have room for the items.
     fn extend_from_vec_reserved<B: Allocator>(&mut self, items: Vec<T, B>)
         requires empty { self.old.items ≡ [] }
         requires room { length items.items ≤ self.old.capacity }
@@ -164,7 +164,7 @@ impl<T, A: Allocator> ThinVec<T, A> {
 
 impl<T: Copy, A: Allocator> ThinVec<T, A> {
     /// Copies the items of a slice into a new list, in order. The capacity of the list is exactly
-    /// the number of items. An empty slice needs no allocation. The items are copied as one run,
+    /// the number of items. An empty slice needs no allocation. The items are copied byte for byte,
     /// which is faster than `from_slice`.
     ///
     /// This method is our own: neither Rust's `Vec` nor the Rust crate thin-vec has it.
@@ -206,7 +206,8 @@ impl<T: Clone, A: Allocator> ThinVec<T, A> {
     ///
     /// # Errors
     ///
-    /// On failure, no list is made, and the clones already made and `alloc` are dropped.
+    /// On failure, no list is made. The clones that were already made are dropped, and so is
+    /// `alloc`.
     ///
     /// - `CapacityOverflow`: the capacity would be too large.
     /// - `OutOfMemory`: the allocator or a clone failed.

@@ -10,14 +10,14 @@ use std::boxed::BoxedSlice;
 use thin_block::{Growth, ThinVecError};
 
 impl<T, A: Allocator, G: Growth> ThinVec<T, A, G> {
-    /// Moves the items of the list, in order, into a new `Vec` on `alloc`. The capacity of the
-    /// `Vec` is exactly the number of items. The block of the list is freed. An empty list needs no
-    /// allocation.
+    /// Moves the items of the list, in order, into a new `Vec` that uses the allocator `alloc`. The
+    /// capacity of the `Vec` is exactly the number of items. The allocation of the list is freed.
+    /// An empty list needs no allocation.
     ///
     /// # Errors
     ///
-    /// Fails with `OutOfMemory` if `alloc` fails. Then the error holds the unchanged list, which
-    /// the caller owns again, and `alloc` is dropped.
+    /// Fails with `OutOfMemory` if `alloc` cannot allocate the memory. On failure, the error holds
+    /// the unchanged list, so the caller owns it again. `alloc` is dropped.
     pub fn into_vec(self, alloc: A) -> Result<Vec<T, A>, Rejected<ThinVec<T, A, G>>>
         // On success.
         ensures items { IfOk result (λ vec. vec.items ≡ self.items) }
@@ -41,8 +41,8 @@ impl<T, A: Allocator, G: Growth> ThinVec<T, A, G> {
         }
     }
 
-    // Moves the items of the list, in order, into `vec`, and returns `vec`, which must be empty and
-    // have room for the items. The block of the list is freed.
+    // Moves the items of the list into the vector `vec`, in order, and returns `vec`. The vector
+    // must be empty, and must have room for the items. The allocation of the list is freed.
     fn moved_to(self, mut vec: Vec<T, A>) -> Vec<T, A>
         requires empty { vec.items ≡ [] }
         requires room { length self.items ≤ vec_capacity vec }
@@ -58,13 +58,13 @@ impl<T, A: Allocator, G: Growth> ThinVec<T, A, G> {
         vec
     }
 
-    /// Moves the items of the list, in order, into a new boxed slice on `alloc`. The block of the
-    /// list is freed. An empty list needs no allocation.
+    /// Moves the items of the list, in order, into a new boxed slice that uses the allocator
+    /// `alloc`. The allocation of the list is freed. An empty list needs no allocation.
     ///
     /// # Errors
     ///
-    /// Fails with `OutOfMemory` if `alloc` fails. Then the error holds the unchanged list, which
-    /// the caller owns again, and `alloc` is dropped.
+    /// Fails with `OutOfMemory` if `alloc` cannot allocate the memory. On failure, the error holds
+    /// the unchanged list, so the caller owns it again. `alloc` is dropped.
     pub fn into_boxed_slice(self, alloc: A) -> Result<BoxedSlice<T, A>, Rejected<ThinVec<T, A, G>>>
         // On success.
         ensures items { IfOk result (λ boxed. boxed_slice_items boxed ≡ self.items) }
@@ -81,18 +81,18 @@ impl<T, A: Allocator, G: Growth> ThinVec<T, A, G> {
         Ok(self.into_vec(alloc)?.into_boxed_slice())
     }
 
-    /// If the list has exactly `N` items, moves them, in order, into an array, and frees the block
-    /// of the list. The call allocates nothing.
+    /// If the list has exactly `N` items, moves them into an array, in order, and frees the
+    /// allocation of the list. The call allocates nothing.
     ///
     /// Like every array, the result must take fewer than 2^63 bytes. If `T` is a concrete type, the
-    /// checker proves this by itself. A function that is generic in `T` needs the precondition
-    /// `N * type_size T.row < 2 ^ 63`, where `type_size` is the one of `Rattle.std.specs.Mem`.
-    /// `into_vec` and `into_iter` have no such condition.
+    /// checker proves this without help. A function that is generic in `T` needs the precondition
+    /// `N * type_size T.row < 2 ^ 63`. Here, `type_size` is defined in `Rattle.std.specs.Mem`. The
+    /// methods `into_vec` and `into_iter` have no such condition.
     ///
     /// # Errors
     ///
-    /// Fails if the number of items is not `N`. The error is the unchanged list, which the caller
-    /// owns again.
+    /// Fails if the number of items is not `N`. The error is the unchanged list, so the caller owns
+    /// it again.
     pub fn into_array<const N: usize>(mut self) -> Result<[T; N], ThinVec<T, A, G>>
         // On success.
         ensures items { IfOk result (λ items. items ≡ self.items) }
@@ -112,15 +112,14 @@ impl<T, A: Allocator, G: Growth> ThinVec<T, A, G> {
         Ok(items)
     }
 
-    // Moves all items out of the list, into an array. There must be exactly `N` items. The list is
-    // then empty, and keeps its block.
+    // Moves all items of the list into an array. The list must have exactly `N` items. After the
+    // call, the list is empty, and keeps its allocation.
     fn take_all<const N: usize>(&mut self) -> [T; N]
         requires all { length self.old.items ≡ N }
         ensures value { result ≡ self.old.items }
         ensures items { self.new.items ≡ [] }
     {
-        // This call is only for the prover: by the contract of `len`, the number of items is small
-        // enough for a block.
+        // This call is needed only for the proof: the contract of `len` limits the number of items.
         let _len = self.len();
         let items = self.block.take_array(0);
         self.block.set_len(0);

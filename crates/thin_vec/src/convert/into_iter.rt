@@ -14,14 +14,15 @@ use std::iter::FusedIterator;
 use std::marker::{Model, PhantomData};
 use thin_block::{Block, Doubling, Growth, ThinVecError};
 
-/// An iterator that yields the items of a list, from either end. It owns the items not yet yielded,
-/// and the block and the allocator of the list. Each item stays in its slot until it is yielded.
-/// Dropping the iterator drops the items not yet yielded, and frees the block.
+/// An iterator that yields the items of a list from either end. It owns the allocation and the
+/// allocator of the list, and the items that have not been yielded yet. Dropping the iterator drops
+/// these items, and frees the allocation. No item is moved before it is yielded.
 ///
-/// Contracts see an `IntoIter` as they see a list: its `items` are the items not yet yielded.
+/// In contracts, an `IntoIter` is treated like a list: its `items` are the items that have not been
+/// yielded yet.
 pub struct IntoIter<T, A: Allocator = Global, G: Growth = Doubling> {
-    // The items not yet yielded are in the slots from `start` up to, but not including, `end`. The
-    // length that is stored in the block is not used any more.
+    // The items that have not been yielded yet are in the slots `start..end` of the block. The
+    // length that is stored in the block is no longer used.
     block: Block<T, A>,
     alloc: A,
     start: usize,
@@ -44,7 +45,8 @@ impl<T, A: Allocator, G: Growth> Model for IntoIter<T, A, G> {
 
 impl<T, A: Allocator, G: Growth> ThinVec<T, A, G> {
     /// Converts the list into an iterator that yields its items from either end. The iterator owns
-    /// the items, the block and the allocator. The call allocates nothing, and moves no item.
+    /// the items, the allocation and the allocator of the list. The call allocates nothing, and
+    /// moves no item.
     pub fn into_iter(self) -> IntoIter<T, A, G>
         ensures value { result ≡ self }
         ensures small { length result.items < 2 ^ 64 }
@@ -80,14 +82,15 @@ impl<T, A: Allocator, G: Growth> IntoIter<T, A, G> {
     ghost use types.Logic.{sem};
     ghost use Rattle.thin_vec.specs.Lends.{LendsRest};
 
-    /// Returns the number of items not yet yielded.
+    /// Returns the number of items that have not been yielded yet.
     pub fn len(&self) -> usize
         ensures value { result ≡ length self.now.items }
     {
         self.end - self.start
     }
 
-    /// Returns the number of items not yet yielded, as both the lower and the upper bound.
+    /// Returns the number of items that have not been yielded yet, as both the lower and the upper
+    /// bound.
     pub fn size_hint(&self) -> (usize, Option<usize>)
         ensures value { result ≡ (length self.now.items, Some (length self.now.items)) }
     {
@@ -95,7 +98,8 @@ impl<T, A: Allocator, G: Growth> IntoIter<T, A, G> {
         (len, Some(len))
     }
 
-    /// Yields the first item not yet yielded, or returns `None` if all items were yielded.
+    /// Yields the first item that has not been yielded yet, or returns `None` if all items have
+    /// been yielded.
     pub fn next(&mut self) -> Option<T>
         ensures variant { IsSome result ↔ (0 < length self.old.items) }
         ensures items { self.old.items ≡ option_to_list result ++ self.new.items }
@@ -107,7 +111,8 @@ impl<T, A: Allocator, G: Growth> IntoIter<T, A, G> {
         Some(self.take_first())
     }
 
-    /// Yields the last item not yet yielded, or returns `None` if all items were yielded.
+    /// Yields the last item that has not been yielded yet, or returns `None` if all items have been
+    /// yielded.
     pub fn next_back(&mut self) -> Option<T>
         ensures variant { IsSome result ↔ (0 < length self.old.items) }
         ensures items { self.old.items ≡ self.new.items ++ option_to_list result }
@@ -119,7 +124,7 @@ impl<T, A: Allocator, G: Growth> IntoIter<T, A, G> {
         Some(self.take_last())
     }
 
-    // Yields the first item not yet yielded. There must be such an item.
+    // Yields the first item that has not been yielded yet. There must be such an item.
     fn take_first(&mut self) -> T
         requires some { 0 < length self.old.items }
         ensures items { self.old.items ≡ result ∷ self.new.items }
@@ -130,7 +135,7 @@ impl<T, A: Allocator, G: Growth> IntoIter<T, A, G> {
         self.block.take(first)
     }
 
-    // Yields the last item not yet yielded. There must be such an item.
+    // Yields the last item that has not been yielded yet. There must be such an item.
     fn take_last(&mut self) -> T
         requires some { 0 < length self.old.items }
         ensures items { self.old.items ≡ self.new.items ++ result ∷ [] }
@@ -140,15 +145,15 @@ impl<T, A: Allocator, G: Growth> IntoIter<T, A, G> {
         self.block.take(self.end)
     }
 
-    /// Returns the items not yet yielded, in order, as a slice.
+    /// Returns the items that have not been yielded yet, in order, as a slice.
     pub fn as_slice(&self) -> &[T]
         ensures value { result.now ≡ self.now.items }
     {
         self.block.slice(self.start, self.end)
     }
 
-    /// Returns the items not yet yielded, in order, as a mutable slice. If the caller writes to an
-    /// item of the slice, the iterator later yields this item as written.
+    /// Returns the items that have not been yielded yet, in order, as a mutable slice. If the
+    /// caller changes an item of the slice, the iterator later yields the changed item.
     pub fn as_mut_slice(&mut self) -> &mut [T]
         ensures* writes_back { sem 𝓛
             (LendsRest T.row A.row G.row A.Allocator G.Growth self.entry result) }
@@ -157,7 +162,7 @@ impl<T, A: Allocator, G: Growth> IntoIter<T, A, G> {
         self.block.slice_mut(self.start, self.end)
     }
 
-    // Consumes an iterator that has yielded all its items, and frees the block.
+    // Consumes an iterator that has yielded all its items, and frees the allocation of the list.
     pub(crate) fn release(self)
         requires empty { self.items ≡ [] }
     {
@@ -176,14 +181,14 @@ impl<T: Clone, A: Allocator, G: Growth> IntoIter<T, A, G> {
     ghost use Rattle.thin_vec.specs.Cheap.{IsCheap};
     ghost use Rattle.thin_vec.specs.ThinVec.{cost_new};
 
-    /// Makes a new iterator on `alloc`, which yields a clone of each item that this iterator has
-    /// not yet yielded, in order. The capacity of the new iterator is exactly the number of clones.
-    /// If there are no clones, the call allocates nothing. This iterator is unchanged.
+    /// Makes a new iterator that uses the allocator `alloc`. The new iterator yields clones of the
+    /// items that this iterator has not yielded yet, in order. It has room for exactly these
+    /// clones. If there are no clones, the call allocates nothing. This iterator is unchanged.
     ///
     /// # Errors
     ///
-    /// Fails with `OutOfMemory` if `alloc` or a clone fails. Then no iterator is made, and the
-    /// clones already made and `alloc` are dropped.
+    /// Fails with `OutOfMemory` if `alloc` or a clone fails. On failure, no iterator is made. The
+    /// clones that were already made are dropped, and so is `alloc`.
     pub fn clone(&self, alloc: A) -> Result<IntoIter<T, A, G>, ThinVecError>
         // On success.
         ensures items { IfOk result (λ it. AllZip T.is_clone self.now.items it.items) }
@@ -201,9 +206,8 @@ impl<T: Clone, A: Allocator, G: Growth> IntoIter<T, A, G> {
         // On failure.
         ensures cause { IfErr result (λ cause. cause ≡ ThinVecError.OutOfMemory) }
     {
-        // This call is only for the prover: by the contract of `cap`, the capacity is small enough
-        // for a block. So the number of items, which does not exceed the capacity, is small enough,
-        // too.
+        // This call is needed only for the proof: the contract of `cap` limits the capacity. So the
+        // number of items is limited, too, because it does not exceed the capacity.
         let _room = self.block.cap();
         let list = ThinVec::from_fitting_slice(alloc, self.as_slice())?;
         Ok(list.into_iter())
@@ -251,7 +255,7 @@ impl<T: fmt::Debug, A: Allocator, G: Growth> fmt::Debug for IntoIter<T, A, G> {
 }
 
 impl<T: Drop, A: Allocator, G: Growth> Drop for IntoIter<T, A, G> {
-    // Drops the items not yet yielded, and then frees the block.
+    // Drops the items that have not been yielded yet, and then frees the allocation.
     fn drop(mut self) {
         while let Some(_item) = self.next() {}
         self.release();

@@ -1,5 +1,5 @@
-//! The methods `dedup`, `dedup_by` and `dedup_by_key`, which remove each item that is the same as
-//! the last item kept before it.
+//! The methods `dedup`, `dedup_by` and `dedup_by_key`. They compare each item with the last item
+//! that was kept before it, and remove the item if the two are the same.
 ghost use Rattle.std.specs.Prelude.{◌≡◌, ◌+◌, ◌<◌, ◌≤◌, length};
 ghost use Rattle.std.specs.Fn.{CalledAtPairMut, ComparesKeys};
 ghost use Rattle.std.specs.List.{dedup};
@@ -15,13 +15,13 @@ impl<T: Drop, A: Allocator, G: Growth> ThinVec<T, A, G> {
     ghost use Rattle.thin_vec.specs.Edits.Dedup.{IsDedupedBy, IsDedupedTo};
     ghost use Rattle.thin_vec.specs.ThinVec.{IsWithin};
 
-    /// Compares each item except the first with the last item kept before it, by a call of `same`.
-    /// If `same` returns true, the item is removed and dropped. So of adjacent items that are the
-    /// same, the list keeps the first.
+    /// Calls `same` once for each item except the first, in order. If `same` returns true, the item
+    /// is removed and dropped. So the list keeps only the first of adjacent items that are the
+    /// same.
     ///
-    /// The calls are made in order, one for each item except the first. The first argument of
-    /// `same` is the item, and the second is the kept item, as in Rust's `Vec::dedup_by`. `same`
-    /// may write to both items.
+    /// The first argument of `same` is the item, and the second argument is the last item that was
+    /// kept before it. This is the order of arguments in Rust's `Vec::dedup_by`. `same` may write
+    /// to both items.
     ///
     /// Each item that is kept after the first removed item moves once. No other item moves.
     pub fn dedup_by<F: FnMut(&mut T, &mut T) -> bool>(&mut self, same: F)
@@ -36,8 +36,8 @@ impl<T: Drop, A: Allocator, G: Growth> ThinVec<T, A, G> {
         let Deduping { same: _ } = test;
     }
 
-    // Tests each item except the first, in order, against the last item kept, and drops the items
-    // that are removed.
+    // Tests each item except the first, in order, against the last item that was kept before it.
+    // Drops the items that the test removes.
     fn dedup_those<J: PairTest<T>>(&mut self, test: &mut J)
         requires ready { J.ready test.old }
         ensures deduped { IsDedupedTo J.tests test.old self.old self.new test.new }
@@ -56,11 +56,14 @@ impl<T: Drop, A: Allocator, G: Growth> ThinVec<T, A, G> {
         self.close(block);
     }
 
-    /// Removes and drops each item whose key is equal to the key of the last item kept before it.
+    /// Removes and drops each item whose key is equal to the key of the last item that was kept
+    /// before it.
     ///
-    /// For each item except the first, in order, `key` is called twice: with the item, and then
-    /// with the last item kept so far. This is the order of Rust's `Vec::dedup_by_key`. `key` may
-    /// write to the items. Items move as in `dedup_by`.
+    /// For each item except the first, in order, `key` is called twice: first with the item, and
+    /// then with the last item that was kept before it. Rust's `Vec::dedup_by_key` makes the same
+    /// calls. `key` may write to the items.
+    ///
+    /// Each item that is kept after the first removed item moves once. No other item moves.
     pub fn dedup_by_key<K: PartialEq + Drop, F: FnMut(&mut T) -> K>(&mut self, key: F)
         requires callable { F.IsAlwaysCallable key }
         ensures deduped { IsDedupedBy (ComparesKeys F.FnMut K.eq) key self.old self.new }
@@ -79,10 +82,11 @@ impl<T: PartialEq + Drop, A: Allocator, G: Growth> ThinVec<T, A, G> {
     ghost use Rattle.thin_vec.specs.Edits.Dedup.{unlike};
     ghost use Rattle.thin_vec.specs.ThinVec.{IsWithin};
 
-    /// Removes and drops each item that is equal to the last item kept before it, as Rust's
-    /// `Vec::dedup` does. If the list is sorted, it keeps one item of each value.
+    /// Removes and drops each item that is equal to the last item that was kept before it, like
+    /// Rust's `Vec::dedup`. If the list is sorted, one item of each value remains.
     ///
-    /// Each item except the first is compared once. Items move as in `dedup_by`.
+    /// Each item except the first is compared once. Each item that is kept after the first removed
+    /// item moves once. No other item moves.
     pub fn dedup(&mut self)
         ensures items { self.new.items ≡ dedup T.eq self.old.items }
         ensures cost { self.new.cost ≡ moving (moved_down (unlike T.eq self.old.items))
@@ -97,18 +101,19 @@ impl<T: PartialEq + Drop, A: Allocator, G: Growth> ThinVec<T, A, G> {
     }
 }
 
-// The test of `dedup_by`: the later item is removed if the closure `same` returns true.
+// The test that `dedup_by` uses: the later of two items is removed if the closure `same` returns
+// true.
 struct Deduping<F> {
     same: F,
 }
 
-// The test of `dedup_by_key`: the later item is removed if the closure `key` returns equal keys for
-// both items.
+// The test that `dedup_by_key` uses: the later of two items is removed if the closure `key` returns
+// equal keys for both items.
 struct Keying<F> {
     key: F,
 }
 
-// The test of `dedup`: the later item is removed if the two items are equal.
+// The test that `dedup` uses: the later of two items is removed if the two items are equal.
 struct Comparing {}
 
 impl<T, F: FnMut(&mut T, &mut T) -> bool> PairTest<T> for Deduping<F> {

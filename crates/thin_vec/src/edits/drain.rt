@@ -1,4 +1,5 @@
-//! `drain`: removes the items of a range from a list, and yields them one by one from either end.
+//! The method `drain`, which removes the items of a range from a list, and yields them one by one
+//! from either end.
 ghost use Rattle.std.specs.Prelude.{◌≡◌, ◌+◌, ◌-◌, ◌<◌, ◌≤◌, ◌==◌, ◌++◌, IfSome, Some, if◌then◌else◌, length, slice_range};
 ghost use Rattle.std.specs.List.{remove_range};
 ghost use Rattle.std.specs.Iterator.{UpTo, item_count};
@@ -15,12 +16,12 @@ use std::fmt;
 use std::iter::FusedIterator;
 use thin_block::{Doubling, Growth};
 
-/// An iterator over the items of a range of a list, which yields them from either end.
+/// An iterator that removes the items of a range from a list, and yields them from either end.
 ///
-/// When a `Drain` is dropped, it drops the items that were not yielded, and the list keeps the
-/// items before and after the range. Until then, the `Drain` owns the block of the list, and the
-/// list is empty and has no block. So a `Drain` that is leaked leaves an empty list, and the items
-/// of the old list are leaked.
+/// Until the `Drain` is dropped, it owns the allocation of the list, and the list is empty and has
+/// capacity 0. When the `Drain` is dropped, it drops the items that were not yielded. Then the list
+/// holds the items before and after the range, in the old allocation. If a `Drain` is leaked, the
+/// list stays empty, and its old items are leaked.
 pub struct Drain<
     'a,
     T,
@@ -35,8 +36,8 @@ pub struct Drain<
 
 impl<'a, T: Drop, A: Allocator, G: Growth, H: Holds<Inner = OpenBlock<T, A>>> Drop
     for Drain<'a, T, A, G, H> {
-    // Drops the items that were not yielded. Moves the items after the range, as one run, to the
-    // start of the range, and puts the block back into the list.
+    // Drops the items that were not yielded. Moves the items after the range down to the start of
+    // the range, and puts the block back into the list.
     #[inline(always)]
     fn drop(self)
         ensures items { self.exit.0.now.items ≡ (H.inner self.entry.holder).front
@@ -48,8 +49,8 @@ impl<'a, T: Drop, A: Allocator, G: Growth, H: Holds<Inner = OpenBlock<T, A>>> Dr
         let Drain { list, holder } = self;
         let mut block = holder.into_inner();
         block.drop_rest();
-        // The list is empty already. This call is only for the prover: `close` requires an empty
-        // list.
+        // The list is already empty. This call is needed only for the proof: `close` requires an
+        // empty list.
         list.clear();
         list.close(block);
     }
@@ -58,35 +59,36 @@ impl<'a, T: Drop, A: Allocator, G: Growth, H: Holds<Inner = OpenBlock<T, A>>> Dr
 impl<T: Drop, A: Allocator, G: Growth> ThinVec<T, A, G> {
     ghost use Rattle.thin_vec.specs.Edits.Drain.{DrainKeepsAlong, DrainsInOrder, DrainsInReverse, drain_alloc, drain_capacity, drain_cost, drain_kept, drain_lender, drain_rest};
 
-    /// Removes the items with the indices `start..end` from the list, and returns an iterator that
-    /// yields them from either end. The list is borrowed until the iterator is dropped.
+    /// Removes the items `start..end` from the list, and returns an iterator that yields them from
+    /// either end. The list is borrowed until the iterator is dropped.
     ///
-    /// When the iterator is dropped, it drops the items that were not yielded. Then the list has
-    /// the items before and after the range, whichever items were yielded. Until then, the list is
-    /// empty and has no block. So if the iterator is leaked, the list stays empty.
+    /// Until the iterator is dropped, the list is empty and has capacity 0. When the iterator is
+    /// dropped, it drops the items that were not yielded. Then the list holds the items before and
+    /// after the range. If the iterator is leaked, the list stays empty.
     ///
     /// Neither the call nor the drop allocates memory, and neither can fail. The call moves no
-    /// item. The drop moves each item after the range once, or none if the range is empty. The
-    /// function `bounds(start, end, len)` of this crate checks a range that may be out of bounds.
+    /// item. The drop moves each item after the range once, or none if the range is empty. To check
+    /// a range that may be out of bounds, use the function `bounds` of this crate.
     pub fn drain(&mut self, start: usize, end: usize) -> Drain<'_, T, A, G>
         requires start_le_end { start ≤ end }
         requires in_bounds { end ≤ length self.old.items }
 
-        // The `Drain` yields the items of the range: `next` in order, `next_back` in reverse order.
+        // The `Drain` yields the items of the range. `next` yields them in order, and `next_back`
+        // in reverse order.
         ensures rest { drain_rest result ≡ slice_range self.old.items start end }
         ensures runs { DrainsInOrder result }
         ensures runs_back { DrainsInReverse result }
 
-        // Once the `Drain` is dropped, the list has these items, this capacity, this allocator and
-        // this cost.
+        // After the `Drain` is dropped, the list has the following items, capacity, allocator and
+        // cost.
         ensures kept { drain_kept result ≡ remove_range self.old.items start end }
         ensures capacity { drain_capacity result ≡ self.old.capacity }
         ensures alloc { drain_alloc result ≡ self.old.alloc }
         ensures cost { drain_cost result ≡ (if start == end then self.old.cost else moving
             (length self.old.items - end) self.old.cost) }
 
-        // The `Drain` borrows this list. Calls of `next` do not change what the list will be once
-        // the `Drain` is dropped.
+        // The `Drain` borrows this list. Calls of `next` do not change the value that the list will
+        // have after the `Drain` is dropped.
         ensures same_reference { drain_lender result ≡ self.entry.ghost_name }
         ensures stays { DrainKeepsAlong result }
     {
@@ -101,14 +103,15 @@ impl<T: Drop, A: Allocator, G: Growth> ThinVec<T, A, G> {
 impl<'a, T, A: Allocator, G: Growth> Drain<'a, T, A, G> {
     ghost use Rattle.thin_vec.specs.Edits.Drain.{DrainSteps, DrainStepsBack, drain_rest};
 
-    /// Returns the number of items not yet yielded.
+    /// Returns the number of items that have not been yielded yet.
     pub fn len(&self) -> usize
         ensures value { result ≡ length (drain_rest self.now) }
     {
         self.holder.value.rest_len()
     }
 
-    /// Returns the number of items not yet yielded, as both the lower and the upper bound.
+    /// Returns the number of items that have not been yielded yet, as both the lower and the upper
+    /// bound.
     pub fn size_hint(&self) -> (usize, Option<usize>)
         ensures value { result
             ≡ (length (drain_rest self.now), Some (length (drain_rest self.now))) }
@@ -117,21 +120,23 @@ impl<'a, T, A: Allocator, G: Growth> Drain<'a, T, A, G> {
         (len, Some(len))
     }
 
-    /// Yields the first item not yet yielded, or returns `None` if all items were yielded.
+    /// Yields the first item that has not been yielded yet, or returns `None` if all items have
+    /// been yielded.
     pub fn next(&mut self) -> Option<T>
         ensures steps { DrainSteps self.old result self.new }
     {
         self.holder.value.next()
     }
 
-    /// Yields the last item not yet yielded, or returns `None` if all items were yielded.
+    /// Yields the last item that has not been yielded yet, or returns `None` if all items have been
+    /// yielded.
     pub fn next_back(&mut self) -> Option<T>
         ensures steps { DrainStepsBack self.old result self.new }
     {
         self.holder.value.next_back()
     }
 
-    /// Returns the items not yet yielded, in order.
+    /// Returns the items that have not been yielded yet, in order.
     pub fn as_slice(&self) -> &[T]
         ensures value { result.now ≡ drain_rest self.now }
     {

@@ -1,9 +1,9 @@
-//! The method `extract_if`, and the edit `ExtractIf` that it returns. The edit removes the items of
-//! a range for which a closure returns true, one by one.
+//! The method `extract_if`, and the iterator `ExtractIf` that it returns. The iterator tests the
+//! items of a range with a closure, and removes each item for which the closure returns true.
 //!
-//! No item moves before the first item is removed. From then on the open block has a gap. Kept
-//! items stay where they are until the next item is removed, or until the range ends. Then they are
-//! moved together to the start of the gap.
+//! No item moves before the first item is removed. The removed items leave a gap of empty slots.
+//! When the next item is removed, or when the range ends, the items that were kept since the last
+//! removal are moved together to the start of the gap.
 ghost use Rattle.std.specs.Prelude.{◌≡◌, ◌≤◌, IfSome, Some, drop, length, not, slice_range, take};
 ghost use Rattle.std.specs.Fn.{CalledAtMut};
 ghost use Rattle.std.specs.Iterator.{UpTo, at_most};
@@ -18,14 +18,14 @@ use crate::open_block::sift::Test;
 use std::alloc::{Allocator, Global};
 use thin_block::{Doubling, Growth};
 
-/// An iterator that removes the items of a range for which a closure returns true, and yields them
-/// in order, as the closure left them. The method `extract_if` returns it.
+/// An iterator that tests the items of a range with a closure. It removes and yields each item for
+/// which the closure returns true. The items are yielded in order, as the closure left them. The
+/// method `extract_if` returns this iterator.
 ///
-/// While an `ExtractIf` lives, it owns the block of the list, and the list is empty and has no
-/// block. When it is dropped, it puts the block back. Then the list has every item that was not
-/// yielded. The items not yet tested are kept, and the closure is not called for them. If an
-/// `ExtractIf` is passed to `mem::forget`, the list remains empty and without a block, and the
-/// items and their block are leaked.
+/// Until the `ExtractIf` is dropped, it owns the allocation of the list, and the list is empty and
+/// has capacity 0. After the drop, the list holds every item that was not yielded. Items that were
+/// not tested are kept, and the closure is not called for them. If an `ExtractIf` is passed to
+/// `mem::forget`, the list stays empty, and its old items are leaked.
 pub struct ExtractIf<
     'a,
     T,
@@ -36,20 +36,21 @@ pub struct ExtractIf<
 > {
     list: &'a mut ThinVec<T, A, G>,
     holder: H,
-    // The memory of the block came from the allocator of the list.
+    // The block was allocated by the allocator of the list.
     ghost from: { IsFrom (H.inner holder).block.alloc list.now.alloc },
 }
 
-/// What an `ExtractIf` owns: the open block, whose middle run has the items not yet tested, and the
-/// closure.
+/// The block and the closure that an `ExtractIf` owns. The middle run of the block consists of the
+/// items that have not been tested yet.
 pub struct Extracting<T, F, A: Allocator> {
     block: OpenBlock<T, A>,
     picks: Picks<F>,
-    // There is no empty slot between the middle run and the tail.
+    // There is no empty slot between the items that have not been tested yet and the items after
+    // the range.
     ghost adjacent: { block.gap_after ≡ 0 },
 }
 
-/// The test of an `ExtractIf`: an item is removed if the closure `pick` returns true.
+/// The test that an `ExtractIf` uses: an item is removed if the closure `pick` returns true.
 pub struct Picks<F> {
     pick: F,
 }
@@ -61,7 +62,7 @@ impl<T, F: FnMut(&mut T) -> bool> Test<T> for Picks<F> {
 
     ghost ready = { λ s. F.IsAlwaysCallable s.pick };
 
-    // Returns whether the item is kept, which is the opposite of what `pick` returns.
+    // Returns whether the item is kept. This is the negation of the result of `pick`.
     fn test(&mut self, item: &mut T) -> bool {
         !(self.pick)(item)
     }
@@ -69,8 +70,8 @@ impl<T, F: FnMut(&mut T) -> bool> Test<T> for Picks<F> {
 
 impl<'a, T: Drop, F: Drop, A: Allocator, G: Growth, H: Holds<Inner = Extracting<T, F, A>>> Drop
     for ExtractIf<'a, T, F, A, G, H> {
-    // Moves the items not yet tested, and the items after the range, down to the start of the gap,
-    // as one run. Then puts the block back into the list, and drops the closure.
+    // Moves the items that were not tested, and the items after the range, down to close the gap.
+    // Then puts the block back into the list, and drops the closure.
     fn drop(self)
         ensures items { self.exit.0.now.items ≡ items_of (H.inner self.entry.holder).block }
         ensures capacity { self.exit.0.now.capacity ≡ (H.inner self.entry.holder).block.capacity }
@@ -80,8 +81,8 @@ impl<'a, T: Drop, F: Drop, A: Allocator, G: Growth, H: Holds<Inner = Extracting<
         let ExtractIf { list, holder } = self;
         let Extracting { block, picks } = holder.into_inner();
         let Picks { pick } = picks;
-        // The list is empty already. This call is only for the prover: `close` requires an empty
-        // list.
+        // The list is already empty. This call is needed only for the proof: `close` requires an
+        // empty list.
         list.clear();
         list.close(block);
         drop(pick);
@@ -91,9 +92,10 @@ impl<'a, T: Drop, F: Drop, A: Allocator, G: Growth, H: Holds<Inner = Extracting<
 impl<T, F: FnMut(&mut T) -> bool, A: Allocator> Extracting<T, F, A> {
     ghost use Rattle.thin_vec.specs.Edits.ExtractIf.{Extracts};
 
-    // Tests the items of the middle run, in order, until one is to be removed. Removes that item
-    // and returns it, or returns `None` if all items are kept. The tested items that are kept
-    // become a part of the front; if there is a gap, they are moved down.
+    // Tests the items that have not been tested yet, in order, until the closure `pick` returns
+    // true for an item. Removes that item and returns it. Returns `None` if all items are kept. If
+    // there are empty slots before the tested items, the kept items are moved down into these
+    // slots.
     fn next_picked(&mut self) -> Option<T>
         requires callable { F.IsAlwaysCallable self.old.picks.pick }
         ensures extracts { Extracts (CalledAtMut F.FnMut) self.old result self.new }
@@ -110,20 +112,18 @@ impl<T, F: FnMut(&mut T) -> bool, A: Allocator> Extracting<T, F, A> {
 impl<T: Drop, A: Allocator, G: Growth> ThinVec<T, A, G> {
     ghost use Rattle.thin_vec.specs.Edits.ExtractIf.{extract_alloc, extract_callee, extract_capacity, extract_cost, extract_front, extract_gone, extract_lender, extract_rest, extract_tail};
 
-    /// Returns an iterator that removes those items of a range for which `pick` returns true. The
-    /// range begins at index `start` and ends before index `end`. The iterator yields the removed
-    /// items in order, as `pick` left them, and the caller owns them.
+    /// Returns an iterator that removes the items in the range `start..end` for which `pick`
+    /// returns true. The iterator yields the removed items in order, as `pick` left them.
     ///
     /// `extract_if` itself does not call `pick`. The calls of `next` call it once for each item of
     /// the range, in order. `pick` may write to the item.
     ///
-    /// When the `ExtractIf` is dropped, the list has every item that was not yielded, and its old
-    /// capacity and allocator. If the `ExtractIf` is dropped before `next` has returned `None`, the
-    /// items not yet tested are kept, as with Rust's `Vec::extract_if`.
+    /// After the `ExtractIf` is dropped, the list holds every item that was not yielded, and has
+    /// its old capacity and allocator. Items that were not tested are kept, as with Rust's
+    /// `Vec::extract_if`.
     ///
-    /// No memory is requested. Each kept item after the first removed item moves once, at the
-    /// latest when the `ExtractIf` is dropped. This includes the items after the range. No other
-    /// item moves.
+    /// No memory is allocated. Each item after the first removed item moves once, unless it is
+    /// removed, too. This includes the items after the range. No other item moves.
     ///
     /// The function `bounds` converts a Rust range into `start` and `end`, and checks them.
     pub fn extract_if<F: FnMut(&mut T) -> bool>(
@@ -135,8 +135,8 @@ impl<T: Drop, A: Allocator, G: Growth> ThinVec<T, A, G> {
         requires start_le_end { start ≤ end }
         requires in_bounds { end ≤ length self.old.items }
 
-        // The `ExtractIf` has the items before the range, the items of the range, the items after
-        // the range, and the closure. No item is removed yet.
+        // The `ExtractIf` owns the items before the range, the items of the range, the items after
+        // the range, and the closure. No item has been removed yet.
         ensures front { extract_front result ≡ take start self.old.items }
         ensures rest { extract_rest result ≡ slice_range self.old.items start end }
         ensures tail { extract_tail result ≡ drop end self.old.items }
@@ -164,8 +164,8 @@ impl<T: Drop, A: Allocator, G: Growth> ThinVec<T, A, G> {
 impl<'a, T, F, A: Allocator, G: Growth> ExtractIf<'a, T, F, A, G> {
     ghost use Rattle.thin_vec.specs.Edits.ExtractIf.{extract_rest};
 
-    /// Returns a lower and an upper bound for the number of items still to be yielded: 0, and the
-    /// number of items not yet tested.
+    /// Returns a lower and an upper bound for the number of items that are still to be yielded. The
+    /// lower bound is 0, and the upper bound is the number of items that have not been tested yet.
     pub fn size_hint(&self) -> (usize, Option<usize>)
         ensures value { result ≡ (0, Some (length (extract_rest self.now))) }
     {
@@ -176,9 +176,9 @@ impl<'a, T, F, A: Allocator, G: Growth> ExtractIf<'a, T, F, A, G> {
 impl<'a, T, F: FnMut(&mut T) -> bool, A: Allocator, G: Growth> ExtractIf<'a, T, F, A, G> {
     ghost use Rattle.thin_vec.specs.Edits.ExtractIf.{ExtractSteps, extract_callee};
 
-    /// Calls the closure with the items not yet tested, in order, until it returns true for one of
-    /// them. Then removes that item and returns it. If the closure returns true for none of these
-    /// items, this call and each later call return `None`.
+    /// Calls the closure with the items that have not been tested yet, in order, until it returns
+    /// true for an item. Then removes that item and returns it. If the closure returns false for
+    /// all these items, this call and each later call return `None`.
     pub fn next(&mut self) -> Option<T>
         requires callable { F.IsAlwaysCallable (extract_callee self.old) }
         ensures steps { ExtractSteps (CalledAtMut F.FnMut) self.old result self.new }

@@ -1,11 +1,10 @@
-//! The steps of `finish`, the method that ends a `Splice`. It inserts the items of an iterator in
-//! the place of a removed range. First, `fill_gap` fills the gap that the range left. Then
-//! `insert_hinted` reserves room for the lower bound of the iterator's size hint, and fills this
-//! room. Last, `insert_held` collects the remaining items in a vector, and moves them from there
-//! into the list.
+//! The steps of `Splice::finish`, which puts the items of an iterator in the place of a removed
+//! range. First, `fill_gap` fills the empty slots of the range. Then `insert_hinted` reserves room
+//! for the lower bound of the iterator's size hint, and fills this room. Last, `insert_held`
+//! collects the remaining items in a vector, and moves them into the list.
 //!
-//! The steps are inlined into the caller of `finish`, so that the list and the iterator are not
-//! passed through memory from one step to the next.
+//! The steps are inlined into `finish`. So the list and the iterator need not be passed through
+//! memory from one step to the next.
 ghost use Rattle.std.specs.Prelude.{◌≡◌, ◌+◌, ◌-◌, ◌*◌, ◌<◌, ◌≤◌, [], ◌++◌, ◌∷◌, IfErr, IfOk, IsOk, IsSome, List, MatchOption, None, OnErr, OnOk, OnSome, Some, drop, false, length, take, ℕ};
 ghost use Rattle.std.specs.Iterator.{Drains, IsFinite, Yields, YieldsThen, size};
 ghost use Rattle.std.specs.Iterator.SizeHint.{IsWithinCount};
@@ -28,8 +27,8 @@ use std::iter::Iterator;
 use thin_block::{Growth, ThinVecError};
 
 impl<T, A: Allocator, G: Growth> ThinVec<T, A, G> {
-    // Moves items of `iter` into the gap of `block`, until the gap is full or `iter` ends. Then
-    // puts the block back into the list.
+    // Moves items of `iter` into the gap of `block` (the empty slots between its items), until the
+    // gap is full or `iter` ends. Then puts the block back into the list.
     #[inline(always)]
     fn fill_gap<I: Iterator<Item = T>>(&mut self, mut block: OpenBlock<T, A>, iter: I) -> Filled<I>
         requires empty { self.old.items ≡ [] }
@@ -47,9 +46,9 @@ impl<T, A: Allocator, G: Growth> ThinVec<T, A, G> {
         filled
     }
 
-    // Reserves room for the lower bound of the size hint of `iter`, opens a gap of this length
-    // before the item at index `at`, and moves items of `iter` into the gap. If the room cannot be
-    // reserved, nothing changes, and the error holds `iter`.
+    // Let `hint` be the lower bound of the size hint of `iter`. Reserves room for `hint` items,
+    // makes a gap of `hint` empty slots before the item at index `at`, and moves items of `iter`
+    // into the gap. If the room cannot be reserved, nothing changes, and the error holds `iter`.
     #[inline(always)]
     fn insert_hinted<I: Iterator<Item = T>>(
         &mut self,
@@ -77,8 +76,8 @@ impl<T, A: Allocator, G: Growth> ThinVec<T, A, G> {
         ensures cause { IfErr result
             (λ rejected. FailsAtHint G.rule T.row self.new (I.remaining iter) rejected.cause) }
 
-        // In every case. Each item from index `at` on moves at most twice, or at most once if the
-        // reserved room was filled.
+        // In every case. Each item from index `at` onward moves at most twice. If the reserved room
+        // was filled, it moves at most once.
         ensures taken { HasTaken G.rule T.row self.old self.new
             (2 * (length self.old.items - at)) (I.remaining iter) }
         ensures taken_full { IfOk result (λ filled. filled.ended ≡ false
@@ -95,8 +94,8 @@ impl<T, A: Allocator, G: Growth> ThinVec<T, A, G> {
 }
 
 impl<T: Drop, A: Allocator, G: Growth> ThinVec<T, A, G> {
-    // Collects the items that `iter` yields, in a vector on `alloc`, and then inserts them before
-    // the item at index `at`. If `iter` yields no item, nothing is allocated.
+    // Collects the items of `iter` in a vector that uses `alloc`, and then inserts them before the
+    // item at index `at`. If `iter` yields no item, nothing is allocated.
     #[inline(always)]
     fn insert_held<I: Iterator<Item = T>>(
         &mut self,
@@ -115,7 +114,7 @@ impl<T: Drop, A: Allocator, G: Growth> ThinVec<T, A, G> {
         // When it must succeed.
         ensures succeeds { size (I.remaining iter) ≡ 0 → IsOk result }
 
-        // On failure, the list is unchanged, and no item is lost.
+        // On failure, the list is unchanged, and the error holds every item that `iter` yielded.
         ensures err { OnErr result (self.new ≡ self.old) }
         ensures placed { IfErr result
             (λ error. Stopped I.next_gives I.can_next I.remaining iter [] error) }
@@ -157,8 +156,8 @@ impl<T: Drop, A: Allocator, G: Growth> ThinVec<T, A, G> {
         Ok(())
     }
 
-    // Inserts the items of `held` before the item at index `at`. The list must have room for these
-    // items.
+    // Inserts the items of the vector `held` before the item at index `at`. The list must have room
+    // for these items.
     fn insert_vec(&mut self, at: usize, held: Vec<T, A>)
         requires in_bounds { at ≤ length self.old.items }
         requires room { HasRoomFor self.old (length held.items) }
@@ -174,8 +173,9 @@ impl<T: Drop, A: Allocator, G: Growth> ThinVec<T, A, G> {
         self.close(block);
     }
 
-    // Fills the gap of `block` with items of `iter`. Then inserts further items of `iter` before
-    // the tail: first as many as the lower bound of the size hint, and then all others.
+    // Fills the empty slots of the removed range with items of `iter`. If `iter` yields more items,
+    // inserts them before the items that follow the range. Room for the first of these items is
+    // reserved according to the size hint. All further items are collected in a vector first.
     #[inline(always)]
     pub(crate) fn finish_before_tail<I: Iterator<Item = T>>(
         &mut self,
@@ -183,7 +183,8 @@ impl<T: Drop, A: Allocator, G: Growth> ThinVec<T, A, G> {
         iter: I,
         alloc: A,
     ) -> Result<(), SpliceRefused<T, I, A>>
-        // `block` is the open block of this list. It has a tail, and its middle run is empty.
+        // `block` was taken out of this list. There are items after the range (`tail`), and no item
+        // of the range remains (`rest`).
         requires some { 0 < length block.tail }
         requires empty { self.old.items ≡ [] }
         requires none { block.rest ≡ [] }
@@ -194,7 +195,7 @@ impl<T: Drop, A: Allocator, G: Growth> ThinVec<T, A, G> {
         requires can_next { I.can_next iter }
         requires finite { IsFinite (I.remaining iter) }
 
-        // The clauses of `Splice::finish` follow from this one.
+        // The clauses of `Splice::finish` follow from this clause.
         ensures { IsFinished I.next_gives I.can_next I.remaining G.rule T.row block self.old.alloc
             iter self.new result }
     {
@@ -222,15 +223,16 @@ impl<T: Drop, A: Allocator, G: Growth> ThinVec<T, A, G> {
         }
     }
 
-    // Puts `block`, which has no tail, back into the list. Then appends the items that `iter`
-    // yields, as `extend` does.
+    // Puts `block` back into the list, and then appends the items of `iter`, as `extend` does.
+    // There must be no items after the removed range.
     pub(crate) fn finish_at_end<I: Iterator<Item = T>>(
         &mut self,
         block: OpenBlock<T, A>,
         iter: I,
         alloc: A,
     ) -> Result<(), SpliceRefused<T, I, A>>
-        // `block` is the open block of this list. It has no tail, and its middle run is empty.
+        // `block` was taken out of this list. There are no items after the range (`tail`), and no
+        // item of the range remains (`rest`).
         requires no_tail { block.tail ≡ [] }
         requires within { reach block ≤ block.capacity }
         requires empty { self.old.items ≡ [] }
@@ -242,7 +244,7 @@ impl<T: Drop, A: Allocator, G: Growth> ThinVec<T, A, G> {
         requires can_next { I.can_next iter }
         requires finite { IsFinite (I.remaining iter) }
 
-        // The clauses of `Splice::finish` follow from this one.
+        // The clauses of `Splice::finish` follow from this clause.
         ensures { IsFinished I.next_gives I.can_next I.remaining G.rule T.row block self.old.alloc
             iter self.new result }
     {
@@ -267,18 +269,19 @@ impl<T: Drop, A: Allocator, G: Growth> ThinVec<T, A, G> {
     }
 }
 
-/// The items that were drawn from an iterator into a vector, and the rest of the iterator.
+/// The result of moving items of an iterator into a vector.
 struct Drawn<T, I, A: Allocator> {
     /// The items, in order.
     held: Vec<T, A>,
-    /// The item that was drawn after the items in `held`, and for which the vector has no room.
+    /// The item that the iterator yielded after the items in `held`. The vector has no room for
+    /// this item. `in_hand` is `None` if the iterator has ended.
     in_hand: Option<T>,
-    /// The iterator, which yields the items that were not drawn.
+    /// The iterator. It yields the items that have not been taken from it.
     rest: I,
 }
 
-// Collects `first`, and then the items that `iter` yields, in a vector on `alloc`. Stops when
-// `iter` returns `None`, or when the vector cannot get memory for an item.
+// Collects the item `first`, and then the items of `iter`, in a vector that uses `alloc`. Stops
+// when `iter` returns `None`, or when the vector cannot allocate memory for an item.
 fn draw<T, A: Allocator, I: Iterator<Item = T>>(first: T, iter: I, alloc: A) -> Drawn<T, I, A>
     requires can_next { I.can_next iter }
     requires finite { IsFinite (I.remaining iter) }
@@ -324,9 +327,9 @@ fn draw<T, A: Allocator, I: Iterator<Item = T>>(first: T, iter: I, alloc: A) -> 
     }
 }
 
-// Draws items of `iter` into the spare capacity of `held` until it is full, and then one item more,
-// which becomes `in_hand`. Stops when `iter` returns `None`. `held` is passed by value, so that its
-// length can stay in a register.
+// Moves items of `iter` into the spare capacity of the vector `held` until the vector is full. Then
+// takes one more item of `iter`, which becomes `in_hand`. Stops earlier if `iter` returns `None`.
+// The vector is passed by value, so that its length can stay in a register.
 fn draw_spare<T, A: Allocator, I: Iterator<Item = T>>(held: Vec<T, A>, iter: I) -> Drawn<T, I, A>
     requires can_next { I.can_next iter }
     requires finite { IsFinite (I.remaining iter) }

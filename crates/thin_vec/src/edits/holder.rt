@@ -1,9 +1,10 @@
-//! The trait `Holds`, through which an edit owns the block of a list.
+//! The trait `Holds`, through which `Drain`, `ExtractIf` and `Splice` own the block of a list.
 //!
-//! An edit has a `&mut` to the list, and owns the block, which has a raw pointer. If a struct
-//! declares one field with a raw pointer and another field with a `&mut`, the contract of its
-//! `drop` cannot say what the `&mut` points to afterwards. So the type of the field for the block
-//! is a type parameter, with the bound `Holds`. The parameter hides the raw pointer.
+//! Each of these structs has a `&mut` to the list, and owns the block, which contains a raw
+//! pointer. If a struct declares one field with a raw pointer and another field with a `&mut`, the
+//! contract of its `drop` cannot describe the value behind the `&mut` after the call. So the type
+//! of the field for the block is a type parameter with the bound `Holds`. The parameter hides the
+//! raw pointer.
 ghost use Rattle.std.specs.Prelude.{◌≡◌};
 
 /// A type that holds one value, and can be converted into this value.
@@ -19,8 +20,8 @@ pub trait Holds {
         ensures value { result ≡ inner self };
 }
 
-/// The only type of this crate that implements `Holds`. It is the default of the parameter `H` of
-/// each edit, so that users of an edit need not name it.
+/// The only type in this crate that implements `Holds`. It is the default of the parameter `H` of
+/// `Drain`, `ExtractIf` and `Splice`, so users of these types need not name it.
 pub struct Holder<B> {
     pub(crate) value: B,
 }

@@ -1,5 +1,5 @@
-//! The method `replace_range`, which replaces the items of a range by clones of other items. If it
-//! fails, the list has its old items.
+//! The method `replace_range`, which replaces the items of a range with clones of other items. If
+//! it fails, the list keeps its old items.
 ghost use Rattle.std.specs.Prelude.{◌≡◌, ◌+◌, ◌-◌, ◌*◌, ◌==◌, ◌<◌, ◌≤◌, ◌++◌, All, IfErr, IsOk, OnErr, OnOk, drop, if◌then◌else◌, length, take};
 ghost use Rattle.std.specs.List.{replace_range};
 ghost use Rattle.thin_block.specs.Cost.{moving};
@@ -13,22 +13,21 @@ use std::alloc::Allocator;
 use thin_block::{Growth, ThinVecError};
 
 impl<T: Clone, A: Allocator, G: Growth> ThinVec<T, A, G> {
-    /// Replaces the items from index `start` up to, but not including, `end` by clones of `items`,
-    /// in order. The old items of the range are dropped after the last clone is made.
+    /// Replaces the items `start..end` with clones of `items`, in order. The old items of the range
+    /// are dropped after the last clone is made.
     ///
     /// This method is our own: neither Rust's `Vec` nor the Rust crate thin-vec has it.
     ///
-    /// The call needs room for `items.len()` more items, that is, a capacity of at least
-    /// `self.len() + items.len()`, even if the range has more items than `items`. The reason is
-    /// that a clone can fail, and then the list must still have its old items. So the old items are
-    /// kept until the last clone is made, and the clones are made in other slots.
+    /// A clone can fail, and then the list must still have its old items. So the clones are made in
+    /// other slots, and the old items are dropped only after the last clone is made. That is why
+    /// the call needs a capacity of at least `self.len() + items.len()`, even if the range is
+    /// longer than `items`.
     ///
-    /// The clones that will fill the places of the range are made after the last item of the list.
-    /// All further clones are made in a gap that is opened directly after the range. On success,
-    /// each item after the range moves at most once, and each clone made at the end of the list
-    /// moves to its place in the range. If a clone fails, an item after the range can move up to
-    /// three times: up, when the gap is made; down to the clones in the gap, if the gap was not
-    /// filled; and down to its old place, once these clones are dropped.
+    /// The clones that will replace items of the range are made after the last item of the list. If
+    /// `items` is longer than the range, the other clones are made in a gap directly after the
+    /// range. On success, each item after the range moves at most once, and each clone at the end
+    /// of the list moves to its place in the range. On failure, each item after the range moves at
+    /// most three times: once when the gap is made, and twice while the gap is closed.
     ///
     /// # Errors
     ///
@@ -37,7 +36,7 @@ impl<T: Clone, A: Allocator, G: Growth> ThinVec<T, A, G> {
     /// - `OutOfMemory`: there is no room for `items.len()` more items, and the allocator refused
     ///   the memory for them. The list is unchanged.
     /// - `OutOfMemory`: a clone failed. The clones that were already made are dropped, and the list
-    ///   has its old items. It keeps the capacity that was reserved for the clones.
+    ///   has its old items. The list keeps the capacity that was reserved for the clones.
     pub fn replace_range(
         &mut self,
         start: usize,
@@ -74,11 +73,10 @@ impl<T: Clone, A: Allocator, G: Growth> ThinVec<T, A, G> {
         self.replace_reserved_by_clones(start, end, items)
     }
 
-    // Replaces the items of the range as `replace_range` does, in a list that has room for all
-    // clones in addition to its items. First, the clones that do not fit into the places of the
-    // range are made in a gap directly after the range. Then the other clones are made after the
-    // last item of the list. Once no clone can fail any more, these other clones are moved into the
-    // places of the range.
+    // Does what `replace_range` does, in a list that has room for all clones in addition to its
+    // items. The clones that exceed the length of the range are made first, in a gap directly after
+    // the range. Then the other clones are made after the last item of the list. After the last
+    // clone is made, the clones at the end of the list are moved into the range.
     fn replace_reserved_by_clones(
         &mut self,
         start: usize,
@@ -99,7 +97,7 @@ impl<T: Clone, A: Allocator, G: Growth> ThinVec<T, A, G> {
         ensures cost { OnOk result (self.new.cost
             ≡ moving (moves_cloning self.old start end (length items.now)) self.old.cost) }
 
-        // In every case, only the items and the cost may change.
+        // In every case, only the fields `items` and `cost` of the list may change.
         ensures changes { self.new ≡ record self.old {
           items = self.new.items;
           cost = self.new.cost;
@@ -124,8 +122,8 @@ impl<T: Clone, A: Allocator, G: Growth> ThinVec<T, A, G> {
         Ok(())
     }
 
-    // Inserts clones of `items` before the item at index `at`, without growing. If a clone fails,
-    // drops the clones already made, so that the list has its old items.
+    // Inserts clones of `items` before the item at index `at`. The list does not grow. If a clone
+    // fails, the clones that were already made are dropped, and the list has its old items.
     fn insert_clones_reserved(&mut self, at: usize, items: &[T]) -> Result<(), ThinVecError>
         requires in_bounds { at ≤ length self.old.items }
         requires room { HasRoomFor self.old (length items.now) }
@@ -140,7 +138,7 @@ impl<T: Clone, A: Allocator, G: Growth> ThinVec<T, A, G> {
         ensures cost { OnOk result (self.new.cost
             ≡ moving (moves_replacing self.old at at (length items.now)) self.old.cost) }
 
-        // In every case, only the items and the cost may change.
+        // In every case, only the fields `items` and `cost` of the list may change.
         ensures changes { self.new ≡ record self.old {
           items = self.new.items;
           cost = self.new.cost;
@@ -167,8 +165,7 @@ impl<T: Clone, A: Allocator, G: Growth> ThinVec<T, A, G> {
 }
 
 impl<T: Drop, A: Allocator, G: Growth> ThinVec<T, A, G> {
-    // Drops the items from index `start` up to, but not including, `end`, and moves the items after
-    // the range down, as one run.
+    // Drops the items `start..end`, and moves the items after this range down.
     fn drop_range(&mut self, start: usize, end: usize)
         requires start_le_end { start ≤ end }
         requires in_bounds { end ≤ length self.old.items }
@@ -184,9 +181,9 @@ impl<T: Drop, A: Allocator, G: Growth> ThinVec<T, A, G> {
         self.close(block);
     }
 
-    // Drops the items of the range from `start` up to, but not including, `end`. Moves the last
-    // `count` items of the list into the places of the range, as one run. If some of these places
-    // are not filled, the other items after the range are moved down to close the gap.
+    // Drops the items `start..end`, and moves the last `count` items of the list into the places of
+    // these items. If some of the places are not filled, the other items after the range are moved
+    // down to close the gap.
     fn replace_by_last(&mut self, start: usize, end: usize, count: usize)
         requires start_le_end { start ≤ end }
         requires few { count ≤ end - start }

@@ -1,6 +1,6 @@
-//! The methods `replace_range_from_copies` and `replace_range_from_list`, which replace the items
-//! of a range by copies of other items, or by the items of another list. If one of them fails,
-//! nothing changes.
+//! The methods `replace_range_from_copies` and `replace_range_from_list`. They replace the items of
+//! a range with copies of other items, or with the items of another list. If a call fails, nothing
+//! changes.
 ghost use Rattle.std.specs.Prelude.{◌≡◌, ◌+◌, ◌-◌, ◌==◌, ◌<◌, ◌≤◌, ◌++◌, [], IsOk, OnErr, OnOk, drop, if◌then◌else◌, length, take};
 ghost use Rattle.std.specs.List.{replace_range};
 ghost use Rattle.thin_block.specs.Cost.{moving, no_cost};
@@ -15,22 +15,22 @@ use std::alloc::Allocator;
 use thin_block::{Growth, ThinVecError};
 
 impl<T: Copy, A: Allocator, G: Growth> ThinVec<T, A, G> {
-    /// Replaces the items from index `start` up to, but not including, `end` by copies of `items`,
-    /// in order. The old items of the range are dropped.
+    /// Replaces the items `start..end` with copies of `items`, in order. The old items of the range
+    /// are dropped.
     ///
     /// This method is our own: neither Rust's `Vec` nor the Rust crate thin-vec has it.
     ///
-    /// Copying cannot fail. So the old items of the range are dropped before the new ones are
-    /// copied, and the call needs room only for `items.len() - (end - start)` more items. If this
-    /// number is 0 or less, the call cannot fail. Each item after the range moves at most once.
+    /// Copying cannot fail. So the old items are dropped before the new items are copied, and the
+    /// call needs room for only `items.len() - (end - start)` more items. If this number is 0 or
+    /// less, the call cannot fail. Each item after the range moves at most once.
     ///
     /// # Errors
     ///
-    /// In both cases, the list is unchanged.
+    /// On failure, the list is unchanged.
     ///
-    /// - `CapacityOverflow`: there is no room for these additional items, and the growth rule
-    ///   chooses no capacity for them.
-    /// - `OutOfMemory`: there is no room for these additional items, and the allocator refused the
+    /// - `CapacityOverflow`: there is no room for the additional items, and the growth rule chooses
+    ///   no capacity for them.
+    /// - `OutOfMemory`: there is no room for the additional items, and the allocator refused the
     ///   memory for them.
     pub fn replace_range_from_copies(
         &mut self,
@@ -67,8 +67,7 @@ impl<T: Copy, A: Allocator, G: Growth> ThinVec<T, A, G> {
         Ok(())
     }
 
-    // Replaces the items of the range as `replace_range_from_copies` does, in a list that already
-    // has room for the copies.
+    // Does what `replace_range_from_copies` does, in a list that already has room for the copies.
     fn replace_reserved_from_copies(&mut self, start: usize, end: usize, items: &[T])
         requires start_le_end { start ≤ end }
         requires in_bounds { end ≤ length self.old.items }
@@ -87,23 +86,23 @@ impl<T: Copy, A: Allocator, G: Growth> ThinVec<T, A, G> {
 }
 
 impl<T: Drop, A: Allocator, G: Growth> ThinVec<T, A, G> {
-    /// Replaces the items from index `start` up to, but not including, `end` by the items of
-    /// `other`, in order. The old items of the range are dropped. The items of `other` are moved:
-    /// `other` is empty afterwards, and keeps its capacity.
+    /// Replaces the items `start..end` with the items of `other`, in order. The old items of the
+    /// range are dropped. The items of `other` are moved: after the call, `other` is empty, and
+    /// keeps its capacity.
     ///
     /// This method is our own: neither Rust's `Vec` nor the Rust crate thin-vec has it.
     ///
-    /// Moving cannot fail. So the old items of the range are dropped before the new ones are moved,
-    /// and the call needs room only for `other.len() - (end - start)` more items. If this number is
-    /// 0 or less, the call cannot fail. Each item after the range moves at most once.
+    /// Moving cannot fail. So the old items are dropped before the new items are moved, and the
+    /// call needs room for only `other.len() - (end - start)` more items. If this number is 0 or
+    /// less, the call cannot fail. Each item after the range moves at most once.
     ///
     /// # Errors
     ///
-    /// In both cases, both lists are unchanged.
+    /// On failure, both lists are unchanged.
     ///
-    /// - `CapacityOverflow`: there is no room for these additional items, and the growth rule
-    ///   chooses no capacity for them.
-    /// - `OutOfMemory`: there is no room for these additional items, and the allocator refused the
+    /// - `CapacityOverflow`: there is no room for the additional items, and the growth rule chooses
+    ///   no capacity for them.
+    /// - `OutOfMemory`: there is no room for the additional items, and the allocator refused the
     ///   memory for them.
     pub fn replace_range_from_list(
         &mut self,
@@ -144,8 +143,8 @@ impl<T: Drop, A: Allocator, G: Growth> ThinVec<T, A, G> {
         Ok(())
     }
 
-    // Replaces the items of the range as `replace_range_from_list` does, in a list that already has
-    // room for the items of `other`.
+    // Does what `replace_range_from_list` does, in a list that already has room for the items of
+    // `other`.
     fn replace_reserved_from_list(&mut self, start: usize, end: usize, other: &mut ThinVec<T, A, G>)
         requires start_le_end { start ≤ end }
         requires in_bounds { end ≤ length self.old.items }
@@ -169,10 +168,9 @@ impl<T: Drop, A: Allocator, G: Growth> ThinVec<T, A, G> {
         self.close(block);
     }
 
-    // Drops the items from index `start` up to, but not including, `end`, and takes the block out
-    // of the list, with a gap in the place of the range. The gap has at least `count` slots: if the
-    // range has fewer places, the items after the range are moved up, as one run. The list is left
-    // empty, without a block.
+    // Drops the items `start..end`, and takes the block out of the list, with a gap of empty slots
+    // in the place of these items. If the gap has fewer than `count` slots, the items after the gap
+    // are moved up until it has `count` slots. After the call, the list is empty and has no block.
     fn open_range(&mut self, start: usize, end: usize, count: usize) -> OpenBlock<T, A>
         requires start_le_end { start ≤ end }
         requires in_bounds { end ≤ length self.old.items }

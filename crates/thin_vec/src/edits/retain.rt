@@ -1,8 +1,9 @@
 //! The methods `retain` and `retain_mut`, which keep the items for which a closure returns true.
 //!
-//! No item moves before the first item is removed. From then on the open block has a gap. Kept
-//! items stay where they are until the next item is removed, or until all items are tested. Then
-//! they are moved together to the start of the gap. The `dedup` methods work in the same way.
+//! No item moves before the first item is removed. The removed items leave a gap of empty slots.
+//! When the next item is removed, or when all items are tested, the items that were kept since the
+//! last removal are moved together to the start of the gap. The `dedup` methods work in the same
+//! way.
 ghost use Rattle.std.specs.Prelude.{◌≡◌, ◌<◌, ◌≤◌, length};
 ghost use Rattle.std.specs.List.Retain.{IsFiltered};
 ghost use Rattle.std.specs.Fn.{CalledAt, CalledAtMut};
@@ -17,8 +18,8 @@ impl<T: Drop, A: Allocator, G: Growth> ThinVec<T, A, G> {
     ghost use Rattle.thin_vec.specs.Edits.Retain.{IsRetained, IsRetainedTo, Looks};
     ghost use Rattle.thin_vec.specs.ThinVec.{IsWithin};
 
-    /// Keeps the items for which `keep` returns true, in order, and drops the others, as Rust's
-    /// `Vec::retain` does. `keep` is called once for each item, in order.
+    /// Keeps the items for which `keep` returns true, in order, and drops the other items, like
+    /// Rust's `Vec::retain`. `keep` is called once for each item, in order.
     ///
     /// Each item that is kept after the first removed item moves once. No other item moves. The
     /// capacity does not change.
@@ -35,8 +36,9 @@ impl<T: Drop, A: Allocator, G: Growth> ThinVec<T, A, G> {
         let Looking { keep: _ } = test;
     }
 
-    /// Keeps the items for which `keep` returns true, as `retain` does. Unlike the closure of
-    /// `retain`, `keep` may write to the items. The kept items are in the list as `keep` left them.
+    /// Keeps the items for which `keep` returns true, and drops the other items, like `retain`. In
+    /// contrast to the closure of `retain`, `keep` may write to the items. The kept items are in
+    /// the list as `keep` left them.
     pub fn retain_mut<F: FnMut(&mut T) -> bool>(&mut self, keep: F)
         requires callable { F.IsAlwaysCallable keep }
         ensures retained { IsRetained (CalledAtMut F.FnMut) keep self.old self.new }
@@ -49,7 +51,7 @@ impl<T: Drop, A: Allocator, G: Growth> ThinVec<T, A, G> {
         let Writing { keep: _ } = test;
     }
 
-    // Tests each item once, in order, and drops the items that are removed.
+    // Tests each item once, in order, and drops the items that are not kept.
     fn keep_those<J: Test<T>>(&mut self, test: &mut J)
         requires ready { J.ready test.old }
         ensures retained { IsRetainedTo J.tests test.old self.old self.new test.new }
@@ -66,14 +68,14 @@ impl<T: Drop, A: Allocator, G: Growth> ThinVec<T, A, G> {
     }
 }
 
-// The test of `retain`: an item is kept if the closure `keep`, which cannot write to it, returns
-// true.
+// The test that `retain` uses: an item is kept if the closure `keep` returns true. The closure
+// cannot write to the item.
 struct Looking<F> {
     keep: F,
 }
 
-// The test of `retain_mut`: an item is kept if the closure `keep`, which may write to it, returns
-// true.
+// The test that `retain_mut` uses: an item is kept if the closure `keep` returns true. The closure
+// may write to the item.
 struct Writing<F> {
     keep: F,
 }

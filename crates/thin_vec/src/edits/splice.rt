@@ -1,5 +1,5 @@
-//! `splice`: the items of a range are removed from a list, and the items of an iterator take their
-//! place.
+//! The method `splice`, which removes the items of a range from a list, and puts the items of an
+//! iterator in their place.
 ghost use Rattle.std.specs.Prelude.{◌≡◌, ◌+◌, ◌-◌, ◌*◌, ◌<◌, ◌≤◌, List, [], IfErr, IsOk, None, OnErr, OnOk, Some, drop, length, slice_range, take};
 ghost use Rattle.std.specs.Iterator.{Drains, IsFinite, size};
 ghost use Rattle.std.specs.Iterator.Runs.{WholeRun};
@@ -15,12 +15,13 @@ use std::alloc::{Allocator, Global};
 use std::iter::Iterator;
 use thin_block::{Doubling, Growth, ThinVecError};
 
-/// A splice that has begun: it yields the items of a range of a list from either end, and holds an
-/// iterator whose items will take their place.
+/// The replacement of a range of a list with the items of an iterator. A `Splice` yields the old
+/// items of the range from either end. Its method `finish` puts the items of the iterator in their
+/// place.
 ///
-/// A `Splice` has to be ended by a call of `finish`: a program that drops it does not compile.
-/// Until `finish` is called, the `Splice` owns the block of the list, and the list is empty and has
-/// no block.
+/// A `Splice` must be ended by a call of `finish`: a program that drops it does not compile. Until
+/// this call, the `Splice` owns the allocation of the list, and the list is empty and has capacity
+/// 0.
 pub struct Splice<
     'a,
     I,
@@ -38,13 +39,12 @@ pub struct Splice<
 impl<T, A: Allocator, G: Growth> ThinVec<T, A, G> {
     ghost use Rattle.thin_vec.specs.Edits.Splice.{splice_alloc, splice_block, splice_iter, splice_lender, splice_range, splice_rest};
 
-    /// Begins to replace the items with the indices `start..end` by the items of `iter`. The
-    /// `Splice` yields the old items from either end, and its method `finish` puts the items of
-    /// `iter` in their place.
+    /// Begins to replace the items `start..end` with the items of `iter`. The returned `Splice`
+    /// yields the old items from either end. Its method `finish` puts the items of `iter` in their
+    /// place.
     ///
-    /// The call allocates nothing, moves no item, and draws no item of `iter`. The call cannot
-    /// fail. The function `bounds(start, end, len)` of this crate checks a range that may be out of
-    /// bounds.
+    /// The call cannot fail. It allocates nothing, moves no item, and takes no item from `iter`. To
+    /// check a range that may be out of bounds, use the function `bounds` of this crate.
     pub fn splice<I: Iterator<Item = T>>(
         &mut self,
         start: usize,
@@ -54,14 +54,14 @@ impl<T, A: Allocator, G: Growth> ThinVec<T, A, G> {
         requires start_le_end { start ≤ end }
         requires in_bounds { end ≤ length self.old.items }
 
-        // The `Splice` yields the items of the range. It has the number of places of the range, and
-        // the iterator whose items will take these places.
+        // The `Splice` yields the items of the range. It also stores the length of the range, and
+        // the iterator `iter`.
         ensures rest { splice_rest result ≡ slice_range self.old.items start end }
         ensures range { splice_range result ≡ end - start }
         ensures iter { splice_iter result ≡ iter }
 
-        // The `Splice` has the items before the range, the items after the range, and the capacity,
-        // the allocator and the cost of the list.
+        // The `Splice` owns the items before the range and the items after the range. It keeps the
+        // capacity, the allocator and the cost of the list.
         ensures front { (splice_block result).front ≡ take start self.old.items }
         ensures tail { (splice_block result).tail ≡ drop end self.old.items }
         ensures capacity { (splice_block result).capacity ≡ self.old.capacity }
@@ -83,15 +83,15 @@ impl<T, A: Allocator, G: Growth> ThinVec<T, A, G> {
 impl<'a, T, I, A: Allocator, G: Growth> Splice<'a, I, T, A, G> {
     ghost use Rattle.thin_vec.specs.Edits.Splice.{SpliceSteps, SpliceStepsBack, splice_rest};
 
-    /// Returns the number of items of the range not yet yielded.
+    /// Returns the number of items of the range that have not been yielded yet.
     pub fn len(&self) -> usize
         ensures value { result ≡ length (splice_rest self.now) }
     {
         self.holder.value.rest_len()
     }
 
-    /// Returns the number of items of the range not yet yielded, as both the lower and the upper
-    /// bound.
+    /// Returns the number of items of the range that have not been yielded yet, as both the lower
+    /// and the upper bound.
     pub fn size_hint(&self) -> (usize, Option<usize>)
         ensures value { result
             ≡ (length (splice_rest self.now), Some (length (splice_rest self.now))) }
@@ -100,14 +100,16 @@ impl<'a, T, I, A: Allocator, G: Growth> Splice<'a, I, T, A, G> {
         (len, Some(len))
     }
 
-    /// Yields the first item of the range not yet yielded, or returns `None` if all were yielded.
+    /// Yields the first item of the range that has not been yielded yet, or returns `None` if all
+    /// items have been yielded.
     pub fn next(&mut self) -> Option<T>
         ensures steps { SpliceSteps self.old result self.new }
     {
         self.holder.value.next()
     }
 
-    /// Yields the last item of the range not yet yielded, or returns `None` if all were yielded.
+    /// Yields the last item of the range that has not been yielded yet, or returns `None` if all
+    /// items have been yielded.
     pub fn next_back(&mut self) -> Option<T>
         ensures steps { SpliceStepsBack self.old result self.new }
     {
@@ -126,39 +128,39 @@ impl<
     ghost use Rattle.thin_vec.specs.Edits.Splice.{FailsAsExtend, HasPlacesFor, IsStopCause, Stopped, splice_block, splice_iter, splice_left, splice_range, splice_replaced};
 
     /// Drops the items of the range that were not yielded, and puts the items of the iterator in
-    /// the place of the range. `next` of the iterator is called until it first returns `None`, and
-    /// not again after that. So the iterator must not be endless. Afterwards, the list has the
-    /// items before the range, the items of the iterator, and the items after the range.
+    /// their place. After the call, the list holds the items before the range, the items of the
+    /// iterator, and the items after the range. `next` is called on the iterator until it first
+    /// returns `None`, so the iterator must not be endless.
     ///
     /// If items follow the range, `finish` takes three steps:
     ///
     /// 1. It moves items of the iterator into the places of the range. If the iterator ends before
-    ///    the places are filled, the items after the range move down to close the gap, in a single
-    ///    copy.
-    /// 2. It asks the iterator for its size hint, once, reserves room for the lower bound before
-    ///    the items after the range, and fills this room.
-    /// 3. It collects all further items in a vector on `alloc`, reserves room for them, and moves
-    ///    them into the list in a single copy.
+    ///    the places are filled, the items after the range are moved down to close the gap.
+    /// 2. It calls `size_hint` on the iterator once, reserves room for the lower bound before the
+    ///    items after the range, and fills this room.
+    /// 3. It collects all further items in a vector that uses `alloc`, reserves room for them in
+    ///    the list, and moves them into this room.
     ///
-    /// If no item follows the range, `finish` asks for the size hint, reserves room for the lower
-    /// bound, fills all spare capacity, and then pushes each further item.
+    /// If no item follows the range, `finish` appends the items of the iterator in the same way as
+    /// `extend`.
     ///
     /// # Cost
     ///
-    /// Each item of the iterator moves into the list once, and each item after the range at most
-    /// twice. Steps 2 and 3 each grow the list at most once, and each growth copies the items of
-    /// the list, as usual. The cost of the vector in step 3 is not counted. If the iterator can
-    /// yield no more items than the range has places, `finish` allocates nothing.
+    /// Each item of the iterator moves into the list once, and each item after the range moves at
+    /// most twice. Steps 2 and 3 each grow the list at most once, and each growth copies the items
+    /// of the list. The cost of the vector in step 3 is not counted. If the iterator cannot yield
+    /// more items than the range has places, `finish` allocates nothing.
     ///
     /// # Errors
     ///
-    /// `finish` cannot fail in two situations: the iterator can yield no more items than the range
-    /// has places; or no item follows the range, and there is room for all items. (If items follow
-    /// the range, room alone does not guarantee success: the contract of `size_hint` allows a hint
+    /// `finish` cannot fail if the iterator cannot yield more items than the range has places. It
+    /// also cannot fail if no item follows the range and there is room for all items. (If items
+    /// follow the range, such room does not guarantee success: `size_hint` may return a lower bound
     /// that is too low, and then step 3 allocates.)
     ///
-    /// On failure, no item is lost: the list keeps the items that were placed, and the error has
-    /// the items that were drawn after them, in `held` and then in `in_hand`. There are five cases:
+    /// On failure, no item is lost. The list keeps the items that were placed. The error holds the
+    /// items that were taken from the iterator after them, first in `held` and then in `in_hand`.
+    /// There are five cases:
     ///
     /// | | What failed | `held` | `in_hand` | `rest` yields | The list |
     /// |---|---|---|---|---|---|
@@ -168,20 +170,19 @@ impl<
     /// | 4 | step 3: collecting an item | collected items | the next item | the others | as in 3 |
     /// | 5 | step 3: reserving | all collected items | `None` | it has ended | as in 3 |
     ///
-    /// In cases 1, 2, 3 and 5, the `cause` is `CapacityOverflow` if the growth rule gives no
-    /// capacity for the length that the list needed, and `OutOfMemory` if the allocator of the list
-    /// failed. In case 4, the `cause` is `OutOfMemory`. In case 5, `next` must not be called on
-    /// `rest`.
+    /// In cases 1, 2, 3 and 5, the `cause` is `CapacityOverflow` if the growth rule chooses no
+    /// capacity for the required length, and `OutOfMemory` if the allocator of the list failed. In
+    /// case 4, the `cause` is `OutOfMemory`. In case 5, `next` must not be called on `rest`.
     ///
-    /// Rust's `Vec` does all this when a `Splice` is dropped. Here it needs a call, because it can
-    /// fail.
+    /// Rust's `Vec` does all this when a `Splice` is dropped. Here, a separate call is needed,
+    /// because the replacement can fail.
     #[inline(always)]
     pub fn finish(self, alloc: A) -> Result<(), SpliceRefused<T, I, A>>
         requires can_next { I.can_next (splice_iter self) }
         requires finite { IsFinite (I.remaining (splice_iter self)) }
 
-        // On success. `self.exit.0.now` is the list after the call, which the first field of the
-        // `Splice` borrows.
+        // On success. `self.exit.0` is the first field of the `Splice`, which borrows the list. So
+        // `self.exit.0.now` is the list after the call.
         ensures items { OnOk result ((xs : List T) × Drains I.next_gives (splice_iter self.entry) xs
             × (self.exit.0.now.items ≡ splice_replaced self.entry xs)) }
         ensures runs { OnOk result (WholeRun I.next_gives (splice_iter self.entry)
@@ -191,9 +192,9 @@ impl<
         ensures succeeds { HasPlacesFor self.entry (size (I.remaining (splice_iter self.entry)))
             → IsOk result }
 
-        // On failure, no item is lost. If items follow the range, all places of the range are
-        // filled (`before_tail`). If no item follows the range, the list lacks only the range, or
-        // is full (`without_tail`).
+        // On failure, every item that the iterator yielded is in the list or in the error. If items
+        // follow the range, all places of the range are filled (`before_tail`). If no item follows
+        // the range, the list lacks only the range, or is full (`without_tail`).
         ensures placed { IfErr result (λ error. (xs : List T)
             × (self.exit.0.now.items ≡ splice_replaced self.entry xs)
             × Stopped I.next_gives I.can_next I.remaining (splice_iter self.entry) xs error) }
@@ -216,15 +217,15 @@ impl<
         let Splice { list, holder, iter } = self;
         let mut block = holder.into_inner();
         block.drop_rest();
-        // The list is empty already. This call is only for the prover: `close` requires an empty
-        // list.
+        // The list is already empty. This call is needed only for the proof: `close` requires an
+        // empty list.
         list.clear();
         let answer = if block.has_tail() {
             list.finish_before_tail(block, iter, alloc)
         } else {
             list.finish_at_end(block, iter, alloc)
         };
-        // This call is only for the prover: by the contract of `len`, the list satisfies
+        // This call is needed only for the proof: by the contract of `len`, the list satisfies
         // `IsWithin`.
         let _len = list.len();
         answer

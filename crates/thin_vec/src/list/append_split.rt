@@ -1,5 +1,5 @@
-//! `append`, which moves the items of one list to another, and `split_off`, which cuts a list in
-//! two.
+//! The methods `append`, which moves the items of one list to the end of another, and `split_off`,
+//! which cuts a list in two.
 ghost use Rattle.std.specs.Prelude.{◌≡◌, ◌+◌, ◌-◌, ◌≤◌, ◌++◌, [], IfErr, IfOk, IsOk, OnErr, OnOk, drop, length, take};
 ghost use Rattle.thin_block.specs.Cost.{moving};
 ghost use Rattle.thin_vec.specs.List.Capacity.{Costs, Keeps, Reserves, IsMade};
@@ -11,13 +11,13 @@ use thin_block::{Growth, ThinVecError};
 impl<T, A: Allocator, G: Growth> ThinVec<T, A, G> {
     ghost use Rattle.thin_vec.specs.ThinVec.{HasRoomFor, IsWithin, cost_new};
 
-    /// Moves all items of `other` to the end of this list, in order. Afterwards, `other` is empty
-    /// and has its old capacity. If there is not enough spare capacity, this list first grows to
-    /// the capacity that the growth rule chooses.
+    /// Moves all items of `other` to the end of this list, in order. After the call, `other` is
+    /// empty, and keeps its capacity. If there is not enough spare capacity, this list first grows
+    /// to the capacity that the growth rule chooses.
     ///
     /// # Errors
     ///
-    /// Fails only if there is not enough spare capacity. Then neither list changes.
+    /// Fails only if there is not enough spare capacity. On failure, neither list changes.
     ///
     /// - `CapacityOverflow`: the new capacity would be too large.
     /// - `OutOfMemory`: the allocator failed.
@@ -34,8 +34,8 @@ impl<T, A: Allocator, G: Growth> ThinVec<T, A, G> {
         ensures err { OnErr result (self.new ≡ self.old) }
         ensures other_err { OnErr result (other.new ≡ other.old) }
 
-        // In every case. The capacity grows, and the call fails, exactly as
-        // `reserve(other.len())` would.
+        // In every case. The new capacity, and whether the call fails, are the same as for a call
+        // of `reserve(other.len())`.
         ensures reserves { Reserves G.rule T.row (length other.old.items) self.old self.new result }
         ensures keeps { Keeps T.row self.old self.new }
         ensures other_within { IsWithin T.row other.old × IsWithin T.row other.new }
@@ -48,14 +48,15 @@ impl<T, A: Allocator, G: Growth> ThinVec<T, A, G> {
         Ok(())
     }
 
-    /// Moves the items from index `at` on, in order, to a new list on `alloc`, and returns the new
-    /// list. The capacity of the new list is exactly the number of these items. This list keeps its
-    /// first `at` items and its capacity. If `at` is the length, the call needs no allocation.
+    /// Moves the items from index `at` onward to a new list, in order, and returns the new list.
+    /// The new list uses the allocator `alloc`, and its capacity is exactly the number of these
+    /// items. This list keeps its first `at` items and its capacity. If `at` is the length, the
+    /// call needs no allocation.
     ///
     /// # Errors
     ///
-    /// Fails with `OutOfMemory` if `alloc` fails. Then the list is unchanged, and `alloc` is
-    /// dropped.
+    /// Fails with `OutOfMemory` if `alloc` cannot allocate the memory. On failure, the list is
+    /// unchanged, and `alloc` is dropped.
     pub fn split_off(&mut self, alloc: A, at: usize) -> Result<ThinVec<T, A, G>, ThinVecError>
         requires in_bounds { at ≤ length self.old.items }
 
@@ -83,9 +84,9 @@ impl<T, A: Allocator, G: Growth> ThinVec<T, A, G> {
         Ok(tail)
     }
 
-    /// Moves all items of `other` to the end of this list, in order, without growing. Afterwards,
-    /// `other` is empty and has its old capacity. This list must have room for the items; `reserve`
-    /// makes such room. So the call cannot fail, and returns no `Result`.
+    /// Moves all items of `other` to the end of this list, in order. After the call, `other` is
+    /// empty, and keeps its capacity. This list does not grow: it must have room for the items.
+    /// `reserve` makes such room. So the call cannot fail, and returns no `Result`.
     ///
     /// This method is our own: neither Rust's `Vec` nor the Rust crate thin-vec has it.
     pub fn append_reserved(&mut self, other: &mut ThinVec<T, A, G>)
@@ -100,8 +101,8 @@ impl<T, A: Allocator, G: Growth> ThinVec<T, A, G> {
         self.append_from(other, 0);
     }
 
-    // Moves the items of `other` from index `start` on to the end of this list, as one run. This
-    // list must have room for these items.
+    // Moves the items of `other` from index `start` onward to the end of this list. This list must
+    // have room for these items.
     fn append_from(&mut self, other: &mut ThinVec<T, A, G>, start: usize)
         requires in_bounds { start ≤ length other.old.items }
         requires room { HasRoomFor self.old (length other.old.items - start) }

@@ -1,5 +1,5 @@
-//! How the capacity of a list grows: only `capacity_for` calls the growth rule, and only `grow_to`
-//! grows a list.
+//! The methods that reserve room in a list. Only `capacity_for` calls the growth rule, and only
+//! `grow_to` grows a list.
 ghost use Rattle.std.specs.Prelude.{◌≡◌, ◌+◌, ◌<◌, ◌≤◌, [], IfErr, IfOk, IfSome, IsErrOf, IsFalse, IsOk, IsTrue, None, OnErr, OnOk, Some, length};
 ghost use Rattle.thin_block.specs.Capacity.{Fits};
 ghost use Rattle.thin_block.specs.Cost.{growing};
@@ -19,11 +19,11 @@ impl<T, A: Allocator, G: Growth> ThinVec<T, A, G> {
     /// grows to the capacity that the growth rule chooses, which is at least twice the old
     /// capacity. Otherwise, nothing changes.
     ///
-    /// A growth may move the block to another address, which copies every item.
+    /// When a list grows, its block may be moved to another address. Then every item is copied.
     ///
     /// # Errors
     ///
-    /// Fails only if there is not enough room. Then the list is unchanged.
+    /// Fails only if there is not enough room. On failure, the list is unchanged.
     ///
     /// - `CapacityOverflow`: the growth rule chooses no capacity, because it would be too large.
     /// - `OutOfMemory`: the allocator failed.
@@ -55,12 +55,12 @@ impl<T, A: Allocator, G: Growth> ThinVec<T, A, G> {
     /// Reserves room for exactly `additional` more items. If there is not enough room, the capacity
     /// becomes the length plus `additional`. Otherwise, nothing changes.
     ///
-    /// A list that grows only by this call may copy all its items at each call. `reserve` avoids
-    /// this: whenever it grows the list, it at least doubles the capacity.
+    /// If a list grows only by calls of this method, each call may copy all its items. `reserve`
+    /// avoids this: whenever it grows the list, it at least doubles the capacity.
     ///
     /// # Errors
     ///
-    /// Fails only if there is not enough room. Then the list is unchanged.
+    /// Fails only if there is not enough room. On failure, the list is unchanged.
     ///
     /// - `CapacityOverflow`: the length plus `additional` is too large for a capacity.
     /// - `OutOfMemory`: the allocator failed.
@@ -95,8 +95,8 @@ impl<T, A: Allocator, G: Growth> ThinVec<T, A, G> {
         }
     }
 
-    // Reserves room for exactly `capacity` items in a list that has no block. Unlike
-    // `reserve_exact`, does not test for spare capacity first.
+    // Reserves room for exactly `capacity` items in a list that has no block. In contrast to
+    // `reserve_exact`, this function does not test whether there is room already.
     #[tactic(auto, using(thin_block::proofs::CapacityLemmas::exact))]
     pub(crate) fn reserve_first(&mut self, capacity: usize) -> Result<(), ThinVecError>
         requires none { self.old.capacity ≡ 0 }
@@ -109,7 +109,8 @@ impl<T, A: Allocator, G: Growth> ThinVec<T, A, G> {
             → IsErrOf result ThinVecError.CapacityOverflow }
         ensures cause { IfErr result (IsCause (exact_capacity T.row 0 capacity)) }
 
-        // On success, only the capacity and the cost change. On failure, nothing changes.
+        // On success, only the fields `capacity` and `cost` of the list change. On failure, nothing
+        // changes.
         ensures changes { self.new ≡ record self.old {
           capacity = self.new.capacity;
           cost = self.new.cost;
@@ -131,9 +132,9 @@ impl<T, A: Allocator, G: Growth> ThinVec<T, A, G> {
     }
 
     // Reserves room for at least `additional` more items, with the same contract as `reserve`. This
-    // function is meant for several items. If their number is known at compile time, as the length
-    // of a literal is, the test for room is one comparison. (For one item, the test in `reserve` is
-    // one comparison, too.)
+    // function is meant for calls that add several items. If `additional` is known at compile time,
+    // such as the length of a literal, the test for room is a single comparison. (In `reserve`,
+    // this is true only for one item.)
     #[tactic(auto, using(thin_block::proofs::CapacityLemmas::ruled))]
     pub(crate) fn reserve_run(&mut self, additional: usize) -> Result<(), ThinVecError>
         // On success.
@@ -157,9 +158,9 @@ impl<T, A: Allocator, G: Growth> ThinVec<T, A, G> {
         Ok(())
     }
 
-    // Returns whether there is room for `additional` more items. The sum of the length and
-    // `additional` is computed only if `additional` is at most `isize::MAX`. The sum cannot
-    // overflow, because the length is at most `isize::MAX`, too.
+    // Returns whether there is room for `additional` more items. The length and `additional` are
+    // added only if `additional` is at most `isize::MAX`. The length is at most `isize::MAX`, too,
+    // so the sum cannot overflow.
     fn has_room_for(&self, additional: usize) -> bool
         ensures within { IsWithin T.row self.now }
         ensures room { IsTrue result → HasRoomFor self.now additional }
@@ -173,9 +174,9 @@ impl<T, A: Allocator, G: Growth> ThinVec<T, A, G> {
         len + additional <= cap
     }
 
-    // Grows the list so that it has room for `additional` more items. The list must not have this
-    // room before the call. This part of `reserve` is a separate function, marked as cold, because
-    // most calls of `reserve` find enough room.
+    // Grows the list to make room for `additional` more items. There must be too little room for
+    // these items before the call. This part of `reserve` is a separate function, marked as cold,
+    // because most calls of `reserve` find enough room.
     #[cold]
     fn grow_for(&mut self, additional: usize) -> Result<(), ThinVecError>
         requires more { self.old.capacity < length self.old.items + additional }
@@ -184,7 +185,8 @@ impl<T, A: Allocator, G: Growth> ThinVec<T, A, G> {
         // capacity.
         ensures overflow { TellsOverflow (capacity_for G.rule T.row self.old additional) result }
 
-        // On success, only the capacity and the cost change. On failure, nothing changes.
+        // On success, only the fields `capacity` and `cost` of the list change. On failure, nothing
+        // changes.
         ensures changes { self.new ≡ record self.old {
           capacity = self.new.capacity;
           cost = self.new.cost;
@@ -204,8 +206,8 @@ impl<T, A: Allocator, G: Growth> ThinVec<T, A, G> {
     }
 
     // Returns the capacity that the growth rule chooses for `additional` more items, or `None` if
-    // the rule chooses none. There must be too little room for these items. No other function of
-    // the list calls the growth rule.
+    // the rule chooses none. The list must have too little room for these items. No other function
+    // of the list calls the growth rule.
     #[tactic(auto, using(thin_block::proofs::CapacityLemmas::ruled))]
     fn capacity_for(&self, additional: usize) -> Option<usize>
         requires more { self.now.capacity < length self.now.items + additional }
@@ -221,15 +223,15 @@ impl<T, A: Allocator, G: Growth> ThinVec<T, A, G> {
     }
 
     // Grows the list to the capacity `cap`. No other function grows a list. This function is
-    // inlined, as `Block::grow` is, so that growing a new list needs no test for an old block at
-    // run time.
+    // inlined, and so is `Block::grow`. So growing a new list needs no test for an old block at run
+    // time.
     #[inline(always)]
     pub(crate) fn grow_to(&mut self, cap: usize) -> Result<(), ThinVecError>
         requires larger { self.old.capacity < cap }
         requires fits { Fits T.row cap }
         requires within { IsWithin T.row self.old }
 
-        // In every case, only the capacity and the cost change.
+        // In every case, only the fields `capacity` and `cost` of the list may change.
         ensures changes { self.new ≡ record self.old {
           capacity = self.new.capacity;
           cost = self.new.cost;
@@ -250,8 +252,8 @@ impl<T, A: Allocator, G: Growth> ThinVec<T, A, G> {
     }
 
     // Makes an empty list whose capacity is exactly `capacity`. `fits` must return true for
-    // `capacity`. If `capacity` is 0, the list has no block. All methods that make a list of an
-    // exact capacity call this function, except `from_iter`, which calls `reserve_first`.
+    // `capacity`. If `capacity` is 0, the list has no block. Every method that makes a list of an
+    // exact capacity calls this function, except `from_iter`, which calls `reserve_first`.
     pub(crate) fn with_fitting_capacity(
         alloc: A,
         capacity: usize,

@@ -1,5 +1,5 @@
-//! The methods that clone items. The room for all clones is reserved before the first one is made,
-//! so that no clone needs a test for room.
+//! The methods that clone items. Room for all clones is reserved before the first clone is made. So
+//! no single clone needs a test for room.
 ghost use Rattle.std.specs.Prelude.{◌≡◌, ◌⊎◌, ◌+◌, ◌<◌, ◌≤◌, [], ◌++◌, ◌-◌, All, HoldsAt, IfErr, IfOk, IsOk, OnErr, OnOk, length, slice_range, take};
 ghost use Rattle.std.specs.List.{AllZip, AppendsClones};
 ghost use Rattle.thin_block.specs.Capacity.{Fits};
@@ -26,8 +26,8 @@ impl<T: Clone, A: Allocator, G: Growth> ThinVec<T, A, G> {
     ///   large. The list is unchanged.
     /// - `OutOfMemory`: there is not enough spare capacity, and the allocator failed. The list is
     ///   unchanged.
-    /// - `OutOfMemory`: a clone failed. The clones already made are dropped, and the list has its
-    ///   old items. If the list has grown, it keeps the new capacity.
+    /// - `OutOfMemory`: a clone failed. The clones that were already made are dropped, and the list
+    ///   has its old items. If the list has grown, it keeps the new capacity.
     pub fn extend_from_slice(&mut self, items: &[T]) -> Result<(), ThinVecError>
         // On success.
         ensures items { OnOk result
@@ -55,14 +55,14 @@ impl<T: Clone, A: Allocator, G: Growth> ThinVec<T, A, G> {
         self.extend_from_slice_reserved(items)
     }
 
-    /// Makes a list of clones of the items, in order, on `alloc`. The new list has the same growth
-    /// rule, and its capacity is exactly the number of items. The clone of an empty list allocates
-    /// nothing. For items that are `Copy`, `clone_copies` is faster.
+    /// Makes a list of clones of the items, in order. The new list uses the allocator `alloc` and
+    /// the same growth rule, and its capacity is exactly the number of items. If there are no
+    /// items, nothing is allocated. For items that are `Copy`, `clone_copies` is faster.
     ///
     /// # Errors
     ///
-    /// Fails with `OutOfMemory` if `alloc` or a clone fails. Then no list is made, and the clones
-    /// already made and `alloc` are dropped.
+    /// Fails with `OutOfMemory` if `alloc` or a clone fails. On failure, no list is made. The
+    /// clones that were already made are dropped, and so is `alloc`.
     pub fn clone(&self, alloc: A) -> Result<ThinVec<T, A, G>, ThinVecError>
         // On success.
         ensures items { IfOk result (λ list. AllZip T.is_clone self.now.items list.items) }
@@ -82,8 +82,8 @@ impl<T: Clone, A: Allocator, G: Growth> ThinVec<T, A, G> {
         ThinVec::from_fitting_slice(alloc, self.as_slice())
     }
 
-    // Makes a list of clones of `items`, in order, on `alloc`. The capacity of the list is exactly
-    // the number of items. `fits` must return true for this number.
+    // Makes a list of clones of `items`, in order. The list uses the allocator `alloc`. The
+    // capacity of the list is exactly the number of items. `fits` must return true for this number.
     pub(crate) fn from_fitting_slice(
         alloc: A,
         items: &[T],
@@ -114,15 +114,15 @@ impl<T: Clone, A: Allocator, G: Growth> ThinVec<T, A, G> {
         Ok(list)
     }
 
-    /// Appends a clone of each item of `items`, in order, without growing. The list must have room
-    /// for the clones; `reserve` makes such room.
+    /// Appends a clone of each item of `items`, in order. The list does not grow: it must have room
+    /// for the clones. `reserve` makes such room.
     ///
     /// This method is our own: neither Rust's `Vec` nor the Rust crate thin-vec has it.
     ///
     /// # Errors
     ///
-    /// Fails with `OutOfMemory` if a clone fails. Then the clones already made are dropped, and the
-    /// list has its old items and its old capacity.
+    /// Fails with `OutOfMemory` if a clone fails. On failure, the clones that were already made are
+    /// dropped, and the list has its old items and its old capacity.
     pub fn extend_from_slice_reserved(&mut self, items: &[T]) -> Result<(), ThinVecError>
         requires room { HasRoomFor self.old (length items.now) }
 
@@ -154,8 +154,8 @@ impl<T: Clone, A: Allocator, G: Growth> ThinVec<T, A, G> {
         Ok(())
     }
 
-    // Appends clones of `items`, in order, until a clone fails, and returns the number of clones
-    // made. The list must have room for a clone of each item.
+    // Appends clones of `items`, in order, until a clone fails. Returns the number of clones that
+    // were made. The list must have room for clones of all these items.
     fn push_clones_reserved(&mut self, items: &[T]) -> usize
         requires room { HasRoomFor self.old (length items.now) }
         ensures in_bounds { result ≤ length items.now }
@@ -175,11 +175,10 @@ impl<T: Clone, A: Allocator, G: Growth> ThinVec<T, A, G> {
         placed
     }
 
-    /// Appends a clone of each item from index `start` up to, but not including, `end`, in order.
-    /// If there is not enough spare capacity, the list first grows to the capacity that the growth
-    /// rule chooses.
+    /// Appends clones of the items `start..end` of the list, in order. If there is not enough spare
+    /// capacity, the list first grows to the capacity that the growth rule chooses.
     ///
-    /// Rust's `Vec` has a method of this name, and the Rust crate thin-vec has none.
+    /// Rust's `Vec` has a method of this name, but the Rust crate thin-vec does not.
     ///
     /// # Errors
     ///
@@ -187,8 +186,8 @@ impl<T: Clone, A: Allocator, G: Growth> ThinVec<T, A, G> {
     ///   large. The list is unchanged.
     /// - `OutOfMemory`: there is not enough spare capacity, and the allocator failed. The list is
     ///   unchanged.
-    /// - `OutOfMemory`: a clone failed. The clones already made are dropped, and the list has its
-    ///   old items. If the list has grown, it keeps the new capacity.
+    /// - `OutOfMemory`: a clone failed. The clones that were already made are dropped, and the list
+    ///   has its old items. If the list has grown, it keeps the new capacity.
     pub fn extend_from_within(&mut self, start: usize, end: usize) -> Result<(), ThinVecError>
         requires start_le_end { start ≤ end }
         requires in_bounds { end ≤ length self.old.items }
@@ -222,9 +221,9 @@ impl<T: Clone, A: Allocator, G: Growth> ThinVec<T, A, G> {
         self.extend_from_within_reserved(start, end)
     }
 
-    // Appends a clone of each item from index `start` up to, but not including, `end`, in order,
-    // without growing. The list must have room for the clones. If a clone fails, the clones already
-    // made are dropped.
+    // Appends clones of the items `start..end` of the list, in order. The list does not grow: it
+    // must have room for the clones. If a clone fails, the clones that were already made are
+    // dropped.
     fn extend_from_within_reserved(&mut self, start: usize, end: usize) -> Result<(), ThinVecError>
         requires start_le_end { start ≤ end }
         requires in_bounds { end ≤ length self.old.items }
@@ -239,7 +238,7 @@ impl<T: Clone, A: Allocator, G: Growth> ThinVec<T, A, G> {
             → self.new.items ≡ self.old.items ++ slice_range self.old.items start end) }
         ensures cost { OnOk result (self.new.cost ≡ moving (end - start) self.old.cost) }
 
-        // In every case, only the items and the cost change.
+        // In every case, only the fields `items` and `cost` of the list may change.
         ensures changes { self.new ≡ record self.old {
           items = self.new.items;
           cost = self.new.cost;
@@ -262,10 +261,10 @@ impl<T: Clone, A: Allocator, G: Growth> ThinVec<T, A, G> {
         Ok(())
     }
 
-    // Appends clones of the items from index `start` up to, but not including, `end`, in order,
-    // until a clone fails, and returns the number of clones made. The list must have room for all
-    // these clones. The items are read from the same list to which the clones are appended, so the
-    // stored length is updated after each clone.
+    // Appends clones of the items `start..end` of the list, in order, until a clone fails. Returns
+    // the number of clones that were made. The list must have room for all these clones. The clones
+    // are appended to the list from which the items are read. So the stored length is updated after
+    // each clone.
     fn push_clones_within(&mut self, start: usize, end: usize) -> usize
         requires start_le_end { start ≤ end }
         requires in_bounds { end ≤ length self.old.items }
@@ -282,7 +281,8 @@ impl<T: Clone, A: Allocator, G: Growth> ThinVec<T, A, G> {
           cost = moving result self.old.cost;
         } }
 
-        // If `result` is less than the length of the range, the clone of the next item can fail.
+        // If `result` is less than the length of the range, then the next item of the range is an
+        // item whose clone can fail.
         ensures refused { result < end - start → HoldsAt (λ x. ¬ (T.is_infallible x))
             (slice_range self.old.items start end) result }
 
@@ -305,8 +305,8 @@ impl<T: Clone, A: Allocator + Copy, G: Growth> Clone for ThinVec<T, A, G> {
 
     ghost is_infallible = { λ list. list.items ≡ [] };
 
-    // Clones the list onto a copy of its allocator. The cause of a failure is lost, because
-    // `AllocError` has no field for it.
+    // Clones the list. The new list uses a copy of the allocator. The cause of a failure is lost,
+    // because `AllocError` has no field for it.
     fn clone(&self) -> Result<Self, AllocError> {
         match ThinVec::clone(self, *self.allocator()) {
             Ok(other) => Ok(other),

@@ -1,6 +1,6 @@
-//! Comparing, hashing and printing lists. A list is compared, hashed and printed as the slice of
-//! its items: its capacity and its cost have no effect. The file also implements the traits
-//! `Emptied` and `MadeWith`, which make empty lists.
+//! Implementations of traits that compare, hash and print lists. A list is compared, hashed and
+//! printed like the slice of its items: its capacity and its cost have no effect. The traits
+//! `Emptied` and `MadeWith`, which make empty lists, are implemented here, too.
 ghost use Rattle.std.specs.Cmp.{on_equiv, on_per, on_po, on_total};
 ghost use Rattle.std.specs.Cmp.Lexicographic.{lists_agrees, lists_equiv, lists_per, lists_po, lists_ties, lists_total, pointwise, slice_cmp, slice_partial_cmp};
 ghost use Rattle.std.specs.Hash as fed;
@@ -66,7 +66,7 @@ impl<T: Hash, A: Allocator, G: Growth> Hash for ThinVec<T, A, G> {
 }
 
 impl<T: fmt::Debug, A: Allocator, G: Growth> fmt::Debug for ThinVec<T, A, G> {
-    // Prints the list in the same way as the slice of its items.
+    // Prints the list like the slice of its items.
     fn fmt<W: fmt::Write>(&self, f: &mut fmt::Formatter<W>) -> fmt::Result {
         self.as_slice().fmt(f)
     }
@@ -75,8 +75,8 @@ impl<T: fmt::Debug, A: Allocator, G: Growth> fmt::Debug for ThinVec<T, A, G> {
 impl<T, A: Allocator + Clone, G: Growth> Emptied for ThinVec<T, A, G> {
     ghost is_emptied = { λ list. list.items ≡ [] };
 
-    // Makes an empty list with a clone of the allocator of `like`. Fails if that clone fails. This
-    // function is called by std's `mem::try_take`.
+    // Makes an empty list with a clone of the allocator of `like`. Fails if the allocator cannot be
+    // cloned. std's `mem::try_take` calls this function.
     fn emptied(like: &ThinVec<T, A, G>) -> Result<ThinVec<T, A, G>, AllocError> {
         Ok(ThinVec::ruled(like.allocator().clone()?))
     }
@@ -85,8 +85,8 @@ impl<T, A: Allocator + Clone, G: Growth> Emptied for ThinVec<T, A, G> {
 impl<T, A: Allocator, G: Growth> MadeWith<A> for ThinVec<T, A, G> {
     ghost is_made_with = { λ list. list.items ≡ [] };
 
-    // Makes an empty list that keeps `alloc`. The method `or_default` of std's maps calls this
-    // function.
+    // Makes an empty list that owns the allocator `alloc`. The method `or_default` of std's maps
+    // calls this function.
     fn made_with(alloc: A) -> ThinVec<T, A, G> {
         ThinVec::ruled(alloc)
     }

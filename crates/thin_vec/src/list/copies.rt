@@ -1,4 +1,5 @@
-//! The methods that copy items of a `Copy` type. They copy the items as one run.
+//! The methods that copy items of a `Copy` type. They copy the items byte for byte, without calling
+//! `clone`.
 ghost use Rattle.std.specs.Prelude.{◌≡◌, ◌+◌, ◌<◌, ◌++◌, IfErr, IfOk, IsOk, OnErr, OnOk, length};
 ghost use Rattle.thin_block.specs.Cost.{moving};
 ghost use Rattle.thin_vec.specs.List.Capacity.{Costs, Keeps, Reserves, IsMade};
@@ -11,14 +12,14 @@ impl<T: Copy, A: Allocator, G: Growth> ThinVec<T, A, G> {
     ghost use Rattle.thin_vec.specs.ThinVec.{HasRoomFor, cost_new};
 
     /// Appends a copy of each item of `items`, in order. If there is not enough spare capacity, the
-    /// list first grows to the capacity that the growth rule chooses. The items are copied as one
-    /// run, which is faster than `extend_from_slice`.
+    /// list first grows to the capacity that the growth rule chooses. The items are copied byte for
+    /// byte, which is faster than `extend_from_slice`.
     ///
     /// This method is our own: neither Rust's `Vec` nor the Rust crate thin-vec has it.
     ///
     /// # Errors
     ///
-    /// Fails only if there is not enough spare capacity. Then the list is unchanged.
+    /// Fails only if there is not enough spare capacity. On failure, the list is unchanged.
     ///
     /// - `CapacityOverflow`: the new capacity would be too large.
     /// - `OutOfMemory`: the allocator failed.
@@ -33,8 +34,8 @@ impl<T: Copy, A: Allocator, G: Growth> ThinVec<T, A, G> {
         // On failure, the list is unchanged.
         ensures err { OnErr result (self.new ≡ self.old) }
 
-        // In every case. The capacity grows, and the call fails, exactly as
-        // `reserve(items.len())` would.
+        // In every case. The new capacity, and whether the call fails, are the same as for a call
+        // of `reserve(items.len())`.
         ensures reserves { Reserves G.rule T.row (length items.now) self.old self.new result }
         ensures keeps { Keeps T.row self.old self.new }
     {
@@ -46,15 +47,17 @@ impl<T: Copy, A: Allocator, G: Growth> ThinVec<T, A, G> {
         Ok(())
     }
 
-    /// Makes a list of copies of the items, in order, on `alloc`. The new list has the same growth
-    /// rule, and its capacity is exactly the number of items. The copy of an empty list allocates
-    /// nothing. The items are copied as one run, which is faster than `clone`.
+    /// Makes a list of copies of the items, in order. The new list uses the allocator `alloc` and
+    /// the same growth rule, and its capacity is exactly the number of items. If there are no
+    /// items, nothing is allocated. The items are copied byte for byte, which is faster than
+    /// `clone`.
     ///
     /// This method is our own: neither Rust's `Vec` nor the Rust crate thin-vec has it.
     ///
     /// # Errors
     ///
-    /// Fails with `OutOfMemory` if `alloc` fails. Then no list is made, and `alloc` is dropped.
+    /// Fails with `OutOfMemory` if `alloc` cannot allocate the memory. On failure, no list is made,
+    /// and `alloc` is dropped.
     pub fn clone_copies(&self, alloc: A) -> Result<ThinVec<T, A, G>, ThinVecError>
         // On success.
         ensures items { IfOk result (λ list. list.items ≡ self.now.items) }
@@ -74,8 +77,8 @@ impl<T: Copy, A: Allocator, G: Growth> ThinVec<T, A, G> {
         Ok(list)
     }
 
-    /// Appends a copy of each item of `items`, in order, without growing. The list must have room
-    /// for the items; `reserve` makes such room. So the call cannot fail, and returns no `Result`.
+    /// Appends a copy of each item of `items`, in order. The list does not grow: it must have room
+    /// for the items. `reserve` makes such room. So the call cannot fail, and returns no `Result`.
     ///
     /// This method is our own: neither Rust's `Vec` nor the Rust crate thin-vec has it.
     pub fn extend_from_copies_reserved(&mut self, items: &[T])

@@ -34,9 +34,9 @@ impl<T, A: Allocator, G: Growth> ThinVec<T, A, G> {
     ///
     /// - The room for the lower bound cannot be reserved. Then the list is unchanged, `in_hand` is
     ///   `None`, and `rest` is the whole iterator.
-    /// - A further item cannot be pushed. Then the list keeps the items that were placed, and is
-    ///   full; `in_hand` is the item that could not be pushed, and `rest` yields the items after
-    ///   this item.
+    /// - A further item cannot be pushed. Then the list keeps the items that were appended before,
+    ///   and is full. `in_hand` is the item that could not be pushed, and `rest` yields the items
+    ///   after it.
     pub fn extend<I: Iterator<Item = T>>(&mut self, iter: I) -> Result<(), ExtendRefused<T, I>>
         requires can_next { I.can_next iter }
         requires finite { IsFinite (I.remaining iter) }
@@ -50,7 +50,7 @@ impl<T, A: Allocator, G: Growth> ThinVec<T, A, G> {
         // When it must succeed.
         ensures succeeds { HasRoomFor self.old (size (I.remaining iter)) → IsOk result }
 
-        // On failure, no item is lost.
+        // On failure, every item that `iter` yielded is in the list or in the error.
         ensures placed { IfErr result (λ error. (xs : List T)
             × (self.new.items ≡ self.old.items ++ xs)
             × PausedAfter I.next_gives I.can_next I.remaining iter
@@ -80,7 +80,7 @@ impl<T, A: Allocator, G: Growth> ThinVec<T, A, G> {
         }
     }
 
-    // Appends the items that `iter` yields, as `extend` does, but does not ask for a size hint.
+    // Appends the items of `iter`, as `extend` does, but does not ask `iter` for its size hint.
     pub(crate) fn extend_unhinted<I: Iterator<Item = T>>(
         &mut self,
         iter: I,
@@ -96,7 +96,7 @@ impl<T, A: Allocator, G: Growth> ThinVec<T, A, G> {
         // When it must succeed.
         ensures succeeds { HasRoomFor self.old (size (I.remaining iter)) → IsOk result }
 
-        // On failure, no item is lost.
+        // On failure, every item that `iter` yielded is in the list or in the error.
         ensures placed { IfErr result (λ error. (xs : List T)
             × (self.new.items ≡ self.old.items ++ xs)
             × PausedAfter I.next_gives I.can_next I.remaining iter
@@ -136,13 +136,14 @@ impl<T, A: Allocator, G: Growth> ThinVec<T, A, G> {
         }
     }
 
-    // Moves items of `iter` into the spare capacity until it is full. If `iter` has not ended, then
-    // draws one item more. Returns the iterator, and this item if there is one.
+    // Moves items of `iter` into the spare capacity until the list is full or `iter` ends. If the
+    // list is full, takes one more item from `iter`. Returns the iterator, and this item if there
+    // is one.
     fn extend_reserved<I: Iterator<Item = T>>(&mut self, iter: I) -> (I, Option<T>)
         requires can_next { I.can_next iter }
         requires finite { IsFinite (I.remaining iter) }
 
-        // The call appends the items that the iterator yielded, and counts one move for each.
+        // The call appends the items that the iterator yielded, and counts one move for each item.
         ensures items { (xs : List T) × (self.new.items ≡ self.old.items ++ xs)
             × YieldsThen I.next_gives iter xs result.1 result.0 }
         ensures changes { self.new ≡ record self.old {
@@ -150,8 +151,8 @@ impl<T, A: Allocator, G: Growth> ThinVec<T, A, G> {
           cost = moving (length self.new.items - length self.old.items) self.old.cost;
         } }
 
-        // If the call returns an item, the list is full, and the returned iterator is nearer to its
-        // end.
+        // If the call returns an item, the list is full, and `next` may be called on the returned
+        // iterator. The returned iterator is then nearer to its end.
         ensures full { OnSome result.1 (length self.new.items ≡ self.new.capacity) }
         ensures rest { OnSome result.1 (I.can_next result.0 × IsFinite (I.remaining result.0)) }
         ensures nearer { OnSome result.1
@@ -175,8 +176,8 @@ impl<T, A: Allocator, G: Growth> ThinVec<T, A, G> {
         (rest, extra)
     }
 
-    // Moves items of `iter` into the spare capacity, until it is full or `iter` ends. Stores the
-    // length only once. The field `end` of the result is the new length.
+    // Moves items of `iter` into the spare capacity, until the list is full or `iter` ends. The
+    // length is stored only once. The field `end` of the result is the new length.
     fn fill_spare<I: Iterator<Item = T>>(&mut self, iter: I) -> Filled<I>
         requires can_next { I.can_next iter }
         requires finite { IsFinite (I.remaining iter) }
@@ -201,8 +202,8 @@ impl<T, A: Allocator, G: Growth> ThinVec<T, A, G> {
 }
 
 impl<T, A: Allocator> ThinVec<T, A> {
-    /// Makes a list on `alloc` of the items that `iter` yields before its first `None`. After this
-    /// `None`, `next` is not called again.
+    /// Makes a list of the items that `iter` yields before its first `None`. After this `None`,
+    /// `next` is not called again. The list uses the allocator `alloc`.
     ///
     /// First, the call asks `iter` for its size hint, once, and makes a block whose capacity is
     /// exactly the lower bound. Then it moves items into the block until it is full, and pushes
@@ -215,9 +216,9 @@ impl<T, A: Allocator> ThinVec<T, A> {
     ///
     /// - The first block cannot be made. Then `list` is a new list, `in_hand` is `None`, and `rest`
     ///   is the whole iterator.
-    /// - A further item cannot be pushed. Then `list` has the items that were placed, and is full;
-    ///   `in_hand` is the item that could not be pushed, and `rest` yields the items after this
-    ///   item.
+    /// - A further item cannot be pushed. Then `list` holds the items that were appended before,
+    ///   and is full. `in_hand` is the item that could not be pushed, and `rest` yields the items
+    ///   after it.
     pub fn from_iter<I: Iterator<Item = T>>(
         alloc: A,
         iter: I,
@@ -235,7 +236,7 @@ impl<T, A: Allocator> ThinVec<T, A> {
         // When it must succeed.
         ensures succeeds { size (I.remaining iter) ≡ 0 → IsOk result }
 
-        // On failure, no item is lost.
+        // On failure, every item that `iter` yielded is in the list or in the error.
         ensures placed { IfErr result
             (λ error. PausedAfter I.next_gives I.can_next I.remaining iter
             (error.list.items ++ option_to_list error.in_hand) error.rest) }
@@ -284,7 +285,8 @@ impl<T, A: Allocator> ThinVec<T, A> {
 impl<T: Drop, A: Allocator, G: Growth> Extend<T> for ThinVec<T, A, G> {
     ghost extend_gives = { Extends G.rule T.row };
 
-    // On failure, the item in hand and the rest of the iterator are dropped.
+    // On failure, drops the item that could not be appended, and the iterator. The items that were
+    // appended before stay in the list.
     fn extend<U: IntoIterator<Item = T>>(&mut self, iter: U) -> Result<(), AllocError> {
         match ThinVec::extend(self, iter.into_iter()) {
             Ok(()) => Ok(()),
@@ -298,7 +300,7 @@ impl<T: Drop, A: Allocator> FromIterator<T> for ThinVec<T, A> {
 
     ghost from_iter_gives = { IsMadeOf T.row };
 
-    // On failure, the drawn items and the rest of the iterator are dropped.
+    // On failure, drops all items that were taken from the iterator, and the iterator itself.
     fn from_iter<U: IntoIterator<Item = T>>(
         alloc: A,
         iter: U,

@@ -1,5 +1,5 @@
-//! Access to a list by std's traits: as a slice, by an index, and by iteration over a borrowed
-//! list.
+//! Implementations of std's traits that access a list: as a slice, by an index, or by iteration
+//! over a borrowed list.
 ghost use Rattle.std.specs.Prelude.{◌≡◌, ◌^◌, ◌<◌, ◌↔◌, IfSome, IsSome, Some, length, slice_get, slice_index_or};
 ghost use Rattle.std.specs.Iterator.Runs.{EveryRun, ItemsMapTo};
 ghost use Rattle.std.specs.Slice.Iter.{iter_mut_rest, iter_mut_steps, iter_rest, iter_steps};
@@ -65,8 +65,8 @@ impl<T, A: Allocator, G: Growth> Index<usize> for ThinVec<T, A, G> {
 }
 
 impl<T, A: Allocator, G: Growth> IndexMut<usize> for ThinVec<T, A, G> {
-    // Returns a mutable reference to the item at `index`. What the caller writes through the
-    // reference is written to the item of the list.
+    // Returns a mutable reference to the item at `index`. Writing through the reference changes the
+    // item of the list.
     fn index_mut(&mut self, index: usize) -> &mut T
         requires { index < length self.old.items }
         ensures* writes_back { sem 𝓛
@@ -75,18 +75,18 @@ impl<T, A: Allocator, G: Growth> IndexMut<usize> for ThinVec<T, A, G> {
         ensures found { slice_get self.old.items index ≡ Some result.now }
         ensures within { IsWithin T.row self.old }
     {
-        // This call is only for the prover: the contract of `len` gives the bounds that the clause
-        // `within` states.
+        // This call is needed only for the proof: the clause `within` follows from the contract of
+        // `len`.
         let _len = self.block.len();
         self.block.slot_mut(index)
     }
 }
 
 impl<T, A: Allocator, G: Growth> ThinVec<T, A, G> {
-    /// Returns a mutable reference to the item at `index`, or `None` if there is no such item. What
-    /// the caller writes through the reference is written to the item of the list.
+    /// Returns a mutable reference to the item at `index`, or `None` if there is no such item.
+    /// Writing through the reference changes the item of the list.
     ///
-    /// A list of the Rust crate thin-vec has this method because it dereferences to a slice.
+    /// In the Rust crate thin-vec, a list has this method because it dereferences to a slice.
     pub fn get_mut(&mut self, index: usize) -> Option<&mut T>
         ensures* writes_back { sem 𝓛
             (LendsGet T.row A.row G.row A.Allocator G.Growth self.entry index result) }
@@ -125,8 +125,8 @@ impl<'a, T, A: Allocator, G: Growth> IntoIterator for &'a mut ThinVec<T, A, G> {
         × EveryRun (iter_mut_steps {A = T})
         (λ p. ItemsMapTo p (λ x. x.now) (iter_mut_rest p.from)) };
 
-    // Returns an iterator over mutable references to the items, in order. What the caller writes
-    // through a reference is written to the item of the list.
+    // Returns an iterator over mutable references to the items, in order. Writing through a
+    // reference changes the item of the list.
     fn into_iter(self) -> IterMut<'a, T>
         ensures* writes_back { sem 𝓛
             (LendsIter T.row A.row G.row A.Allocator G.Growth self.entry result) }

@@ -15,14 +15,14 @@ use thin_block::{Growth, ThinVecError};
 impl<T, A: Allocator, G: Growth> ThinVec<T, A, G> {
     ghost use Rattle.thin_vec.specs.ThinVec.{HasRoomFor, IsWithin, capacity_for};
 
-    /// Inserts `value` at `index`, which must be at most the length. The items from `index` on are
-    /// moved up by one place. The list then owns `value`. If there is no spare capacity, the list
-    /// first grows to the capacity that the growth rule chooses.
+    /// Inserts `value` at `index`, and moves the items from this index onward up by one place.
+    /// `index` must be at most the length. The list then owns `value`. If there is no spare
+    /// capacity, the list first grows to the capacity that the growth rule chooses.
     ///
     /// # Errors
     ///
-    /// Fails only if there is no spare capacity. Then the list is unchanged, and the error holds
-    /// `value`, which the caller owns again.
+    /// Fails only if there is no spare capacity. On failure, the list is unchanged, and the error
+    /// holds `value`, which the caller owns again.
     ///
     /// - `CapacityOverflow`: the new capacity would be too large.
     /// - `OutOfMemory`: the allocator failed.
@@ -40,7 +40,8 @@ impl<T, A: Allocator, G: Growth> ThinVec<T, A, G> {
         ensures err { OnErr result (self.new ≡ self.old) }
         ensures value_returned { IfErr result (λ error. error.value ≡ value) }
 
-        // In every case. The capacity grows, and the call fails, exactly as `reserve(1)` would.
+        // In every case. The new capacity, and whether the call fails, are the same as for a call
+        // of `reserve(1)`.
         ensures reserves { Reserves G.rule T.row 1 self.old self.new (causes result) }
         ensures keeps { Keeps T.row self.old self.new }
     {
@@ -51,10 +52,10 @@ impl<T, A: Allocator, G: Growth> ThinVec<T, A, G> {
         Ok(())
     }
 
-    /// Inserts `value` at `index`, which must be at most the length, without growing. The items
-    /// from `index` on are moved up by one place. The list then owns `value`. The list must have
-    /// room for one more item; `reserve(1)` makes such room. So the call cannot fail, and returns
-    /// no `Result`.
+    /// Inserts `value` at `index`, and moves the items from this index onward up by one place.
+    /// `index` must be at most the length. The list then owns `value`. The list does not grow: it
+    /// must have room for one more item. `reserve(1)` makes such room. So the call cannot fail, and
+    /// returns no `Result`.
     ///
     /// This method is our own: neither Rust's `Vec` nor the Rust crate thin-vec has it.
     pub fn insert_reserved(&mut self, index: usize, value: T)
@@ -71,22 +72,21 @@ impl<T, A: Allocator, G: Growth> ThinVec<T, A, G> {
     }
 
     /// Appends `value`, which the list then owns, and returns a mutable reference to `value` in the
-    /// list. What the caller writes through the reference is written to the item of the list. If
-    /// there is no spare capacity, the list first grows to the capacity that the growth rule
-    /// chooses.
+    /// list. Writing through the reference changes the item of the list. If there is no spare
+    /// capacity, the list first grows to the capacity that the growth rule chooses.
     ///
-    /// Rust's `Vec` has a method of this name, and the Rust crate thin-vec has none.
+    /// Rust's `Vec` has a method of this name, but the Rust crate thin-vec does not.
     ///
     /// # Errors
     ///
-    /// Fails only if there is no spare capacity. Then the list is unchanged, and the error holds
-    /// `value`, which the caller owns again.
+    /// Fails only if there is no spare capacity. On failure, the list is unchanged, and the error
+    /// holds `value`, which the caller owns again.
     ///
     /// - `CapacityOverflow`: the new capacity would be too large.
     /// - `OutOfMemory`: the allocator failed.
     pub fn push_mut(&mut self, value: T) -> Result<&mut T, Rejected<T>>
-        // On success, `value` is appended. `writes_back` also says that the list is unchanged on
-        // failure.
+        // On success, `value` is appended. The clause `writes_back` also says that the list is
+        // unchanged on failure.
         ensures* writes_back { sem 𝓛
             (LendsAdded T.row A.row G.row A.Allocator G.Growth self.entry
             (λ x. self.old.items ++ x ∷ []) 1 result) }
@@ -107,26 +107,26 @@ impl<T, A: Allocator, G: Growth> ThinVec<T, A, G> {
         Ok(&mut self[len])
     }
 
-    /// Inserts `value` at `index`, which must be at most the length, and returns a mutable
-    /// reference to `value` in the list. The items from `index` on are moved up by one place. The
-    /// list then owns `value`. What the caller writes through the reference is written to the item
-    /// of the list. If there is no spare capacity, the list first grows to the capacity that the
-    /// growth rule chooses.
+    /// Inserts `value` at `index`, and returns a mutable reference to `value` in the list. The
+    /// items from this index onward are moved up by one place. `index` must be at most the length.
+    /// The list then owns `value`. Writing through the reference changes the item of the list. If
+    /// there is no spare capacity, the list first grows to the capacity that the growth rule
+    /// chooses.
     ///
-    /// Rust's `Vec` has a method of this name, and the Rust crate thin-vec has none.
+    /// Rust's `Vec` has a method of this name, but the Rust crate thin-vec does not.
     ///
     /// # Errors
     ///
-    /// Fails only if there is no spare capacity. Then the list is unchanged, and the error holds
-    /// `value`, which the caller owns again.
+    /// Fails only if there is no spare capacity. On failure, the list is unchanged, and the error
+    /// holds `value`, which the caller owns again.
     ///
     /// - `CapacityOverflow`: the new capacity would be too large.
     /// - `OutOfMemory`: the allocator failed.
     pub fn insert_mut(&mut self, index: usize, value: T) -> Result<&mut T, Rejected<T>>
         requires in_bounds { index ≤ length self.old.items }
 
-        // On success, `value` is inserted. `writes_back` also says that the list is unchanged on
-        // failure.
+        // On success, `value` is inserted. The clause `writes_back` also says that the list is
+        // unchanged on failure.
         ensures* writes_back { sem 𝓛
             (LendsAdded T.row A.row G.row A.Allocator G.Growth self.entry
             (insert self.old.items index) (length self.old.items - index + 1) result) }
@@ -186,7 +186,7 @@ impl<T, A: Allocator, G: Growth> ThinVec<T, A, G> {
     /// `None`. If the list is empty, `predicate` is not called, and the call returns `None`. The
     /// capacity does not change.
     ///
-    /// Rust's `Vec` has a method of this name, and the Rust crate thin-vec has none.
+    /// Rust's `Vec` has a method of this name, but the Rust crate thin-vec does not.
     pub fn pop_if<P: FnOnce(&mut T) -> bool>(&mut self, predicate: P) -> Option<T>
         requires callable { P.IsAlwaysCallable predicate }
         ensures popped { PopsIf P.FnOnce self.old.items self.new.items predicate result }
@@ -207,8 +207,8 @@ impl<T, A: Allocator, G: Growth> ThinVec<T, A, G> {
 impl<T: Drop, A: Allocator, G: Growth> ThinVec<T, A, G> {
     ghost use Rattle.thin_vec.specs.ThinVec.{IsWithin};
 
-    /// Drops the items from index `len` on. If the list has at most `len` items, nothing changes.
-    /// The capacity does not change.
+    /// Drops the items from index `len` onward. If the list has at most `len` items, nothing
+    /// changes. The capacity does not change.
     pub fn truncate(&mut self, len: usize)
         ensures items { self.new.items ≡ take len self.old.items }
         ensures changes { self.new ≡ record self.old { items = self.new.items } }

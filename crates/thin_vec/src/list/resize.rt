@@ -1,4 +1,4 @@
-//! `resize` and `resize_with`, which change the length of a list.
+//! The methods `resize` and `resize_with`, which change the length of a list.
 ghost use Rattle.std.specs.Prelude.{◌≡◌, ◌⊎◌, ◌+◌, ◌-◌, ◌<◌, ◌≤◌, ◌++◌, IfErr, IsOk, OnErr, OnOk, length, replicate, take};
 ghost use Rattle.std.specs.List.{AppendsResults};
 ghost use Rattle.thin_block.specs.Cost.{moving};
@@ -14,7 +14,7 @@ impl<T: Clone, A: Allocator, G: Growth> ThinVec<T, A, G> {
     ghost use Rattle.thin_vec.specs.Cheap.{IsCheap};
     ghost use Rattle.thin_vec.specs.ThinVec.{HasRoomFor, IsWithin};
 
-    /// Changes the length to `len`. If the list is longer, the items from index `len` on are
+    /// Changes the length to `len`. If the list is longer, the items from index `len` onward are
     /// dropped. If the list is shorter, clones of `value` are appended, and then `value` itself as
     /// the last item. If no item is appended, `value` is dropped. If there is not enough spare
     /// capacity, the list first grows to the capacity that the growth rule chooses.
@@ -27,8 +27,8 @@ impl<T: Clone, A: Allocator, G: Growth> ThinVec<T, A, G> {
     ///   large. The list is unchanged.
     /// - `OutOfMemory`: there is not enough spare capacity, and the allocator failed. The list is
     ///   unchanged.
-    /// - `OutOfMemory`: a clone failed. The clones already made are dropped, and the list has its
-    ///   old items. If the list has grown, it keeps the new capacity.
+    /// - `OutOfMemory`: a clone failed. The clones that were already made are dropped, and the list
+    ///   has its old items. If the list has grown, it keeps the new capacity.
     pub fn resize(&mut self, len: usize, value: T) -> Result<(), ThinVecError>
         // On success.
         ensures items { OnOk result (IsResized T.is_clone self.old.items len value self.new.items) }
@@ -65,7 +65,8 @@ impl<T: Clone, A: Allocator, G: Growth> ThinVec<T, A, G> {
     }
 
     // Appends `count - 1` clones of `value`, and then `value` itself. The list must have room for
-    // these items. If a clone fails, the clones already made and `value` are dropped.
+    // these items. If a clone fails, the clones that were already made are dropped, and so is
+    // `value`.
     fn resize_reserved(&mut self, value: T, count: usize) -> Result<(), ThinVecError>
         requires some { 0 < count }
         requires room { HasRoomFor self.old count }
@@ -81,7 +82,7 @@ impl<T: Clone, A: Allocator, G: Growth> ThinVec<T, A, G> {
             → self.new.items ≡ self.old.items ++ replicate count value) }
         ensures cost { OnOk result (self.new.cost ≡ moving count self.old.cost) }
 
-        // In every case, only the items and the cost change.
+        // In every case, only the fields `items` and `cost` of the list may change.
         ensures changes { self.new ≡ record self.old {
           items = self.new.items;
           cost = self.new.cost;
@@ -106,8 +107,8 @@ impl<T: Clone, A: Allocator, G: Growth> ThinVec<T, A, G> {
         Ok(())
     }
 
-    // Appends up to `count` clones of `value`, until a clone fails, and returns the number of
-    // clones made. The list must have room for `count` clones.
+    // Appends `count` clones of `value`, but stops if a clone fails. Returns the number of clones
+    // that were made. The list must have room for `count` clones.
     fn push_repeated_reserved(&mut self, value: &T, count: usize) -> usize
         requires room { HasRoomFor self.old count }
         ensures in_bounds { result ≤ count }
@@ -130,17 +131,17 @@ impl<T: Drop, A: Allocator, G: Growth> ThinVec<T, A, G> {
     ghost use Rattle.thin_vec.specs.Cheap.{IsCheap};
     ghost use Rattle.thin_vec.specs.ThinVec.{HasRoomFor, IsWithin};
 
-    /// Changes the length to `len`. If the list is longer, the items from index `len` on are
+    /// Changes the length to `len`. If the list is longer, the items from index `len` onward are
     /// dropped. If the list is shorter, the results of `make` are appended: `make` is called once
     /// for each new item, in order. If there is not enough spare capacity, the list first grows to
     /// the capacity that the growth rule chooses.
     ///
-    /// Rust's `Vec` has a method of this name, and the Rust crate thin-vec has none.
+    /// Rust's `Vec` has a method of this name, but the Rust crate thin-vec does not.
     ///
     /// # Errors
     ///
-    /// Fails only if `len` exceeds the capacity. Then the list is unchanged, and `make` is dropped
-    /// without being called.
+    /// Fails only if `len` exceeds the capacity. On failure, the list is unchanged, and `make` is
+    /// dropped without being called.
     ///
     /// - `CapacityOverflow`: the new capacity would be too large.
     /// - `OutOfMemory`: the allocator failed.
@@ -159,8 +160,8 @@ impl<T: Drop, A: Allocator, G: Growth> ThinVec<T, A, G> {
         // On failure, the list is unchanged.
         ensures err { OnErr result (self.new ≡ self.old) }
 
-        // In every case. The capacity grows, and the call fails, exactly as `reserve` would for the
-        // number of new items.
+        // In every case. The new capacity, and whether the call fails, are the same as for a call
+        // of `reserve` with the number of new items.
         ensures reserves { Reserves G.rule T.row (len - length self.old.items) self.old self.new
             result }
         ensures keeps { Keeps T.row self.old self.new }

@@ -1,4 +1,4 @@
-//! `shrink_to` and `shrink_to_fit`, which make the capacity of a list smaller.
+//! The methods `shrink_to` and `shrink_to_fit`, which reduce the capacity of a list.
 ghost use Rattle.std.specs.Prelude.{◌≡◌, ◌<◌, ◌≤◌, [], IfErr, IsOk, OnErr, OnOk, length, max, min};
 ghost use Rattle.thin_block.specs.Cost.{growing, no_cost};
 
@@ -12,14 +12,14 @@ impl<T, A: Allocator, G: Growth> ThinVec<T, A, G> {
 
     /// Shrinks the capacity to `min_capacity`, or to the length if the length is greater. If the
     /// capacity is already that small, nothing changes. If the new capacity is 0, the block is
-    /// freed, and the cost that contracts see becomes 0.
+    /// freed, and the `cost` of the list in contracts becomes 0.
     ///
     /// Rust's `Vec` has a method of this name, but the Rust crate thin-vec does not.
     ///
     /// # Errors
     ///
-    /// Fails only with `OutOfMemory`, if the allocator fails. Then the list is unchanged. An empty
-    /// list that is shrunk to 0 frees its block, which cannot fail.
+    /// Fails with `OutOfMemory` if the allocator fails. On failure, the list is unchanged. If an
+    /// empty list is shrunk to capacity 0, the call cannot fail, because it only frees the block.
     pub fn shrink_to(&mut self, min_capacity: usize) -> Result<(), ThinVecError>
         // On success.
         ensures capacity { OnOk result (self.new.capacity
@@ -52,12 +52,12 @@ impl<T, A: Allocator, G: Growth> ThinVec<T, A, G> {
     }
 
     /// Shrinks the capacity to the length. If the list is full, nothing changes. If the list is
-    /// empty, its block is freed, and the cost that contracts see becomes 0.
+    /// empty, its block is freed, and the `cost` of the list in contracts becomes 0.
     ///
     /// # Errors
     ///
-    /// Fails only with `OutOfMemory`, if the allocator fails. Then the list is unchanged. An empty
-    /// list frees its block, which cannot fail.
+    /// Fails with `OutOfMemory` if the allocator fails. On failure, the list is unchanged. If the
+    /// list is empty, the call cannot fail, because it only frees the block.
     pub fn shrink_to_fit(&mut self) -> Result<(), ThinVecError>
         // On success.
         ensures capacity { OnOk result (self.new.capacity ≡ length self.old.items) }
@@ -79,15 +79,15 @@ impl<T, A: Allocator, G: Growth> ThinVec<T, A, G> {
         self.shrink_to(0)
     }
 
-    // Shrinks the capacity to `cap`, which must be smaller than the capacity, at least the length,
-    // and not 0.
+    // Shrinks the capacity to `cap`, which must not be 0. It must be at least the length, and less
+    // than the old capacity.
     fn shrink_block(&mut self, cap: usize) -> Result<(), ThinVecError>
         requires some { 0 < cap }
         requires room { length self.old.items ≤ cap }
         requires smaller { cap < self.old.capacity }
         requires within { IsWithin T.row self.old }
 
-        // In every case, only the capacity and the cost change.
+        // In every case, only the fields `capacity` and `cost` of the list may change.
         ensures changes { self.new ≡ record self.old {
           capacity = self.new.capacity;
           cost = self.new.cost;

@@ -1,5 +1,8 @@
-//! The steps of the `dedup` methods on an open block. They test each item of the middle run against
-//! the last item that was kept, and drop the items that the test removes.
+//! The steps of the `dedup` methods. They test each item against the last item that was kept before
+//! it, and drop the items that the test removes.
+//!
+//! The front of the block contains the items that have been kept so far. After the front, there is
+//! a gap of empty slots. After the gap, the middle run contains the remaining items.
 ghost use Rattle.std.specs.Prelude.{◌≡◌, ◌+◌, ◌-◌, ◌^◌, ◌<◌, ◌≤◌, ◌∷◌, ◌++◌, [], Bool, length};
 ghost use Rattle.thin_block.specs.Block.{seen};
 ghost use Rattle.thin_block.specs.Cost.{moving};
@@ -12,14 +15,17 @@ use thin_block::Block;
 
 /// A test of two items. It decides whether the later item is removed, and may write to both items.
 pub(crate) trait PairTest<T> {
-    /// Relates the state of the test before a call, the later item, the last item kept, whether the
-    /// later item is removed, the state after the call, and both items as the test left them.
+    /// Describes a call of the test. The arguments are, in this order: the state of the test before
+    /// the call, the later item, the last item that was kept before it, whether the later item is
+    /// removed, the state after the call, and both items after the call.
     ghost tests: { Self → T → T → Bool → Self → T → T → Type 0 };
 
-    /// Says that a test in this state can be called with any two items. Each call preserves this.
+    /// Holds if a test in this state can be called with any two items. Each call preserves this
+    /// property.
     ghost ready: { Self → Type 0 };
 
-    /// Returns whether `later` is removed. `kept` is the last item kept.
+    /// Returns whether the item `later` is removed. `kept` is the last item that was kept before
+    /// it.
     fn test(&mut self, later: &mut T, kept: &mut T) -> bool
         requires ready { ready self.old }
         ensures asked { tests self.old later.old kept.old result self.new later.new kept.new }
@@ -29,8 +35,8 @@ pub(crate) trait PairTest<T> {
 impl<T, A: Allocator> OpenBlock<T, A> {
     ghost use Rattle.thin_vec.specs.OpenBlock.Dedup.{IsPairAskedAt, IsLastAsked, IsNextAsked};
 
-    // Tests the item at index `k` of the middle run against the item before it. Both items stay
-    // where they are.
+    // Tests the item at index `k` of the remaining items against the item before it. Neither item
+    // is moved.
     pub(crate) fn test_pair<J: PairTest<T>>(&mut self, k: usize, test: &mut J) -> bool
         requires some { 0 < k }
         requires in_bounds { k < length self.old.rest }
@@ -44,7 +50,7 @@ impl<T, A: Allocator> OpenBlock<T, A> {
         test_neighbours(&mut self.block, kept, test)
     }
 
-    // Tests `later` against the last item of the front, which stays where it is.
+    // Tests the item `later` against the last item that was kept. The kept item is not moved.
     pub(crate) fn test_last<J: PairTest<T>>(&mut self, later: &mut T, test: &mut J) -> bool
         requires some { 0 < length self.old.front }
         requires ready { J.ready test.old }
@@ -56,7 +62,8 @@ impl<T, A: Allocator> OpenBlock<T, A> {
         test.test(later, self.block.slot_mut(self.front_end - 1))
     }
 
-    // Tests the first item of the middle run, which stays where it is, against `kept`.
+    // Tests the first of the remaining items against the item `kept`. The remaining item is not
+    // moved.
     pub(crate) fn test_next<J: PairTest<T>>(&mut self, kept: &mut T, test: &mut J) -> bool
         requires some { 0 < length self.old.rest }
         requires ready { J.ready test.old }
@@ -68,7 +75,7 @@ impl<T, A: Allocator> OpenBlock<T, A> {
         test.test(self.block.slot_mut(self.rest_start), kept)
     }
 
-    // Moves `value` into the first slot of the gap, as the last item of the front.
+    // Moves the item `value` into the first empty slot after the kept items.
     pub(crate) fn append_to_front(&mut self, value: T)
         requires gap { 0 < self.old.gap }
         ensures { self.new ≡ record self.old {
@@ -85,10 +92,9 @@ impl<T, A: Allocator> OpenBlock<T, A> {
 impl<T, A: Allocator> OpenBlock<T, A> {
     ghost use Rattle.thin_vec.specs.OpenBlock.Dedup.{PairsAskedUpTo};
 
-    // Keeps the first item of the middle run. Tests each later item of the middle run against the
-    // item before it, and stops at the first item that is to be removed, or at the end. Returns the
-    // number of items kept. No item moves, and the caller has to drop the item that is to be
-    // removed.
+    // Tests each of the remaining items except the first against the item before it, and stops at
+    // the first item that is to be removed. Returns the number of items before that item. If no
+    // item is to be removed, returns the number of remaining items. No item is moved or dropped.
     fn test_pairs<J: PairTest<T>>(&mut self, test: &mut J) -> usize
         requires some { 0 < length self.old.rest }
         requires ready { J.ready test.old }
@@ -111,9 +117,9 @@ impl<T, A: Allocator> OpenBlock<T, A> {
 impl<T: Drop, A: Allocator> OpenBlock<T, A> {
     ghost use Rattle.thin_vec.specs.OpenBlock.Dedup.{IsDeduped, Dedups};
 
-    // Keeps the first item of the middle run. Tests each later item against the last item kept, and
-    // drops the items that are removed. Afterwards the front has all items kept, and the middle run
-    // is empty.
+    // Keeps the first of the remaining items. Tests each later item against the last item that was
+    // kept before it, and drops the items that the test removes. After the call, no item remains to
+    // be tested, and the front contains the kept items.
     pub(crate) fn dedup_rest<J: PairTest<T>>(&mut self, test: &mut J)
         requires some { 0 < length self.old.rest }
         requires front { self.old.front ≡ [] }
@@ -129,7 +135,7 @@ impl<T: Drop, A: Allocator> OpenBlock<T, A> {
         }
     }
 
-    // Continues `dedup_rest` after the first item was removed. There is now a gap.
+    // Continues `dedup_rest` after the first removal. The removed item has left an empty slot.
     fn dedup_past_gap<J: PairTest<T>>(&mut self, test: &mut J)
         requires some { 0 < length self.old.front }
         requires gap { 0 < self.old.gap }
@@ -143,11 +149,11 @@ impl<T: Drop, A: Allocator> OpenBlock<T, A> {
         self.dedup_last(test);
     }
 
-    // Tests the items of the middle run, in order, up to the first that is removed. Drops that
-    // item, and moves the items before it to the front. The middle run must have at least two
-    // items. The first of them is taken out of the block before its test. The reason is that the
-    // block cannot lend this item and the last item of the front at the same time, because empty
-    // slots lie between the two items.
+    // Tests the remaining items, in order, up to the first item that is removed. Drops that item,
+    // and moves the items before it down, directly after the kept items. At least two items must
+    // remain before the call. The first of them is taken out of the block before its test: the
+    // block cannot lend this item and the last kept item at the same time, because there are empty
+    // slots between the two items.
     fn dedup_two<J: PairTest<T>>(&mut self, test: &mut J)
         requires some { 0 < length self.old.front }
         requires two { 1 < length self.old.rest }
@@ -178,8 +184,8 @@ impl<T: Drop, A: Allocator> OpenBlock<T, A> {
         }
     }
 
-    // Tests the last item of the middle run, if there is one, and drops it or moves it to the
-    // front.
+    // Tests the last remaining item, if there is one. Then drops this item, or moves it down,
+    // directly after the kept items.
     fn dedup_last<J: PairTest<T>>(&mut self, test: &mut J)
         requires some { 0 < length self.old.front }
         requires short { length self.old.rest ≤ 1 }
@@ -200,8 +206,7 @@ impl<T: Drop, A: Allocator> OpenBlock<T, A> {
     }
 }
 
-// Tests the item in slot `i + 1` against the item in slot `i`. Both items stay where they
-// are.
+// Tests the item in slot `i + 1` against the item in slot `i`. Neither item is moved.
 fn test_neighbours<T, A: Allocator, J: PairTest<T>>(
     block: &mut Block<T, A>,
     i: usize,

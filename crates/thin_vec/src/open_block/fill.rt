@@ -1,5 +1,5 @@
-//! Steps that put items into the gap of an open block. Each item becomes the last item of the
-//! front.
+//! Methods that put items into the gap of an open block, that is, into the empty slots in the
+//! middle of the block. The items are placed directly after the items that are before the gap.
 ghost use Rattle.std.specs.Prelude.{◌≡◌, ◌-◌, ◌<◌, ◌≤◌, [], ◌++◌, HoldsAt, List, drop, length, take};
 ghost use Rattle.std.specs.Iterator.{IsFinite};
 ghost use Rattle.std.specs.List.{AllZip};
@@ -15,8 +15,8 @@ use std::mem;
 use thin_block::{Block, Growth};
 
 impl<T, A: Allocator> OpenBlock<T, A> {
-    // Moves items of `iter` into the gap, until the gap is full or `iter` returns `None`. The field
-    // `end` of the result is the new length of the front.
+    // Moves items of `iter` into the gap of empty slots, until the gap is full or `iter` returns
+    // `None`. The field `end` of the result is the number of items that are then before the gap.
     pub(crate) fn fill<I: Iterator<Item = T>>(&mut self, iter: I) -> Filled<I>
         requires can_next { I.can_next iter }
         requires finite { IsFinite (I.remaining iter) }
@@ -36,7 +36,8 @@ impl<T, A: Allocator> OpenBlock<T, A> {
         filled
     }
 
-    // Moves the items of `items` into the gap, in order, and frees the vector.
+    // Moves the items of the vector `items` into the gap of empty slots, in order, and frees the
+    // vector.
     pub(crate) fn fill_from_vec<B: Allocator>(&mut self, items: Vec<T, B>)
         requires room { length items.items ≤ self.old.gap }
         ensures { self.new ≡ record self.old {
@@ -50,8 +51,8 @@ impl<T, A: Allocator> OpenBlock<T, A> {
         self.front_end += count;
     }
 
-    // Moves the items of `other` into the gap, as one run. `other` is left empty, and keeps its
-    // block.
+    // Moves the items of the list `other` into the gap of empty slots, in order. After the call,
+    // `other` is empty, and keeps its block.
     pub(crate) fn fill_from_list<G: Growth>(&mut self, other: &mut ThinVec<T, A, G>)
         requires room { length other.old.items ≤ self.old.gap }
         ensures changes { self.new ≡ record self.old {
@@ -69,7 +70,7 @@ impl<T, A: Allocator> OpenBlock<T, A> {
         self.front_end += count;
     }
 
-    // Moves the last `count` items of the tail into the gap, as one run.
+    // Moves the last `count` items of the block into the gap of empty slots, in order.
     pub(crate) fn move_last_down(&mut self, count: usize)
         requires room { count ≤ self.old.gap }
         requires in_bounds { count ≤ length self.old.tail }
@@ -87,7 +88,7 @@ impl<T, A: Allocator> OpenBlock<T, A> {
 }
 
 impl<T: Copy, A: Allocator> OpenBlock<T, A> {
-    // Copies `items` into the gap, as one run.
+    // Copies the items of the slice `items` into the gap of empty slots, in order.
     pub(crate) fn fill_from_copies(&mut self, items: &[T])
         requires room { length items.now ≤ self.old.gap }
         ensures { self.new ≡ record self.old {
@@ -102,8 +103,8 @@ impl<T: Copy, A: Allocator> OpenBlock<T, A> {
 }
 
 impl<T: Clone, A: Allocator> OpenBlock<T, A> {
-    // Clones `items` into the gap, in order. Stops at the first clone that fails. Returns the
-    // number of clones made.
+    // Clones the items of the slice `items` into the gap of empty slots, in order, until a clone
+    // fails. Returns the number of clones that were made.
     pub(crate) fn fill_from_clones(&mut self, items: &[T]) -> usize
         requires room { length items.now ≤ self.old.gap }
         ensures in_bounds { result ≤ length items.now }

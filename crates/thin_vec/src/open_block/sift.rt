@@ -1,5 +1,8 @@
-//! The steps of `retain`, `retain_mut` and `extract_if` on an open block. They test the items of
-//! the middle run where they are, and move the kept items to the front.
+//! The steps of `retain`, `retain_mut` and `extract_if`. They test the items of a range where they
+//! are, and then move the kept items down.
+//!
+//! The front of the block contains the items that have been kept so far. After the front, there may
+//! be a gap of empty slots. After the gap, the middle run contains the remaining items.
 ghost use Rattle.std.specs.Prelude.{◌≡◌, ◌↔◌, ◌+◌, ◌<◌, ◌≤◌, ◌==◌, ◌++◌, [], Bool, IsTrue, drop, length, take};
 ghost use Rattle.thin_block.specs.Cost.{moving};
 
@@ -8,16 +11,19 @@ use std::alloc::Allocator;
 use std::mem;
 use thin_block::Block;
 
-// Moving at least this number of items as one run is faster than moving them one by one.
+// If at least this number of items has to be moved, moving them together is faster than moving them
+// one by one.
 const MANY: usize = 8;
 
-/// A test of one item. It decides whether the item is kept, and may write to it.
+/// A test of one item. It decides whether the item is kept, and may write to the item.
 pub(crate) trait Test<T> {
-    /// Relates the state of the test before a call, the item, whether the item is kept, the state
-    /// after the call, and the item as the test left it.
+    /// Describes a call of the test. The arguments are, in this order: the state of the test before
+    /// the call, the item, whether the item is kept, the state after the call, and the item after
+    /// the call.
     ghost tests: { Self → T → Bool → Self → T → Type 0 };
 
-    /// Says that a test in this state can be called with any item. Each call preserves this.
+    /// Holds if a test in this state can be called with any item. Each call preserves this
+    /// property.
     ghost ready: { Self → Type 0 };
 
     /// Returns whether `item` is kept.
@@ -30,7 +36,7 @@ pub(crate) trait Test<T> {
 impl<T, A: Allocator> OpenBlock<T, A> {
     ghost use Rattle.thin_vec.specs.OpenBlock.Sift.{IsAskedAt, AskedUpTo};
 
-    // Tests the item at index `k` of the middle run. The item stays where it is.
+    // Tests the item at index `k` of the remaining items. The item is not moved.
     pub(crate) fn test<J: Test<T>>(&mut self, k: usize, test: &mut J) -> bool
         requires in_bounds { k < length self.old.rest }
         requires ready { J.ready test.old }
@@ -41,8 +47,8 @@ impl<T, A: Allocator> OpenBlock<T, A> {
         test.test(self.block.slot_mut(self.rest_start + k))
     }
 
-    // Makes the first `k` items of the middle run a part of the front. There is no gap, so no item
-    // moves.
+    // Adds the first `k` of the remaining items to the kept items. There must be no gap between the
+    // two, so no item is moved.
     pub(crate) fn pass(&mut self, k: usize)
         requires none { self.old.gap ≡ 0 }
         requires in_bounds { k ≤ length self.old.rest }
@@ -56,7 +62,7 @@ impl<T, A: Allocator> OpenBlock<T, A> {
         self.rest_start += k;
     }
 
-    // Moves the first item of the middle run to the front.
+    // Moves the first of the remaining items down into the first empty slot after the kept items.
     pub(crate) fn move_one_down(&mut self)
         requires some { 0 < length self.old.rest }
         requires gap { 0 < self.old.gap }
@@ -72,8 +78,9 @@ impl<T, A: Allocator> OpenBlock<T, A> {
         self.rest_start += 1;
     }
 
-    // Moves the first `k` items of the middle run to the front: as one run if `k` is at least
-    // `MANY`, and otherwise one by one. Two items are moved without a loop.
+    // Moves the first `k` of the remaining items down, directly after the kept items. If `k` is at
+    // least `MANY`, they are moved together, and otherwise one by one. Two items are moved without
+    // a loop.
     #[inline(always)]
     pub(crate) fn move_down(&mut self, k: usize)
         requires in_bounds { k ≤ length self.old.rest }
@@ -98,8 +105,8 @@ impl<T, A: Allocator> OpenBlock<T, A> {
         }
     }
 
-    // Moves the first `k` items of the middle run to the front, as one run. The block is passed by
-    // value, so that the other fields of the open block can stay in registers.
+    // Moves the first `k` of the remaining items down together, directly after the kept items. The
+    // block is passed by value, so that the other fields of the open block can stay in registers.
     #[inline(always)]
     fn move_run_down(&mut self, k: usize)
         requires in_bounds { k ≤ length self.old.rest }
@@ -113,15 +120,15 @@ impl<T, A: Allocator> OpenBlock<T, A> {
         let block = mem::replace(&mut self.block, Block::none());
         let closed = block.close_gap(self.front_end, self.rest_start - self.front_end, k);
         let none = mem::replace(&mut self.block, closed);
-        // `none` was a placeholder: it has no allocation.
+        // `none` was only a placeholder for the block. It has no allocation.
         none.forget_none();
         self.front_end += k;
         self.rest_start += k;
     }
 
-    // Returns whether the middle run has two or more items. There must be a gap, so that `rest_end`
-    // is not 0. The comparison has this form so that `rest_end - 1` stays in a register during a
-    // loop.
+    // Returns whether at least two items remain. There must be a gap: then `rest_end` is not 0, and
+    // the subtraction cannot overflow. The comparison is written in this form so that
+    // `rest_end - 1` can stay in a register during a loop.
     pub(crate) fn has_two(&self) -> bool
         requires gap { 0 < self.now.gap }
         ensures value { IsTrue result ↔ (1 < length self.now.rest) }
@@ -129,9 +136,9 @@ impl<T, A: Allocator> OpenBlock<T, A> {
         self.rest_start < self.rest_end - 1
     }
 
-    // Tests the items of the middle run from index `k` on. Stops at the first item that is to be
-    // removed, and returns its index, or the length of the middle run if there is no such item. No
-    // item moves.
+    // Tests the remaining items from index `k` onward. Stops at the first item that is to be
+    // removed, and returns its index. If there is no such item, returns the number of remaining
+    // items. No item is moved.
     pub(crate) fn test_run<J: Test<T>>(&mut self, k: usize, test: &mut J) -> usize
         requires in_bounds { k ≤ length self.old.rest }
         requires ready { J.ready test.old }
@@ -153,9 +160,9 @@ impl<T, A: Allocator> OpenBlock<T, A> {
 impl<T, A: Allocator> OpenBlock<T, A> {
     ghost use Rattle.thin_vec.specs.OpenBlock.Sift.{Advances};
 
-    // Tests the items of the middle run up to the first that is to be removed, and returns whether
-    // there is such an item. The items before that item become a part of the front; if there is a
-    // gap, they are moved down. The item to be removed is then the first of the middle run.
+    // Tests the remaining items up to the first item that is to be removed, and returns whether
+    // there is such an item. This item is then the first of the remaining items. The items before
+    // it are added to the kept items. If there is a gap, they are moved down.
     pub(crate) fn advance<J: Test<T>>(&mut self, test: &mut J) -> bool
         requires ready { J.ready test.old }
         ensures advances { Advances J.tests test.old self.old test.new self.new }
@@ -170,7 +177,7 @@ impl<T, A: Allocator> OpenBlock<T, A> {
         self.rest_len() > 0
     }
 
-    // Does what `advance` does if there is a gap.
+    // Does the same as `advance`, for a block with empty slots after the kept items.
     fn advance_past_gap<J: Test<T>>(&mut self, test: &mut J) -> bool
         requires gap { 0 < self.old.gap }
         requires ready { J.ready test.old }
@@ -185,9 +192,9 @@ impl<T, A: Allocator> OpenBlock<T, A> {
         }
     }
 
-    // Does what `advance` does if there is a gap, and the middle run has two or more items. The
-    // first two items are tested before the loop, so that a run of fewer than two kept items needs
-    // no counter.
+    // Does the same as `advance`, for a block with empty slots after the kept items and at least
+    // two remaining items. The first two items are tested before the loop. So if fewer than two
+    // items are kept before a removal, no counter is needed.
     fn advance_two<J: Test<T>>(&mut self, test: &mut J) -> bool
         requires two { 1 < length self.old.rest }
         requires gap { 0 < self.old.gap }
@@ -208,7 +215,8 @@ impl<T, A: Allocator> OpenBlock<T, A> {
         self.rest_len() > 0
     }
 
-    // Does what `advance` does if there is a gap, and the middle run has at most one item.
+    // Does the same as `advance`, for a block with empty slots after the kept items and at most one
+    // remaining item.
     fn advance_last<J: Test<T>>(&mut self, test: &mut J) -> bool
         requires short { length self.old.rest ≤ 1 }
         requires gap { 0 < self.old.gap }
@@ -231,8 +239,9 @@ impl<T, A: Allocator> OpenBlock<T, A> {
 impl<T: Drop, A: Allocator> OpenBlock<T, A> {
     ghost use Rattle.thin_vec.specs.OpenBlock.Sift.{IsSifted, Sifts};
 
-    // Tests each item of the middle run, in order. Moves the kept items to the front, and drops the
-    // others. Afterwards the middle run is empty.
+    // Tests each remaining item, in order, and drops the items that are not kept. After the first
+    // removal, the kept items are moved down to close the gap. After the call, no item remains to
+    // be tested.
     pub(crate) fn sift<J: Test<T>>(&mut self, test: &mut J)
         requires none { self.old.gap ≡ 0 }
         requires ready { J.ready test.old }
@@ -246,7 +255,7 @@ impl<T: Drop, A: Allocator> OpenBlock<T, A> {
         }
     }
 
-    // Continues `sift` after the first item was removed. There is now a gap.
+    // Continues `sift` after the first removal. The removed item has left an empty slot.
     fn sift_past_gap<J: Test<T>>(&mut self, test: &mut J)
         requires gap { 0 < self.old.gap }
         requires ready { J.ready test.old }
@@ -259,9 +268,9 @@ impl<T: Drop, A: Allocator> OpenBlock<T, A> {
         self.sift_last(test);
     }
 
-    // Tests the items of the middle run, in order, up to the first that is removed. Drops that
-    // item, and moves the items before it to the front. The middle run must have at least two
-    // items.
+    // Tests the remaining items, in order, up to the first item that is removed. Drops that item,
+    // and moves the items before it down, directly after the kept items. At least two items must
+    // remain before the call.
     fn sift_two<J: Test<T>>(&mut self, test: &mut J)
         requires two { 1 < length self.old.rest }
         requires gap { 0 < self.old.gap }
@@ -275,8 +284,8 @@ impl<T: Drop, A: Allocator> OpenBlock<T, A> {
         }
     }
 
-    // Tests the last item of the middle run, if there is one, and moves it to the front or drops
-    // it.
+    // Tests the last remaining item, if there is one. Then moves this item down, directly after the
+    // kept items, or drops it.
     fn sift_last<J: Test<T>>(&mut self, test: &mut J)
         requires short { length self.old.rest ≤ 1 }
         requires gap { 0 < self.old.gap }

@@ -1,5 +1,5 @@
--- `make` appends a change to `back`. This change fits the new text, and undoes the change that
--- `make` carried out.
+-- `make` carries out a change on a text, and appends a second change to the list `back`. The second
+-- change fits the new text, and undoes the first change.
 use Rattle.std.proofs.Common.{◌≡◌, arith}
 use Rattle.text_editor.proofs.ChangesLemmas.{AllFit-last, comes_in, takes_back, texts_of-last}
 use Rattle.text_editor.specs.Changes.{changed}

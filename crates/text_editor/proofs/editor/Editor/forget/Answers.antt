@@ -1,5 +1,5 @@
--- `forget` removes the oldest changes. The texts that the remaining changes produce are the first
--- `count` texts of the old past, or all of them if there are fewer.
+-- `forget` removes the oldest changes. Before the call, the changes produced a list of texts. The
+-- remaining changes produce the first `count` of these texts, or all of them if there were fewer.
 use Rattle.std.proofs.Common.{◌≡◌, ℕ, ◌-◌, ap, arith, drop, length, rules, sym, take, ◌∙◌}
 use Rattle.std.proofs.lemmas.List.{take_all}
 use Rattle.text_editor.proofs.ChangesLemmas.{AllFit-drop, length-texts_of, texts_of-drop}
