@@ -279,9 +279,9 @@ module _ {T A : Type 0} where
       settle-front t b' [] (length b.slots) w (e ∙ front-none (length b.slots)) refl (omega arith)
 
   module _ {b : Block T A} {a : A} (t : IsThin b a) (b' : Block T A) (i last : ℕ) where
-    -- Let `i` be less than `last`, the index of the last item. If both slots are emptied, the last
-    -- item is written into slot `i`, and the stored length is decremented, then the new block `b'`
-    -- is the block of the list after `swap_remove` at index `i`.
+    -- Let `i` be less than `last`, the index of the last item. If the slots `i` and `last` are
+    -- emptied, the last item is written into slot `i`, and the stored length is decremented, then
+    -- the new block `b'` is the block of the list after `swap_remove` at index `i`.
     settle-swap_remove : (v : T) {m : T} → i < last → last + 1 ≡ b.len → slot b.slots last ≡ Some m
         → {k : Cost} → IsWritten b b' (set (set (set b.slots i None) last None) i (Some m)) last k
         → Settled b' a (swap_remove (items_in b.slots) i v) (length b.slots)
