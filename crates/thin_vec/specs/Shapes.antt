@@ -25,26 +25,26 @@ abbrev tail_of : List Bool → List Bool
 tail_of [] = []
 tail_of (b ∷ bs) = bs
 
--- The flags of `m` empty slots are `m` flags that are all false.
+-- The flags of a row of `m` empty slots are `replicate m false`.
 none_shape : (X : Type 0) (m : ℕ) → map is_some (let none : List (Option X) = empty m in
     none) ≡ replicate m false
 none_shape X zero = refl
 none_shape X (suc m) = ap (λ l. false ∷ l) (none_shape X m)
 
--- The flags of slots that hold the items `ys`, followed by `m` empty slots, are
--- `shape (length ys) m`.
+-- The row `full ys ++ empty m` holds the items `ys`, followed by `m` empty slots. Its flags, which
+-- say which slots are filled, are `shape (length ys) m`.
 front_shape : {X : Type 0} (ys : List X) (m : ℕ)
     → map is_some (full ys ++ empty m) ≡ shape (length ys) m
 front_shape {X} [] m = none_shape X m
 front_shape (y ∷ ys) m = ap (λ l. true ∷ l) (front_shape ys m)
 
 -- If the row `s` consists of `n` filled slots, followed by `m` empty slots, then the flags of `s`
--- are `shape n m`.
+-- are `n` times true, followed by `m` times false.
 pub to_shape : {X : Type 0} (s : List (Option X)) (m : ℕ) → s ≡ full (items_in s) ++ empty m
     → map is_some s ≡ shape (length (items_in s)) m
 to_shape s m e = ap (map is_some) e ∙ front_shape (items_in s) m
 
--- If the row `s` has `m` flags, which are all false, then `s` consists of `m` empty slots.
+-- If the flags of the row `s` are `replicate m false`, then `s` consists of `m` empty slots.
 all_none : {X : Type 0} (s : List (Option X)) (m : ℕ)
     → map is_some s ≡ replicate m false → s ≡ empty m
 unfolding head_of
@@ -54,16 +54,16 @@ all_none (x ∷ s) zero e = let n = ap length e in absurd (omega (arith, n))
 all_none (Some x ∷ s) (suc m) e = let n : 1 ≡ 2 = ap head_of e in absurd (omega (arith, n))
 all_none (None ∷ s) (suc m) e = ap (λ l. None ∷ l) (all_none s m (ap tail_of e))
 
--- Let the rows of slots `None ∷ s` and `full ys ++ empty m` have the same flags. Then the two rows
--- are equal. (The first flag is false, so the list `ys` is empty.)
+-- Let the rows of slots `None ∷ s` and `full ys ++ empty m` have the same length and the same
+-- filled slots. Then the two rows are equal. (The first slot is empty, so the list `ys` is empty.)
 none_first : {X : Type 0} (s : List (Option X)) (ys : List X) (m : ℕ)
     → false ∷ map is_some s ≡ shape (length ys) m → None ∷ s ≡ full ys ++ empty m
 unfolding head_of
 none_first s [] m e = all_none (None ∷ s) m e
 none_first s (y ∷ ys) m e = let n : 2 ≡ 1 = ap head_of e in absurd (omega (arith, n))
 
--- If the row `s` holds `n` items, and the flags of `s` are `shape n m`, then `s` consists of slots
--- with these items, followed by `m` empty slots.
+-- If the row `s` holds `n` items, and the flags of `s` are `n` times true, followed by `m` times
+-- false, then `s` consists of slots with these items, followed by `m` empty slots.
 pub from_shape : {X : Type 0} (s : List (Option X)) (m : ℕ)
     → map is_some s ≡ shape (length (items_in s)) m → s ≡ full (items_in s) ++ empty m
 unfolding head_of

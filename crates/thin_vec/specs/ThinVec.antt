@@ -53,7 +53,7 @@ module _ {T A : Type 0} where
     pub alloc : v.alloc ≡ a
     pub cost : v.cost ≡ no_cost
 
-  -- The limits that every list `v` of items of the type `R` satisfies. The length is at most the
+  -- Every list `v` of items of the type `R` satisfies these limits. The length is at most the
   -- capacity, the capacity is less than `2 ^ 63`, and a block of this capacity is small enough to
   -- be allocated.
   pub record IsWithin (R : RattleType) (v : Thin T A) : Type 0 where

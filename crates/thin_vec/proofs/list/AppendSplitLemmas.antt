@@ -1,4 +1,4 @@
--- Lemmas for `append` and `split_off`. They say what the blocks of two lists contain after the last
+-- These lemmas for `append` and `split_off` say what the blocks of two lists contain after the last
 -- items of one list were moved to the end of the other list.
 use Rattle.std.proofs.Common.{◌≡◌, ℕ, ◌+◌, ◌-◌, ◌≤◌, List, ◌++◌, length, take, drop, Option, None, sym, ap, ◌∙◌, arith, length-append, append_assoc}
 use Rattle.std.proofs.lemmas.List.{length-drop, length-replicate, length-take-le, take-append-drop, replicate-append-replicate}
@@ -13,7 +13,8 @@ use Rattle.thin_vec.proofs.ListLemmas.{IsWritten, Settled, length-full, settle-f
 
 module _ {T : Type 0} where
   -- The row `front xs c` has `c` slots: the first slots hold the items `xs`, and all other slots
-  -- are empty. Writing the items `ys` directly after `xs` turns this row into `front (xs ++ ys) c`.
+  -- are empty. If there is room, writing the items `ys` directly after `xs` turns this row into
+  -- `front (xs ++ ys) c`.
   pub front-more : (xs ys : List T) (c : ℕ) → length xs + length ys ≤ c → laid (length xs) (full ys)
       (front xs c) ≡ front (xs ++ ys) c
   front-more xs ys c room =
@@ -49,13 +50,14 @@ module _ {T : Type 0} where
     within : k ≡ length (full (drop i ys))
     within = omega (arith, count, length-full (drop i ys), length-drop i ys)
 
-    -- In the row `front ys c`, the `k` slots from index `i` onward hold the last `k` items of `ys`.
+    -- In the row `front ys c`, the `k` slots from index `i` onward hold the last `k` items of `ys`,
+    -- where `k` is `length ys - i`.
     pub front-run : run i k (front ys c) ≡ full (drop i ys)
     front-run = ap (λ (s : List (Option T)). run i k s) parted ∙ run-at i k (full (take i ys))
         (full (drop i ys)) (empty (c - length ys)) before within
 
-    -- Emptying the `k` slots from index `i` onward turns the row `front ys c` into the row
-    -- `front (take i ys) c`.
+    -- If `k` is `length ys - i`, emptying the `k` slots from index `i` onward turns the row
+    -- `front ys c` into the row `front (take i ys) c`.
     pub front-cut : emptied i k (front ys c) ≡ front (take i ys) c
     front-cut =
         let long : length (empty {T = T} k) ≡ length (full (drop i ys)) =
@@ -85,9 +87,9 @@ module _ {T A : Type 0} where
       (omega (arith, new, end, length-append ys xs)) (omega (arith, room, end, length-append ys xs))
 
   module _ {b o : Block T A} {a p : A} (t : IsThin b a) (u : IsThin o p) where
-    -- The items of a second list from index `i` onward were written after the last item of a first
-    -- list, and the stored length of the first list was updated. Then the new block `b'` is the
-    -- block of the first list with these items appended.
+    -- If the items of a second list from index `i` onward are written after the last item of a
+    -- first list, and the stored length is updated, then the new block `b'` is the block of the
+    -- first list with these items appended.
     pub settle-joined : (b' : Block T A) (i : ℕ) {k n : ℕ} → i ≤ length (items_in o.slots)
         → k ≡ o.len - i → n ≡ b.len → n + k ≤ length b.slots
         → {m : Cost} → IsWritten b b' (laid n (run i k o.slots) b.slots) (n + k) m

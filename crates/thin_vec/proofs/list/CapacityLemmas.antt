@@ -1,5 +1,5 @@
--- Lemmas about capacities. They say what a growth rule guarantees about the capacity that it
--- chooses, and what the block of a list contains after the capacity changed.
+-- These lemmas say which capacities a growth rule may choose, and what the block of a list contains
+-- after the capacity of the list changed.
 use Rattle.std.proofs.Common.{◌≡◌, ℕ, ◌^◌, ◌<◌, ◌≤◌, Err, Ok, Result, Some, None, arith, refl, subst, sym, ◌-◌, List, [], ◌++◌, length, take, Option, ap, ◌∙◌}
 use Rattle.std.specs.Align.{type_align}
 use Rattle.std.specs.Borrow.{RattleType}
@@ -49,8 +49,9 @@ module _ {T A : Type 0} {b : Block T A} {a : A} (t : IsThin b a) where
       settled b' a (items_in b.slots) c (ap (λ v. v.slots) w ∙ e) (ap (λ v. v.len) w ∙ t.packed.len)
       room (λ x h. some-same (sym h ∙ ap (λ v. v.alloc) w))
 
-  -- After an attempt to grow a block to `c` slots, the block `b'` is the block of a list with the
-  -- same items, and it has at most `c` slots. This is true whether the attempt succeeded or failed.
+  -- After an attempt to grow a block to `c` slots, the resulting block `b'` is the block of a list
+  -- with the same items, and it has at most `c` slots. This is true whether the attempt succeeded
+  -- or failed.
   pub settle-tried : {X E : Type 0} (r : Result X E) (b' : Block T A) (c : ℕ)
       → length b.slots < c
       → OnOk r (seen b' ≡ record (seen b) {

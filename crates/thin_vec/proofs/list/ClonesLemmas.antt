@@ -1,6 +1,6 @@
--- Lemmas for calls that clone items. Most of them are about clones that are written into the empty
--- slots after the last item of a list. The last two lemmas are about the items in a range of a
--- list.
+-- These lemmas are for calls that clone items. Most of them are about clones that are written into
+-- the empty slots after the last item of a list. The last two lemmas are about the items in a range
+-- of a list.
 use Rattle.std.proofs.Common.{◌≡◌, ◌+◌, ◌-◌, ◌<◌, ◌≤◌, [], ◌∷◌, ◌++◌, ◌∙◌, List, Option, Some, ap, append_assoc, arith, drop, get_or, length, refl, suc, sym, take, zero, ℕ}
 use Rattle.std.proofs.lemmas.List.{get_or-drop, get_or-take, get_or_append_left, length-drop, length-take-le, map_push, replicate-append-replicate}
 use Rattle.std.proofs.lemmas.List.Elements.{All-from_recursion, all_zip_more, length_all_zip, recursion_from_All}

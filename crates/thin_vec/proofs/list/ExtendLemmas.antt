@@ -1,5 +1,5 @@
--- Lemmas for calls that append the items of an iterator to a list. They are about the items that
--- calls of `next` yield, and about the list after these items were appended.
+-- These lemmas are for calls that append the items of an iterator to a list. They are about the
+-- items that calls of `next` yield, and about the list after these items were appended.
 use Rattle.std.proofs.Common.{true, ◌≡◌, ℕ, ◌+◌, ◌-◌, ◌<◌, ◌≤◌, List, [], ◌∷◌, ◌++◌, inl, inr, length, length-append, Option, None, Some, refl, sym, ap, subst, ◌∙◌, arith, false}
 use Rattle.std.proofs.lemmas.Bool.{cases_lt}
 use Rattle.std.proofs.lemmas.List.{map-append}
@@ -128,9 +128,9 @@ module _ {T A : Type 0} where
   put-none v n none = λ i. record v
       { cost = (sym (moving-none v.cost) ∙ ap (λ (k : ℕ). moving k v.cost) (sym none)) i }
 
-  -- Let the block `v` differ from the block `u` only in the slots and by `n` more moves. If one
-  -- more item is put into `v`, the resulting block `w` differs from `u` only in the slots and by
-  -- `n + 1` more moves.
+  -- Let the block `v` be the block `u` with other slots and with `n` more moves in the cost. If one
+  -- more item is put into `v`, the resulting block `w` is `u` with other slots and with `n + 1`
+  -- more moves in the cost.
   pub put-more : (u : Seen T A) {v w : Seen T A} {s : List (Option T)} (n k : ℕ) → k ≡ n + 1
       → w ≡ record v { slots = s; cost = moving 1 v.cost }
       → v ≡ record u { slots = v.slots; cost = moving n u.cost }
@@ -144,8 +144,8 @@ module _ {T A : Type 0} where
         ∙ (moving-more 1 n u.cost ∙ ap (λ (m : ℕ). moving m u.cost) (sym one)))) i;
   }
 
--- Let `w` be the list `v` after the items `xs` were appended, with one move for each of them. Then
--- `w` differs from `v` only in the items and by `length w.items - length v.items` more moves.
+-- Let `w` be the list `v` after the items `xs` were appended at the cost of one move each. Then `w`
+-- is `v` with other items, and with `length w.items - length v.items` more moves in the cost.
 pub spare-kept : {T A : Type 0} (v w : Thin T A) (xs : List T)
     → w ≡ record v { items = v.items ++ xs; cost = moving (length xs) v.cost }
     → w ≡ record v
@@ -206,8 +206,8 @@ module _ (rule : Rule) (R : RattleType) (law : KeepsLaw rule) where
 
 module _ {T A : Type 0} where
   -- Let the list `v` become `w` by at most one growth and by appending `k` items with `k` moves. If
-  -- the growth copied no more items than it added slots, then `CostsAdding v w 0` holds: no old
-  -- item was moved.
+  -- the growth copied no more items than it added slots, then `CostsAdding v w 0` holds: appending
+  -- the items moved no old item.
   pub filled-at : (v w : Thin T A) (k : ℕ) → w.cost ≡ moving k (cost_at v w.capacity)
       → length w.items ≡ length v.items + k
       → (cost_at v w.capacity).grown + v.capacity ≤ v.cost.grown + w.capacity → CostsAdding v w 0
@@ -224,8 +224,7 @@ module _ {T A : Type 0} where
   }
 
   -- Let the list `v` become `w` by at most one growth that does not change the items. If the growth
-  -- copied no more items than it added slots, then `CostsAdding v w 0` holds: no old item was
-  -- moved.
+  -- copied no more items than it added slots, then `CostsAdding v w 0` holds.
   pub filled-reserved : (v w : Thin T A) → w.cost ≡ cost_at v w.capacity
       → w.items ≡ v.items
       → (cost_at v w.capacity).grown + v.capacity ≤ v.cost.grown + w.capacity → CostsAdding v w 0
@@ -241,7 +240,7 @@ module _ {T A : Type 0} where
       })) (omega (arith, ap length n)) few
 
   -- Let the list `v` become `w` by appending `k` items with `k` moves, without a change of the
-  -- capacity. Then `CostsAdding v w 0` holds: no old item was moved.
+  -- capacity. Then `CostsAdding v w 0` holds: appending the items moved no old item.
   pub filled-spare : (v w : Thin T A) (k : ℕ)
       → w ≡ record v { items = w.items; cost = moving k v.cost }
       → length w.items ≡ length v.items + k → CostsAdding v w 0
@@ -276,7 +275,8 @@ module _ {T A : Type 0} where
     ];
   }
 
-  -- `CostsAdding v w 0` implies `CostsAdding v w n` for every `n`.
+  -- `CostsAdding v w 0` implies `CostsAdding v w n` for every `n`. The last argument is an upper
+  -- bound on the moves of old items.
   pub adding-more : (v w : Thin T A) (n : ℕ) → CostsAdding v w 0 → CostsAdding v w n
   adding-more v w n p = record {
     copied = p.copied;

@@ -1,5 +1,5 @@
--- Lemmas for calls that insert or remove items. They say what the block of a list contains during
--- such a call and after it.
+-- These lemmas are for calls that insert or remove items. They say what the block of a list
+-- contains during such a call and after it.
 use Rattle.thin_vec.proofs.list.CapacityLemmas.{front-none}
 use Rattle.std.proofs.Common.{◌≡◌, ◌≢◌, ℕ, zero, suc, ◌+◌, ◌-◌, ◌<◌, ◌≤◌, List, [], ◌∷◌, ◌++◌, length, take, drop, Option, Some, None, refl, sym, ap, ◌∙◌, subst, arith, get_or, length-append, append_assoc}
 use Rattle.std.proofs.Math.Seq.{drop-length, take-append_seam}
@@ -21,8 +21,9 @@ use mathlib.Core.Logic.{⊎_elim}
 -- Section: moving consecutive items by one slot
 
 module _ {T : Type 0} where
-  -- Let the first slots hold the items `xs`. If slot `i` is emptied, and all later items are moved
-  -- down by one slot, then the first slots hold `remove xs i`, and all other slots are empty.
+  -- Let a row of slots hold the items `xs`, followed by empty slots. If slot `i` is emptied, and
+  -- all later items are moved down by one slot, then the row holds `remove xs i`, followed by empty
+  -- slots.
   pub front-remove : (xs : List T) (c i : ℕ) {j k : ℕ} → i < length xs → length xs ≤ c → j ≡ i + 1
       → k ≡ length xs - j → moved j i k (set (front xs c) i None) ≡ front (remove xs i) c
   front-remove [] c i h l e n = absurd (omega arith)
@@ -46,7 +47,8 @@ module _ {T : Type 0} where
   -- for a new item at index `i`.
   module _ (xs : List T) (c i : ℕ) {j k : ℕ} (h : i ≤ length xs) (l : length xs < c) (e : j ≡ i + 1)
       (n : k ≡ length xs - i) where
-    -- The slots after slot `i`, after the items from index `i` onward were moved up by one slot.
+    -- The row of slots that follows slot `i` when the items from index `i` onward have been moved
+    -- up by one slot.
     after : List (Option T)
     after = full (drop i xs) ++ replicate (c - length xs - 1) None
 
@@ -73,8 +75,8 @@ module _ {T : Type 0} where
         ap (λ (ys : List (Option T)). moved i j k ys) s
         ∙ moved_right i j k 1 (full a) (full b) r before e q
 
-    -- If the items from index `i` onward are moved up by one slot, and `v` is written into slot
-    -- `i`, then the first slots hold `insert xs i v`, and all other slots are empty.
+    -- If the items of `xs` from index `i` onward are moved up by one slot, and `v` is written into
+    -- slot `i`, then the row of slots holds `insert xs i v`, followed by empty slots.
     pub front-insert : (v : T)
         → set (moved i j k (front xs c)) i (Some v) ≡ front (insert xs i v) c
     unfolding after
@@ -136,8 +138,8 @@ module _ {T A : Type 0} {b : Block T A} {a : A} (t : IsThin b a) where
 -- Section: removal of items
 
 module _ {T : Type 0} where
-  -- Let a row of `c` slots hold the items `xs` in its first slots. `emptying xs k i c` is this row
-  -- after the slots `k..i` were emptied.
+  -- Let a row of `c` slots hold the items `xs`, followed by empty slots. `emptying xs k i c` is
+  -- this row after the slots `k..i` were emptied.
   abbrev pub emptying : List T → ℕ → ℕ → ℕ → List (Option T)
   emptying xs k i c =
       full (take k xs) ++ (empty (i - k) ++ (full (drop i xs) ++ empty (c - length xs)))
@@ -160,8 +162,8 @@ module _ {T : Type 0} where
   pub full-append : (xs ys : List T) → full (xs ++ ys) ≡ full xs ++ full ys
   full-append xs ys = map-append (λ (x : T). Some x) xs ys
 
-  -- Before any slot is emptied, the row `emptying xs k k c` is the row `front xs c`, which holds
-  -- the items `xs` in its first slots.
+  -- Before any slot is emptied, the row `emptying xs k k c` is `front xs c`, the row of `c` slots
+  -- that holds the items `xs`, followed by empty slots.
   pub emptying-none : (xs : List T) (k c : ℕ) → emptying xs k k c ≡ front xs c
   emptying-none xs k c =
       let r : List (Option T) = empty (c - length xs) in
@@ -221,8 +223,8 @@ module _ {T : Type 0} where
         ∙ ap (λ (s : List (Option T)). s ++ post)
         (replicate-append-replicate (i - k) 1 None ∙ ap empty more))))
 
-  -- After all slots from index `k` onward were emptied, the first slots hold the first `k` items,
-  -- and all other slots are empty.
+  -- After all slots from index `k` onward were emptied, the row of slots holds the first `k` items
+  -- of `xs`, followed by empty slots.
   pub emptying-all : (xs : List T) (k c : ℕ) → k ≤ length xs → length xs ≤ c
       → emptying xs k (length xs) c ≡ front (take k xs) c
   emptying-all xs k c order room =
@@ -243,8 +245,8 @@ module _ {T : Type 0} where
       (full-set xs s i m (omega arith))
 
   -- Let the item at index `i` and the last item `m` be taken out of their slots, and let `m` be
-  -- written into slot `i`. Then the slots are the slots of the list after `swap_remove` at index
-  -- `i`.
+  -- written into slot `i`. Then the row of slots is the row of the list after `swap_remove` at
+  -- index `i`.
   front-swap_remove : (ys : List T) (c i : ℕ) (v m : T) → i < length ys → length (ys ++ m ∷ []) ≤ c
       → set (set (set (front (ys ++ m ∷ []) c) i None) (length ys) None) i (Some m) ≡ front
       (swap_remove (ys ++ m ∷ []) i v) c

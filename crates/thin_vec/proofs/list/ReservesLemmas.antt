@@ -1,5 +1,5 @@
--- Lemmas that prove `Keeps`, `Reserves` and `TellsOverflow`. These three definitions say how a call
--- may change the capacity of a list, and which error the call returns.
+-- These lemmas prove that calls satisfy `Keeps`, `Reserves` and `TellsOverflow`. These three
+-- definitions say how a call may change the capacity of a list, and which error the call returns.
 use Rattle.std.proofs.Common.{◌≡◌, ℕ, ◌+◌, Err, Ok, Option, Result, Some, ap, arith, inl, inr, length, sym, ◌∙◌}
 use Rattle.std.specs.Borrow.{RattleType}
 use Rattle.std.specs.Prelude.{IfErr}
@@ -19,9 +19,8 @@ tells-ok x named n is = record {
   overflow = (λ e. ok-err x CapacityOverflow e, λ none. absurd (none-some none is));
 }
 
--- Let room for exactly `m` items of type `R` need the same capacity as room for exactly `n` items
--- of type `S`. If `TellsOverflowOf R m` holds for the result `Ok x`, then `TellsOverflowOf S n`
--- holds for the result `Ok y`.
+-- Let `exact_capacity R 0 m` be equal to `exact_capacity S 0 n`. If `TellsOverflowOf R m` holds for
+-- the result `Ok x`, then `TellsOverflowOf S n` holds for the result `Ok y`.
 pub tells-made : {X : Type 0} {x y : X} (R S : RattleType) (m n : ℕ)
     → exact_capacity R 0 m ≡ exact_capacity S 0 n
     → TellsOverflowOf R m (let r : Result X ThinVecError = Ok x in r)
@@ -33,9 +32,8 @@ tells-made {x = x} {y} R S m n e told = record {
   );
 }
 
--- Let room for exactly `m` items of type `R` need the same capacity as room for exactly `n` items
--- of type `S`. If `TellsOverflowOf R m r` holds for the result `r`, then `TellsOverflowOf S n r`
--- holds.
+-- Let `exact_capacity R 0 m` be equal to `exact_capacity S 0 n`. If `TellsOverflowOf R m r` holds
+-- for the result `r`, then `TellsOverflowOf S n r` holds.
 pub tells-same : {X : Type 0} {r : Result X ThinVecError} (R S : RattleType) (m n : ℕ)
     → exact_capacity R 0 m ≡ exact_capacity S 0 n → TellsOverflowOf R m r → TellsOverflowOf S n r
 tells-same R S m n e told = record {
@@ -90,10 +88,10 @@ module _ {T A : Type 0} (R : RattleType) (v : Thin T A) where
           overflow = (λ e. ok-err x CapacityOverflow e, λ none. absurd (none-some none named));
         }
 
-    -- Let a first step change the list `v` to `u`, return `Ok` and satisfy `Reserves` for `k`
-    -- items. Let a second step keep the capacity and fail only with `OutOfMemory`. Then both steps
-    -- together satisfy `Reserves`, even for another item type `S`, if the growth rule chooses the
-    -- same capacity for `k` items of `S`.
+    -- Let a call consist of two steps. The first step returns `Ok` and satisfies `Reserves` for `k`
+    -- items. The second step does not change the capacity, and fails only with `OutOfMemory`. Then
+    -- the whole call satisfies `Reserves` for `k` items of any type `S`, if the growth rule chooses
+    -- the same capacity for `S`.
     pub reserves-then : {X Y : Type 0} {x : X} (S : RattleType) (k l : ℕ) (u w : Thin T A)
         (r : Result Y ThinVecError) → l ≡ k
         → capacity_for rule S v l ≡ capacity_for rule R v k → w.capacity ≡ u.capacity
@@ -120,8 +118,8 @@ module _ {T A : Type 0} (R : RattleType) (v : Thin T A) where
         }
 
     -- Let a call fail without a change of the list, and let it satisfy `Reserves` for `k` items.
-    -- Then a call that fails with the same error satisfies `Reserves` for `k` items of another type
-    -- `S`, if the growth rule chooses the same capacity for these items.
+    -- Then a call that fails with the same error satisfies `Reserves` for `k` items of any type
+    -- `S`, if the growth rule chooses the same capacity for `S`.
     pub reserves-failed : {X Y : Type 0} (S : RattleType) (k l : ℕ) (w : Thin T A)
         (cause : ThinVecError) → l ≡ k
         → capacity_for rule S v l ≡ capacity_for rule R v k

@@ -43,20 +43,22 @@ module _ {S T : Type 0} (R : S → T → T → Bool → S → T → T → Type 0
   IsDedupedBy s v w = (t : S) × IsDedupedTo s v w t
 
 -- `Compares E` describes a test that only compares two items. The item `x` is removed if `E x k` is
--- true, where `k` is the last item that was kept. The test does not change the items, and any
--- states `s` and `t` are allowed.
+-- true, where `k` is the last item that was kept. The test does not change the items, and its
+-- states `s` and `t` are arbitrary.
 abbrev pub Compares : {S T : Type 0} → (T → T → Bool) → S → T → T → Bool → S → T → T → Type 0
 Compares E s x k b t y l = (b ≡ E x k) × (y ≡ x) × (l ≡ k)
 
 module _ {T : Type 0} (E : T → T → Bool) where
-  -- One flag for each item of a list that follows the kept item `k`. The flag is true if the item
-  -- is kept: `E` returns false for the item and the last item kept before it.
+  -- `unlike_from k xs` contains one flag for each item of the list `xs`, which follows the kept
+  -- item `k`. The flag is true if the item is kept, that is, if `E` returns false for the item and
+  -- the last item kept before it.
   abbrev pub unlike_from : T → List T → List Bool
   unlike_from k [] = []
   unlike_from k (x ∷ xs) = if E x k then false ∷ unlike_from k xs else true ∷ unlike_from x xs
 
-  -- One flag for each item of a list except the first, which is always kept. The flag is true if
-  -- the item is kept: `E` returns false for the item and the last item kept before it.
+  -- `unlike xs` contains one flag for each item of the list `xs` except the first, which is always
+  -- kept. The flag is true if the item is kept, that is, if `E` returns false for the item and the
+  -- last item kept before it.
   abbrev pub unlike : List T → List Bool
   unlike [] = []
   unlike (x ∷ xs) = unlike_from x xs

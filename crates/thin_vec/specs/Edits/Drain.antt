@@ -40,8 +40,8 @@ module _ {T A G : Type 0} {g : Ghosts G} {h : HoldsGhosts (Holder (Open T A)) (O
   abbrev pub drain_lender : Drain T A G (Holder (Open T A)) g h → GName
   drain_lender d = d.list.ghost_name
 
-  -- `old` and `new` borrow the same list. Dropping either of them would result in the same final
-  -- list.
+  -- `old` and `new` borrow the same list. Dropping `old` and dropping `new` would result in the
+  -- same final list.
   pub record DrainKeeps (old new : Drain T A G (Holder (Open T A)) g h) : Type 0 where
     pub lender : drain_lender new ≡ drain_lender old
     pub kept : drain_kept new ≡ drain_kept old
@@ -49,15 +49,15 @@ module _ {T A G : Type 0} {g : Ghosts G} {h : HoldsGhosts (Holder (Open T A)) (O
     pub alloc : drain_alloc new ≡ drain_alloc old
     pub cost : drain_cost new ≡ drain_cost old
 
-  -- A call of `next` changed the drain `old` to `new` and returned `item`. This `item` is the first
-  -- item that had not been yielded before, or `None` if there was no such item.
+  -- A call of `next` changed the `Drain` from `old` to `new` and returned `item`. This `item` is
+  -- the first item that had not been yielded before, or `None` if there was no such item.
   pub record DrainSteps (old : Drain T A G (Holder (Open T A)) g h) (item : Option T)
       (new : Drain T A G (Holder (Open T A)) g h) : Type 0 where
     pub gave : YieldsFirst drain_rest old item new
     pub keeps : DrainKeeps old new
 
-  -- A call of `next_back` changed the drain `old` to `new` and returned `item`. This `item` is the
-  -- last item that had not been yielded before, or `None` if there was no such item.
+  -- A call of `next_back` changed the `Drain` from `old` to `new` and returned `item`. This `item`
+  -- is the last item that had not been yielded before, or `None` if there was no such item.
   pub record DrainStepsBack (old : Drain T A G (Holder (Open T A)) g h) (item : Option T)
       (new : Drain T A G (Holder (Open T A)) g h) : Type 0 where
     pub gave : YieldsLast drain_rest old item new

@@ -17,8 +17,8 @@ use Rattle.thin_vec.specs.declared.edits.holder.Holds.{Ghosts as HoldsGhosts}
 module _ {T F A : Type 0} (R : F → T → Bool → F → T → Type 0) where
   -- A call of `next` changed `old` to `new` and returned `item`. The closure was called with the
   -- untested items of the range, in order, until it returned true for `item` or no item was left.
-  -- It returned false for the items `kept`, which remain in the list. Each of them counts one move
-  -- if an item was extracted before.
+  -- The closure returned false for the items `kept`, which remain in the list. Each item of `kept`
+  -- counts one move if an item was extracted before.
   pub record Extracts (old : Extracting T F A) (item : Option T)
       (new : Extracting T F A) : Type 0 where
     pub kept : List T

@@ -10,9 +10,8 @@ trues [] = zero
 trues (true ∷ flags) = suc (trues flags)
 trues (false ∷ flags) = trues flags
 
--- The number of items that are moved if other items of a list are removed. These are the items that
--- are kept after the first removed item. The argument contains one flag for each item of the list,
--- which is true if the item is kept.
+-- `moved_down stays` is the number of items that are kept after the first removed item. These items
+-- are moved down. The flags `stays` say for each item of a list whether the item is kept.
 abbrev pub moved_down : List Bool → ℕ
 moved_down [] = zero
 moved_down (true ∷ stays) = moved_down stays

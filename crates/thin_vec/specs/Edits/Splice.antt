@@ -30,17 +30,17 @@ module _ {S T A : Type 0} (steps : S → Option T → S → Type 0) where
       × YieldsThen steps s (placed ++ error.held.items) None error.rest)
 
 module _ {T A : Type 0} where
-  -- The cause of a failure of `finish`. `w` is the list after the call, and `tail` contains the
-  -- items after the range. `left` is an upper bound on the number of items that the rest of the
-  -- iterator may yield.
+  -- These clauses say why a call of `finish` failed. `w` is the list after the call, and `tail`
+  -- contains the items after the range. `left` is an upper bound on the number of items that the
+  -- rest of the iterator may yield.
   pub record IsStopCause {S : Type 0} (rule : Rule) (R : RattleType) (w : Thin T A) (tail : List T)
       (left : Count) (error : SpliceRefused T S A) : Type 0 where
-    -- If the error returns no items, because `held` is empty and `in_hand` is `None`, then the call
-    -- could not reserve room for the iterator's size hint.
+    -- If `held` is empty and `in_hand` is `None`, the error returns no items. Then the call could
+    -- not reserve room for the size hint of the iterator.
     pub by_hint : error.held.items ≡ [] → error.in_hand ≡ None
         → FailsAtHint rule R w left error.cause
-    -- If `held` is not empty, and `in_hand` is `None`, the cause is `CapacityOverflow` if and only
-    -- if the growth rule chooses no capacity with room for the items in `held`.
+    -- If the vector `held` is not empty, and `in_hand` is `None`, the cause is `CapacityOverflow`
+    -- if and only if the growth rule chooses no capacity with room for the items in `held`.
     pub by_held : 0 < length error.held.items → error.in_hand ≡ None
         → (error.cause ≡ CapacityOverflow)
         ↔ (capacity_for rule R w (length error.held.items) ≡ None)
@@ -52,8 +52,9 @@ module _ {T A : Type 0} where
     pub by_push : tail ≡ [] → IsSome error.in_hand
         → (error.cause ≡ CapacityOverflow) ↔ (capacity_for rule R w 1 ≡ None)
 
-  -- Facts about a failed call of `finish` if no item follows the range. `v` is the list without the
-  -- items of the range, `w` is the list after the call, and `s` is the iterator before the call.
+  -- These clauses describe a failed call of `finish` if no item follows the range. `v` is the list
+  -- without the items of the range, `w` is the list after the call, and `s` is the iterator before
+  -- the call.
   pub record FailsAsExtend {S : Type 0} (v w : Thin T A) (s : S) (error : SpliceRefused T S A)
       : Type 0 where
     pub held : error.held.items ≡ []
@@ -92,7 +93,7 @@ module _ {I T A G H : Type 0} {g : Ghosts G} {h : HoldsGhosts H (Open T A)} wher
   abbrev pub splice_iter : Splice I T A G H g h → I
   splice_iter s = s.iter
 
-  -- the list's allocator
+  -- The allocator of the list.
   abbrev pub splice_alloc : Splice I T A G H g h → A
   splice_alloc s = s.list.now.alloc
 
@@ -134,15 +135,15 @@ module _ {I T A G H : Type 0} {g : Ghosts G} {h : HoldsGhosts H (Open T A)} wher
     pub alloc : splice_alloc new ≡ splice_alloc old
     pub cost : (splice_block new).cost ≡ (splice_block old).cost
 
-  -- A call of `next` changed the splice `old` to `new` and returned `item`. This `item` is the
-  -- first item that had not been yielded before, or `None` if there was no such item.
+  -- A call of `next` changed the `Splice` from `old` to `new` and returned `item`. This `item` is
+  -- the first item that had not been yielded before, or `None` if there was no such item.
   pub record SpliceSteps (old : Splice I T A G H g h) (item : Option T)
       (new : Splice I T A G H g h) : Type 0 where
     pub gave : YieldsFirst splice_rest old item new
     pub keeps : SpliceKeeps old new
 
-  -- A call of `next_back` changed the splice `old` to `new` and returned `item`. This `item` is the
-  -- last item that had not been yielded before, or `None` if there was no such item.
+  -- A call of `next_back` changed the `Splice` from `old` to `new` and returned `item`. This `item`
+  -- is the last item that had not been yielded before, or `None` if there was no such item.
   pub record SpliceStepsBack (old : Splice I T A G H g h) (item : Option T)
       (new : Splice I T A G H g h) : Type 0 where
     pub gave : YieldsLast splice_rest old item new

@@ -19,8 +19,8 @@ use Rattle.thin_vec.specs.Cheap.{IsCheap}
 use Rattle.thin_vec.specs.ThinVec.{Thin, HasRoomFor, IsWithin, capacity_for, cost_at}
 use Rattle.thin_vec.specs.declared.errors.Rejected.{Rejected}
 
--- `causes r` is `r.map_err(|error| error.cause)` in Rust. It drops the value that the error returns
--- to the caller.
+-- `causes r` corresponds to `r.map_err(|error| error.cause)` in Rust. It drops the value that the
+-- error returns to the caller.
 abbrev pub causes : {X T : Type 0} → Result X (Rejected T) → Result X ThinVecError
 causes (Ok x) = Ok x
 causes (Err e) = Err e.cause
@@ -41,12 +41,12 @@ pub record TellsOverflowOf {X : Type 0} (R : RattleType) (n : ℕ) (r : Result X
 
 module _ {T A : Type 0} where
   -- `Costs n v w` says that changing the list `v` to `w` took exactly `n` moves. If the capacity
-  -- changed, it also took one reallocation, which copied all items of `v`.
+  -- changed, the call also took one reallocation, which copied all items of `v`.
   abbrev pub Costs : ℕ → Thin T A → Thin T A → Type 0
   Costs n v w = w.cost ≡ moving n (cost_at v w.capacity)
 
-  -- The guarantees of a call that needs room for `k` more items. They are about the capacity after
-  -- the call, and about the error if the call fails.
+  -- A call that needs room for `k` more items guarantees these clauses. They are about the capacity
+  -- after the call, and about the error if the call fails.
   pub record Reserves (rule : Rule) (R : RattleType) (k : ℕ) (v w : Thin T A)
       {X : Type 0} (r : Result X ThinVecError) : Type 0 where
     -- If `v` has room for `k` more items, the capacity does not change.
@@ -57,13 +57,13 @@ module _ {T A : Type 0} where
     -- On failure, the list is unchanged, or it had already grown to the capacity `capacity_for`
     -- when a clone failed. The clause `err` of each call says in which cases the list is unchanged.
     pub err : OnErr r ((w ≡ v) ⊎ (capacity_for rule R v k ≡ Some w.capacity))
-    -- The error is `CapacityOverflow` if and only if `capacity_for` is `None`, because the capacity
-    -- would be too large. So every other failure is `OutOfMemory`, the only other error.
+    -- The error is `CapacityOverflow` if and only if `capacity_for` is `None`, which means that the
+    -- capacity would be too large. So every other failure is `OutOfMemory`, the only other error.
     pub overflow : IsErrOf r CapacityOverflow ↔ (capacity_for rule R v k ≡ None)
 
-  -- The guarantees of every call that may grow a list. The allocator does not change, the capacity
-  -- does not shrink, and the bound `IsCheap` on the cost is preserved. The list is within the
-  -- limits of `IsWithin` before and after the call.
+  -- Every call that may grow a list guarantees these clauses. The allocator does not change, the
+  -- capacity does not shrink, and the bound `IsCheap` on the cost is preserved. The list is within
+  -- the limits of `IsWithin` before and after the call.
   pub record Keeps (R : RattleType) (v w : Thin T A) : Type 0 where
     pub alloc : w.alloc ≡ v.alloc
     pub never_less : v.capacity ≤ w.capacity

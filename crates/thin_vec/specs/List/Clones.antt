@@ -23,8 +23,9 @@ module _ {T : Type 0} (clones : T → T → Type 0) where
     pub cloned : AllZip clones (take n sources) copies
     pub slots : s' ≡ laid i (full copies) s
 
-  -- The guarantees of std's `Clone` about a clone `w` of the list `v`. `w` contains a clone of each
-  -- item, has the same allocator, and has a capacity that is exactly the number of items.
+  -- `IsClonedList v w` states what std's `Clone` guarantees about a clone `w` of the list `v`. `w`
+  -- contains a clone of each item, has the same allocator, and has a capacity that is exactly the
+  -- number of items.
   abbrev pub IsClonedList : {A : Type 0} → Thin T A → Thin T A → Type 0
   IsClonedList v w =
       AllZip clones v.items w.items × (length w.items ≡ length v.items)

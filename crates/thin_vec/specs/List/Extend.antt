@@ -58,8 +58,8 @@ IsCollected rule R d n left =
     IsRuled rule R d n ⊎ ((h : ℕ) × IsWithinCount h left × (exact_capacity R 0 h ≡ Some d))
 
 module _ {T A : Type 0} where
-  -- Restricts the new capacity after items of an iterator were added to the list `v`, which became
-  -- `w`. `left` is an upper bound on the number of items that the iterator may yield.
+  -- These clauses restrict the capacity after items of an iterator were added to the list `v`,
+  -- which became `w`. `left` is an upper bound on the number of items that the iterator may yield.
   pub record GrowsFor (rule : Rule) (R : RattleType) (v w : Thin T A) (left : Count) : Type 0 where
     -- If `v` has room for all items that the iterator may yield, the capacity does not change.
     pub had_room : HasRoomFor v (size left) → w.capacity ≡ v.capacity
@@ -69,9 +69,9 @@ module _ {T A : Type 0} where
     -- number of items, or the growth rule chooses it for a size hint of the iterator.
     pub ruled : IsExtended rule R v w.capacity (length w.items) left
 
-  -- The cost of adding items to the list `v`, which became `w`. Each added item counts one move,
-  -- and there are at most `n` moves of other items. The first two inequalities have sums on both
-  -- sides, to avoid subtraction.
+  -- These clauses bound the cost of adding items to the list `v`, which became `w`. Each added item
+  -- counts one move, and there are at most `n` moves of other items. The first two inequalities
+  -- have sums on both sides, to avoid subtraction.
   pub record CostsAdding (v w : Thin T A) (n : ℕ) : Type 0 where
     pub least : v.cost.moves + length w.items ≤ w.cost.moves + length v.items
     pub moves : w.cost.moves + length v.items ≤ v.cost.moves + n + length w.items
@@ -102,15 +102,16 @@ module _ {T A : Type 0} where
     -- `IsWithin`.
     pub made : IsMade R a w
 
-  -- The guarantees of std's `Extend` about a call that appended the items `xs` to the list `v`,
-  -- which became `w`. The call may have succeeded or failed.
+  -- `Extends rule R v xs w` states what std's `Extend` guarantees about a call that appended the
+  -- items `xs` to the list `v`, which became `w`. The call may have succeeded or failed.
   abbrev pub Extends : Rule → RattleType → Thin T A → List T → Thin T A → Type 0
   Extends rule R v xs w =
       (w.items ≡ v.items ++ xs) × (length w.items ≡ length v.items + length xs)
       × (v.capacity ≤ w.capacity) × IsLoose rule R v.capacity w.capacity × CostsAdding v w 0
       × (w.alloc ≡ v.alloc) × (IsCheap v → IsCheap w) × IsWithin R w
 
-  -- The guarantees of std's `FromIterator` about a list `v` that was made from the items `xs`.
+  -- `IsMadeOf R xs v` states what std's `FromIterator` guarantees about a list `v` that was made
+  -- from the items `xs`.
   abbrev pub IsMadeOf : RattleType → List T → Thin T A → Type 0
   IsMadeOf R xs v =
       (v.items ≡ xs) × (length v.items ≡ length xs) × (v.cost.moves ≡ length xs) × IsCheap v
@@ -124,8 +125,8 @@ module _ {T A : Type 0} where
       (h : ℕ) × IsWithinCount h left × ¬ (HasRoomFor w h)
       × ((cause ≡ CapacityOverflow) ↔ (capacity_for rule R w h ≡ None))
 
-  -- The cause of a failure of `extend`. `w` is the list after the call, and `left` is an upper
-  -- bound on the number of items that the rest of the iterator may yield.
+  -- These clauses say why a call of `extend` failed. `w` is the list after the call, and `left` is
+  -- an upper bound on the number of items that the rest of the iterator may yield.
   pub record IsExtendCause {S : Type 0} (rule : Rule) (R : RattleType) (w : Thin T A)
       (left : Count) (error : ExtendRefused T S) : Type 0 where
     -- If `in_hand` is `Some`, an item was drawn from the iterator, but not added to the list. Then
@@ -136,8 +137,8 @@ module _ {T A : Type 0} where
     -- If `in_hand` is `None`, the call could not reserve room for the size hint of the iterator.
     pub by_hint : error.in_hand ≡ None → FailsAtHint rule R w left error.cause
 
-  -- The cause of a failure of `from_iter`. `left` is an upper bound on the number of items that the
-  -- rest of the iterator may yield.
+  -- These clauses say why a call of `from_iter` failed. `left` is an upper bound on the number of
+  -- items that the rest of the iterator may yield.
   pub record IsCollectCause {S : Type 0} (rule : Rule) (R : RattleType) (left : Count)
       (error : CollectRefused T S A) : Type 0 where
     -- If `in_hand` is `Some`, an item was drawn from the iterator, but not added to the list. Then

@@ -87,10 +87,10 @@ module _ {S T : Type 0} (R : S → T → T → Bool → S → T → T → Type 0
     pub stops : ((length over ≡ 1) × (stays ≡ replicate more true ++ false ∷ []))
         ⊎ ((over ≡ []) × ((after ≡ []) × (stays ≡ replicate more true)))
 
-  -- Items from the start of the middle run (the untested items) of the open block `v` were tested,
-  -- each against the last item kept before it. The kept items were moved to the front (the kept
-  -- items) at the cost of one move each, and the other tested items were removed. The test changed
-  -- its state from `s` to `t`, and `w` is the open block afterwards.
+  -- In the open block `v`, some of the untested items (the first items of the middle run) were
+  -- tested, each against the last item kept before it. The kept items were moved to the end of the
+  -- front, at the cost of one move each. The other tested items were removed. The test changed its
+  -- state from `s` to `t`, and `w` is the open block afterwards.
   pub record Dedups {A : Type 0} (s : S) (v : Open T A) (t : S) (w : Open T A) : Type 0 where
     pub before : List T
     pub first : T

@@ -49,8 +49,8 @@ module _ {S T : Type 0} (R : S → T → Bool → S → T → Type 0) where
 
   -- The untested items of the open block `v` (its middle run) were tested in order, until an item
   -- was to be removed or no untested item was left. The kept items are now in the front, and each
-  -- of them counts one move if `v` has a gap. The item that is to be removed is the first item of
-  -- the middle run of the open block `w`. The test changed its state from `s` to `t`.
+  -- of them counts one move if `v` has a gap. An item that is to be removed is now the first item
+  -- of the middle run of the open block `w`. The test changed its state from `s` to `t`.
   pub record Advances {A : Type 0} (s : S) (v : Open T A) (t : S) (w : Open T A) : Type 0 where
     pub count : ℕ
     pub left : List T
@@ -61,9 +61,10 @@ module _ {S T : Type 0} (R : S → T → Bool → S → T → Type 0) where
       cost = if v.gap == 0 then v.cost else moving count v.cost;
     }
 
-  -- Some of the untested items of the open block `v` (its middle run) were tested, in order. The
-  -- kept items were moved to the front at the cost of one move each, and the other tested items
-  -- were removed. The test changed its state from `s` to `t`, and `w` is the open block afterwards.
+  -- In the open block `v`, some of the untested items (the first items of the middle run) were
+  -- tested, in order. The kept items were moved to the end of the front, at the cost of one move
+  -- each. The other tested items were removed. The test changed its state from `s` to `t`, and `w`
+  -- is the open block afterwards.
   pub record Sifts {A : Type 0} (s : S) (v : Open T A) (t : S) (w : Open T A) : Type 0 where
     pub done : List T
     pub verdicts : Verdicts T

@@ -16,16 +16,16 @@ use Rattle.thin_vec.specs.declared.errors.SpliceRefused.{SpliceRefused}
 use Rattle.thin_vec.proofs.list.ThinVec.finish_at_end.Goals.{After-extend}
 use Rattle.thin_vec.proofs.list.ThinVec.finish_at_end.Goals as goal
 
--- After the call of `close`, the list is `left_of` the open block: the list without the items of
--- the replaced range.
+-- After the call of `close`, the list contains only the items outside the replaced range
+-- (`left_of`).
 left : (g : _) (c : After-extend g)
     → c.close.new.self ≡ left_of c.args.block c.args.self.now.alloc
 left g c =
     c.close.ensures.changes
     ∙ closed-left c.args.block c.args.self.now c.requires.none c.requires.no_tail
 
--- `HasTaken` holds for the list before the call of `extend`, which is `left_of` the open block, and
--- the list after this call.
+-- `HasTaken` holds for the lists before and after the call of `extend`. It describes how a list
+-- changes when items of an iterator are added.
 taken : (g : _) (c : After-extend g)
     → HasTaken g.G.Growth.rule (param 0 g.row.T) (left_of c.args.block c.args.self.now.alloc)
     c.extend.new.self (2 * length c.args.block.tail) (g.I.Iterator.remaining c.args.iter)
@@ -41,8 +41,8 @@ taken g c =
     } in
     subst (λ z. HasTaken g.G.Growth.rule (param 0 g.row.T) z w n more) (left g c) now
 
--- `IsExtended` holds for the list before the call of `extend`, which is `left_of` the open block,
--- and the capacity after this call.
+-- The call of `extend` satisfies `IsExtended`, which restricts the capacity of the list after the
+-- call.
 ruled : (g : _) (c : After-extend g)
     → IsExtended g.G.Growth.rule (param 0 g.row.T) (left_of c.args.block c.args.self.now.alloc)
     c.extend.new.self.capacity (length c.extend.new.self.items)

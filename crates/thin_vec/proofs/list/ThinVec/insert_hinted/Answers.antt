@@ -12,7 +12,8 @@ use Rattle.thin_vec.proofs.edits.FinishLemmas.{IsWide, wide-taken}
 use Rattle.thin_vec.proofs.list.ThinVec.insert_hinted.Goals.{After-fill_gap}
 use Rattle.thin_vec.proofs.list.ThinVec.insert_hinted.Goals as goal
 
--- `open_wide` has made a gap at index `at`, and the number of slots in this gap is the size hint.
+-- `open_wide` has made a gap of empty slots at index `at`. The number of these slots is the lower
+-- bound of the size hint.
 wide : (g : _) (c : After-fill_gap g)
     → IsWide c.open_wide-block.result c.reserve.new.self c.args.at c.size_hint-hint.result.0
 wide g c = record {
@@ -44,7 +45,7 @@ taken g c n few =
     (wide-taken c.fill_gap.ensures.filled rule T n left u c.args.at hint (wide g c)
     (ap (λ z. z.alloc) c.open_wide-block.ensures.changes) few)
 
--- The number of items after the gap (the tail) is the length of the old list minus `at`.
+-- The number of items after the gap is the length of the old list minus `at`.
 tail : (g : _) (c : After-fill_gap g) → length c.open_wide-block.result.tail
     ≡ length c.args.self.now.items - c.args.at
 tail g c = omega (
