@@ -4,9 +4,10 @@ use Rattle.std.specs.Prelude.{◌≡◌, ℕ, ◌*◌, ◌^◌, ◌<◌, ◌≤�
 use Rattle.thin_block.specs.Cost.{Cost}
 use Rattle.thin_vec.specs.ThinVec.{Thin}
 
--- This record bounds the cost of growing a list to the capacity `cap`. If `cap` is 0, memory was
--- never requested, and no item was copied. Otherwise fewer than `cap` items were copied, and the
--- number of requests for memory is at most the number of binary digits of `cap`.
+-- This record bounds the cost of growing a list to the capacity `cap`. If `cap` is 0, the cost
+-- counts no request for memory and no copied item. Otherwise the cost counts fewer than `cap`
+-- copied items, and the number of counted requests for memory is at most the number of binary
+-- digits of `cap`.
 pub record IsCheapAt (cap : ℕ) (cost : Cost) : Type 0 where
   pub none : cap ≡ 0 → (cost.blocks ≡ 0) × (cost.grown ≡ 0)
   pub grown : 0 < cap → cost.grown < cap

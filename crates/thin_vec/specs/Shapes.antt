@@ -1,6 +1,6 @@
--- Lemmas about rows of slots in which only the first slots are filled. Such a row consists of its
--- items, followed by empty slots. This file is in `specs/` because a file in `specs/formers/` uses
--- the lemmas.
+-- These lemmas are about rows of slots in which only the first slots are filled. Such a row
+-- consists of its items, followed by empty slots. This file is in `specs/` because a file in
+-- `specs/formers/` uses the lemmas.
 use Rattle.std.specs.Prelude.{◌≡◌, ℕ, suc, zero, List, [], ◌∷◌, ◌++◌, Bool, true, false, Option, length, map, replicate}
 use Rattle.std.specs.declared.option.Option.TheVariants.{Some, None}
 use mathlib.Core.Path.{refl, ap, ◌∙◌}
@@ -31,20 +31,21 @@ none_shape : (X : Type 0) (m : ℕ) → map is_some (let none : List (Option X) 
 none_shape X zero = refl
 none_shape X (suc m) = ap (λ l. false ∷ l) (none_shape X m)
 
--- The row `full ys ++ empty m` holds the items `ys`, followed by `m` empty slots. Its flags, which
--- say which slots are filled, are `shape (length ys) m`.
+-- The row of slots `full ys ++ empty m` holds the items `ys`, followed by `m` empty slots. Its
+-- flags, which say which slots are filled, are `shape (length ys) m`.
 front_shape : {X : Type 0} (ys : List X) (m : ℕ)
     → map is_some (full ys ++ empty m) ≡ shape (length ys) m
 front_shape {X} [] m = none_shape X m
 front_shape (y ∷ ys) m = ap (λ l. true ∷ l) (front_shape ys m)
 
--- If the row `s` consists of `n` filled slots, followed by `m` empty slots, then the flags of `s`
--- are `n` times true, followed by `m` times false.
+-- If the row of slots `s` consists of `n` filled slots, followed by `m` empty slots, then the flags
+-- of `s` are `n` times true, followed by `m` times false.
 pub to_shape : {X : Type 0} (s : List (Option X)) (m : ℕ) → s ≡ full (items_in s) ++ empty m
     → map is_some s ≡ shape (length (items_in s)) m
 to_shape s m e = ap (map is_some) e ∙ front_shape (items_in s) m
 
--- If the flags of the row `s` are `replicate m false`, then `s` consists of `m` empty slots.
+-- If the flags of the row of slots `s` are `replicate m false`, then `s` consists of `m` empty
+-- slots.
 all_none : {X : Type 0} (s : List (Option X)) (m : ℕ)
     → map is_some s ≡ replicate m false → s ≡ empty m
 unfolding head_of
@@ -62,7 +63,7 @@ unfolding head_of
 none_first s [] m e = all_none (None ∷ s) m e
 none_first s (y ∷ ys) m e = let n : 2 ≡ 1 = ap head_of e in absurd (omega (arith, n))
 
--- If the row `s` holds `n` items, and the flags of `s` are `n` times true, followed by `m` times
+-- If the row of slots `s` holds `n` items, and its flags are `n` times true, followed by `m` times
 -- false, then `s` consists of slots with these items, followed by `m` empty slots.
 pub from_shape : {X : Type 0} (s : List (Option X)) (m : ℕ)
     → map is_some s ≡ shape (length (items_in s)) m → s ≡ full (items_in s) ++ empty m

@@ -12,9 +12,9 @@ use Rattle.thin_vec.proofs.list.InsertRemoveLemmas.{full-append}
 use Rattle.thin_vec.proofs.ListLemmas.{IsWritten, Settled, length-full, settle-front, thin-room}
 
 module _ {T : Type 0} where
-  -- The row `front xs c` has `c` slots: the first slots hold the items `xs`, and all other slots
-  -- are empty. If there is room, writing the items `ys` directly after `xs` turns this row into
-  -- `front (xs ++ ys) c`.
+  -- The row of slots `front xs c` has `c` slots: the first slots hold the items `xs`, and all other
+  -- slots are empty. If there is room, writing the items `ys` directly after `xs` turns this row
+  -- into `front (xs ++ ys) c`.
   pub front-more : (xs ys : List T) (c : ℕ) → length xs + length ys ≤ c → laid (length xs) (full ys)
       (front xs c) ≡ front (xs ++ ys) c
   front-more xs ys c room =
@@ -33,8 +33,8 @@ module _ {T : Type 0} where
 
   module _ (ys : List T) (c i k : ℕ) (order : i ≤ length ys) (room : length ys ≤ c)
       (count : k ≡ length ys - i) where
-    -- The row `front ys c` consists of three parts: slots with the first `i` items of `ys`, slots
-    -- with the other items of `ys`, and empty slots.
+    -- The row of slots `front ys c` consists of three parts: slots with the first `i` items of
+    -- `ys`, slots with the other items of `ys`, and empty slots.
     parted : front ys c ≡ full (take i ys) ++ (full (drop i ys) ++ empty (c - length ys))
     parted =
         ap (λ (l : List T). full l ++ empty (c - length ys)) (sym (take-append-drop i ys))
@@ -50,14 +50,14 @@ module _ {T : Type 0} where
     within : k ≡ length (full (drop i ys))
     within = omega (arith, count, length-full (drop i ys), length-drop i ys)
 
-    -- In the row `front ys c`, the `k` slots from index `i` onward hold the last `k` items of `ys`,
-    -- where `k` is `length ys - i`.
+    -- In the row of slots `front ys c`, which begins with the items `ys`, the `k` slots from index
+    -- `i` onward hold the last `k` items of `ys`. Here `k` is `length ys - i`.
     pub front-run : run i k (front ys c) ≡ full (drop i ys)
     front-run = ap (λ (s : List (Option T)). run i k s) parted ∙ run-at i k (full (take i ys))
         (full (drop i ys)) (empty (c - length ys)) before within
 
-    -- If `k` is `length ys - i`, emptying the `k` slots from index `i` onward turns the row
-    -- `front ys c` into the row `front (take i ys) c`.
+    -- The row of slots `front ys c` begins with the items `ys`. Emptying its `k` slots from index
+    -- `i` onward results in `front (take i ys) c`, where `k` is `length ys - i`.
     pub front-cut : emptied i k (front ys c) ≡ front (take i ys) c
     front-cut =
         let long : length (empty {T = T} k) ≡ length (full (drop i ys)) =

@@ -194,8 +194,8 @@ module _ {T : Type 0} where
           length-replicate {A = Option T} (i - k) None,
         )
 
-    -- The row `emptying xs k i c` consists of the slots before slot `i`, the filled slot `i`, and
-    -- the slots after slot `i`. Slot `i` holds the item of `xs` at index `i`.
+    -- The row of slots `emptying xs k i c` consists of the slots before slot `i`, the filled slot
+    -- `i`, and the slots after slot `i`. Slot `i` holds the item of `xs` at index `i`.
     split : emptying xs k i c ≡ pre ++ (Some (item-at xs i bound).0 ∷ post)
     unfolding pre post
     split =
@@ -210,7 +210,7 @@ module _ {T : Type 0} where
     emptying-filled = rw (ap (λ (s : List (Option T)). slot s i) split
         ∙ get_or_at pre (Some (item-at xs i bound).0) post None i length-pre) refl
 
-    -- Emptying slot `i` turns the row `emptying xs k i c` into the row `emptying xs k (i + 1) c`.
+    -- Emptying slot `i` turns the row of slots `emptying xs k i c` into `emptying xs k (i + 1) c`.
     pub emptying-take : set (emptying xs k i c) i None ≡ emptying xs k (i + 1) c
     unfolding pre post
     emptying-take =

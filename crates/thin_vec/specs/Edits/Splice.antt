@@ -16,11 +16,10 @@ use Rattle.thin_vec.specs.declared.edits.splice.Splice.{Splice}
 use Rattle.thin_vec.specs.declared.edits.holder.Holds.{Ghosts as HoldsGhosts}
 
 module _ {S T A : Type 0} (steps : S → Option T → S → Type 0) where
-  -- `finish` failed after it had inserted `placed`, the first items of the iterator `s`. The error
-  -- returns the items that were drawn after `placed`: first `held`, and then the item in the option
-  -- `in_hand`. Either `next` may still be called on the rest of the iterator, and `held` is empty
-  -- if `in_hand` is `None`. Or the iterator has returned `None`, `in_hand` is `None`, and `held` is
-  -- not empty.
+  -- `finish` failed after it had inserted the items `placed` of the iterator `s`. The error returns
+  -- the items that were drawn afterwards: first the items in `held`, and then the item in the
+  -- option `in_hand`. If `in_hand` is `None` and `held` is not empty, the iterator has ended.
+  -- Otherwise `next` may still be called on the rest of the iterator.
   abbrev pub Stopped : (S → Type 0) → (S → Count) → S → List T → SpliceRefused T S A → Type 0
   Stopped can remaining s placed error =
       (PausedAfter steps can remaining s

@@ -12,7 +12,7 @@ module _ {T : Type 0} (clones : T → T → Type 0) where
   abbrev pub CloneEquals : T → Type 0
   CloneEquals x = (y : T) → clones x y → y ≡ x
 
-  -- Every clone equals the item from which it was made.
+  -- Every clone of an item equals the item.
   abbrev pub ClonesEqual : Type 0
   ClonesEqual = (x : T) → CloneEquals x
 

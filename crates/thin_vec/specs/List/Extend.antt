@@ -43,8 +43,8 @@ IsKeptOrRuled rule R c d n = (d ≡ c) ⊎ IsRuled rule R d n
 
 -- `IsExtended rule R v d n left` restricts the capacity `d` of a list that was `v` and now has `n`
 -- items. Either `d` is the old capacity, or the growth rule chooses `d` for some block that must
--- grow to hold at most `n` items, or the rule chooses `d` when `v` needs room for a size hint of
--- the iterator.
+-- grow to hold at most `n` items, or `d` is `capacity_for rule R v h` for a possible size hint `h`
+-- of the iterator.
 abbrev pub IsExtended : {T A : Type 0} → Rule → RattleType → Thin T A → ℕ → ℕ → Count → Type 0
 IsExtended rule R v d n left =
     IsKeptOrRuled rule R v.capacity d n
@@ -63,10 +63,11 @@ module _ {T A : Type 0} where
   pub record GrowsFor (rule : Rule) (R : RattleType) (v w : Thin T A) (left : Count) : Type 0 where
     -- If `v` has room for all items that the iterator may yield, the capacity does not change.
     pub had_room : HasRoomFor v (size left) → w.capacity ≡ v.capacity
-    -- The capacity does not change, or it at least doubles (`IsLoose`).
+    -- Either the capacity does not change, or it becomes at least a capacity that the growth rule
+    -- chooses. So it at least doubles if it changes.
     pub loose : IsLoose rule R v.capacity w.capacity
     -- Either the capacity does not change, or the growth rule chooses it for at most the final
-    -- number of items, or the growth rule chooses it for a size hint of the iterator.
+    -- number of items, or the growth rule chooses it for a possible size hint of the iterator.
     pub ruled : IsExtended rule R v w.capacity (length w.items) left
 
   -- These clauses bound the cost of adding items to the list `v`, which became `w`. Each added item

@@ -1,5 +1,6 @@
 -- `replace_range_from_list` calls `reserve` for the number of items that exceeds the length of the
--- range. So it changes the capacity as this call does, and fails only if this call fails.
+-- range. So the list gets the capacity that this call of `reserve` chooses, and an error of this
+-- call is returned.
 use Rattle.std.proofs.Common.{◌≡◌, ◌-◌, Ok, ap, arith, length}
 use denote.Param.{param}
 use Rattle.thin_vec.specs.ThinVec.{capacity_for}
