@@ -51,7 +51,7 @@ module _ {S X : Type 0} (steps : S → Option X → S → Type 0) where
       let rest = yields-first e.0 u xs ys e.2 in (rest.0, (e.0, e.1, rest.1))
 
   -- If calls of `next` yielded the items `xs` and then `None`, these calls are a complete run of
-  -- the iterator (`WholeRun`). If `P` holds for `xs`, then `P` holds for the items of this run.
+  -- the iterator (`WholeRun`). If `P` holds for `xs`, the items of this run satisfy `P`.
   pub run_of : (s : S) (P : List X → Type 0) → (xs : List X) × Drains steps s xs × P xs
       → WholeRun steps s (λ p. P p.items)
   run_of s P all = (run steps s all.0 true (to_end steps s all.0 all.1), refl, refl, all.2)

@@ -50,9 +50,9 @@ pub record IsResized {T : Type 0} (clones : T → T → Type 0) (xs : List T) (n
       × (ys ≡ xs ++ (copies ++ x ∷ []))
   pub len : length ys ≡ n
 
--- Cloning the item of `sources` at index `at` failed, because `infallible` does not hold for this
--- item. All items before it were cloned at the cost of one move each. So the cost `after` is the
--- cost `before` plus `at` moves.
+-- Cloning the item of `sources` at index `at` failed, so `infallible` does not hold for this item.
+-- All items before it were cloned at the cost of one move each. So the cost `after` is the cost
+-- `before` plus `at` moves.
 pub record StopsAtClone {T : Type 0} (infallible : T → Type 0) (sources : List T)
     (before after : Cost) : Type 0 where
   pub at : ℕ

@@ -24,8 +24,8 @@ pub record PausedAfter {S X : Type 0} (steps : S → Option X → S → Type 0) 
   pub finite : IsFinite (remaining t)
 
 -- `IsLoose rule R c d` holds if `d` is `c`, or if `d` is at least a capacity that the growth rule
--- chooses when a block of capacity `c` needs room for more than `c` items. So a change from the
--- capacity `c` to `d` either does nothing or at least doubles the capacity.
+-- chooses when a block of capacity `c` needs room for more than `c` items. So when a capacity
+-- changes from `c` to `d`, it at least doubles.
 abbrev pub IsLoose : Rule → RattleType → ℕ → ℕ → Type 0
 IsLoose rule R c d =
     (d ≡ c) ⊎ ((w : ℕ) × (n : ℕ) × (c < w) × (ruled_capacity rule R c w ≡ Some n) × (n ≤ d))
@@ -88,8 +88,8 @@ module _ {T A : Type 0} where
     -- added.
     pub copied : w.cost.grown + v.capacity ≤ v.cost.grown + w.capacity
 
-  -- `w` is a new list with the allocator `a`, which contains items of an iterator. `left` is an
-  -- upper bound on the number of items that the iterator may yield.
+  -- `w` is a new list of items of an iterator, and it has the allocator `a`. `left` is an upper
+  -- bound on the number of items that the iterator may yield.
   pub record IsCollectedList (rule : Rule) (R : RattleType) (a : A) (w : Thin T A) (left : Count)
       : Type 0 where
     -- If the iterator cannot yield any item, the list has the capacity 0.

@@ -109,9 +109,9 @@ module _ {S T : Type 0} (R : S → T → T → Bool → S → T → T → Type 0
     }
 
   -- All items of the middle run of the open block `v` were tested except the first, each against
-  -- the last item kept before it. The kept items became the front of the open block `w`, and its
-  -- middle run is empty. Each item that was kept after the first removed item counts one move. The
-  -- test changed its state from `s` to `t`.
+  -- the last item kept before it. The kept items became the front of the open block `w`, and the
+  -- middle run of `w` is empty. Each item that was kept after the first removed item counts one
+  -- move. The test changed its state from `s` to `t`.
   pub record IsDeduped {A : Type 0} (s : S) (v : Open T A) (t : S) (w : Open T A) : Type 0 where
     pub stays : List Bool
     pub asked : AskedPairs R s v.rest stays w.front t

@@ -79,8 +79,8 @@ module _ {S T : Type 0} (R : S → T → Bool → S → T → Type 0) where
     }
 
   -- All items of the middle run of the open block `v` were tested. The kept items are now at the
-  -- end of the front of the open block `w`, and its middle run is empty. Each item that was kept
-  -- after the first removed item counts one move. The test changed its state from `s` to `t`.
+  -- end of the front of the open block `w`, and the middle run of `w` is empty. Each item that was
+  -- kept after the first removed item counts one move. The test changed its state from `s` to `t`.
   pub record IsSifted {A : Type 0} (s : S) (v : Open T A) (t : S) (w : Open T A) : Type 0 where
     pub verdicts : Verdicts T
     pub asked : Asked R s v.rest verdicts t
