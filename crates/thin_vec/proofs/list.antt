@@ -1,5 +1,5 @@
--- The lemma modules about `src/list/`. Rattle adds this module by itself, so Lib.antt has no line
--- for it.
+-- The modules of lemmas for the code in `src/list/`. Rattle adds the module `list` by itself, so
+-- `Lib.antt` does not list it.
 pub mod AppendSplitLemmas
 pub mod CapacityLemmas
 pub mod ClonesLemmas

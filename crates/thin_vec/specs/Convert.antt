@@ -1,2 +1,2 @@
--- The definitions for the conversions in `src/convert/`.
+-- Definitions for the contracts of the conversions in `src/convert/`.
 pub mod IntoIter

@@ -1,4 +1,4 @@
--- The definitions for the calls in `src/edits/`.
+-- Definitions for the contracts of the calls in `src/edits/`.
 pub mod Dedup
 pub mod Drain
 pub mod ExtractIf

@@ -1,4 +1,5 @@
--- The definitions that the contracts of `thin_vec` use. Some of them are in `thin_block`.
+-- The modules of definitions that the contracts of `thin_vec` use. Some of these definitions are in
+-- the crate `thin_block`.
 pub mod ThinVec
 pub mod Cheap
 pub mod List
@@ -11,7 +12,7 @@ pub mod Ranges
 pub mod Convert
 pub mod Shapes
 pub mod formers
--- the definitions of `thin_block` that the contracts of `thin_vec` use
+-- The contracts of `thin_vec` also use these modules of the crate `thin_block`.
 pub use Rattle.thin_block.specs.Capacity
 pub use Rattle.thin_block.specs.Cost
 pub use Rattle.thin_block.specs.Growth

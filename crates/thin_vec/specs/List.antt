@@ -1,4 +1,4 @@
--- The definitions for the calls in `src/list/`.
+-- Definitions for the contracts of the calls in `src/list/`.
 pub mod Capacity
 pub mod Clones
 pub mod Extend

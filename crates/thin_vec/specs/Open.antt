@@ -1,30 +1,34 @@
--- What contracts see of an open block: the items of its three parts, and the numbers of empty slots
--- between them. The comment of `OpenBlock` in `src/open_block.rt` has a picture of the parts.
+-- An open block is the block of a list during an edit. It consists of three parts (the front, the
+-- middle run and the tail) with empty slots between them. The comment of `OpenBlock` in
+-- `src/open_block.rt` shows a picture.
 use Rattle.std.specs.Prelude.{ℕ, ◌+◌, ◌-◌, ◌==◌, List, ◌++◌, Option, if◌then◌else◌, length, refl}
 use Rattle.std.specs.Coded.{Coded, code_by, coded×, coded_ℕ, coded_list, coded_option}
 use Rattle.thin_block.specs.Cost.{Cost, cost_code, moving}
 use Rattle.thin_block.specs.Slots.{empty, full}
 
--- an open block as contracts see it
+-- An open block, which is the block of a list during an edit, as contracts see it.
 pub record Open (T A : Type 0) : Type 0 where
-  -- the items of the front
+  -- The items of the front: the items before the range of the edit, and the items that were kept or
+  -- inserted so far.
   pub front : List T
-  -- the number of empty slots between the front and the middle run
+  -- The number of empty slots between the front and the middle run, which are the first and the
+  -- second part of the block.
   pub gap : ℕ
-  -- the items of the middle run
+  -- The items of the middle run: the items of the range that have not been yielded or tested yet.
   pub rest : List T
-  -- the number of empty slots between the middle run and the tail
+  -- The number of empty slots between the middle run and the tail, which are the second and the
+  -- third part of the block.
   pub gap_after : ℕ
-  -- the items of the tail
+  -- The items of the tail: the items after the range of the edit.
   pub tail : List T
-  -- the number of slots
+  -- The number of slots of the block.
   pub capacity : ℕ
-  -- the allocator that the memory came from, or `None` if there is no memory
+  -- The allocator of the block, or `None` if the block has no memory.
   pub alloc : Option A
-  -- what the block has cost so far
+  -- The cost of the block so far: its requests for memory, and its copied and moved items.
   pub cost : Cost
 
--- the code of an `Open` is the code of the tuple of its eight fields
+-- A value of type `Open` is encoded as the tuple of its eight fields.
 abbrev pub open_code : {T A : Type 0} → Coded T → Coded A → Coded (Open T A)
 open_code {T} {A} t a =
     code_by (List T × (ℕ × (List T × (ℕ × (List T × (ℕ × (Option A × Cost)))))))
@@ -46,39 +50,41 @@ open_code {T} {A} t a =
     (λ _. refl)
 
 module _ {T A : Type 0} where
-  -- the index of the slot where the tail of the open block `v` begins
+  -- The index of the first slot of the tail, the last part of an open block.
   abbrev pub tail_start : Open T A → ℕ
   tail_start v = length v.front + v.gap + length v.rest + v.gap_after
 
-  -- the index of the slot after the tail of the open block `v`
+  -- The index of the first slot after the tail, the last part of an open block.
   abbrev pub reach : Open T A → ℕ
   reach v = tail_start v + length v.tail
 
-  -- the items of the middle run of the open block `v`
+  -- The items of the middle run, the second part of an open block.
   abbrev pub rest_of : Open T A → List T
   rest_of v = v.rest
 
-  -- the number of slots between the front and the tail of the open block `v`
+  -- The number of slots between the front and the tail, the first and the last part of an open
+  -- block.
   abbrev pub range_len : Open T A → ℕ
   range_len v = v.gap + length v.rest + v.gap_after
 
-  -- the slots of the open block `v`, in order
+  -- All slots of an open block, in order: the filled slots of its three parts, and the empty slots
+  -- after each part.
   abbrev pub row_of : Open T A → List (Option T)
   row_of v = full v.front
       ++ (empty v.gap
       ++ (full v.rest ++ (empty v.gap_after ++ (full v.tail ++ empty (v.capacity - reach v)))))
 
-  -- the items of the open block `v`, in order
+  -- All items of an open block, in order.
   abbrev pub items_of : Open T A → List T
   items_of v = v.front ++ (v.rest ++ v.tail)
 
-  -- The cost of the open block `v` after its gap was closed. If the gap has at least one slot,
-  -- closing it moves each item of the middle run and of the tail once.
+  -- The cost of an open block after the gap between its front and its middle run was closed. If the
+  -- gap has at least one slot, each item of the middle run and of the tail is moved once.
   abbrev pub cost_closed : Open T A → Cost
   cost_closed v = if v.gap == 0 then v.cost else moving (length v.rest + length v.tail) v.cost
 
-  -- The cost of the open block `v` after the items of its middle run were removed, and its tail was
-  -- moved down to the front. If there is at least one slot between the front and the tail, each
-  -- item of the tail was moved once.
+  -- The cost of an open block after the items of its middle run were removed and its tail was moved
+  -- down to the front. If there is at least one slot between the front and the tail, each item of
+  -- the tail is moved once.
   abbrev pub cost_drained : Open T A → Cost
   cost_drained v = if range_len v == 0 then v.cost else moving (length v.tail) v.cost

@@ -1,4 +1,5 @@
--- The layout of the slots of an open block, which contracts see as an `Open`.
+-- The layout of the slots of an open block, which is the block of a list during an edit. Contracts
+-- see an open block as a value of type `Open`.
 pub mod Dedup
 pub mod Sift
 use Rattle.std.specs.Prelude.{◌≡◌, ◌+◌, ◌-◌, ◌≤◌, drop, length, slice_range, take}
@@ -7,7 +8,7 @@ use Rattle.thin_vec.specs.Open.{Open, row_of}
 use Rattle.thin_vec.specs.declared.open_block.OpenBlock.TheInside.{Inside}
 
 module _ {T A : Type 0} where
-  -- the open block `h` as contracts see it
+  -- `open_of h` is the open block `h` as contracts see it.
   abbrev pub open_of : Inside T A → Open T A
   open_of h =
       record {
@@ -21,8 +22,9 @@ module _ {T A : Type 0} where
         cost = h.block.cost;
       }
 
-  -- The slots of `h` hold the parts of `v` in order, and the indices in `h` say where each part
-  -- begins and ends. The tail of `v` ends within the slots.
+  -- The open block `h` has the layout that `v` describes. The slots of `h` hold the parts of `v` in
+  -- order, and the indices in `h` say where each part begins and ends. The last part ends within
+  -- the slots.
   pub record Shows (h : Inside T A) (v : Open T A) : Type 0 where
     pub row : h.block.slots ≡ row_of v
     pub front : length v.front ≡ h.front_end
@@ -32,7 +34,7 @@ module _ {T A : Type 0} where
     pub tail : h.tail_start + length v.tail ≡ h.len
     pub room : h.len ≤ v.capacity
 
-  -- In `h`, the slots of the front, the middle run and the tail hold items, and all other slots are
-  -- empty. This is the invariant of the type `OpenBlock`.
+  -- The slots of the front, the middle run and the tail of an open block hold items, and all its
+  -- other slots are empty. This is the invariant of the type `OpenBlock`.
   abbrev pub IsOpen : Inside T A → Type 0
   IsOpen h = Shows h (open_of h)

@@ -1,5 +1,6 @@
--- If the first n slots of a row are filled and all others are empty, the row consists of its items
--- followed by empty slots. These lemmas are in specs/ because a file in specs/formers/ uses them.
+-- These lemmas are about rows of slots in which only the first slots are filled. Such a row
+-- consists of its items, followed by empty slots. This file is in `specs/` because a file in
+-- `specs/formers/` uses the lemmas.
 use Rattle.std.specs.Prelude.{◌≡◌, ℕ, suc, zero, List, [], ◌∷◌, ◌++◌, Bool, true, false, Option, length, map, replicate}
 use Rattle.std.specs.declared.option.Option.TheVariants.{Some, None}
 use mathlib.Core.Path.{refl, ap, ◌∙◌}
@@ -7,41 +8,44 @@ use native.Mathlib.Omega.{arith}
 use Rattle.std.specs.Option.{is_some}
 use Rattle.thin_block.specs.Slots.{empty, full, items_in}
 
--- the flags of n filled slots, followed by m empty ones: true stands for a filled slot
+-- `shape n m` contains the flags of `n` filled slots, followed by the flags of `m` empty slots. The
+-- flag of a filled slot is true.
 abbrev pub shape : ℕ → ℕ → List Bool
 shape n m = replicate n true ++ replicate m false
 
--- a number that encodes the first flag of a list: 0 if the list is empty, 1 for true, 2 for false
+-- A number that encodes the first flag of a list: 1 for true, 2 for false, and 0 if the list is
+-- empty.
 head_of : List Bool → ℕ
 head_of [] = 0
 head_of (true ∷ bs) = 1
 head_of (false ∷ bs) = 2
 
--- the list of flags without its first flag
+-- The list of flags without its first flag.
 abbrev tail_of : List Bool → List Bool
 tail_of [] = []
 tail_of (b ∷ bs) = bs
 
--- m empty slots have m flags, all false
+-- The flags of a row of `m` empty slots are `replicate m false`.
 none_shape : (X : Type 0) (m : ℕ) → map is_some (let none : List (Option X) = empty m in
     none) ≡ replicate m false
 none_shape X zero = refl
 none_shape X (suc m) = ap (λ l. false ∷ l) (none_shape X m)
 
--- slots that hold the items ys, followed by m empty slots, have the flags `shape n m`, if n is the
--- length of ys
+-- The row of slots `full ys ++ empty m` holds the items `ys`, followed by `m` empty slots. Its
+-- flags, which say which slots are filled, are `shape (length ys) m`.
 front_shape : {X : Type 0} (ys : List X) (m : ℕ)
     → map is_some (full ys ++ empty m) ≡ shape (length ys) m
 front_shape {X} [] m = none_shape X m
 front_shape (y ∷ ys) m = ap (λ l. true ∷ l) (front_shape ys m)
 
--- if s consists of its items followed by m empty slots, and n is the number of its items, then the
--- flags of s are `shape n m`
+-- If the row of slots `s` consists of `n` filled slots, followed by `m` empty slots, then the flags
+-- of `s` are `n` times true, followed by `m` times false.
 pub to_shape : {X : Type 0} (s : List (Option X)) (m : ℕ) → s ≡ full (items_in s) ++ empty m
     → map is_some s ≡ shape (length (items_in s)) m
 to_shape s m e = ap (map is_some) e ∙ front_shape (items_in s) m
 
--- if s has m flags, all false, it consists of m empty slots
+-- If the flags of the row of slots `s` are `replicate m false`, then `s` consists of `m` empty
+-- slots.
 all_none : {X : Type 0} (s : List (Option X)) (m : ℕ)
     → map is_some s ≡ replicate m false → s ≡ empty m
 unfolding head_of
@@ -51,17 +55,16 @@ all_none (x ∷ s) zero e = let n = ap length e in absurd (omega (arith, n))
 all_none (Some x ∷ s) (suc m) e = let n : 1 ≡ 2 = ap head_of e in absurd (omega (arith, n))
 all_none (None ∷ s) (suc m) e = ap (λ l. None ∷ l) (all_none s m (ap tail_of e))
 
--- A row of slots begins with an empty slot and continues with s. If its flags are the flags of the
--- items ys followed by m empty slots, then the row consists of ys followed by m empty slots. (So ys
--- is empty.)
+-- Let the rows of slots `None ∷ s` and `full ys ++ empty m` have the same length and the same
+-- filled slots. Then the two rows are equal. (The first slot is empty, so the list `ys` is empty.)
 none_first : {X : Type 0} (s : List (Option X)) (ys : List X) (m : ℕ)
     → false ∷ map is_some s ≡ shape (length ys) m → None ∷ s ≡ full ys ++ empty m
 unfolding head_of
 none_first s [] m e = all_none (None ∷ s) m e
 none_first s (y ∷ ys) m e = let n : 2 ≡ 1 = ap head_of e in absurd (omega (arith, n))
 
--- if s has n items, and its flags are `shape n m`, then s consists of its items followed by m empty
--- slots
+-- If the row of slots `s` holds `n` items, and its flags are `n` times true, followed by `m` times
+-- false, then `s` consists of slots with these items, followed by `m` empty slots.
 pub from_shape : {X : Type 0} (s : List (Option X)) (m : ℕ)
     → map is_some s ≡ shape (length (items_in s)) m → s ≡ full (items_in s) ++ empty m
 unfolding head_of

@@ -1,5 +1,5 @@
--- What a contract sees of a `ThinVec`: a list of items, a capacity, an allocator and a cost. (std:
--- `Vec`, "Guarantees")
+-- Contracts see a `ThinVec` as a list of items, a capacity, an allocator and a cost. (std: `Vec`,
+-- "Guarantees")
 use Rattle.std.specs.Prelude.{◌≡◌, ℕ, ◌+◌, ◌^◌, ◌<◌, ◌≤◌, ◌==◌, List, [], Option, if◌then◌else◌, length, refl}
 use Rattle.std.specs.declared.option.Option.TheVariants.{None}
 use Rattle.thin_block.specs.declared.errors.ThinVecError.{ThinVecError}
@@ -13,15 +13,15 @@ use Rattle.thin_block.specs.Growth.{Rule, exact_capacity, ruled_capacity}
 use Rattle.thin_block.specs.Slots.{IsPacked, items_in}
 use Rattle.thin_block.specs.declared.block.Block.{Block}
 
--- a list as contracts see it: the items in order, the capacity, the allocator, and what the blocks
--- of the list have cost so far
+-- A `ThinVec` as contracts see it: the items in order, the capacity, the allocator, and the cost so
+-- far. The cost counts the requests for memory, and the copied and moved items.
 pub record Thin (T A : Type 0) : Type 0 where
   pub items : List T
   pub capacity : ℕ
   pub alloc : A
   pub cost : Cost
 
--- the code of a list is the code of its four parts
+-- A value of type `Thin` is encoded as the tuple of its four fields.
 abbrev pub thin_code : {T A : Type 0} → Coded T → Coded A → Coded (Thin T A)
 thin_code {T} {A} t a =
     code_by (List T × (ℕ × (A × Cost)))
@@ -30,13 +30,14 @@ thin_code {T} {A} t a =
     (λ p. record { items = p.0; capacity = p.1.0; alloc = p.1.1.0; cost = p.1.1.1 }) (λ _. refl)
 
 module _ {T A : Type 0} where
-  -- the block b is the block of a list with the allocator `a`: the items are in the first slots,
-  -- the stored length is the number of items, and the memory came from `a`
+  -- The block `b` is the block of a list with the allocator `a`. The items are in the first slots,
+  -- the stored length is the number of items, and the memory came from `a`.
   pub record IsThin (b : Block T A) (a : A) : Type 0 where
     pub packed : IsPacked b.slots b.len
     pub from : IsFrom b.alloc a
 
-  -- the list that a contract sees for the block b and the allocator `a`
+  -- `thin_of b a` is the list that contracts see if the list has the block `b` and the allocator
+  -- `a`.
   abbrev pub thin_of : Block T A → A → Thin T A
   thin_of b a = record {
     items = items_in b.slots;
@@ -45,55 +46,57 @@ module _ {T A : Type 0} where
     cost = b.cost;
   }
 
-  -- v is a new list with the allocator `a`: it has no items and no block, and has cost nothing
+  -- `v` is a new list with the allocator `a`. It has no items, the capacity 0, and the cost 0.
   pub record IsNew (v : Thin T A) (a : A) : Type 0 where
     pub items : v.items ≡ []
     pub capacity : v.capacity ≡ 0
     pub alloc : v.alloc ≡ a
     pub cost : v.cost ≡ no_cost
 
-  -- what holds for every list of items of R: the length is at most the capacity, the capacity is
-  -- less than 2 ^ 63, and a block of this capacity is small enough to be allocated
+  -- Every list `v` of items of the type `R` satisfies these limits. The length is at most the
+  -- capacity, the capacity is less than `2 ^ 63`, and a block of this capacity is small enough to
+  -- be allocated.
   pub record IsWithin (R : RattleType) (v : Thin T A) : Type 0 where
     pub room : length v.items ≤ v.capacity
     pub small : v.capacity < 2 ^ 63
     pub fits : Fits R v.capacity
 
-  -- the list v has room for k more items without growing
+  -- `HasRoomFor v k` says that the list `v` has room for `k` more items without growing.
   abbrev pub HasRoomFor : Thin T A → ℕ → Type 0
   HasRoomFor v k = length v.items + k ≤ v.capacity
 
-  -- The capacity that v, a list of items of R, gets by `rule` if it needs room for k more items. It
-  -- is `None` if this capacity is too large.
+  -- `capacity_for rule R v k` is the capacity that the list `v` gets by the growth rule if it needs
+  -- room for `k` more items of the type `R`. It is `None` if this capacity is too large.
   abbrev pub capacity_for : Rule → RattleType → Thin T A → ℕ → Option ℕ
   capacity_for rule R v k = ruled_capacity rule R v.capacity (length v.items + k)
 
-  -- The capacity that v, a list of items of R, gets if it needs room for exactly k more items. It
-  -- is `None` if a block of this capacity is too large to be allocated.
+  -- `exact_for R v k` is the capacity that the list `v` gets if it needs room for exactly `k` more
+  -- items of the type `R`. It is `None` if a block of this capacity is too large to be allocated.
   abbrev pub exact_for : RattleType → Thin T A → ℕ → Option ℕ
   exact_for R v k = exact_capacity R v.capacity (length v.items + k)
 
-  -- The cost of the list v after its capacity became c. If c differs from the old capacity, the
-  -- cost includes one more block, into which all items were copied.
+  -- `cost_at v c` is the cost of the list `v` after its capacity became `c`. If the capacity
+  -- changed, the cost includes one more reallocation, which copied all items.
   abbrev pub cost_at : Thin T A → ℕ → Cost
   cost_at v c = if c == v.capacity then v.cost else growing (length v.items) v.cost
 
-  -- The cost of the list v after its capacity shrank to c. If c is the old capacity, the cost does
-  -- not change. Otherwise, if c is 0, the block is freed, and the cost becomes 0; if c is not 0,
-  -- the cost includes one more block, into which all items were copied.
+  -- `cost_shrunk_to v c` is the cost of the list `v` after its capacity shrank to `c`. If the
+  -- capacity does not change, the cost does not change. If it changes to 0, the block is freed, and
+  -- the cost becomes 0. If it changes to another number, the cost includes one more reallocation,
+  -- which copied all items.
   abbrev pub cost_shrunk_to : Thin T A → ℕ → Cost
   cost_shrunk_to v c = if c == v.capacity then v.cost else
       (if c == 0 then no_cost else growing (length v.items) v.cost)
 
-  -- the cost of the list v after its capacity shrank to its length
+  -- `cost_shrunk v` is the cost of the list `v` after its capacity shrank to its length.
   abbrev pub cost_shrunk : Thin T A → Cost
   cost_shrunk v = cost_shrunk_to v (length v.items)
 
--- `named` is the capacity that a call needs, or `None` if it is too large. The error `cause` is
--- `CapacityOverflow` only if `named` is `None`.
+-- `IsCause named cause` says that the error `cause` is `CapacityOverflow` only if `named` is
+-- `None`. `named` is the capacity that a call needs, or `None` if this capacity is too large.
 abbrev pub IsCause : Option ℕ → ThinVecError → Type 0
 IsCause named cause = cause ≡ CapacityOverflow → named ≡ None
 
--- the cost of an empty list that was made with the capacity c
+-- `cost_new c` is the cost of an empty list that was made with the capacity `c`.
 abbrev pub cost_new : ℕ → Cost
 cost_new c = if c == 0 then no_cost else growing 0 no_cost

@@ -1,4 +1,4 @@
--- Formers: the former of a type tells the prover why a type may contain itself inside this type, as
--- a tree contains a list of trees. There is one file for each source file that declares a type with
--- a former.
+-- The former of a generic type tells the prover that another type may contain itself through this
+-- type. For example, a tree may contain a list of trees. There is one file for each source file
+-- that declares a type with a former.
 pub mod list

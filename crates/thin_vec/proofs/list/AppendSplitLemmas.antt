@@ -1,5 +1,5 @@
--- Lemmas about what the blocks of two lists contain after the last items of one list were moved to
--- the end of the other.
+-- These lemmas for `append` and `split_off` say what the blocks of two lists contain after the last
+-- items of one list were moved to the end of the other list.
 use Rattle.std.proofs.Common.{◌≡◌, ℕ, ◌+◌, ◌-◌, ◌≤◌, List, ◌++◌, length, take, drop, Option, None, sym, ap, ◌∙◌, arith, length-append, append_assoc}
 use Rattle.std.proofs.lemmas.List.{length-drop, length-replicate, length-take-le, take-append-drop, replicate-append-replicate}
 use Rattle.thin_block.specs.Cost.{Cost}
@@ -12,8 +12,9 @@ use Rattle.thin_vec.proofs.list.InsertRemoveLemmas.{full-append}
 use Rattle.thin_vec.proofs.ListLemmas.{IsWritten, Settled, length-full, settle-front, thin-room}
 
 module _ {T : Type 0} where
-  -- if the first of c slots hold xs and the other slots are empty, writing ys into the first empty
-  -- slots appends ys to the items
+  -- The row of slots `front xs c` has `c` slots: the first slots hold the items `xs`, and all other
+  -- slots are empty. If there is room, writing the items `ys` directly after `xs` turns this row
+  -- into `front (xs ++ ys) c`.
   pub front-more : (xs ys : List T) (c : ℕ) → length xs + length ys ≤ c → laid (length xs) (full ys)
       (front xs c) ≡ front (xs ++ ys) c
   front-more xs ys c room =
@@ -32,8 +33,8 @@ module _ {T : Type 0} where
 
   module _ (ys : List T) (c i k : ℕ) (order : i ≤ length ys) (room : length ys ≤ c)
       (count : k ≡ length ys - i) where
-    -- the row `front ys c` consists of the first i items of ys, the other items of ys, and the
-    -- empty slots
+    -- The row of slots `front ys c` consists of three parts: slots with the first `i` items of
+    -- `ys`, slots with the other items of `ys`, and empty slots.
     parted : front ys c ≡ full (take i ys) ++ (full (drop i ys) ++ empty (c - length ys))
     parted =
         ap (λ (l : List T). full l ++ empty (c - length ys)) (sym (take-append-drop i ys))
@@ -41,20 +42,22 @@ module _ {T : Type 0} where
         (full-append (take i ys) (drop i ys))
         ∙ append_assoc (full (take i ys)) (full (drop i ys)) (empty (c - length ys)))
 
-    -- the first i items of ys fill i slots
+    -- The first `i` items of `ys` fill exactly `i` slots.
     before : i ≡ length (full (take i ys))
     before = omega (arith, length-full (take i ys), length-take-le i ys order)
 
-    -- the items of ys from index i on fill k slots
+    -- The items of `ys` from index `i` onward fill exactly `k` slots, where `k` is `length ys - i`.
     within : k ≡ length (full (drop i ys))
     within = omega (arith, count, length-full (drop i ys), length-drop i ys)
 
-    -- the k slots from i on hold the items of ys from index i on
+    -- In the row of slots `front ys c`, which begins with the items `ys`, the `k` slots from index
+    -- `i` onward hold the last `k` items of `ys`. Here `k` is `length ys - i`.
     pub front-run : run i k (front ys c) ≡ full (drop i ys)
     front-run = ap (λ (s : List (Option T)). run i k s) parted ∙ run-at i k (full (take i ys))
         (full (drop i ys)) (empty (c - length ys)) before within
 
-    -- emptying the k slots from i on leaves the first i items of ys
+    -- The row of slots `front ys c` begins with the items `ys`. Emptying its `k` slots from index
+    -- `i` onward results in `front (take i ys) c`, where `k` is `length ys - i`.
     pub front-cut : emptied i k (front ys c) ≡ front (take i ys) c
     front-cut =
         let long : length (empty {T = T} k) ≡ length (full (drop i ys)) =
@@ -68,8 +71,9 @@ module _ {T : Type 0} where
         (replicate-append-replicate k (c - length ys) None ∙ ap (λ (m : ℕ). empty m) bare))
 
 module _ {T A : Type 0} where
-  -- if xs was written after the last item of a list, and the stored length was increased by the
-  -- length of xs, the new block b' is the block of the list with xs appended
+  -- Let the items `xs` be written directly after the last item of a list, and let the stored length
+  -- grow by the length of `xs`. Then the new block `b'` is the block of the list with `xs`
+  -- appended.
   pub settle-more : {b : Block T A} {a : A} → IsThin b a → (b' : Block T A) (xs : List T) (n : ℕ)
       → n ≡ b.len → n + length xs ≤ length b.slots → {l : ℕ} {k : Cost} → l ≡ n + length xs
       → IsWritten b b' (laid n (full xs) b.slots) l k
@@ -83,8 +87,9 @@ module _ {T A : Type 0} where
       (omega (arith, new, end, length-append ys xs)) (omega (arith, room, end, length-append ys xs))
 
   module _ {b o : Block T A} {a p : A} (t : IsThin b a) (u : IsThin o p) where
-    -- if the items from index i on of a second list were written after the last item of the first
-    -- list, the new block b' is the block of the first list with these items appended
+    -- If the items of a second list from index `i` onward are written after the last item of a
+    -- first list, and the stored length is updated, then the new block `b'` is the block of the
+    -- first list with these items appended.
     pub settle-joined : (b' : Block T A) (i : ℕ) {k n : ℕ} → i ≤ length (items_in o.slots)
         → k ≡ o.len - i → n ≡ b.len → n + k ≤ length b.slots
         → {m : Cost} → IsWritten b b' (laid n (run i k o.slots) b.slots) (n + k) m
@@ -98,8 +103,8 @@ module _ {T A : Type 0} where
         settle-more t b' (drop i ys) n len (omega (arith, room, more)) (omega (arith, more))
         (slots-are w (ap (λ (r : List (Option T)). laid n r b.slots) same))
 
-  -- if the slots of the items from index i on were emptied, and the stored length became i, the new
-  -- block o' is the block of a list of the first i items
+  -- If the slots of all items from index `i` onward are emptied, and the stored length becomes `i`,
+  -- then the new block `o'` is the block of a list of the first `i` items.
   pub settle-cut : {o : Block T A} {p : A} → IsThin o p → (o' : Block T A) (i : ℕ) {k : ℕ}
       {m : Cost} → i ≤ length (items_in o.slots) → k ≡ o.len - i
       → IsWritten o o' (emptied i k o.slots) i m

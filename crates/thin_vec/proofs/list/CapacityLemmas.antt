@@ -1,5 +1,5 @@
--- Lemmas about what a growth rule guarantees, and about what the block of a list contains after its
--- capacity changed.
+-- These lemmas say which capacities a growth rule may choose, and what the block of a list contains
+-- after the capacity of the list changed.
 use Rattle.std.proofs.Common.{◌≡◌, ℕ, ◌^◌, ◌<◌, ◌≤◌, Err, Ok, Result, Some, None, arith, refl, subst, sym, ◌-◌, List, [], ◌++◌, length, take, Option, ap, ◌∙◌}
 use Rattle.std.specs.Align.{type_align}
 use Rattle.std.specs.Borrow.{RattleType}
@@ -17,7 +17,9 @@ use Rattle.thin_vec.specs.ThinVec.{IsThin}
 use Rattle.thin_vec.proofs.ListLemmas.{Settled, settled, length-front, thin-room, front-grow}
 
 module _ (rule : Rule) (law : KeepsLaw rule) (R : RattleType) where
-  -- if a rule keeps the law of growth rules, each capacity that it chooses satisfies `Grows`
+  -- If a growth rule satisfies `KeepsLaw`, each capacity `n` that the rule chooses satisfies
+  -- `Grows`: it is large enough for the items, at least twice the old capacity, and small enough to
+  -- be allocated.
   pub grows-rule : (w : ℕ) {c c' w' : ℕ} {o : Option ℕ}
       → o ≡ rule (type_size R) (type_align R) c w → c ≡ c' → w ≡ w' → c < w → w < 2 ^ 64
       → IfSome o (λ n. Grows R c' w' n)
@@ -31,14 +33,14 @@ module _ (rule : Rule) (law : KeepsLaw rule) (R : RattleType) where
       }
 
 module _ {T : Type 0} where
-  -- the slots of an empty list of capacity c are c empty slots
+  -- The slots of an empty list of capacity `c` are `c` empty slots.
   pub front-none : (c : ℕ) → empty {T = T} c ≡ front [] c
   front-none c = let same : c ≡ c - 0 = omega arith in ap (λ (m : ℕ). empty m) same
 
 module _ {T A : Type 0} {b : Block T A} {a : A} (t : IsThin b a) where
-  -- if the block of a list now has c slots, of which the first hold the items of the list and the
-  -- others are empty, then the new block b' is the block of a list with the same items and the
-  -- capacity c
+  -- Let the block of a list become a block `b'` of `c` slots. If the first slots of `b'` hold the
+  -- items of the list in order, and all other slots are empty, then `b'` is the block of a list
+  -- with the same items and the capacity `c`.
   settle-remade : (b' : Block T A) (c : ℕ) {s : List (Option T)} {k : Cost}
       → seen b' ≡ record (seen b) { slots = s; alloc = Some a; cost = k }
       → s ≡ front (items_in b.slots) c → length (items_in b.slots) ≤ c
@@ -47,8 +49,9 @@ module _ {T A : Type 0} {b : Block T A} {a : A} (t : IsThin b a) where
       settled b' a (items_in b.slots) c (ap (λ v. v.slots) w ∙ e) (ap (λ v. v.len) w ∙ t.packed.len)
       room (λ x h. some-same (sym h ∙ ap (λ v. v.alloc) w))
 
-  -- whether a growth to c slots succeeded or failed, the new block b' is the block of a list with
-  -- the same items, and has at most c slots
+  -- After an attempt to grow a block to `c` slots, the resulting block `b'` is the block of a list
+  -- with the same items, and it has at most `c` slots. This is true whether the attempt succeeded
+  -- or failed.
   pub settle-tried : {X E : Type 0} (r : Result X E) (b' : Block T A) (c : ℕ)
       → length b.slots < c
       → OnOk r (seen b' ≡ record (seen b) {
@@ -70,8 +73,8 @@ module _ {T A : Type 0} {b : Block T A} {a : A} (t : IsThin b a) where
     omega (arith, ap (λ (q : Block T A). length q.slots) same),
   )
 
-  -- if the block of a list shrank to its first k slots, and these hold all items, the new block b'
-  -- is the block of a list with the same items and the capacity k
+  -- Let the first `k` slots of a block hold all items of a list. If the block shrinks to these
+  -- slots, the new block `b'` is the block of a list with the same items and the capacity `k`.
   pub settle-shrink : (b' : Block T A) (k : ℕ) {m : Cost} → length (items_in b.slots) ≤ k
       → k ≤ length b.slots
       → seen b' ≡ record (seen b) { slots = take k b.slots; alloc = Some a; cost = m }
@@ -85,7 +88,7 @@ module _ {T A : Type 0} {b : Block T A} {a : A} (t : IsThin b a) where
       ∙ (ap (λ (m : ℕ). take m (front xs k ++ rest)) (sym (length-front xs k room))
       ∙ take-append_seam (front xs k) rest)) room
 
--- a new block of c empty slots is the block of an empty list of capacity c
+-- A new block of `c` empty slots is the block of an empty list of capacity `c`.
 pub settle-new : {T A : Type 0} (b : Block T A) (a : A) (c : ℕ) {k : Cost}
     → seen b ≡ record { slots = empty c; len = 0; alloc = Some a; cost = k } → Settled b a [] c
 settle-new b a c w = settled b a [] c (ap (λ v. v.slots) w ∙ front-none c) (ap (λ v. v.len) w)

@@ -1,6 +1,6 @@
--- Lemmas about clones that are put into the spare slots of a block, before and after the stored
--- length includes them. Other lemmas are about the items of a range, read after more items were
--- appended to the list.
+-- These lemmas are for calls that clone items. Most of them are about clones that are written into
+-- the empty slots after the last item of a list. The last two lemmas are about the items in a range
+-- of a list.
 use Rattle.std.proofs.Common.{◌≡◌, ◌+◌, ◌-◌, ◌<◌, ◌≤◌, [], ◌∷◌, ◌++◌, ◌∙◌, List, Option, Some, ap, append_assoc, arith, drop, get_or, length, refl, suc, sym, take, zero, ℕ}
 use Rattle.std.proofs.lemmas.List.{get_or-drop, get_or-take, get_or_append_left, length-drop, length-take-le, map_push, replicate-append-replicate}
 use Rattle.std.proofs.lemmas.List.Elements.{All-from_recursion, all_zip_more, length_all_zip, recursion_from_All}
@@ -17,14 +17,15 @@ use Rattle.thin_vec.proofs.ListLemmas.{length-full}
 
 module _ {T : Type 0} {clones : T → T → Type 0} {sources : List T} {n i : ℕ}
     {s s' : List (Option T)} (lays : LaysClones clones sources n i s s') where
-  -- if there are at least n sources, and clones of the first n of them were written, then there are
-  -- n clones
+  -- If there are at least `n` items to clone, and the first `n` of them were cloned, then there are
+  -- exactly `n` clones.
   pub length-copies : n ≤ length sources → length lays.copies ≡ n
   length-copies few = sym (length_all_zip clones (take n sources) lays.copies lays.cloned)
       ∙ length-take-le n sources few
 
-  -- if clones of the first n sources were written, and a clone y of the next source is put after
-  -- them, then clones of the first n + 1 sources were written
+  -- Let consecutive slots hold clones of the first `n` items of `sources`. If a clone `y` of the
+  -- next item is written into the next slot, then consecutive slots hold clones of the first
+  -- `n + 1` items.
   pub lays-more : (y : T) {x : T} {s'' : List (Option T)} → n < length sources
       → i + length sources ≤ length s → x ≡ get_or sources n x → clones x y
       → s'' ≡ set s' (i + n) (Some y) → LaysClones clones sources (n + 1) i s s''
@@ -40,13 +41,14 @@ module _ {T : Type 0} {clones : T → T → Type 0} {sources : List T} {n i : �
             ∙ ap (λ r. laid i r s) (sym (map_push Some ys y))));
       }
 
--- if ys are clones of the first n of m repetitions of x, each of ys is a clone of x
+-- If `ys` consists of clones of the first `n` items of `replicate m x`, then every item of `ys` is
+-- a clone of `x`.
 pub all-repeated : {T : Type 0} (clones : T → T → Type 0) (x : T) (n m : ℕ) (ys : List T)
     → AllZip clones (take n (replicate m x)) ys → All (clones x) ys
 all-repeated {T} clones x n m ys cloned = All-from_recursion (clones x) ys (each n m ys cloned)
   where
-    -- the same claim, proved by recursion: if ys are clones of the first n of m repetitions of x,
-    -- each of ys is a clone of x
+    -- If `ys` consists of clones of the first `n` items of `replicate m x`, then every item of `ys`
+    -- is a clone of `x`. The proof is by recursion.
     each : (n m : ℕ) (ys : List T) → AllZip clones (take n (replicate m x)) ys
         → AllByRecursion (clones x) ys
     each zero m [] e = tt
@@ -57,8 +59,8 @@ all-repeated {T} clones x n m ys cloned = All-from_recursion (clones x) ys (each
     each (suc n) (suc m) (y ∷ ys) e = (e.0, each n m ys e.1)
 
 module _ {T : Type 0} (clones : T → T → Type 0) where
-  -- if every clone of x equals x, then appending n clones of x and x itself to xs is the same as
-  -- appending n + 1 repetitions of x
+  -- Let every clone of `x` equal `x`. If `zs` is the list `xs`, followed by `n` clones of `x` and
+  -- then by `x` itself, then `zs` is `xs ++ replicate (n + 1) x`.
   pub equal-repeated : (n m : ℕ) {x : T} {xs ys zs : List T} → CloneEquals clones x
       → AppendsRepeats clones x n xs ys → zs ≡ ys ++ x ∷ [] → m ≡ n + 1 → zs ≡ xs ++ replicate m x
   equal-repeated n m {x} {xs} equal repeats last one =
@@ -71,13 +73,14 @@ module _ {T : Type 0} (clones : T → T → Type 0) where
       ∙ (append_assoc xs (replicate n x) (x ∷ []) ∙ ap (λ (l : List T). xs ++ l)
       (replicate-append-replicate n 1 x ∙ ap (λ k. replicate k x) (sym one))))
     where
-      -- if every clone of x equals x, then clones ys of x are x repeated `length ys` times
+      -- If every clone of `x` equals `x`, and `ys` consists of clones of `x`, then `ys` is
+      -- `replicate (length ys) x`.
       each : (ys : List T) → AllByRecursion (clones x) ys → ys ≡ replicate (length ys) x
       each [] e = refl
       each (y ∷ ys) e = λ i. equal y e.0 i ∷ each ys e.1 i
 
--- if v is a new list, the rule chooses the same capacity for v to reach the length k as for a list
--- of capacity 0 to hold k items
+-- A new list `v` has no items and the capacity 0. So the capacity that `v` gets by the growth rule
+-- for a length of `k` is `ruled_capacity rule R 0 k`.
 pub capacity-new : {T A : Type 0} (rule : Rule) (R : RattleType) (v : Thin T A) (a : A) (k : ℕ)
     → IsNew v a → capacity_for rule R v (k - length v.items) ≡ ruled_capacity rule R 0 k
 capacity-new rule R v a k new =
@@ -86,22 +89,23 @@ capacity-new rule R v a k new =
     (let e : length v.items + (k - length v.items) ≡ k = omega (arith, ap length new.items) in
     e)
 
--- if P does not hold for the item at index i, it is false that P holds for all items of xs
+-- If the item of `xs` at index `i` does not satisfy the predicate `P`, then not all items of `xs`
+-- satisfy `P`.
 pub not-all : {X : Type 0} (P : X → Type 0) (xs : List X) (i : ℕ) → i < length xs
     → HoldsAt (λ x. ¬ (P x)) xs i → All P xs → ⊥
 not-all P [] i low never all = absurd (omega arith)
 not-all P (x ∷ xs) i low never all = never x (all i x low)
 
--- the rule set that contains the lemma about the capacity of a new list
+-- This rule set for the prover contains the lemma about the capacity of a new list.
 pub ruleset new_lists = (capacity-new)
 
 module _ {T : Type 0} (xs : List T) (a b : ℕ) (within : b ≤ length xs) where
-  -- the range `a..b` of xs has b - a items
+  -- If `b` is at most the length of `xs`, the range `a..b` of `xs` contains `b - a` items.
   pub length-range : length (slice_range xs a b) ≡ b - a
   length-range = length-take-le (b - a) (drop a xs) (omega (arith, length-drop a xs))
 
-  -- the item at index i of the range `a..b` is the item at index `a + i` of the list, even after ys
-  -- were appended to the list
+  -- The item at index `i` of the range `a..b` of the list `xs` is the item at index `a + i` of the
+  -- list `xs ++ ys`.
   pub get-range : (ys : List T) (i : ℕ) (x : T) → i < b - a → x ≡ get_or (xs ++ ys) (a + i) x
       → x ≡ get_or (slice_range xs a b) i x
   get-range ys i x less is = is ∙ (get_or_append_left xs ys x (a + i) (omega arith)

@@ -1,5 +1,5 @@
--- Lemmas about what calls of `next` yielded, and about what the block and the list contain after
--- the yielded items were placed.
+-- These lemmas are for calls that append the items of an iterator to a list. They are about the
+-- items that calls of `next` yield, and about the list after these items were appended.
 use Rattle.std.proofs.Common.{true, ◌≡◌, ℕ, ◌+◌, ◌-◌, ◌<◌, ◌≤◌, List, [], ◌∷◌, ◌++◌, inl, inr, length, length-append, Option, None, Some, refl, sym, ap, subst, ◌∙◌, arith, false}
 use Rattle.std.proofs.lemmas.Bool.{cases_lt}
 use Rattle.std.proofs.lemmas.List.{map-append}
@@ -29,35 +29,36 @@ use Rattle.thin_vec.proofs.ListLemmas.{length-full}
 use Rattle.thin_vec.proofs.ThinVecLemmas.{cap-kept, cost_at-more, cost_at-moves, cost_at-same}
 
 module _ {S X : Type 0} (steps : S → Option X → S → Type 0) where
-  -- if calls of `next` yielded xs, and one more call yielded x, then all these calls yielded xs
-  -- followed by x
+  -- If calls of `next` yielded the items `xs`, and one more call yielded `x`, then all these calls
+  -- together yielded `xs ++ x ∷ []`.
   pub yields-more : (s t u : S) (xs : List X) (x : X) → Yields steps s xs t → steps t (Some x) u
       → Yields steps s (xs ++ x ∷ []) u
   yields-more s t u [] x e now = (u, subst (λ r. steps r (Some x) u) (sym e) now, λ _. u)
   yields-more s t u (y ∷ ys) x e now = (e.0, e.1, yields-more e.0 t u ys x e.2 now)
 
-  -- if calls of `next` yielded xs, and later calls yielded ys, then all these calls yielded xs
-  -- followed by ys
+  -- If calls of `next` yielded the items `xs`, and later calls yielded the items `ys`, then all
+  -- these calls together yielded `xs ++ ys`.
   pub yields-join : (s t u : S) (xs ys : List X) → Yields steps s xs t → Yields steps t ys u
       → Yields steps s (xs ++ ys) u
   yields-join s t u [] ys e more = subst (λ r. Yields steps r ys u) (sym e) more
   yields-join s t u (x ∷ xs) ys e more = (e.0, e.1, yields-join e.0 t u xs ys e.2 more)
 
-  -- if calls of `next` yielded xs followed by ys, an initial part of these calls yielded xs
+  -- If calls of `next` yielded the items `xs ++ ys`, then the first `length xs` calls yielded `xs`.
   pub yields-first : (s u : S) (xs ys : List X) → Yields steps s (xs ++ ys) u
       → (t : S) × Yields steps s xs t
   yields-first s u [] ys e = (s, refl)
   yields-first s u (x ∷ xs) ys e =
       let rest = yields-first e.0 u xs ys e.2 in (rest.0, (e.0, e.1, rest.1))
 
-  -- if calls of `next` yielded xs and then `None`, and P holds for xs, these calls form a whole run
-  -- (`WholeRun`) for whose items P holds
+  -- If calls of `next` yielded the items `xs` and then `None`, these calls are a complete run of
+  -- the iterator (`WholeRun`). If `P` holds for `xs`, the items of this run satisfy `P`.
   pub run_of : (s : S) (P : List X → Type 0) → (xs : List X) × Drains steps s xs × P xs
       → WholeRun steps s (λ p. P p.items)
   run_of s P all = (run steps s all.0 true (to_end steps s all.0 all.1), refl, refl, all.2)
 
-  -- for a result that is `Ok`: if calls of `next` yielded items for which P holds, and then `None`,
-  -- there is a whole run (`WholeRun`) for whose items P holds
+  -- Let the result `r` be `Ok`. If calls of `next` yielded items that satisfy `P`, and then `None`,
+  -- these calls are a complete run of the iterator (`WholeRun`), and the items of this run satisfy
+  -- `P`.
   pub run_of_ok : {E : Type 0} (s : S) (P : List X → Type 0) (r : Result (Unit {0}) E)
       → OnOk r ((xs : List X) × Drains steps s xs × P xs)
       → OnOk r (WholeRun steps s (λ p. P p.items))
@@ -65,16 +66,17 @@ module _ {S X : Type 0} (steps : S → Option X → S → Type 0) where
   run_of_ok s P (Err _) all = tt
 
 module _ {S X : Type 0} (steps : S → Option X → S → Type 0) (s : S) where
-  -- if calls of `next` yielded the items xs and then the item in o, if there is one, these calls
-  -- are a run of the iterator (`SomeRun`)
+  -- Let calls of `next` yield the items `xs`, and then the item in the option `o`, if `o` is
+  -- `Some`. Then these calls are a run of the iterator that need not be complete (`SomeRun`).
   pub run_given : (xs : List X) (o : Option X) (t : S) (P : List X → Type 0)
       → Yields steps s (xs ++ option_to_list o) t → P (xs ++ option_to_list o)
       → SomeRun steps s (λ p. P p.items)
   run_given xs o t P gave h =
       (run steps s (xs ++ option_to_list o) false (t, gave, λ e. absurd (false≢true e)), refl, h)
 
-  -- for a result that is an error: if calls of `next` yielded the placed items and then the item in
-  -- hand, if there is one, these calls are a run of the iterator (`SomeRun`)
+  -- Let the result `r` be an error. If calls of `next` yielded the items `xs`, and then the item
+  -- that the error returns, if there is one, these calls are a run of the iterator that need not be
+  -- complete (`SomeRun`).
   pub run_given_err : {E : Type 0} (can : S → Type 0) (remaining : S → Count)
       (hand : E → Option X) (rest : E → S) (P : List X → Type 0) (r : Result (Unit {0}) E)
       → IfErr r (λ e. (xs : List X) × P xs
@@ -87,18 +89,19 @@ module _ {S X : Type 0} (steps : S → Option X → S → Type 0) (s : S) where
       (λ l. (xs : List X) × P xs × (l ≡ xs ++ option_to_list (hand e)))
       all.2.gave (all.0, all.1, refl)
 
--- if o has a value, and P holds, then `MatchOption o Q (λ _. P)` holds
+-- If the option `o` is `Some`, and the statement `P` holds, then `MatchOption o Q (λ _. P)` holds,
+-- where `Q` is the case for `None`.
 pub match-some : {X : Type 0} (P Q : Type 0) (o : Option X) → IsSome o → P
     → MatchOption o Q (λ _. P)
 match-some P Q (Some x) some p = p
 match-some P Q None some p = absurd (false≢true some)
 
--- an option that has a value is not `None`
+-- An option that is `Some` is not `None`.
 pub hand-empty : {X : Type 0} {o : Option X} → IsSome o → o ≡ None → ⊥
 hand-empty some none = false≢true (subst IsSome none some)
 
--- for a result that is an error: if the error has an item in hand, and P holds, then `MatchOption
--- error.in_hand (Q error) (λ _. P)` holds
+-- Let the result `r` be an error whose field `in_hand` is `Some`. If the statement `P` holds, then
+-- `MatchOption error.in_hand (Q error) (λ _. P)` holds, where `Q error` is the case for `None`.
 pub full-in-hand : {T S : Type 0} (P : Type 0) (Q : ExtendRefused T S → Type 0)
     (r : Result (Unit {0}) (ExtendRefused T S)) → IfErr r (λ error. IsSome error.in_hand)
     → OnErr r P → IfErr r (λ error. MatchOption error.in_hand (Q error) (λ _. P))
@@ -108,8 +111,8 @@ full-in-hand P Q (Err error) some at_capacity =
 
 module _ {T : Type 0} where
   module _ (s s' r : List (Option T)) where
-    -- if xs was written from slot i on, and x is written into the slot after xs, then xs
-    -- followed by x was written from slot i on
+    -- Let the items `xs` be written into the slots from index `i` onward. If `x` is then written
+    -- into the next slot, the result is the same as writing `xs ++ x ∷ []` from index `i` onward.
     pub laid-more : (i k : ℕ) (xs : List T) (x : T) → s ≡ laid i (full xs) r → k ≡ i + length xs
         → k < length r → s' ≡ set s k (Some x) → s' ≡ laid i (full (xs ++ x ∷ [])) r
     laid-more i k xs x e at within e' =
@@ -120,13 +123,14 @@ module _ {T : Type 0} where
         (sym (map-append (λ (y : T). Some y) xs (x ∷ [])))))
 
 module _ {T A : Type 0} where
-  -- adding n moves to the cost of a block changes nothing, if n is 0
+  -- If `n` is 0, adding `n` moves to the cost of a block changes nothing.
   pub put-none : (v : Seen T A) (n : ℕ) → n ≡ 0 → v ≡ record v { cost = moving n v.cost }
   put-none v n none = λ i. record v
       { cost = (sym (moving-none v.cost) ∙ ap (λ (k : ℕ). moving k v.cost) (sym none)) i }
 
-  -- if v is u with other slots and n more moves, and w is v after one more item was placed, then w
-  -- is u with other slots and n + 1 more moves
+  -- Let the block `v` be the block `u` with other slots and with `n` more moves in the cost. If one
+  -- more item is put into `v`, the resulting block `w` is `u` with other slots and with `n + 1`
+  -- more moves in the cost.
   pub put-more : (u : Seen T A) {v w : Seen T A} {s : List (Option T)} (n k : ℕ) → k ≡ n + 1
       → w ≡ record v { slots = s; cost = moving 1 v.cost }
       → v ≡ record u { slots = v.slots; cost = moving n u.cost }
@@ -140,8 +144,8 @@ module _ {T A : Type 0} where
         ∙ (moving-more 1 n u.cost ∙ ap (λ (m : ℕ). moving m u.cost) (sym one)))) i;
   }
 
--- if w is v with xs appended at the cost of one move for each of xs, then w differs from v only in
--- its items and in its moves, which increased by the number of items appended
+-- Let `w` be the list `v` after the items `xs` were appended at the cost of one move each. Then `w`
+-- is `v` with other items, and with `length w.items - length v.items` more moves in the cost.
 pub spare-kept : {T A : Type 0} (v w : Thin T A) (xs : List T)
     → w ≡ record v { items = v.items ++ xs; cost = moving (length xs) v.cost }
     → w ≡ record v
@@ -155,40 +159,43 @@ spare-kept v w xs is =
 -- Section: how a capacity grows over several calls
 
 module _ (rule : Rule) (R : RattleType) (law : KeepsLaw rule) where
-  -- after a loose growth (`IsLoose`), the capacity is not smaller than before
+  -- If `IsLoose rule R c d` holds for the old capacity `c` and the new capacity `d`, then `c ≤ d`.
   pub loose-le : (c d : ℕ) → IsLoose rule R c d → c ≤ d
   loose-le c d (inl e) = omega arith
   loose-le c d (inr p) = let g = ruled-grows rule R c p.0 p.1 law p.2 p.3 in
       omega (arith, g.doubled, p.4)
 
-  -- two loose growths, one after the other, are one loose growth
+  -- The relation `IsLoose` between an old and a new capacity is transitive.
   pub loose-join : (c d e : ℕ) → IsLoose rule R c d → IsLoose rule R d e → IsLoose rule R c e
   loose-join c d e (inl p) q = subst (λ n. IsLoose rule R n e) p q
   loose-join c d e (inr p) q = inr (p.0, p.1, p.2, p.3, omega (arith, p.4, loose-le d e q))
 
-  -- if a capacity satisfies `IsKeptOrRuled` for n items, and n ≤ m, then it satisfies
-  -- `IsKeptOrRuled` for m items
+  -- If a capacity satisfies `IsKeptOrRuled` for `n` items, and `n ≤ m`, then the capacity also
+  -- satisfies `IsKeptOrRuled` for `m` items.
   pub ruled-more : (c n m : ℕ) {d d' : ℕ} → d' ≡ d → n ≤ m → IsKeptOrRuled rule R c d n
       → IsKeptOrRuled rule R c d' m
   ruled-more c n m same more (inl e) = inl (same ∙ e)
   ruled-more c n m same more (inr p) =
       inr (p.0, p.1, p.2, omega (arith, p.3, more), p.4 ∙ ap Some (sym same))
 
-  -- Let the capacity e satisfy `IsKeptOrRuled` after the capacity d, and let P hold if e equals d.
-  -- Then e satisfies `IsKeptOrRuled` after any capacity c, or P holds.
+  -- Let `IsKeptOrRuled` hold for the old capacity `d` and the new capacity `e`, and let `e ≡ d`
+  -- imply `P`. Then `P` holds, or `IsKeptOrRuled` holds for any old capacity `c` and the new
+  -- capacity `e`.
   pub ruled-after : (c d e n : ℕ) (P : Type 0) → IsKeptOrRuled rule R d e n → (e ≡ d → P)
       → IsKeptOrRuled rule R c e n ⊎ P
   ruled-after c d e n P (inl same) f = inr (f same)
   ruled-after c d e n P (inr p) f = inl (inr p)
 
-  -- if a new list first got exactly the capacity c that a size hint asks for, and then a capacity d
-  -- that satisfies `IsKeptOrRuled` after c, then d satisfies `IsCollected`
+  -- Let a new list first get exactly the capacity `c` that a size hint `h` asks for, and then the
+  -- capacity `d`. If `IsKeptOrRuled` holds for the change from `c` to `d`, then `d` satisfies
+  -- `IsCollected`.
   pub collected-after : {c d : ℕ} (n h : ℕ) (left : Count) → IsWithinCount h left
       → exact_capacity R 0 h ≡ Some c → IsKeptOrRuled rule R c d n → IsCollected rule R d n left
   collected-after n h left hint e (inl same) = inr (h, hint, e ∙ ap Some (sym same))
   collected-after n h left hint e (inr p) = inl p
 
-  -- if d is the ruled capacity of v for k more items, a change to d is a loose growth (`IsLoose`)
+  -- Let `d` be the capacity that the list `v` gets by the growth rule if it needs room for `k` more
+  -- items. Then the change from the old capacity of `v` to `d` satisfies `IsLoose`.
   pub loose-ruled : {T A : Type 0} (v : Thin T A) (k d : ℕ) → capacity_for rule R v k ≡ Some d
       → IsLoose rule R v.capacity d
   loose-ruled v k d e =
@@ -198,8 +205,9 @@ module _ (rule : Rule) (R : RattleType) (law : KeepsLaw rule) where
       ]
 
 module _ {T A : Type 0} where
-  -- if k items were appended to v with k moves, after at most one growth, v and w satisfy
-  -- `CostsAdding` with no move of old items
+  -- Let the list `v` become `w` by at most one growth and by appending `k` items with `k` moves. If
+  -- the growth copied no more items than it added slots, then `CostsAdding v w 0` holds: appending
+  -- the items moved no old item.
   pub filled-at : (v w : Thin T A) (k : ℕ) → w.cost ≡ moving k (cost_at v w.capacity)
       → length w.items ≡ length v.items + k
       → (cost_at v w.capacity).grown + v.capacity ≤ v.cost.grown + w.capacity → CostsAdding v w 0
@@ -215,8 +223,8 @@ module _ {T A : Type 0} where
         (omega (arith, ap (λ c. c.blocks) f), omega (arith, ap (λ c. c.grown) f));
   }
 
-  -- if the list v became w by at most one growth, and no item was appended, v and w satisfy
-  -- `CostsAdding` with no move of old items
+  -- Let the list `v` become `w` by at most one growth that does not change the items. If the growth
+  -- copied no more items than it added slots, then `CostsAdding v w 0` holds.
   pub filled-reserved : (v w : Thin T A) → w.cost ≡ cost_at v w.capacity
       → w.items ≡ v.items
       → (cost_at v w.capacity).grown + v.capacity ≤ v.cost.grown + w.capacity → CostsAdding v w 0
@@ -231,8 +239,8 @@ module _ {T A : Type 0} where
             z) i;
       })) (omega (arith, ap length n)) few
 
-  -- if k items were appended to v with k moves, and the capacity did not change, v and w satisfy
-  -- `CostsAdding` with no move of old items
+  -- Let the list `v` become `w` by appending `k` items with `k` moves, without a change of the
+  -- capacity. Then `CostsAdding v w 0` holds: appending the items moved no old item.
   pub filled-spare : (v w : Thin T A) (k : ℕ)
       → w ≡ record v { items = w.items; cost = moving k v.cost }
       → length w.items ≡ length v.items + k → CostsAdding v w 0
@@ -242,9 +250,9 @@ module _ {T A : Type 0} where
       filled-at v w k (ap (λ u. u.cost) e ∙ ap (λ c. moving k c) (sym kept)) n
       (omega (arith, ap (λ c. c.grown) kept, same))
 
-  -- Let no capacity shrink, and let u have at least as many items as v. If v and u satisfy
-  -- `CostsAdding` with at most m moves of old items, and u and w satisfy it with at most n, then v
-  -- and w satisfy it with at most k, where k is at least m + n.
+  -- Let the list `v` become `u`, and then `w`. The capacity never shrinks, and `u` is not shorter
+  -- than `v`. If `CostsAdding v u m` and `CostsAdding u w n` hold, and `m + n ≤ k`, then
+  -- `CostsAdding v w k` holds.
   pub adding-join : {v u w : Thin T A} (m n k : ℕ) → m + n ≤ k → CostsAdding v u m
       → CostsAdding u w n → v.capacity ≤ u.capacity → u.capacity ≤ w.capacity
       → length v.items ≤ length u.items → CostsAdding v w k
@@ -267,8 +275,8 @@ module _ {T A : Type 0} where
     ];
   }
 
-  -- if v and w satisfy `CostsAdding` with no move of old items, they satisfy it with at most n
-  -- moves of old items
+  -- `CostsAdding v w 0` implies `CostsAdding v w n` for every `n`. The last argument is an upper
+  -- bound on the moves of old items.
   pub adding-more : (v w : Thin T A) (n : ℕ) → CostsAdding v w 0 → CostsAdding v w n
   adding-more v w n p = record {
     copied = p.copied;

@@ -1,5 +1,5 @@
--- Lemmas about what a block contains while items of a list are inserted, removed or moved, and
--- afterwards.
+-- These lemmas are for calls that insert or remove items. They say what the block of a list
+-- contains during such a call and after it.
 use Rattle.thin_vec.proofs.list.CapacityLemmas.{front-none}
 use Rattle.std.proofs.Common.{◌≡◌, ◌≢◌, ℕ, zero, suc, ◌+◌, ◌-◌, ◌<◌, ◌≤◌, List, [], ◌∷◌, ◌++◌, length, take, drop, Option, Some, None, refl, sym, ap, ◌∙◌, subst, arith, get_or, length-append, append_assoc}
 use Rattle.std.proofs.Math.Seq.{drop-length, take-append_seam}
@@ -18,11 +18,12 @@ use Rattle.thin_block.proofs.SlotsLemmas.{same_or_not, the_item, moved_left, mov
 use lib.Seq.{set-set, take-set-le}
 use mathlib.Core.Logic.{⊎_elim}
 
--- Section: moves of a run by one slot
+-- Section: moving consecutive items by one slot
 
 module _ {T : Type 0} where
-  -- if the slot of the item at i is emptied, and the later items move down by one slot, the slots
-  -- are those of the list without this item
+  -- Let a row of slots hold the items `xs`, followed by empty slots. If slot `i` is emptied, and
+  -- all later items are moved down by one slot, then the row holds `remove xs i`, followed by empty
+  -- slots.
   pub front-remove : (xs : List T) (c i : ℕ) {j k : ℕ} → i < length xs → length xs ≤ c → j ≡ i + 1
       → k ≡ length xs - j → moved j i k (set (front xs c) i None) ≡ front (remove xs i) c
   front-remove [] c i h l e n = absurd (omega arith)
@@ -42,19 +43,21 @@ module _ {T : Type 0} where
       (replicate-append-replicate 1 (c - length xs) None
       ∙ ap (λ (z : ℕ). replicate z None) m))))
 
-  -- in this module, the items of xs from index i on move up by one slot, to make room for one item
-  -- at i
+  -- In this module, the items of `xs` from index `i` onward are moved up by one slot, to make room
+  -- for a new item at index `i`.
   module _ (xs : List T) (c i : ℕ) {j k : ℕ} (h : i ≤ length xs) (l : length xs < c) (e : j ≡ i + 1)
       (n : k ≡ length xs - i) where
-    -- the slots after the empty slot i, once the items from index i on have moved up
+    -- The row of slots that follows slot `i` when the items from index `i` onward have been moved
+    -- up by one slot.
     after : List (Option T)
     after = full (drop i xs) ++ replicate (c - length xs - 1) None
 
-    -- the items before index i fill i slots
+    -- The items before index `i` fill exactly `i` slots.
     before : i ≡ length (full (take i xs))
     before = omega (arith, length-full (take i xs), length-take i xs)
 
-    -- after the move, one empty slot lies between the items before i and the items that moved
+    -- After the items from index `i` onward were moved up by one slot, slot `i` is empty. The first
+    -- `i` items are before this slot, and the moved items are directly after it.
     apart : moved i j k (front xs c) ≡ full (take i xs) ++ (None ∷ after)
     unfolding after
     apart =
@@ -72,8 +75,8 @@ module _ {T : Type 0} where
         ap (λ (ys : List (Option T)). moved i j k ys) s
         ∙ moved_right i j k 1 (full a) (full b) r before e q
 
-    -- if v is written into slot i after the items from index i on have moved up, the slots are
-    -- those of the list with v inserted at i
+    -- If the items of `xs` from index `i` onward are moved up by one slot, and `v` is written into
+    -- slot `i`, then the row of slots holds `insert xs i v`, followed by empty slots.
     pub front-insert : (v : T)
         → set (moved i j k (front xs c)) i (Some v) ≡ front (insert xs i v) c
     unfolding after
@@ -87,15 +90,16 @@ module _ {T : Type 0} where
         ∙ (ap (λ (ys : List (Option T)). ys ++ r) (sym (map-append (λ (y : T). Some y) a (v ∷ b)))
         ∙ ap (λ (z : ℕ). full (insert xs i v) ++ replicate z None) m)))
 
-    -- after the items from index i on have moved up, slot i is empty
+    -- After the items from index `i` onward were moved up by one slot, slot `i` is empty.
     front-gap : slot (moved i j k (front xs c)) i ≡ None
     front-gap =
         ap (λ (ys : List (Option T)). slot ys i) apart
         ∙ get_or_at (full (take i xs)) None after None i (sym before)
 
 module _ {T A : Type 0} {b : Block T A} {a : A} (t : IsThin b a) where
-  -- if the slot of the item at i was emptied, the later items were moved down by one slot, and the
-  -- stored length was decremented, the new block b' is the block of the list without this item
+  -- Let slot `i` be emptied, let all later items be moved down by one slot, and let the stored
+  -- length be decremented. Then the new block `b'` is the block of the list without the item at
+  -- index `i`.
   pub settle-remove : (b' : Block T A) (i : ℕ) {j k : ℕ} → i < length (items_in b.slots)
       → j ≡ i + 1 → k ≡ b.len - j → {l : ℕ} {m : Cost} → l ≡ b.len
       → IsWritten b b' (moved j i k (set b.slots i None)) (l - 1) m
@@ -108,8 +112,9 @@ module _ {T A : Type 0} {b : Block T A} {a : A} (t : IsThin b a) where
       (omega (arith, len, t.packed.len, length-remove xs i h))
       (omega (arith, thin-room b a t, length-remove xs i h))
 
-  -- if the items from i on were moved up by one slot, v was written into slot i, and the stored
-  -- length was incremented, the new block b' is the block of the list with v inserted at i
+  -- Let the items from index `i` onward be moved up by one slot, let `v` be written into slot `i`,
+  -- and let the stored length be incremented. Then the new block `b'` is the block of the list with
+  -- `v` inserted at index `i`.
   pub settle-insert : (b' : Block T A) (i : ℕ) (v : T) {j k : ℕ} → i ≤ length (items_in b.slots)
       → b.len < length b.slots → j ≡ i + 1 → k ≡ b.len - i → {l : ℕ} {m : Cost} → l ≡ b.len
       → IsWritten b b' (set (moved i j k b.slots) i (Some v)) (l + 1) m
@@ -122,7 +127,7 @@ module _ {T A : Type 0} {b : Block T A} {a : A} (t : IsThin b a) where
       (omega (arith, len, t.packed.len, length-insert xs i v h))
       (omega (arith, o, t.packed.len, length-insert xs i v h))
 
-  -- after the items from i on were moved up by one slot, slot i is empty
+  -- After the items of a block from index `i` onward were moved up by one slot, slot `i` is empty.
   pub thin-gap : (i : ℕ) {j k : ℕ} → i ≤ length (items_in b.slots) → b.len < length b.slots
       → j ≡ i + 1 → k ≡ b.len - i → slot (moved i j k b.slots) i ≡ None
   thin-gap i {j} {k} h o e n =
@@ -133,13 +138,14 @@ module _ {T A : Type 0} {b : Block T A} {a : A} (t : IsThin b a) where
 -- Section: removal of items
 
 module _ {T : Type 0} where
-  -- `emptying xs k i c` is the row of c slots that held xs, after the slots from k up to i were
-  -- emptied
+  -- Let a row of `c` slots hold the items `xs`, followed by empty slots. `emptying xs k i c` is
+  -- this row after the slots `k..i` were emptied.
   abbrev pub emptying : List T → ℕ → ℕ → ℕ → List (Option T)
   emptying xs k i c =
       full (take k xs) ++ (empty (i - k) ++ (full (drop i xs) ++ empty (c - length xs)))
 
-  -- the items of xs from index i on are the item at i, followed by the items after it
+  -- The items of `xs` from index `i` onward are the item `x` at index `i`, followed by the items
+  -- from index `i + 1` onward.
   item-at : (xs : List T) (i : ℕ) → i < length xs → (x : T) × (drop i xs ≡ x ∷ drop (i + 1) xs)
   item-at [] i h = absurd (omega arith)
   item-at (x ∷ xs) zero h = (x, refl)
@@ -151,11 +157,13 @@ module _ {T : Type 0} where
             e),
       )
 
-  -- the row `full (xs ++ ys)` is the row `full xs`, followed by the row `full ys`
+  -- `full (xs ++ ys)` is `full xs ++ full ys`, where `full xs` is a row of slots that hold the
+  -- items `xs`.
   pub full-append : (xs ys : List T) → full (xs ++ ys) ≡ full xs ++ full ys
   full-append xs ys = map-append (λ (x : T). Some x) xs ys
 
-  -- before the first slot is emptied, the slots are those of the list
+  -- Before any slot is emptied, the row `emptying xs k k c` is `front xs c`, the row of `c` slots
+  -- that holds the items `xs`, followed by empty slots.
   pub emptying-none : (xs : List T) (k c : ℕ) → emptying xs k k c ≡ front xs c
   emptying-none xs k c =
       let r : List (Option T) = empty (c - length xs) in
@@ -166,15 +174,15 @@ module _ {T : Type 0} where
       ∙ ap full (take-append-drop k xs)))
 
   module _ (xs : List T) (k i c : ℕ) (order : k ≤ i) (bound : i < length xs) where
-    -- the slots before slot i
+    -- The slots before slot `i`.
     pre : List (Option T)
     pre = full (take k xs) ++ empty (i - k)
 
-    -- the slots after slot i
+    -- The slots after slot `i`.
     post : List (Option T)
     post = full (drop (i + 1) xs) ++ empty (c - length xs)
 
-    -- there are i slots before slot i
+    -- There are `i` slots before slot `i`.
     length-pre : length pre ≡ i
     unfolding pre
     length-pre =
@@ -186,8 +194,8 @@ module _ {T : Type 0} where
           length-replicate {A = Option T} (i - k) None,
         )
 
-    -- while slots are emptied, slot i, which is the next to be emptied, still holds the item at
-    -- index i
+    -- The row of slots `emptying xs k i c` consists of the slots before slot `i`, the filled slot
+    -- `i`, and the slots after slot `i`. Slot `i` holds the item of `xs` at index `i`.
     split : emptying xs k i c ≡ pre ++ (Some (item-at xs i bound).0 ∷ post)
     unfolding pre post
     split =
@@ -197,12 +205,12 @@ module _ {T : Type 0} where
         ∙ sym (append_assoc (full (take k xs)) (empty (i - k))
         (Some r.0 ∷ (full (drop (i + 1) xs) ++ empty (c - length xs))))
 
-    -- the next slot to be emptied, slot i, is filled
+    -- After the slots `k..i` were emptied, slot `i` still holds an item.
     pub emptying-filled : IsSome (slot (emptying xs k i c) i)
     emptying-filled = rw (ap (λ (s : List (Option T)). slot s i) split
         ∙ get_or_at pre (Some (item-at xs i bound).0) post None i length-pre) refl
 
-    -- emptying slot i makes the row `emptying xs k (i + 1) c`
+    -- Emptying slot `i` turns the row of slots `emptying xs k i c` into `emptying xs k (i + 1) c`.
     pub emptying-take : set (emptying xs k i c) i None ≡ emptying xs k (i + 1) c
     unfolding pre post
     emptying-take =
@@ -215,7 +223,8 @@ module _ {T : Type 0} where
         ∙ ap (λ (s : List (Option T)). s ++ post)
         (replicate-append-replicate (i - k) 1 None ∙ ap empty more))))
 
-  -- after all slots from k on were emptied, the slots are those of a list of the first k items
+  -- After all slots from index `k` onward were emptied, the row of slots holds the first `k` items
+  -- of `xs`, followed by empty slots.
   pub emptying-all : (xs : List T) (k c : ℕ) → k ≤ length xs → length xs ≤ c
       → emptying xs k (length xs) c ≡ front (take k xs) c
   emptying-all xs k c order room =
@@ -226,7 +235,8 @@ module _ {T : Type 0} where
       ∙ ap (λ (s : List (Option T)). full (take k xs) ++ s)
       (replicate-append-replicate (length xs - k) (c - length xs) None ∙ ap empty many)
 
-  -- writing m into the slot of the item at i replaces that item by m
+  -- If `i` is less than the length of `xs`, writing `m` into slot `i` replaces the item of `xs` at
+  -- index `i` by `m`.
   pub full-set : (xs : List T) (s : List (Option T)) (i : ℕ) (m : T) → i < length xs
       → set (full xs ++ s) i (Some m) ≡ full (set xs i m) ++ s
   full-set [] s i m h = absurd (omega arith)
@@ -234,8 +244,9 @@ module _ {T : Type 0} where
   full-set (x ∷ xs) s (suc i) m h = ap (λ (r : List (Option T)). Some x ∷ r)
       (full-set xs s i m (omega arith))
 
-  -- if the item at i and the last item m are taken out, and m is written into slot i, the slots
-  -- are those of the list after `swap_remove` at i
+  -- Let the item at index `i` and the last item `m` be taken out of their slots, and let `m` be
+  -- written into slot `i`. Then the row of slots is the row of the list after `swap_remove` at
+  -- index `i`.
   front-swap_remove : (ys : List T) (c i : ℕ) (v m : T) → i < length ys → length (ys ++ m ∷ []) ≤ c
       → set (set (set (front (ys ++ m ∷ []) c) i None) (length ys) None) i (Some m) ≡ front
       (swap_remove (ys ++ m ∷ []) i v) c
@@ -261,8 +272,8 @@ module _ {T : Type 0} where
       ∙ ap (λ (l : List T). front l c) (sym cut))))
 
 module _ {T A : Type 0} where
-  -- if all slots were emptied, and the stored length is 0, the new block b' is the block of an
-  -- empty list with the same capacity
+  -- If all slots are emptied, and the stored length becomes 0, then the new block `b'` is the block
+  -- of an empty list with the same capacity.
   pub settle-emptied : {b : Block T A} {a : A} → IsThin b a → (b' : Block T A)
       {s : List (Option T)} {m : Cost} → IsWritten b b' s 0 m → s ≡ empty (length b.slots)
       → Settled b' a [] (length b.slots)
@@ -270,9 +281,9 @@ module _ {T A : Type 0} where
       settle-front t b' [] (length b.slots) w (e ∙ front-none (length b.slots)) refl (omega arith)
 
   module _ {b : Block T A} {a : A} (t : IsThin b a) (b' : Block T A) (i last : ℕ) where
-    -- Let the item at i not be the last item. If both items were taken out, the last item was
-    -- written into slot i, and the stored length was decremented, then the new block is the
-    -- block of the list after `swap_remove` at i.
+    -- Let `i` be less than `last`, the index of the last item. If the slots `i` and `last` are
+    -- emptied, the last item is written into slot `i`, and the stored length is decremented, then
+    -- the new block `b'` is the block of the list after `swap_remove` at index `i`.
     settle-swap_remove : (v : T) {m : T} → i < last → last + 1 ≡ b.len → slot b.slots last ≡ Some m
         → {k : Cost} → IsWritten b b' (set (set (set b.slots i None) last None) i (Some m)) last k
         → Settled b' a (swap_remove (items_in b.slots) i v) (length b.slots)
@@ -297,7 +308,7 @@ module _ {T A : Type 0} where
         (omega (arith, cut, room, length_push ys m, long)) in
         subst (λ (l : List T). Settled b' a (swap_remove l i v) c) (sym at_end) done
       where
-        -- `swap_remove` makes a list shorter by one
+        -- `swap_remove` makes a list shorter by one item.
         length-swap_remove : (ys : List T) (i : ℕ) (v m : T) {k : ℕ} → length ys ≡ k → i < k
             → length (swap_remove (ys ++ m ∷ []) i v) ≡ k
         length-swap_remove ys i v m {k} long lt =
@@ -311,9 +322,9 @@ module _ {T A : Type 0} where
               long,
             )
 
-    -- Let the content of the last filled slot be moved into slot i, which may be the same slot.
-    -- If the stored length was decremented too, the new block is the block of the list after
-    -- `swap_remove` at i.
+    -- Let the item in the last filled slot be moved into slot `i`, and let the stored length be
+    -- decremented. Then the new block `b'` is the block of the list after `swap_remove` at index
+    -- `i`. Slot `i` may itself be the last filled slot.
     pub settle-replaced : (v : T) → i ≤ last → last + 1 ≡ b.len → slot b.slots i ≡ Some v
         → {k : Cost} → IsWritten b b' (set (set b.slots i (slot b.slots last)) last None) last k
         → Settled b' a (swap_remove (items_in b.slots) i v) (length b.slots)

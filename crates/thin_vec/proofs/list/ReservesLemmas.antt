@@ -1,4 +1,5 @@
--- Lemmas by which `Keeps`, `Reserves` and `TellsOverflow` follow from what one step of a call did.
+-- These lemmas prove that calls satisfy `Keeps`, `Reserves` and `TellsOverflow`. These three
+-- definitions say how a call may change the capacity of a list, and which error the call returns.
 use Rattle.std.proofs.Common.{◌≡◌, ℕ, ◌+◌, Err, Ok, Option, Result, Some, ap, arith, inl, inr, length, sym, ◌∙◌}
 use Rattle.std.specs.Borrow.{RattleType}
 use Rattle.std.specs.Prelude.{IfErr}
@@ -11,15 +12,15 @@ use Rattle.thin_vec.specs.Cheap.{IsCheap}
 use Rattle.thin_vec.specs.List.Capacity.{Keeps, Reserves, TellsOverflow, TellsOverflowOf}
 use Rattle.thin_vec.specs.ThinVec.{HasRoomFor, IsWithin, Thin, capacity_for}
 
--- if the growth rule names a capacity, a call that returns `Ok` satisfies `TellsOverflow`
+-- If the capacity `named` that a call needs is not `None`, then `TellsOverflow named (Ok x)` holds.
 pub tells-ok : {X : Type 0} (x : X) (named : Option ℕ) (n : ℕ) → named ≡ Some n
     → TellsOverflow named (Ok x)
 tells-ok x named n is = record {
   overflow = (λ e. ok-err x CapacityOverflow e, λ none. absurd (none-some none is));
 }
 
--- Let m items of the type R have the same exact capacity as n items of the type S. If some `Ok`
--- satisfies `TellsOverflowOf` for the m items of R, every `Ok` satisfies it for the n items of S.
+-- Let `exact_capacity R 0 m` be equal to `exact_capacity S 0 n`. If `TellsOverflowOf R m` holds for
+-- the result `Ok x`, then `TellsOverflowOf S n` holds for the result `Ok y`.
 pub tells-made : {X : Type 0} {x y : X} (R S : RattleType) (m n : ℕ)
     → exact_capacity R 0 m ≡ exact_capacity S 0 n
     → TellsOverflowOf R m (let r : Result X ThinVecError = Ok x in r)
@@ -31,22 +32,24 @@ tells-made {x = x} {y} R S m n e told = record {
   );
 }
 
--- Let m items of the type R have the same exact capacity as n items of the type S. If the result r
--- satisfies `TellsOverflowOf` for the m items of R, r satisfies it for the n items of S.
+-- Let `exact_capacity R 0 m` be equal to `exact_capacity S 0 n`. If `TellsOverflowOf R m r` holds
+-- for the result `r`, then `TellsOverflowOf S n r` holds.
 pub tells-same : {X : Type 0} {r : Result X ThinVecError} (R S : RattleType) (m n : ℕ)
     → exact_capacity R 0 m ≡ exact_capacity S 0 n → TellsOverflowOf R m r → TellsOverflowOf S n r
 tells-same R S m n e told = record {
   overflow = (λ over. sym e ∙ told.overflow.0 over, λ none. told.overflow.1 (e ∙ none));
 }
 
--- if an error is both `OutOfMemory` and `CapacityOverflow`, anything follows
+-- No error is both `OutOfMemory` and `CapacityOverflow`. So the assumption that an error is both
+-- implies every statement `P`.
 memory-no-overflow : {P : Type 0} (cause : ThinVecError) → cause ≡ OutOfMemory
     → cause ≡ CapacityOverflow → P
 memory-no-overflow cause is over = cc
 
 module _ {T A : Type 0} (R : RattleType) (v : Thin T A) where
-  -- a cheap list stays cheap if the capacity does not change, and neither a block nor a copied item
-  -- is added to its cost
+  -- Let the list `v` satisfy `IsCheap`, a bound on the cost of growth. If the capacity, the number
+  -- of blocks and the number of copied items do not change, then the new list `w` satisfies
+  -- `IsCheap` too.
   cheap-kept : (w : Thin T A) → w.capacity ≡ v.capacity
       → (w.cost.blocks ≡ v.cost.blocks) × (w.cost.grown ≡ v.cost.grown) → IsCheap v → IsCheap w
   cheap-kept w capacity (blocks, grown) cheap = record {
@@ -58,8 +61,8 @@ module _ {T A : Type 0} (R : RattleType) (v : Thin T A) where
         rw (blocks, capacity) old;
   }
 
-  -- `Keeps` holds for the lists v and w if the allocator and the capacity did not change, neither a
-  -- block nor a copied item was added to the cost, and both lists are within bounds
+  -- If the allocator, the capacity, the number of blocks and the number of copied items do not
+  -- change, and the lists `v` and `w` satisfy `IsWithin`, then `Keeps R v w` holds.
   pub keeps-kept : (w : Thin T A) → w.alloc ≡ v.alloc → w.capacity ≡ v.capacity
       → (w.cost.blocks ≡ v.cost.blocks) × (w.cost.grown ≡ v.cost.grown)
       → IsWithin R v × IsWithin R w → Keeps R v w
@@ -71,8 +74,8 @@ module _ {T A : Type 0} (R : RattleType) (v : Thin T A) where
   }
 
   module _ (rule : Rule) where
-    -- if v has room for k more items, and its capacity does not change, a call that returns `Ok`
-    -- satisfies `Reserves`
+    -- Let the list `v` have room for `k` more items. If a call returns `Ok` and does not change the
+    -- capacity, then the call satisfies `Reserves`.
     pub reserves-room : {X : Type 0} {x : X} (k : ℕ) (w : Thin T A) → HasRoomFor v k
         → w.capacity ≡ v.capacity → Reserves rule R k v w (Ok x)
     reserves-room {x = x} k w room capacity =
@@ -85,10 +88,10 @@ module _ {T A : Type 0} (R : RattleType) (v : Thin T A) where
           overflow = (λ e. ok-err x CapacityOverflow e, λ none. absurd (none-some none named));
         }
 
-    -- Let the rule choose the same capacity for l items of the type S as for k items of the item
-    -- type, where l equals k. If the growth of v to u satisfies `Reserves`, and a further step does
-    -- not change the capacity and fails only with `OutOfMemory`, then both steps together satisfy
-    -- `Reserves` for S.
+    -- Let a call consist of two steps. The first step returns `Ok` and satisfies `Reserves` for `k`
+    -- items. The second step does not change the capacity, and fails only with `OutOfMemory`. Then
+    -- the whole call satisfies `Reserves` for `k` items of any type `S`, if the growth rule chooses
+    -- the same capacity for `S`.
     pub reserves-then : {X Y : Type 0} {x : X} (S : RattleType) (k l : ℕ) (u w : Thin T A)
         (r : Result Y ThinVecError) → l ≡ k
         → capacity_for rule S v l ≡ capacity_for rule R v k → w.capacity ≡ u.capacity
@@ -114,10 +117,9 @@ module _ {T A : Type 0} (R : RattleType) (v : Thin T A) where
           );
         }
 
-    -- Let the rule choose the same capacity for l items of the type S as for k items of the item
-    -- type, where l equals k. If a call for k items of the item type failed, satisfies `Reserves`,
-    -- and did not change the list, then a call for l items of S that failed with the same error
-    -- satisfies `Reserves`.
+    -- Let a call fail without a change of the list, and let it satisfy `Reserves` for `k` items.
+    -- Then a call that fails with the same error satisfies `Reserves` for `k` items of any type
+    -- `S`, if the growth rule chooses the same capacity for `S`.
     pub reserves-failed : {X Y : Type 0} (S : RattleType) (k l : ℕ) (w : Thin T A)
         (cause : ThinVecError) → l ≡ k
         → capacity_for rule S v l ≡ capacity_for rule R v k

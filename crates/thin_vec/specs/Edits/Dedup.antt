@@ -1,18 +1,19 @@
--- What is left of a list after each item except the first was tested against the last item kept.
--- (std: `Vec::dedup_by`)
+-- Definitions for calls that remove duplicates from a list. A test decides for each item except the
+-- first whether the item duplicates the last item that was kept. (std: `Vec::dedup_by`)
 use Rattle.std.specs.Prelude.{◌≡◌, List, [], ◌∷◌, Bool, true, false, MatchBool, if◌then◌else◌, not}
 use Rattle.thin_block.specs.Cost.{moving}
 use Rattle.thin_vec.specs.ThinVec.{Thin}
 use Rattle.thin_vec.specs.Edits.Retain.{moved_down}
 
--- `R` is the relation of a test of two items. It relates the state of the test before a call, the
--- later item, the last item kept, whether the later item is removed, the state after the call, and
--- the later and the kept item as the test left them.
+-- `R` describes one call of a test that decides whether an item is removed. Its arguments are, in
+-- this order: the state of the test before the call, the item, the last item that was kept, whether
+-- the item is removed, the state after the call, the item after the call, and the kept item after
+-- the call.
 module _ {S T : Type 0} (R : S → T → T → Bool → S → T → T → Type 0) where
-  -- The items of `xs` follow the item `k`, which is kept. Starting in the state `s`, each item of
-  -- `xs` was tested once, in order, against the last item kept before it. `stays` says for each
-  -- item of `xs` whether it is kept. `ys` has `k`, and then the items of `xs` that are kept, all as
-  -- the test left them. `t` is the final state.
+  -- `AskedLast s k xs stays ys t` describes the tests of the items `xs`, which follow the kept item
+  -- `k`. Each item was tested once, in order, against the last item kept before it, and the test
+  -- changed its state from `s` to `t`. The flags `stays` say which items of `xs` were kept. `ys` is
+  -- `k`, followed by these items, all as the test left them.
   abbrev pub AskedLast : S → T → List T → List Bool → List T → S → Type 0
   AskedLast s k [] stays ys t = (stays ≡ []) × (ys ≡ k ∷ []) × (t ≡ s)
   AskedLast s k (x ∷ xs) stays ys t =
@@ -21,42 +22,43 @@ module _ {S T : Type 0} (R : S → T → T → Bool → S → T → T → Type 0
       × MatchBool b (AskedLast u k' xs rest ys t)
       ((zs : List T) × AskedLast u x' xs rest zs t × (ys ≡ k' ∷ zs))
 
-  -- The first item of a list is kept. Starting in the state `s`, each later item was tested once,
-  -- in order, against the last item kept before it. `stays` says for each later item whether it is
-  -- kept. `ys` has all items that are kept, as the test left them. `t` is the final state. If the
-  -- list is empty, nothing was tested.
+  -- `AskedPairs s xs stays ys t` describes the tests of all items of the list `xs` except the
+  -- first, which is always kept. Each item was tested once, in order, against the last item kept
+  -- before it, and the test changed its state from `s` to `t`. The flags `stays` say which of the
+  -- tested items were kept. `ys` contains all kept items, as the test left them.
   abbrev pub AskedPairs : S → List T → List Bool → List T → S → Type 0
   AskedPairs s [] stays ys t = (stays ≡ []) × (ys ≡ []) × (t ≡ s)
   AskedPairs s (x ∷ xs) stays ys t = AskedLast s x xs stays ys t
 
-  -- The list `w` has the items of the list `v` that the test keeps, as the test left them. Its cost
-  -- is the cost of `v`, with one more move for each item kept after the first removed item. The
-  -- test started in the state `s` and ended in the state `t`.
+  -- Removing the duplicates from the list `v` resulted in the list `w`. The cost increased by one
+  -- move for each item that was kept after the first removed item. The test that found the
+  -- duplicates changed its state from `s` to `t`.
   pub record IsDedupedTo {A : Type 0} (s : S) (v w : Thin T A) (t : S) : Type 0 where
     pub stays : List Bool
     pub asked : AskedPairs s v.items stays w.items t
     pub cost : w.cost ≡ moving (moved_down stays) v.cost
 
-  -- `IsDedupedTo s v w t` holds for some final state `t` of the test
+  -- `IsDedupedTo s v w t` holds for some final state `t` of the test.
   abbrev pub IsDedupedBy : {A : Type 0} → S → Thin T A → Thin T A → Type 0
   IsDedupedBy s v w = (t : S) × IsDedupedTo s v w t
 
--- The relation of the test that compares two items by `E`: the later item `x` is removed if `E x k`
--- is true for the kept item `k`. The test leaves both items as they are, and its states `s` and `t`
--- do not matter.
+-- `Compares E` describes a test that only compares two items. The item `x` is removed if `E x k` is
+-- true, where `k` is the last item that was kept. The test does not change the items, and its
+-- states `s` and `t` are arbitrary.
 abbrev pub Compares : {S T : Type 0} → (T → T → Bool) → S → T → T → Bool → S → T → T → Type 0
 Compares E s x k b t y l = (b ≡ E x k) × (y ≡ x) × (l ≡ k)
 
 module _ {T : Type 0} (E : T → T → Bool) where
-  -- The flags of the items that follow the kept item `k`, in order. Each flag says whether its item
-  -- is kept. An item is kept if `E` returns false for the item and the last item kept before it.
+  -- `unlike_from k xs` contains one flag for each item of the list `xs`, which follows the kept
+  -- item `k`. The flag is true if the item is kept, that is, if `E` returns false for the item and
+  -- the last item kept before it.
   abbrev pub unlike_from : T → List T → List Bool
   unlike_from k [] = []
   unlike_from k (x ∷ xs) = if E x k then false ∷ unlike_from k xs else true ∷ unlike_from x xs
 
-  -- The flags of the items of a list except the first, in order. Each flag says whether its item is
-  -- kept. An item is kept if `E` returns false for the item and the last item kept before it. (The
-  -- first item of the list is kept.)
+  -- `unlike xs` contains one flag for each item of the list `xs` except the first, which is always
+  -- kept. The flag is true if the item is kept, that is, if `E` returns false for the item and the
+  -- last item kept before it.
   abbrev pub unlike : List T → List Bool
   unlike [] = []
   unlike (x ∷ xs) = unlike_from x xs

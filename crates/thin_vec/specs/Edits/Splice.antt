@@ -1,5 +1,5 @@
--- The parts of a `Splice` that contracts name, and the items and the cost of the list once the
--- splice is finished. (std: `Vec::splice`)
+-- Definitions for the contracts of `Splice`. They name the parts of a `Splice`, and they describe
+-- the list and the error after a call of `finish`. (std: `Vec::splice`)
 use Rattle.std.specs.Prelude.{◌≡◌, ◌⊎◌, ◌↔◌, ◌<◌, ◌≤◌, [], ◌++◌, IsSome, List, MatchOption, Option, length, ℕ}
 use Rattle.std.specs.Iterator.{Count, YieldsFirst, YieldsLast, YieldsThen}
 use Rattle.std.specs.Option.{option_to_list}
@@ -16,11 +16,10 @@ use Rattle.thin_vec.specs.declared.edits.splice.Splice.{Splice}
 use Rattle.thin_vec.specs.declared.edits.holder.Holds.{Ghosts as HoldsGhosts}
 
 module _ {S T A : Type 0} (steps : S → Option T → S → Type 0) where
-  -- `finish` failed after it had placed the items `placed` of the iterator `s`. The error has the
-  -- items that `finish` drew after `placed`: first the items in `held`, then the item in `in_hand`.
-  -- It also has the rest of the iterator, `rest`. There are two cases. Either `next` may be called
-  -- on `rest`, and `held` is empty if no item is in hand; or no item is in hand, `held` is not
-  -- empty, and the iterator has returned `None`.
+  -- `finish` failed after it had inserted the items `placed` of the iterator `s`. The error returns
+  -- the items that were drawn afterwards: first the items in `held`, and then the item in the
+  -- option `in_hand`. If `in_hand` is `None` and `held` is not empty, the iterator has ended.
+  -- Otherwise `next` may still be called on the rest of the iterator.
   abbrev pub Stopped : (S → Type 0) → (S → Count) → S → List T → SpliceRefused T S A → Type 0
   Stopped can remaining s placed error =
       (PausedAfter steps can remaining s
@@ -30,38 +29,41 @@ module _ {S T A : Type 0} (steps : S → Option T → S → Type 0) where
       × YieldsThen steps s (placed ++ error.held.items) None error.rest)
 
 module _ {T A : Type 0} where
-  -- why `finish` failed and left the list w; `tail` has the items after the range, and `left`
-  -- bounds how many items the rest of the iterator may yield
+  -- These clauses say why a call of `finish` failed. `w` is the list after the call, and `tail`
+  -- contains the items after the range. `left` is an upper bound on the number of items that the
+  -- rest of the iterator may yield.
   pub record IsStopCause {S : Type 0} (rule : Rule) (R : RattleType) (w : Thin T A) (tail : List T)
       (left : Count) (error : SpliceRefused T S A) : Type 0 where
-    -- if no item is held and none is in hand, room for the size hint could not be reserved
+    -- If `held` is empty and `in_hand` is `None`, the error returns no items. Then the call could
+    -- not reserve room for the size hint of the iterator.
     pub by_hint : error.held.items ≡ [] → error.in_hand ≡ None
         → FailsAtHint rule R w left error.cause
-    -- if items are held and none is in hand, the cause is `CapacityOverflow` if and only if there
-    -- is no ruled capacity for the held items
+    -- If the vector `held` is not empty, and `in_hand` is `None`, the cause is `CapacityOverflow`
+    -- if and only if the growth rule chooses no capacity with room for the items in `held`.
     pub by_held : 0 < length error.held.items → error.in_hand ≡ None
         → (error.cause ≡ CapacityOverflow)
         ↔ (capacity_for rule R w (length error.held.items) ≡ None)
-    -- if items follow the range and an item is in hand, the cause is `OutOfMemory`: there was no
-    -- memory to hold that item
+    -- If items follow the range, and `in_hand` is `Some`, the cause is `OutOfMemory`, because the
+    -- vector `held` could not get memory for the item in `in_hand`.
     pub by_in_hand : 0 < length tail → IsSome error.in_hand → error.cause ≡ OutOfMemory
-    -- if no item follows the range and an item is in hand, the cause is `CapacityOverflow` if and
-    -- only if there is no ruled capacity for one more item
+    -- If no item follows the range, and `in_hand` is `Some`, the cause is `CapacityOverflow` if and
+    -- only if the growth rule chooses no capacity with room for one more item.
     pub by_push : tail ≡ [] → IsSome error.in_hand
         → (error.cause ≡ CapacityOverflow) ↔ (capacity_for rule R w 1 ≡ None)
 
-  -- `finish` failed, and no item follows the range. v is the list without the range, w is the list
-  -- after the call, and `s` is the iterator before the call.
+  -- These clauses describe a failed call of `finish` if no item follows the range. `v` is the list
+  -- without the items of the range, `w` is the list after the call, and `s` is the iterator before
+  -- the call.
   pub record FailsAsExtend {S : Type 0} (v w : Thin T A) (s : S) (error : SpliceRefused T S A)
       : Type 0 where
     pub held : error.held.items ≡ []
-    -- If no item is in hand, no item was drawn, and the list has lost only the items of the range.
-    -- If an item is in hand, the list is full.
+    -- If `in_hand` is `None`, no item was drawn from the iterator, and the list is `v`. If
+    -- `in_hand` is `Some`, the list is full.
     pub in_hand : MatchOption error.in_hand ((w ≡ v) × (error.rest ≡ s))
         (λ _. length w.items ≡ w.capacity)
 
-  -- the list that an open block becomes if its middle run is dropped; a is the allocator of the
-  -- list
+  -- An open block consists of a front, a middle run and a tail. `left_of v a` is the list with the
+  -- allocator `a` that contains the items of the front and the tail of the open block `v`.
   abbrev pub left_of : Open T A → A → Thin T A
   left_of v a = record {
     items = v.front ++ v.tail;
@@ -70,55 +72,58 @@ module _ {T A : Type 0} where
     cost = v.cost;
   }
 
-  -- the items of an open block with xs in the place of its middle run
+  -- `with_between v xs` contains the items of the front of the open block `v`, then `xs`, and then
+  -- the items of the tail of `v`.
   abbrev pub with_between : Open T A → List T → List T
   with_between v xs = (v.front ++ xs) ++ v.tail
 
 module _ {I T A G H : Type 0} {g : Ghosts G} {h : HoldsGhosts H (Open T A)} where
-  -- the list's open block: its front is the items before the range, its middle run is the items of
-  -- the range that were not yet yielded, and its tail is the items after the range
+  -- The block of the list, which the `Splice` owns, in three parts. The front contains the items
+  -- before the range, the middle run contains the items of the range that have not been yielded
+  -- yet, and the tail contains the items after the range.
   abbrev pub splice_block : Splice I T A G H g h → Open T A
   splice_block s = h.inner s.holder
 
-  -- the items of the range that were not yet yielded
+  -- The items of the range that have not been yielded yet.
   abbrev pub splice_rest : Splice I T A G H g h → List T
   splice_rest s = rest_of (splice_block s)
 
-  -- the iterator whose items will take the place of the range
+  -- The iterator whose items will replace the range.
   abbrev pub splice_iter : Splice I T A G H g h → I
   splice_iter s = s.iter
 
-  -- the list's allocator
+  -- The allocator of the list.
   abbrev pub splice_alloc : Splice I T A G H g h → A
   splice_alloc s = s.list.now.alloc
 
-  -- the ghost name of the reference to the list
+  -- The ghost name of the reference to the list. References with equal ghost names borrow the same
+  -- list.
   abbrev pub splice_lender : Splice I T A G H g h → GName
   splice_lender s = s.list.ghost_name
 
-  -- The list without the items of the range. Its cost is the cost so far: no item after the range
-  -- has been moved yet.
+  -- The list without the items of the range. Its cost is the present cost, because no item after
+  -- the range has been moved yet.
   abbrev pub splice_left : Splice I T A G H g h → Thin T A
   splice_left s = left_of (splice_block s) (splice_alloc s)
 
-  -- the number of places of the range, including the places of items that were already yielded
+  -- The number of slots of the range, including the slots of items that have already been yielded.
   abbrev pub splice_range : Splice I T A G H g h → ℕ
   splice_range s = range_len (splice_block s)
 
-  -- the items of the list with xs in the place of the range
+  -- `splice_replaced s xs` contains the items of the list after the range is replaced by `xs`.
   abbrev pub splice_replaced : Splice I T A G H g h → List T → List T
   splice_replaced s xs = with_between (splice_block s) xs
 
-  -- `most` items of the iterator can be placed without a request for memory. Either the range has
-  -- at least `most` places, or no item follows the range, and the list without the range has room
-  -- for `most` more items.
+  -- `HasPlacesFor s most` says that inserting `most` items needs no request for memory. Either the
+  -- range has at least `most` slots, or no item follows the range and the list without the range
+  -- has room for `most` more items.
   abbrev pub HasPlacesFor : Splice I T A G H g h → ℕ → Type 0
   HasPlacesFor s most =
       (most ≤ splice_range s)
       ⊎ (((splice_block s).tail ≡ []) × HasRoomFor (splice_left s) most)
 
-  -- `old` and `new` borrow the same list, and have the same iterator and the same items before and
-  -- after the range
+  -- `old` and `new` borrow the same list and own the same iterator. The items before the range and
+  -- the items after the range are the same in `old` and `new`.
   pub record SpliceKeeps (old new : Splice I T A G H g h) : Type 0 where
     pub lender : splice_lender new ≡ splice_lender old
     pub iter : splice_iter new ≡ splice_iter old
@@ -129,15 +134,15 @@ module _ {I T A G H : Type 0} {g : Ghosts G} {h : HoldsGhosts H (Open T A)} wher
     pub alloc : splice_alloc new ≡ splice_alloc old
     pub cost : (splice_block new).cost ≡ (splice_block old).cost
 
-  -- a call of `next` on `old` returned `item` and led to `new`: `item` is the first item that was
-  -- not yet yielded, or `None` if there was none
+  -- A call of `next` changed the `Splice` from `old` to `new` and returned `item`. This `item` is
+  -- the first item that had not been yielded before, or `None` if there was no such item.
   pub record SpliceSteps (old : Splice I T A G H g h) (item : Option T)
       (new : Splice I T A G H g h) : Type 0 where
     pub gave : YieldsFirst splice_rest old item new
     pub keeps : SpliceKeeps old new
 
-  -- a call of `next_back` on `old` returned `item` and led to `new`: `item` is the last item that
-  -- was not yet yielded, or `None` if there was none
+  -- A call of `next_back` changed the `Splice` from `old` to `new` and returned `item`. This `item`
+  -- is the last item that had not been yielded before, or `None` if there was no such item.
   pub record SpliceStepsBack (old : Splice I T A G H g h) (item : Option T)
       (new : Splice I T A G H g h) : Type 0 where
     pub gave : YieldsLast splice_rest old item new

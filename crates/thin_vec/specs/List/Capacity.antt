@@ -1,13 +1,12 @@
--- What the contracts of calls that may grow a list say about its capacity, its cost and the error.
--- Throughout, v is the list before the call, w is the list after it, k is the number of further
--- items for which the call needs room, R is the type of the items, and r is the result of the call.
--- (std: `Vec::reserve`)
+-- Definitions for calls that may grow a list. In this file, `v` is the list before the call, and
+-- `w` is the list after the call. The call needs room for `k` more items of the type `R`, and its
+-- result is `r`. (std: `Vec::reserve`)
 --
--- The ruled capacity for k further items is `capacity_for rule R v k`. It is the old capacity if v
--- has room for k further items. Otherwise it is what the growth rule of the list gives: by default,
--- twice the old capacity (4 if the old capacity is 0), or the number of items if that is more.
--- Every rule gives at least twice the old capacity and at least the number of items (`KeepsLaw`).
--- The ruled capacity is `None` if it would be too large for a block.
+-- The ruled capacity `capacity_for rule R v k` is the old capacity if `v` has room for `k` more
+-- items. Otherwise the growth rule of the list chooses it. By default, it is twice the old capacity
+-- (4 if the old capacity is 0), or the new number of items if this number is larger. By any rule,
+-- it is at least twice the old capacity and at least the new number of items (`KeepsLaw`). It is
+-- `None` if it would be too large for a block.
 use Rattle.std.specs.Prelude.{◌≡◌, ◌↔◌, ◌⊎◌, ℕ, ◌≤◌, IsErrOf, OnErr, OnOk, Option, Result}
 use Rattle.std.specs.declared.option.Option.TheVariants.{None, Some}
 use Rattle.std.specs.declared.result.Result.TheVariants.{Ok, Err}
@@ -20,58 +19,59 @@ use Rattle.thin_vec.specs.Cheap.{IsCheap}
 use Rattle.thin_vec.specs.ThinVec.{Thin, HasRoomFor, IsWithin, capacity_for, cost_at}
 use Rattle.thin_vec.specs.declared.errors.Rejected.{Rejected}
 
--- the result r with its error replaced by the cause of the error, without the value that the error
--- returns to the caller
+-- `causes r` corresponds to `r.map_err(|error| error.cause)` in Rust. It drops the value that the
+-- error returns to the caller.
 abbrev pub causes : {X T : Type 0} → Result X (Rejected T) → Result X ThinVecError
 causes (Ok x) = Ok x
 causes (Err e) = Err e.cause
 
--- `wanted` is the capacity that the call needs, or `None` if it is too large. The error is
--- `CapacityOverflow` if and only if `wanted` is `None`. Any other failure is `OutOfMemory`, since
--- there are only two kinds of error.
+-- `wanted` is the capacity that the call needs, or `None` if this capacity is too large. The call
+-- returns the error `CapacityOverflow` if and only if `wanted` is `None`. So every other failure is
+-- `OutOfMemory`, the only other error.
 pub record TellsOverflow {X : Type 0} (wanted : Option ℕ) (r : Result X ThinVecError) : Type 0
   where
     pub overflow : IsErrOf r CapacityOverflow ↔ (wanted ≡ None)
 
--- The call makes a list with room for exactly n items. The error is `CapacityOverflow` if and only
--- if this capacity is too large. Any other failure is `OutOfMemory`, since there are only two kinds
--- of error.
+-- The call makes a list with room for exactly `n` items of the type `R`. It returns the error
+-- `CapacityOverflow` if and only if this capacity is too large. So every other failure is
+-- `OutOfMemory`, the only other error.
 pub record TellsOverflowOf {X : Type 0} (R : RattleType) (n : ℕ) (r : Result X ThinVecError) : Type 0
   where
     pub overflow : IsErrOf r CapacityOverflow ↔ (exact_capacity R 0 n ≡ None)
 
 module _ {T A : Type 0} where
-  -- The call changed the list v to w, and has cost n moves. If the capacity changed, the call has
-  -- also cost one block, into which the items of v were copied.
+  -- `Costs n v w` says that changing the list `v` to `w` took exactly `n` moves. If the capacity
+  -- changed, the call also took one reallocation, which copied all items of `v`.
   abbrev pub Costs : ℕ → Thin T A → Thin T A → Type 0
   Costs n v w = w.cost ≡ moving n (cost_at v w.capacity)
 
-  -- what a call that needs room for k further items guarantees: the capacity afterwards, and the
-  -- error if it fails
+  -- A call that needs room for `k` more items guarantees these clauses. They are about the capacity
+  -- after the call, and about the error if the call fails.
   pub record Reserves (rule : Rule) (R : RattleType) (k : ℕ) (v w : Thin T A)
       {X : Type 0} (r : Result X ThinVecError) : Type 0 where
-    -- if v has room for k further items, the capacity does not change
+    -- If `v` has room for `k` more items, the capacity does not change.
     pub had_room : HasRoomFor v k → w.capacity ≡ v.capacity
-    -- on success, the capacity is the ruled capacity for k further items
+    -- On success, the new capacity is the capacity that the growth rule determines for `k` more
+    -- items (`capacity_for`).
     pub ok : OnOk r (capacity_for rule R v k ≡ Some w.capacity)
-    -- On failure, the list is unchanged, or a clone failed after the list had grown to the ruled
-    -- capacity for k further items. (The clause `err` of each call says when the list is
-    -- unchanged.)
+    -- On failure, the list is unchanged, or it had already grown to the capacity `capacity_for`
+    -- when a clone failed. The clause `err` of each call says in which cases the list is unchanged.
     pub err : OnErr r ((w ≡ v) ⊎ (capacity_for rule R v k ≡ Some w.capacity))
-    -- The error is `CapacityOverflow` if and only if there is no ruled capacity for k further
-    -- items. There are only two kinds of error, so any other failure is `OutOfMemory`.
+    -- The error is `CapacityOverflow` if and only if `capacity_for` is `None`, which means that the
+    -- capacity would be too large. So every other failure is `OutOfMemory`, the only other error.
     pub overflow : IsErrOf r CapacityOverflow ↔ (capacity_for rule R v k ≡ None)
 
-  -- what each call that may grow a list preserves: the allocator does not change, the capacity does
-  -- not shrink, a cheap list stays cheap, and the list is within the limits of `IsWithin` before
-  -- and after the call
+  -- Every call that may grow a list guarantees these clauses. The allocator does not change, the
+  -- capacity does not shrink, and the bound `IsCheap` on the cost is preserved. The list is within
+  -- the limits of `IsWithin` before and after the call.
   pub record Keeps (R : RattleType) (v w : Thin T A) : Type 0 where
     pub alloc : w.alloc ≡ v.alloc
     pub never_less : v.capacity ≤ w.capacity
     pub cheap : IsCheap v → IsCheap w
     pub within : IsWithin R v × IsWithin R w
 
-  -- w is a new list with the allocator a; it is cheap, and within the limits of `IsWithin`
+  -- `w` is a new list with the allocator `a`. It satisfies the bound `IsCheap` on its cost, and the
+  -- limits `IsWithin` on its length and capacity.
   pub record IsMade (R : RattleType) (a : A) (w : Thin T A) : Type 0 where
     pub alloc : w.alloc ≡ a
     pub cheap : IsCheap w

@@ -1,6 +1,5 @@
--- What the calls that clone items guarantee about the clones, and about a clone that fails.
--- Throughout, `clones x y` says that y may be a clone of x, and `infallible x` that cloning x
--- cannot fail. (std: `Clone`)
+-- Definitions for calls that clone items. `clones x y` says that `y` may be the result of cloning
+-- `x`. `infallible x` says that cloning `x` cannot fail. (std: `Clone`)
 use Rattle.std.specs.Prelude.{◌≡◌, ℕ, ◌^◌, ◌<◌, ◌≤◌, List, [], ◌∷◌, ◌++◌, All, HoldsAt, Option, length, take}
 use Rattle.std.specs.List.{AllZip}
 use Rattle.thin_block.specs.Cost.{Cost, moving}
@@ -9,22 +8,24 @@ use Rattle.thin_vec.specs.Cheap.{IsCheap}
 use Rattle.thin_vec.specs.ThinVec.{Thin, cost_at, cost_new}
 
 module _ {T : Type 0} (clones : T → T → Type 0) where
-  -- every clone of x equals x
+  -- `CloneEquals x` says that every clone of `x` equals `x`.
   abbrev pub CloneEquals : T → Type 0
   CloneEquals x = (y : T) → clones x y → y ≡ x
 
-  -- every clone equals the item that it was made from
+  -- Every clone of an item equals the item.
   abbrev pub ClonesEqual : Type 0
   ClonesEqual = (x : T) → CloneEquals x
 
-  -- s' has the slots of s, with clones of the first n sources put into the slots from index i on
+  -- The slots `s'` are the slots `s` after clones of the first `n` items of `sources` were written
+  -- into the slots from index `i` onward.
   pub record LaysClones (sources : List T) (n i : ℕ) (s s' : List (Option T)) : Type 0 where
     pub copies : List T
     pub cloned : AllZip clones (take n sources) copies
     pub slots : s' ≡ laid i (full copies) s
 
-  -- what the contract of std's `Clone` says of a clone w of the list v: w has a clone of each item,
-  -- the same allocator, and a block of exactly as many slots as there are items
+  -- `IsClonedList v w` states what std's `Clone` guarantees about a clone `w` of the list `v`. `w`
+  -- contains a clone of each item, has the same allocator, and has a capacity that is exactly the
+  -- number of items.
   abbrev pub IsClonedList : {A : Type 0} → Thin T A → Thin T A → Type 0
   IsClonedList v w =
       AllZip clones v.items w.items × (length w.items ≡ length v.items)
@@ -32,7 +33,7 @@ module _ {T : Type 0} (clones : T → T → Type 0) where
       × (w.cost ≡ moving (length v.items) (cost_new (length v.items))) × IsCheap w
       × (w.capacity < 2 ^ 63)
 
--- ys is xs followed by n clones of x
+-- `ys` is the list `xs`, followed by `n` clones of `x`.
 pub record AppendsRepeats {T : Type 0} (clones : T → T → Type 0) (x : T) (n : ℕ)
     (xs ys : List T) : Type 0 where
   pub copies : List T
@@ -40,8 +41,8 @@ pub record AppendsRepeats {T : Type 0} (clones : T → T → Type 0) (x : T) (n 
   pub count : length copies ≡ n
   pub items : ys ≡ xs ++ copies
 
--- ys is xs resized to the length n: it is cut off after n items, or extended by clones of x and
--- finally by x itself
+-- `ys` is the list `xs` resized to the length `n`. It is cut off after `n` items, or extended by
+-- clones of `x` and finally by `x` itself.
 pub record IsResized {T : Type 0} (clones : T → T → Type 0) (xs : List T) (n : ℕ) (x : T)
     (ys : List T) : Type 0 where
   pub shorter : n ≤ length xs → ys ≡ take n xs
@@ -49,9 +50,9 @@ pub record IsResized {T : Type 0} (clones : T → T → Type 0) (xs : List T) (n
       × (ys ≡ xs ++ (copies ++ x ∷ []))
   pub len : length ys ≡ n
 
--- Cloning the source at index `at` failed; `infallible` does not hold for this source. All sources
--- before it were cloned, so the cost `after` is the cost `before` plus one move for each of these
--- clones.
+-- Cloning the item of `sources` at index `at` failed, so `infallible` does not hold for this item.
+-- All items before it were cloned at the cost of one move each. So the cost `after` is the cost
+-- `before` plus `at` moves.
 pub record StopsAtClone {T : Type 0} (infallible : T → Type 0) (sources : List T)
     (before after : Cost) : Type 0 where
   pub at : ℕ
@@ -59,8 +60,9 @@ pub record StopsAtClone {T : Type 0} (infallible : T → Type 0) (sources : List
   pub fallible : HoldsAt (λ x. ¬ (infallible x)) sources at
   pub cost : after ≡ moving at before
 
--- Cloning one of the sources failed, and the list v became w. The cost of w is the cost of v after
--- a change to the capacity of w, plus one move for each source cloned before the failure.
+-- The list `v` became `w`, and cloning one of the items `sources` failed. The cost increased by one
+-- move for each item that was cloned before the failure, and by one reallocation if the capacity
+-- changed.
 abbrev pub CostsUpToClone : {T A : Type 0} → (T → Type 0) → List T → Thin T A → Thin T A → Type 0
 CostsUpToClone infallible sources v w =
     StopsAtClone infallible sources (cost_at v w.capacity) w.cost

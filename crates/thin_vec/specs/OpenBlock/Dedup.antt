@@ -1,5 +1,6 @@
--- What is left of an open block after each item of its middle run was tested against the last item
--- kept. (std: `Vec::dedup_by`)
+-- Definitions for the removal of duplicates from an open block, which is the block of a list during
+-- an edit. A test decides for each item whether the item duplicates the last item that was kept.
+-- (std: `Vec::dedup_by`)
 use Rattle.std.specs.Prelude.{◌≡◌, ◌⊎◌, ℕ, suc, ◌<◌, List, [], ◌∷◌, ◌++◌, Bool, true, false, Option, Some, length, replicate, slice_set}
 use Rattle.thin_block.specs.Cost.{moving}
 use Rattle.thin_block.specs.Slots.{slot}
@@ -7,13 +8,14 @@ use Rattle.thin_vec.specs.Edits.Retain.{moved_down, trues}
 use Rattle.thin_vec.specs.Edits.Dedup.{AskedLast, AskedPairs}
 use Rattle.thin_vec.specs.Open.{Open}
 
--- `R` is the relation of a test of two items. It relates the state of the test before a call, the
--- later item, the last item kept, whether the later item is removed, the state after the call, and
--- the later and the kept item as the test left them.
+-- `R` describes one call of a test that decides whether an item is removed. Its arguments are, in
+-- this order: the state of the test before the call, the item, the last item that was kept, whether
+-- the item is removed, the state after the call, the item after the call, and the kept item after
+-- the call.
 module _ {S T : Type 0} (R : S → T → T → Bool → S → T → T → Type 0) where
-  -- The item at index `k` of `xs` was tested against the item before it, in the state `s`. `b` says
-  -- whether the item is removed, and `t` is the state afterwards. `ys` is `xs` with both items as
-  -- the test left them.
+  -- The item of the list `xs` at index `k` was tested against the item before it. The test changed
+  -- its state from `s` to `t`, and `b` says whether the item at index `k` is removed. `ys` is the
+  -- list `xs` with both items as the test left them.
   pub record IsPairAskedAt (k : ℕ) (s : S) (xs : List T) (b : Bool) (t : S)
       (ys : List T) : Type 0 where
     pub before : List T
@@ -27,9 +29,9 @@ module _ {S T : Type 0} (R : S → T → T → Bool → S → T → T → Type 0
     pub asked : R s later kept b t later_left kept_left
     pub now : ys ≡ before ++ kept_left ∷ later_left ∷ after
 
-  -- The item `x` was tested against the last item of `xs`, in the state `s`. `b` says whether `x`
-  -- is removed, and `t` is the state afterwards. The test left `x` as `y`, and `ys` is `xs` with
-  -- its last item as the test left it.
+  -- The item `x` was tested against the last item of the list `xs`. The test changed its state from
+  -- `s` to `t`, and `b` says whether `x` is removed. The test left `x` as `y`, and `ys` is the list
+  -- `xs` with its last item as the test left it.
   pub record IsLastAsked (s : S) (x : T) (xs : List T) (b : Bool) (t : S) (y : T)
       (ys : List T) : Type 0 where
     pub before : List T
@@ -39,9 +41,9 @@ module _ {S T : Type 0} (R : S → T → T → Bool → S → T → T → Type 0
     pub asked : R s x kept b t y kept_left
     pub now : ys ≡ before ++ kept_left ∷ []
 
-  -- The first item of `xs` was tested against the kept item `k`, in the state `s`. `b` says whether
-  -- the first item is removed, and `t` is the state afterwards. The test left `k` as `l`, and `ys`
-  -- is `xs` with its first item as the test left it.
+  -- The first item of the list `xs` was tested against the kept item `k`. The test changed its
+  -- state from `s` to `t`, and `b` says whether the first item is removed. The test left `k` as
+  -- `l`, and `ys` is the list `xs` with its first item as the test left it.
   pub record IsNextAsked (s : S) (k : T) (xs : List T) (b : Bool) (t : S) (l : T)
       (ys : List T) : Type 0 where
     pub later : T
@@ -51,9 +53,9 @@ module _ {S T : Type 0} (R : S → T → T → Bool → S → T → T → Type 0
     pub asked : R s later k b t later_left l
     pub now : ys ≡ later_left ∷ after
 
-  -- The item in slot `i + 1` was tested against the item in slot `i`, in the state `s`. `b`
-  -- says whether the item in slot `i + 1` is removed, and `t` is the state afterwards. `slots'`
-  -- is `slots` with both items as the test left them.
+  -- The item in slot `i + 1` was tested against the item in slot `i`. The test changed its state
+  -- from `s` to `t`, and `b` says whether the item in slot `i + 1` is removed. `slots'` is `slots`
+  -- with both items as the test left them.
   pub record AreAskedIn (s : S) (i : ℕ) (slots : List (Option T)) (b : Bool) (t : S)
       (slots' : List (Option T)) : Type 0 where
     pub kept : T
@@ -65,11 +67,10 @@ module _ {S T : Type 0} (R : S → T → T → Bool → S → T → T → Type 0
     pub asked : R s later kept b t later_left kept_left
     pub now : slots' ≡ slice_set (slice_set slots i (Some kept_left)) (suc i) (Some later_left)
 
-  -- The first item of `xs` is kept. Starting in the state `s`, the later items were tested in
-  -- order, each against the item before it, until an item was to be removed or `xs` ended. `m` is
-  -- the number of items kept, and `t` is the final state. `ys` is `xs` with the tested items as the
-  -- test left them: `left` has the items kept, and `over` has the item that is to be removed, if
-  -- there is one.
+  -- The items of the list `xs` after the first were tested in order, each against the item before
+  -- it, until an item was to be removed or the list ended. The test changed its state from `s` to
+  -- `t`. The first `m` items are kept. `ys` is the list `xs` as the test left it: the kept items
+  -- `left`, the item `over` that is to be removed (if there is one), and the untested items.
   pub record PairsAskedUpTo (m : ℕ) (s : S) (xs : List T) (t : S) (ys : List T) : Type 0 where
     pub first : T
     pub done : List T
@@ -86,11 +87,10 @@ module _ {S T : Type 0} (R : S → T → T → Bool → S → T → T → Type 0
     pub stops : ((length over ≡ 1) × (stays ≡ replicate more true ++ false ∷ []))
         ⊎ ((over ≡ []) × ((after ≡ []) × (stays ≡ replicate more true)))
 
-  -- The last item of the front of `v` is kept. Starting in the state `s`, items from the start of
-  -- the middle run of `v` were tested, each against the last item kept before it. `t` is the final
-  -- state, and `w` is the open block afterwards, which has a gap. The items of the middle run that
-  -- are kept were moved to the front, and each counts one move. The other tested items were
-  -- removed.
+  -- In the open block `v`, some of the untested items (the first items of the middle run) were
+  -- tested, each against the last item kept before it. The kept items were moved to the end of the
+  -- front, at the cost of one move each. The other tested items were removed. The test changed its
+  -- state from `s` to `t`, and `w` is the open block afterwards.
   pub record Dedups {A : Type 0} (s : S) (v : Open T A) (t : S) (w : Open T A) : Type 0 where
     pub before : List T
     pub first : T
@@ -108,10 +108,10 @@ module _ {S T : Type 0} (R : S → T → T → Bool → S → T → T → Type 0
       cost = moving (trues stays) v.cost;
     }
 
-  -- The first item of the middle run of `v` is kept. Starting in the state `s`, each later item of
-  -- the middle run was tested against the last item kept before it. `t` is the final state, and `w`
-  -- is the open block afterwards. The front of `w` has exactly the items kept, and its middle run
-  -- is empty. Each item kept after the first removed item counts one move.
+  -- All items of the middle run of the open block `v` were tested except the first, each against
+  -- the last item kept before it. The kept items became the front of the open block `w`, and the
+  -- middle run of `w` is empty. Each item that was kept after the first removed item counts one
+  -- move. The test changed its state from `s` to `t`.
   pub record IsDeduped {A : Type 0} (s : S) (v : Open T A) (t : S) (w : Open T A) : Type 0 where
     pub stays : List Bool
     pub asked : AskedPairs R s v.rest stays w.front t

@@ -1,15 +1,18 @@
--- What is left of an open block after items of its middle run were tested. (std: `Vec::retain_mut`,
+-- Definitions for the removal of items from an open block, which is the block of a list during an
+-- edit. A test decides for each item whether the item is kept. (std: `Vec::retain_mut`,
 -- `Vec::extract_if`)
 use Rattle.std.specs.Prelude.{◌≡◌, ℕ, ◌+◌, ◌<◌, ◌==◌, List, [], ◌∷◌, ◌++◌, Bool, true, false, drop, if◌then◌else◌, length, take}
 use Rattle.thin_block.specs.Cost.{moving}
 use Rattle.thin_vec.specs.Edits.Retain.{Verdicts, Asked, flags_of, left_at, moved_down, stay, trues}
 use Rattle.thin_vec.specs.Open.{Open}
 
--- `R` is the relation of a test of one item. It relates the state of the test before a call, the
--- item, whether the item is kept, the state after the call, and the item as the test left it.
+-- `R` describes one call of a test that decides whether an item is kept. Its arguments are, in this
+-- order: the state of the test before the call, the item, whether the item is kept, the state after
+-- the call, and the item after the call.
 module _ {S T : Type 0} (R : S → T → Bool → S → T → Type 0) where
-  -- The item at index `k` of `xs` was tested in the state `s`. `b` says whether the item is kept,
-  -- and `t` is the state afterwards. `ys` is `xs` with the item as the test left it.
+  -- The item of the list `xs` at index `k` was tested. The test changed its state from `s` to `t`,
+  -- and `b` says whether the item is kept. `ys` is the list `xs` with this item as the test left
+  -- it.
   pub record IsAskedAt (k : ℕ) (s : S) (xs : List T) (b : Bool) (t : S) (ys : List T) : Type 0 where
     pub before : List T
     pub item : T
@@ -20,16 +23,16 @@ module _ {S T : Type 0} (R : S → T → Bool → S → T → Type 0) where
     pub asked : R s item b t left
     pub now : ys ≡ before ++ left ∷ after
 
-  -- The list `xs` is empty, or its first item was tested in the state `s` and is to be removed. `t`
-  -- is the state afterwards, and `ys` is `xs` with the tested item as the test left it.
+  -- `Stops s xs t ys` says that the list `xs` is empty, or its first item was tested and is to be
+  -- removed. The test changed its state from `s` to `t`. `ys` is the list `xs` with the tested item
+  -- as the test left it.
   abbrev pub Stops : S → List T → S → List T → Type 0
   Stops s [] t ys = (ys ≡ []) × (t ≡ s)
   Stops s (x ∷ xs) t ys = (y : T) × R s x false t y × (ys ≡ y ∷ xs)
 
-  -- Starting in the state `s`, the items of `xs` from index `k` up to, but not including, `m` were
-  -- tested, and each of them is kept. Then `xs` ended, or the item at index `m` was tested and is
-  -- to be removed. `t` is the final state, and `ys` is `xs` with the tested items as the test left
-  -- them.
+  -- The items `k..m` of the list `xs` were tested and are kept. Then the list ended, or the item at
+  -- index `m` was tested and is to be removed. The test changed its state from `s` to `t`, and `ys`
+  -- is the list `xs` with the tested items as the test left them.
   pub record AskedUpTo (k m : ℕ) (s : S) (xs : List T) (t : S) (ys : List T) : Type 0 where
     pub before : List T
     pub run : List T
@@ -44,10 +47,10 @@ module _ {S T : Type 0} (R : S → T → Bool → S → T → Type 0) where
     pub stops : Stops between after t end
     pub now : ys ≡ before ++ (left ++ end)
 
-  -- Starting in the state `s`, the items of the middle run of `v` were tested in order, until an
-  -- item was to be removed or the middle run ended. `t` is the final state, and `w` is the open
-  -- block afterwards. The items kept became a part of the front. If `v` has a gap, each item kept
-  -- counts one move. The item that is to be removed is the first item of the middle run of `w`.
+  -- The untested items of the open block `v` (its middle run) were tested in order, until an item
+  -- was to be removed or no untested item was left. The kept items are now in the front, and each
+  -- of them counts one move if `v` has a gap. An item that is to be removed is now the first item
+  -- of the middle run of the open block `w`. The test changed its state from `s` to `t`.
   pub record Advances {A : Type 0} (s : S) (v : Open T A) (t : S) (w : Open T A) : Type 0 where
     pub count : ℕ
     pub left : List T
@@ -58,9 +61,10 @@ module _ {S T : Type 0} (R : S → T → Bool → S → T → Type 0) where
       cost = if v.gap == 0 then v.cost else moving count v.cost;
     }
 
-  -- Starting in the state `s`, items from the start of the middle run of `v` were tested. `t` is
-  -- the final state, and `w` is the open block afterwards, which has a gap. The items kept were
-  -- moved to the front, and each counts one move. The other tested items were removed.
+  -- In the open block `v`, some of the untested items (the first items of the middle run) were
+  -- tested, in order. The kept items were moved to the end of the front, at the cost of one move
+  -- each. The other tested items were removed. The test changed its state from `s` to `t`, and `w`
+  -- is the open block afterwards.
   pub record Sifts {A : Type 0} (s : S) (v : Open T A) (t : S) (w : Open T A) : Type 0 where
     pub done : List T
     pub verdicts : Verdicts T
@@ -74,10 +78,9 @@ module _ {S T : Type 0} (R : S → T → Bool → S → T → Type 0) where
       cost = moving (trues (flags_of verdicts)) v.cost;
     }
 
-  -- Starting in the state `s`, all items of the middle run of `v` were tested. `t` is the final
-  -- state, and `w` is the open block afterwards. The items kept are at the end of the front of `w`,
-  -- and the middle run of `w` is empty. Each item kept after the first removed item counts one
-  -- move.
+  -- All items of the middle run of the open block `v` were tested. The kept items are now at the
+  -- end of the front of the open block `w`, and the middle run of `w` is empty. Each item that was
+  -- kept after the first removed item counts one move. The test changed its state from `s` to `t`.
   pub record IsSifted {A : Type 0} (s : S) (v : Open T A) (t : S) (w : Open T A) : Type 0 where
     pub verdicts : Verdicts T
     pub asked : Asked R s v.rest verdicts t

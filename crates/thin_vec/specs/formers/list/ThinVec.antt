@@ -1,6 +1,6 @@
--- The former of `ThinVec` tells the prover why a type may contain lists of itself. A list is
--- determined by its items, and by values that contain no items. Whether the items are in the first
--- slots depends only on which slots are filled, as `specs/Shapes.antt` proves.
+-- The former of `ThinVec` tells the prover that a type may contain lists of itself. This is sound
+-- because a list is determined by its items and by values that contain no items. Whether the items
+-- are in the first slots depends only on which slots are filled, as `specs/Shapes.antt` proves.
 use Rattle.std.specs.Prelude.{◌≡◌, ℕ, ◌-◌, List, [], ◌∷◌, Option, length, map}
 use Rattle.std.specs.declared.option.Option.TheVariants.{Some, None}
 use mathlib.Core.Path.{refl, sym, ap, ◌∙◌}
@@ -32,7 +32,7 @@ use Rattle.thin_vec.specs.declared.list.ThinVec.TheView.{view, invariant}
 use Rattle.thin_vec.specs.contracts.list.ThinVec as C
 use Rattle.thin_vec.specs.contracts.list.ThinVec.TheInside as I
 
--- the former of lists
+-- The former of lists.
 abbrev pub the_former : Former {0} → Type 0 → Type 0 → Former {0}
 the_former g Z Q =
     via (pair (list g) (const (ℕ × (Z × Cost)))) (λ X. Thin (g.Of X) Z)
@@ -40,7 +40,7 @@ the_former g Z Q =
     (λ X p. record { items = p.0; capacity = p.1.0; alloc = p.1.1.0; cost = p.1.1.1 })
     (λ X v. refl) (λ X p. refl)
 
--- the depth of a list is the depth of its deepest item
+-- The nesting depth of a list is the nesting depth of its deepest item.
 abbrev pub the_weighed : {g : Former {0}} → Weighed g → (Z Q : Type 0) → Weighed (the_former g Z Q)
 the_weighed w Z Q =
     record {
@@ -48,49 +48,51 @@ the_weighed w Z Q =
       puts = λ X μ v. List-puts w X μ v.items;
     }
 
--- the list that has no items and no block
+-- The list that has no items and no block.
 pub the_empty : (Z Q : Type 0) → Z → Q → Thin ⊥ Z
 the_empty Z Q z q = record { items = []; capacity = 0; alloc = z; cost = no_cost }
 
--- the items of a list, in order
+-- The items of a list, in order.
 abbrev pub the_items : (Z Q X : Type 0) → Thin X Z → List X
 the_items Z Q X v = v.items
 
--- for the former `this`, the values in a list are its items
+-- The values that a list contains, according to its former, are exactly the items of the list.
 pub the_items_listed : (Z Q X : Type 0) (v : Thin X Z)
     → listed _ (children (the_former this Z Q) X v) ≡ the_items Z Q X v
 the_items_listed Z Q X v = list-listed X v.items
 
--- the former of the fields of a list, which are its block and its allocator
+-- The former of the two fields of a list: the block and the allocator.
 abbrev fields : Type 0 → Type 0 → Former {0}
 fields Z Q =
     via (pair (block.the_former this Z) (const Z)) (λ X. Inside X Z Q) (λ X a. (a.block, a.alloc))
     (λ X v. record { block = v.0; alloc = v.1; growth = record {} }) (λ X a. refl) (λ X v. refl)
 
--- `h` is a function that is applied to each item of some slots
+-- In this module, the function `h` is applied to each item of a row of slots.
 module _ {X Y : Type 0} (h : X → Y) where
-  -- taking the items of slots commutes with applying `h`
+  -- Applying `h` in the slots and then collecting the items is the same as collecting the items and
+  -- then applying `h` to them.
   items_in-map : (s : List (Option X)) → items_in (map (on_slot h) s) ≡ map h (items_in s)
   items_in-map [] = refl
   items_in-map (None ∷ s) = items_in-map s
   items_in-map (Some x ∷ s) = ap (λ l. h x ∷ l) (items_in-map s)
 
-  -- applying `h` does not change which slots are filled
+  -- Applying `h` does not change which slots are filled.
   is_some-map : (s : List (Option X)) → map is_some (map (on_slot h) s) ≡ map is_some s
   is_some-map [] = refl
   is_some-map (None ∷ s) = ap (λ l. is_some {T = X} None ∷ l) (is_some-map s)
   is_some-map (Some x ∷ s) = ap (λ l. is_some (Some x) ∷ l) (is_some-map s)
 
-  -- applying `h` does not change the number of items
+  -- Applying `h` does not change the number of items.
   count-map : (s : List (Option X)) → length (items_in (map (on_slot h) s)) ≡ length (items_in s)
   count-map s = ap length (items_in-map s) ∙ length-map (items_in s) h
 
-  -- applying `h` does not change the number of empty slots
+  -- Applying `h` does not change the number of empty slots.
   left-map : (s : List (Option X)) → length (map (on_slot h) s) - length
       (items_in (map (on_slot h) s)) ≡ length s - length (items_in s)
   left-map s = λ i. length-map s (on_slot h) i - count-map s i
 
-  -- if exactly the first `n` slots are filled, the same is true after `h` is applied
+  -- If exactly the first `n` slots are filled, this is still true after `h` is applied to the
+  -- items.
   packed_to : (s : List (Option X)) (n : ℕ) → IsPacked s n → IsPacked (map (on_slot h) s) n
   packed_to s n p = record {
     row = from_shape (map (on_slot h) s) _
@@ -98,7 +100,8 @@ module _ {X Y : Type 0} (h : X → Y) where
     len = p.len ∙ sym (count-map s);
   }
 
-  -- if exactly the first `n` slots are filled after `h` is applied, the same was true before
+  -- If exactly the first `n` slots are filled after `h` is applied to the items, this was also true
+  -- before.
   packed_from : (s : List (Option X)) (n : ℕ) → IsPacked (map (on_slot h) s) n → IsPacked s n
   packed_from s n p = record {
     row = from_shape s _
@@ -108,28 +111,30 @@ module _ {X Y : Type 0} (h : X → Y) where
   }
 
   module _ {Z : Type 0} (b : Block X Z) (a : Z) where
-    -- if `b` is the block of a list with the allocator `a`, so is `b` with `h` applied to its items
+    -- If `b` is the block of a list with the allocator `a`, this is still true after `h` is applied
+    -- to the items of `b`.
     thin_to : IsThin b a → IsThin (block.mapped h b) a
     thin_to t = record { packed = packed_to b.slots b.len t.packed; from = t.from }
 
-    -- if `b` with `h` applied to its items is the block of a list with the allocator `a`, so is `b`
+    -- If `b` is the block of a list with the allocator `a` after `h` is applied to its items, this
+    -- was also true before.
     thin_from : IsThin (block.mapped h b) a → IsThin b a
     thin_from t = record { packed = packed_from b.slots b.len t.packed; from = t.from }
 
--- a list of the items in some slots holds the same values as the slots
+-- The list of the items in a row of slots contains the same values as the row itself.
 items_in-held : (X : Type 0) (s : List (Option X))
     → held (list this) X (items_in s) ≡ held (list (slot this)) X s
 items_in-held X [] = refl
 items_in-held X (None ∷ s) = items_in-held X s
 items_in-held X (Some x ∷ s) = λ i. (one_more (items_in-held X s i).0, (x, (items_in-held X s i).1))
 
--- if the codes a and b are equal, then the code of the pair of a and c equals the code of the pair
--- of b and c
+-- If the codes `a` and `b` are equal, then `gcons a c` and `gcons b c` are equal, where `gcons`
+-- makes the code of a pair from two codes.
 first : {a b c : Gv} → a ≡ b → gcons a c ≡ gcons b c
 first {c = c} e = λ i. gcons (e i) c
 
 module _ (Z Q : RattleType) (G : AllocatorGhosts Z.Denot) (K : GrowthGhosts Q.Denot) where
-  -- any two proofs of `IsThin` for the same block and allocator are equal
+  -- Any two proofs of `IsThin` for the same block and the same allocator are equal.
   IsThin-prop : {X : Type 0} (code : Coded X) (b : Block X Z.Denot)
       (a : Z.Denot) → IsProp (IsThin b a)
   IsThin-prop code b a p q = λ i. record {
@@ -141,8 +146,8 @@ module _ (Z Q : RattleType) (G : AllocatorGhosts Z.Denot) (K : GrowthGhosts Q.De
   }
 
   module _ (R S : RattleType) (h : R.Denot → S.Denot) where
-    -- if each item has the same memory as its image under `h`, then each list has the same memory
-    -- as the list of the images of its items
+    -- If each item has the same representation in memory as its image under `h`, then a list and
+    -- the list of the images of its items also have the same representation in memory.
     pub the_places : Alike R S h → Alike (C.the_row R Z Q G K) (C.the_row S Z Q G K)
         ((the_former this Z.Denot Q.Denot).map R.Denot S.Denot h)
     the_places a = view_places (fields Z.Denot Q.Denot) (the_former this Z.Denot Q.Denot)
@@ -166,8 +171,8 @@ module _ (Z Q : RattleType) (G : AllocatorGhosts Z.Denot) (K : GrowthGhosts Q.De
           ((refl, (λ n. refl, λ n. refl)), ((refl, (λ n. refl, λ n. refl)), tt)),
         ))
 
-    -- if each item has the same code as its image under `h`, then each list has the same code as
-    -- the list of the images of its items
+    -- If each item has the same code as its image under `h`, then a list and the list of the images
+    -- of its items also have the same code.
     pub the_codes_placed : Recodes R S h → Recodes (C.the_row R Z Q G K) (C.the_row S Z Q G K)
         ((the_former this Z.Denot Q.Denot).map R.Denot S.Denot h)
     the_codes_placed e d = first (block.codes_of R.coded.code S.coded.code h e d.items)

@@ -1,6 +1,5 @@
--- `append` reserves room for `other.len()` more items, and `other.len()` is the number of items of
--- `other`. So the capacity after `append`, and the error, are those of a call of `reserve` for this
--- number.
+-- `append` calls `reserve` with the number of items of `other`. So the list gets the capacity that
+-- this call of `reserve` chooses, and an error of this call is returned.
 use Rattle.std.proofs.Common.{Ok, arith, ap, sym, ◌∙◌}
 use denote.Param.{param}
 use Rattle.thin_vec.specs.ThinVec.{capacity_for}

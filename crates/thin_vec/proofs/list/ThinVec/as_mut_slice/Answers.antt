@@ -1,5 +1,6 @@
--- The slots that `as_mut_slice` lends are all filled. When the loan ends, the block is again the
--- block of a list, and this list has the items that were written.
+-- `as_mut_slice` borrows only slots that hold items. When the borrow ends, these slots hold the
+-- items that were written through the slice. So the block is the block of a list again, and this
+-- list contains the written items.
 use Rattle.std.proofs.Common.{ap, arith, length, refl, ◌≡◌, ◌∙◌}
 use Rattle.thin_block.specs.Lends.{with_items as block_with_items}
 use Rattle.thin_vec.specs.Lends.{with_items}
@@ -18,7 +19,7 @@ invariant_of-self-lent g c =
     λ w. (settle-over c.self.invariant (block_with_items c.self.inside.block 0 w) w
     refl).thin
 
--- the slice has the items of the list
+-- The slice contains exactly the items of the list.
 lent : (g : _) (c : goal.After-self-2-1 g) → c.slice_mut.result.now ≡ c.args.self.now.items
 lent g c =
     thin-run c.self.inside.block c.self.inside.alloc c.slice_mut.result.now c.len-len.result

@@ -1,5 +1,5 @@
--- If the growth rule names a capacity, this capacity satisfies `Grows`, because every growth rule
--- satisfies `KeepsLaw`.
+-- Every capacity that a growth rule chooses is large enough and can be allocated (`Grows`), because
+-- every growth rule satisfies the law `KeepsLaw`.
 use Rattle.std.proofs.Common.{arith}
 use denote.Param.{param}
 use Rattle.thin_vec.proofs.list.CapacityLemmas.{grows-rule}

@@ -1,5 +1,6 @@
--- Each call of the test compares two keys that the closure `key` returns. So what `dedup_those`
--- guarantees for the test holds for the closure, and the list does not become longer.
+-- `dedup_by_key` calls `dedup_those` with a test that compares the keys of two items. The closure
+-- `key` returns these keys. So what `dedup_those` guarantees about the test is also true of `key`.
+-- The list does not become longer.
 use Rattle.std.specs.Fn.{ComparesKeys}
 use Rattle.thin_vec.proofs.edits.DedupLemmas.{deduped-through, few-deduped}
 use Rattle.thin_vec.proofs.list.ThinVec.dedup_by_key.Goals as goal

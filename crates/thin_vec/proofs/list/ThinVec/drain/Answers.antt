@@ -1,5 +1,5 @@
--- The calls of `next` yield the items of the range in order, the calls of `next_back` yield them in
--- reverse order, and no call changes what the list will be once the `Drain` is dropped.
+-- Calls of `next` yield the items of the range in order, and calls of `next_back` yield them in
+-- reverse order. These calls do not change the list that remains after the `Drain` is dropped.
 use Rattle.std.proofs.Common.{arith, ◌∙◌}
 use Rattle.thin_vec.proofs.edits.DrainLemmas.{drain_keeps_along, drains_in_order, drains_in_reverse}
 use Rattle.thin_vec.proofs.list.ThinVec.drain.Goals as goal

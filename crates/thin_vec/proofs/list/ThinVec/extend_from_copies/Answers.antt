@@ -1,6 +1,6 @@
--- The contract of `extend_from_copies` knows that the item type is `Copy`, and the contract of
--- `reserve_run` does not. The size and the alignment of an item are the same in both, so both
--- contracts name the same capacity and the same error.
+-- `extend_from_copies` requires the item type to be `Copy`, and `reserve_run` does not. But both
+-- contracts use only the size and the alignment of an item. So both contracts name the same
+-- capacity and the same error.
 use Rattle.std.proofs.Common.{◌+◌, Ok, length, refl}
 use Rattle.thin_block.proofs.CapacityLemmas.{ruled-at}
 use Rattle.thin_vec.proofs.list.ReservesLemmas.{reserves-failed, reserves-then}

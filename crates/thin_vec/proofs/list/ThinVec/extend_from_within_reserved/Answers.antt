@@ -1,5 +1,5 @@
--- If no clone can fail, a clone of every item of the range is appended. If each clone equals its
--- source, the clones are the items of the range.
+-- If no clone fails, a clone of every item of the range is appended. If every clone also equals its
+-- original, the appended items are the items of the range.
 use Rattle.std.proofs.Common.{◌++◌, ap, arith, take_all, ◌∙◌}
 use Rattle.std.proofs.lemmas.List.Elements.{same_from_all_zip}
 use Rattle.std.specs.Prelude.{slice_range}

@@ -1,5 +1,6 @@
--- If the iterator has ended after `fill_spare`, `extend_reserved` returns no item. Otherwise the
--- list is full, and `extend_reserved` returns the result of one more call of `next`.
+-- `fill_spare` fills the empty slots of the list with items of the iterator. If the iterator ends
+-- before all slots are full, `extend_reserved` returns no item. Otherwise `extend_reserved` returns
+-- the result of one more call of `next`.
 use Rattle.std.proofs.Common.{◌≡◌, ◌∙◌, ap, arith, length, length-append, subst}
 use Rattle.thin_vec.specs.Put.{Gives}
 use Rattle.thin_vec.proofs.list.ExtendLemmas.{spare-kept}

@@ -1,5 +1,5 @@
--- Each turn of the loop appends the items that `extend_reserved` moves into the spare capacity, and
--- then pushes the item that it returned, if there is one.
+-- In each iteration of the loop, `extend_reserved` moves items of the iterator into the empty slots
+-- of the list. If `extend_reserved` also returns an item, this item is pushed.
 use Rattle.std.proofs.lemmas.Grind.{common_steps}
 use Rattle.std.proofs.Common.{Err, ◌++◌, ◌∷◌, [], ◌-◌, ◌∙◌, ap, arith, append_assoc, length, length-append, refl, subst, sym, ◌+◌, inr}
 use Rattle.std.proofs.lemmas.List.{length_push}

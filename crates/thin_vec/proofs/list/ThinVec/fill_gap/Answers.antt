@@ -1,5 +1,6 @@
--- `fill` puts the items that the iterator yields directly after the front. Then `close` moves each
--- item of the tail once if the gap is not full, and no item if it is.
+-- `fill` moves items of the iterator into the gap, the empty slots before the last items of the
+-- list (the tail). If the gap is not full afterwards, `close` moves each item of the tail once.
+-- Otherwise `close` moves no item.
 use Rattle.std.proofs.Common.{◌≡◌, ◌-◌, ◌++◌, ◌∙◌, ap, arith, length, length-append}
 use Rattle.thin_block.specs.Cost.{moving}
 use Rattle.thin_vec.proofs.PutLemmas.{filled-fits}

@@ -1,5 +1,5 @@
--- `put_iter` puts the items that the iterator yields directly after the items of the list. Then
--- `set_len` stores the new length, which includes them.
+-- `put_iter` moves items of the iterator into the slots directly after the last item of the list.
+-- Then `set_len` stores the new length, which includes the moved items.
 use Rattle.thin_block.proofs.BlockLemmas.{slots-are, then-len}
 use Rattle.std.proofs.lemmas.Grind.{common_steps}
 use Rattle.std.proofs.Common.{◌++◌, ◌-◌, ◌≡◌, ◌∙◌, ap, arith, length, length-append}
@@ -12,8 +12,8 @@ use Rattle.thin_vec.proofs.PutLemmas.{filled-fits, filled-room}
 use Rattle.thin_vec.proofs.ThinVecLemmas.{within-kept}
 use Rattle.thin_vec.proofs.list.ThinVec.fill_spare.Goals as goal
 
--- the block that was put back is the old block with the yielded items in the slots after the old
--- items
+-- The block that is put back into the list differs from the old block in two ways. The yielded
+-- items are in the slots after the old items, and the cost counts one move for each yielded item.
 stored : (g : _) (c : goal.After-set_len g) → seen c.replace-none.new.dest
     ≡ record (seen c.self.inside.block) {
       slots = laid c.len-len.result (full c.put_iter-block.ensures.filled.0.items)
@@ -47,7 +47,7 @@ facts g c =
     put.2
     (then-len c.set_len.ensures.changes (stored g c))
 
--- the `end` that `put_iter` returns is the new number of items of the list
+-- The index `end` that `put_iter` returns is the number of items of the list after the call.
 ends : (g : _) (c : goal.After-set_len g) → c.put_iter-block.result.1.end
     ≡ length (items_in c.set_len.new.self.slots)
 ends g c =

@@ -1,5 +1,6 @@
--- There is no tail, so `close` makes the list out of the front alone, and `extend` appends the
--- items of the iterator. The clauses follow from the contracts of these two steps.
+-- No item follows the replaced range. So after `close`, the list contains only the items before the
+-- range, and `extend` appends the items of the iterator. The clauses follow from the contracts of
+-- `close` and `extend`.
 use Rattle.std.proofs.Common.{◌≡◌, ◌*◌, ◌++◌, ◌∙◌, ap, arith, length, length-append, refl, subst, sym}
 use Rattle.std.specs.Iterator.{size}
 use Rattle.std.specs.Prelude.{MatchOption}
@@ -15,14 +16,16 @@ use Rattle.thin_vec.specs.declared.errors.SpliceRefused.{SpliceRefused}
 use Rattle.thin_vec.proofs.list.ThinVec.finish_at_end.Goals.{After-extend}
 use Rattle.thin_vec.proofs.list.ThinVec.finish_at_end.Goals as goal
 
--- after `close`, the list is what is left of the open block (`left_of`)
+-- After the call of `close`, the list contains only the items outside the replaced range
+-- (`left_of`).
 left : (g : _) (c : After-extend g)
     → c.close.new.self ≡ left_of c.args.block c.args.self.now.alloc
 left g c =
     c.close.ensures.changes
     ∙ closed-left c.args.block c.args.self.now c.requires.none c.requires.no_tail
 
--- `HasTaken` holds for what is left of the open block (`left_of`) and for the list after `extend`
+-- `HasTaken` holds for the lists before and after the call of `extend`. It describes how a list
+-- changes when items of an iterator are added.
 taken : (g : _) (c : After-extend g)
     → HasTaken g.G.Growth.rule (param 0 g.row.T) (left_of c.args.block c.args.self.now.alloc)
     c.extend.new.self (2 * length c.args.block.tail) (g.I.Iterator.remaining c.args.iter)
@@ -38,7 +41,8 @@ taken g c =
     } in
     subst (λ z. HasTaken g.G.Growth.rule (param 0 g.row.T) z w n more) (left g c) now
 
--- the capacity after `extend` satisfies `IsExtended` for the list that is left of the open block
+-- The call of `extend` satisfies `IsExtended`, which restricts the capacity of the list after the
+-- call.
 ruled : (g : _) (c : After-extend g)
     → IsExtended g.G.Growth.rule (param 0 g.row.T) (left_of c.args.block c.args.self.now.alloc)
     c.extend.new.self.capacity (length c.extend.new.self.items)

@@ -1,7 +1,8 @@
--- `fill_gap` fills the gap, `insert_hinted` inserts as many items as the size hint says, and
--- `insert_held` inserts the remaining items. `IsFinished` holds in each of four cases: the iterator
--- ends in the first step, it ends in the second step, the second step fails, or the third step
--- returns the result.
+-- Items of the iterator are inserted in three steps. `fill_gap` fills the empty slots of the
+-- replaced range, `insert_hinted` inserts the number of items that the size hint promises, and
+-- `insert_held` inserts the remaining items. `IsFinished` holds in each of four cases: the first
+-- step ends the iterator, the second step ends it, the second step fails, or the third step
+-- returns.
 use Rattle.std.proofs.Common.{[], Err, None, Ok, Some, inl, inr, ◌-◌, ◌*◌, ◌∙◌, ap, arith, length, refl, subst, sym}
 use denote.Param.{param}
 use Rattle.thin_vec.specs.Edits.Finish.{HasTaken}

@@ -1,5 +1,6 @@
--- If the growth succeeds, the items lie at the front of a larger block. If the allocator fails, the
--- items lie at the front of the old block.
+-- If the growth succeeds, the items are in the first slots of a larger block. If the allocator
+-- fails, the items are in the first slots of the old block. So the list contains the same items in
+-- both cases.
 use Rattle.std.proofs.Common.{◌≤◌, ap, ◌∙◌, arith, length, refl}
 use denote.Param.{param}
 use Rattle.thin_block.specs.Slots.{items_in}
@@ -9,8 +10,8 @@ use Rattle.thin_vec.proofs.ListLemmas.{Settled, thin_of-becomes}
 use Rattle.thin_vec.proofs.ThinVecLemmas.{within-settled}
 use Rattle.thin_vec.proofs.list.ThinVec.grow_to.Goals as goal
 
--- whether the growth succeeds or fails, the block is the block of a list with the same items, and
--- has at most `cap` slots
+-- Whether the growth succeeds or fails, the new block is the block of a list with the same items,
+-- and it has at most `cap` slots.
 tried : (g : _) (c : goal.After-grow g)
     → Settled c.grow.new.self c.self.inside.alloc
     (items_in c.self.inside.block.slots) (length c.grow.new.self.slots)

@@ -1,6 +1,6 @@
--- If a clone fails, `drop_range` removes the clones made before it, so the list has its old items
--- again. Each item from `at` on is moved at most once by each of `open_wide`, `close` and
--- `drop_range`.
+-- If a clone fails, `drop_range` drops the clones that were made before, so the list contains its
+-- old items again. Each of the three calls `open_wide`, `close` and `drop_range` moves each item
+-- from index `at` onward at most once.
 use Rattle.std.proofs.Common.{◌≡◌, ◌+◌, ◌-◌, ◌++◌, ◌∙◌, [], ap, arith, drop, eqb, length, length-append, sym, take}
 use Rattle.std.proofs.lemmas.List.{length-drop, length-take-le}
 use Rattle.std.proofs.lemmas.List.Elements.{length_all_zip}
@@ -9,7 +9,8 @@ use Rattle.thin_vec.proofs.list.ClonesLemmas.{not-all}
 use Rattle.thin_vec.proofs.edits.ReplaceRangeLemmas.{at-most-if, at-most-le, at-most-more, if-le, put-and-gone}
 use Rattle.thin_vec.proofs.list.ThinVec.insert_clones_reserved.Goals as goal
 
--- after `close`, the items of the list are the old items with the placed clones inserted at `at`
+-- After the call of `close`, the list contains its old items, and the clones that were made are
+-- inserted at index `at`.
 closed : (g : _) (c : goal.After-drop_range g) → c.close.new.self.items
     ≡ replace_range c.args.self.now.items c.args.at c.args.at
     c.fill_from_clones-placed.ensures.front.0

@@ -1,6 +1,7 @@
--- `draw` collects the items of the iterator in a vector. If there is memory for all of them, and
--- room for them in the list, `insert_vec` inserts them. Otherwise the error returns the vector and,
--- if the vector had no room for the last item drawn, that item.
+-- `draw` collects the items of the iterator in a vector, and `insert_vec` inserts the items of this
+-- vector into the list. If the vector or the list cannot get enough memory, the error returns the
+-- vector. If the vector had no room for the last item that was drawn, the error returns this item
+-- too.
 use Rattle.std.proofs.Common.{Err, ◌++◌, drop, take, inl, inr, ◌≡◌, ◌-◌, ◌<◌, ◌∙◌, ap, arith, length, refl, subst, sym}
 use Rattle.std.proofs.lemmas.Bool.{cases_lt, false≢true}
 use Rattle.std.specs.Option.{option_len}
@@ -13,12 +14,12 @@ use Rattle.thin_block.proofs.Outcomes.{err-same}
 use Rattle.thin_vec.proofs.list.ThinVec.insert_held.Goals.{In-Err}
 use Rattle.thin_vec.proofs.list.ThinVec.insert_held.Goals as goal
 
--- the number of items for which room is reserved is the number of items held
+-- The call of `reserve` asks for room for exactly the number of items in the vector `held`.
 count : (g : _) (c : In-Err g) → c.len.result ≡ length c.draw-held.result.held.items
 count g c = c.len.ensures ∙ c.draw-held.result.held.ok.0
 
--- if room cannot be reserved, at least one item is held, because reserving room for no item
--- succeeds
+-- If the call of `reserve` fails, the vector `held` contains at least one item, because reserving
+-- room for no item always succeeds.
 more : (g : _) (c : In-Err g) → 0 < length c.draw-held.result.held.items
 more g c = elim (cases_lt 0 (length c.draw-held.result.held.items)) [
   | inl some ↦ some

@@ -1,5 +1,5 @@
--- `open_wide` opens the list with a gap of as many slots as the size hint says, and `fill_gap`
--- fills this gap with the items of the iterator.
+-- `open_wide` makes a gap of empty slots at index `at`. The number of these slots is the lower
+-- bound of the iterator's size hint. Then `fill_gap` fills the gap with items of the iterator.
 use Rattle.std.proofs.Common.{Err, Some, ◌≡◌, ◌+◌, ◌-◌, ◌*◌, ◌≤◌, ◌++◌, ◌∙◌, ap, arith, drop, length, refl, subst, sym, take}
 use Rattle.std.proofs.lemmas.Bool.{false≢true}
 use Rattle.std.proofs.lemmas.List.{length-drop, length-take-le}
@@ -12,7 +12,8 @@ use Rattle.thin_vec.proofs.edits.FinishLemmas.{IsWide, wide-taken}
 use Rattle.thin_vec.proofs.list.ThinVec.insert_hinted.Goals.{After-fill_gap}
 use Rattle.thin_vec.proofs.list.ThinVec.insert_hinted.Goals as goal
 
--- the list was opened at `at`, with a gap as wide as the hint
+-- `open_wide` has made a gap of empty slots at index `at`. The number of these slots is the lower
+-- bound of the size hint.
 wide : (g : _) (c : After-fill_gap g)
     → IsWide c.open_wide-block.result c.reserve.new.self c.args.at c.size_hint-hint.result.0
 wide g c = record {
@@ -23,8 +24,8 @@ wide g c = record {
   cost = c.open_wide-block.ensures.other_cost;
 }
 
--- if opening and closing the gap took at most n moves, the old list and the new one satisfy
--- `HasTaken` with at most n moves of old items
+-- If opening and closing the gap takes at most `n` moves, then `HasTaken` holds for the old list
+-- and the new list, with at most `n` moves of old items.
 taken : (g : _) (c : After-fill_gap g) (n : _)
     → c.fill_gap.ensures.filled.1.cost.0 + (length c.reserve.new.self.items - c.args.at) ≤ n
     → HasTaken g.G.Growth.rule (param 0 g.row.T) c.args.self.now c.fill_gap.new.self n
@@ -44,7 +45,7 @@ taken g c n few =
     (wide-taken c.fill_gap.ensures.filled rule T n left u c.args.at hint (wide g c)
     (ap (λ z. z.alloc) c.open_wide-block.ensures.changes) few)
 
--- the tail has as many items as the old list has from index `at` on
+-- The number of items after the gap is the length of the old list minus `at`.
 tail : (g : _) (c : After-fill_gap g) → length c.open_wide-block.result.tail
     ≡ length c.args.self.now.items - c.args.at
 tail g c = omega (

@@ -1,5 +1,6 @@
--- `insert_mut` lends the item that it has inserted, so the item lent is `value`. What is written to
--- the item lent becomes the item at `index`.
+-- `insert_mut` returns a `&mut` reference to the item that it inserted, so the referenced item is
+-- `value`. When the borrow ends, the item at `index` is the value that was written through the
+-- reference.
 use Rattle.std.proofs.Common.{◌≡◌, ap, arith, drop, get_or, length, refl, take, ◌∙◌}
 use Rattle.std.proofs.lemmas.List.{get_or_at, length-take-le, set_at}
 use lib.ListN.{length-set, set}

@@ -1,6 +1,6 @@
--- `move_run` moves the items from `index` on up by one slot, and `put_and_store` puts `value` into
--- the slot at `index`, which is then empty. So the new items are `insert` of the old ones, and the
--- capacity does not change.
+-- `move_run` moves the items from `index` onward up by one slot, and `put_and_store` writes `value`
+-- into the empty slot at `index`. So `value` is inserted at `index`, and the capacity does not
+-- change.
 use Rattle.std.proofs.Common.{Some, ◌+◌, ◌-◌, ap, ◌∙◌, length, arith, refl, ◌≡◌}
 use lib.ListN.{set}
 use Rattle.std.specs.Prelude.{insert}

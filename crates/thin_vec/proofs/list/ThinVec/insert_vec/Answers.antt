@@ -1,4 +1,4 @@
--- Each inserted item costs one move, and each item of the old list from `at` on moves at most once.
+-- Each inserted item is moved once. Each old item from index `at` onward is moved at most once.
 use Rattle.std.proofs.Common.{◌≡◌, ◌-◌, ◌∙◌, ap, arith, length}
 use Rattle.thin_block.specs.Cost.{moving}
 use Rattle.thin_vec.proofs.edits.SpliceLemmas.{closed-moves, run-moves}

@@ -1,5 +1,5 @@
--- The items that `sift` keeps become the items of the list. They fit into the capacity of the list,
--- which does not change.
+-- After `keep_those`, the list contains exactly the items that `sift` kept. The capacity does not
+-- change, and it is large enough for these items.
 use Rattle.std.proofs.Common.{◌≡◌, arith, rules}
 use Rattle.thin_vec.proofs.ThinVecLemmas.{within-like}
 use Rattle.std.proofs.lemmas.Grind.{common_steps}

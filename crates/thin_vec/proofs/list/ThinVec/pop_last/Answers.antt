@@ -1,5 +1,5 @@
--- The last item lies in the last filled slot. `pop_last` empties this slot, so the items before it
--- are left.
+-- The last item is in the last filled slot. `pop_last` empties this slot, so the list contains all
+-- other items afterwards.
 use Rattle.std.proofs.Common.{◌≡◌, ◌+◌, ◌++◌, ◌∷◌, [], sym, ap, ◌∙◌, length, take, arith, ◌-◌, refl, rules}
 use Rattle.thin_vec.proofs.ListLemmas.{Settled, last-item, settle-pop, thin-filled, thin_of-keeps}
 use Rattle.thin_block.specs.Slots.{items_in}

@@ -1,5 +1,5 @@
--- `put_clones` puts the clones into the slots directly after the items, so the clones are appended
--- to the items.
+-- `put_clones` writes the clones into the slots directly after the last item, so the clones are
+-- appended to the list.
 use Rattle.std.proofs.Common.{◌++◌, ap, arith, length, ◌∙◌, refl, rules}
 use Rattle.thin_block.proofs.BlockLemmas.{slots-are, then-len}
 use Rattle.thin_block.specs.Slots.{items_in}

@@ -1,5 +1,5 @@
--- `put_and_store` puts `value` into the slot directly after the items, so `value` is appended to
--- the items, and the capacity does not change.
+-- `put_and_store` writes `value` into the slot directly after the last item. So `value` is appended
+-- to the list, and the capacity does not change.
 use Rattle.std.proofs.Common.{◌++◌, ◌∷◌, [], ap, ◌∙◌, length, arith, ◌≡◌}
 use Rattle.thin_vec.proofs.ListLemmas.{Settled, settle-push}
 use Rattle.thin_block.specs.Slots.{items_in}

@@ -1,6 +1,7 @@
--- `replace_range_from_copies` reserves room for the items that do not fit into the places of the
--- range. The contract of `reserve` does not know that the item type is `Copy`, but the size and the
--- alignment of an item are the same. So the capacity and the error are those of `reserve`.
+-- `replace_range_from_copies` calls `reserve` for the number of items that exceeds the length of
+-- the range. Only the first of these two methods requires the item type to be `Copy`. But both
+-- contracts use only the size and the alignment of an item, so both name the same capacity and the
+-- same error.
 use Rattle.std.proofs.Common.{◌≡◌, ◌+◌, ◌-◌, ◌∙◌, Ok, ap, arith, length, refl}
 use denote.Param.{copied}
 use Rattle.thin_block.proofs.CapacityLemmas.{ruled-at}

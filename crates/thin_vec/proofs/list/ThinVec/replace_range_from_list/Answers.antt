@@ -1,6 +1,6 @@
--- `replace_range_from_list` reserves room for the items that do not fit into the places of the
--- range. So the capacity afterwards, and the error, are those of a call of `reserve` for the number
--- of these items.
+-- `replace_range_from_list` calls `reserve` for the number of items that exceeds the length of the
+-- range. So the list gets the capacity that this call of `reserve` chooses, and an error of this
+-- call is returned.
 use Rattle.std.proofs.Common.{◌≡◌, ◌-◌, Ok, ap, arith, length}
 use denote.Param.{param}
 use Rattle.thin_vec.specs.ThinVec.{capacity_for}

@@ -1,6 +1,5 @@
 -- If `len` is at most the old length, `truncate` keeps the first `len` items. Otherwise `reserve`
--- does not change the items, and `resize_reserved` appends clones of `value` and then `value`
--- itself.
+-- makes room, and `resize_reserved` appends clones of `value` and finally `value` itself.
 use Rattle.std.proofs.lemmas.Grind.{common_steps}
 use Rattle.std.proofs.Common.{◌≡◌, ◌+◌, ◌-◌, ◌++◌, ap, arith, length, replicate, subst, sym, take, take_all, ◌∙◌}
 use Rattle.std.specs.Prelude.{OnOk}

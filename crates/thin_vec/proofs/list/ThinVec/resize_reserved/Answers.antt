@@ -1,5 +1,5 @@
--- If each clone of `value` equals `value`, the appended items are `count` repetitions of `value`.
--- If a clone fails, `truncate` drops the clones made, so only the old items are left.
+-- If every clone of `value` equals `value`, then `value` is appended `count` times. If a clone
+-- fails, `truncate` drops the clones that were made, so the list contains its old items again.
 use Rattle.std.proofs.Common.{arith}
 use Rattle.thin_vec.proofs.list.ClonesLemmas.{equal-repeated}
 use Rattle.std.proofs.lemmas.Grind.{common_steps}

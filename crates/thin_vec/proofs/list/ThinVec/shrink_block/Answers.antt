@@ -1,5 +1,5 @@
--- If `shrink` succeeds, the items lie at the front of a smaller block, which has `cap` slots. So
--- the list has the same items.
+-- If `shrink` succeeds, the items are in the first slots of a smaller block with `cap` slots. So
+-- the list contains the same items as before.
 use Rattle.std.proofs.Common.{ap, ◌∙◌, arith, length, refl}
 use Rattle.thin_block.specs.Slots.{items_in}
 use Rattle.thin_vec.proofs.ListLemmas.{Settled, thin_of-becomes}

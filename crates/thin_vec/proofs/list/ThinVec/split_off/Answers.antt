@@ -1,5 +1,5 @@
--- A capacity of `len` fits, so the smaller capacity `len - at` for the items that are split off
--- fits too. The second list has exactly this capacity.
+-- A block of `len` slots is small enough to be allocated, so a block of `len - at` slots is small
+-- enough too. The list of the items that are split off has exactly the capacity `len - at`.
 use Rattle.std.proofs.Common.{◌-◌, arith, ◌∙◌}
 use denote.Param.{param}
 use Rattle.thin_block.proofs.CapacityLemmas.{fits-less}

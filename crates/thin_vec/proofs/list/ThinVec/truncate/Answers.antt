@@ -1,5 +1,5 @@
--- The loop takes the items from index `len` on out of their slots, one by one. When the loop ends,
--- the list has its first `len` items.
+-- The loop drops the items from index `len` onward, one by one. When the loop ends, the list
+-- contains only its first `len` items.
 use Rattle.std.proofs.Common.{◌≡◌, ◌≤◌, sym, ap, ◌∙◌, length, take, arith, None}
 use lib.ListN.{set}
 use Rattle.thin_block.specs.Slots.{front, items_in}

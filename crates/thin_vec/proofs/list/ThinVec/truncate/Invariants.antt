@@ -1,5 +1,5 @@
--- When the loop reaches i, the first `len` slots still hold their items, the slots from `len` up to
--- i are empty, and the slots from i on are unchanged.
+-- When the loop variable is `i`, the first `len` slots still hold their items, the slots `len..i`
+-- are empty, and the slots from index `i` onward are unchanged.
 use Rattle.std.proofs.Common.{◌≡◌}
 use Rattle.thin_block.specs.Block.{IsFrom}
 use Rattle.thin_vec.proofs.list.InsertRemoveLemmas.{emptying}

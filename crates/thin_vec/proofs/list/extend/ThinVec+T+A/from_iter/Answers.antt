@@ -1,6 +1,6 @@
--- `from_iter` makes a list with the size hint as its capacity, and calls `extend_unhinted`. What
--- the list is on success and on failure, and the cause of a failure, follow from the contracts of
--- these two steps.
+-- `from_iter` makes a list whose capacity is the iterator's size hint, and then calls
+-- `extend_unhinted`. The clauses about the list and about the cause of a failure follow from the
+-- contracts of these two steps.
 use Rattle.std.specs.Iterator.{Yields}
 use Rattle.std.specs.Option.{option_to_list}
 use Rattle.std.proofs.Common.{None, [], refl, Some, inl, inr, ◌++◌, ◌≡◌, ◌∙◌, ap, arith, length, subst, sym}
@@ -15,8 +15,8 @@ use Rattle.thin_vec.specs.List.Extend.{IsCollectedList}
 use Rattle.thin_vec.proofs.list.extend.ThinVec+T+A.from_iter.Goals.{After-extend_unhinted}
 use Rattle.thin_vec.proofs.list.extend.ThinVec+T+A.from_iter.Goals as goal
 
--- the list after `extend_unhinted` satisfies `IsCollectedList`, because its capacity before that
--- call was exactly the size hint
+-- After `extend_unhinted`, the list satisfies `IsCollectedList`, because its capacity before this
+-- call was exactly the size hint.
 collected : (g : _) (c : After-extend_unhinted g)
     → IsCollectedList doubling (param 0 g.row.T) c.args.alloc c.extend_unhinted.new.self
     (g.I.Iterator.remaining c.args.iter)

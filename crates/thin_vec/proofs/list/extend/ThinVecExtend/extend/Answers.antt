@@ -1,5 +1,6 @@
--- The contract of the method `extend` implies what the trait `Extend` requires. On failure, the
--- placed items are those that the first calls of `next` yielded.
+-- The contract of the inherent method `extend` implies the contract of the trait method
+-- `Extend::extend`. If the call fails, the appended items are the items that the first calls of
+-- `next` yielded.
 use Rattle.std.proofs.Common.{arith, ap, length, length-append, ◌∙◌}
 use Rattle.thin_vec.proofs.list.ExtendLemmas.{yields-first}
 use Rattle.thin_vec.proofs.list.extend.ThinVecExtend.extend.Goals as goal

@@ -1,4 +1,4 @@
--- The items of the list are all items that the iterator yields.
+-- The list contains exactly the items that the iterator yields, in order.
 use Rattle.std.proofs.Common.{arith, refl, ◌∙◌}
 use Rattle.thin_vec.proofs.list.extend.ThinVecFromIterator.from_iter.Goals as goal
 
