@@ -1,6 +1,6 @@
--- The item type of `from_copies` is known to be `Copy`, and the item type in the contract of
--- `with_capacity` is not. Both types have the same size and alignment, so both calls fail with
--- `CapacityOverflow` for the same lengths.
+-- `from_copies` fails with `CapacityOverflow` for the same lengths as `with_capacity`, which it
+-- calls. The item type of `from_copies` must be `Copy`, and the item type of `with_capacity` need
+-- not be. The error is the same, since it depends only on the size and the alignment of the type.
 use Rattle.std.proofs.Common.{length, refl}
 use Rattle.thin_block.proofs.CapacityLemmas.{exact-at}
 use Rattle.thin_vec.proofs.list.ReservesLemmas.{tells-made, tells-same}
