@@ -631,8 +631,8 @@ module _ {J S T : Type 0} (R : S → T → Bool → S → T → Type 0) (inside 
   asked-through (x ∷ xs) s t a h =
       (h.0, h.1, inside h.2, h.3, h.4, asked-through xs h.2 t h.3 h.5, h.6)
 
-  -- If the test turned the list `v` into the list `w` by removing items, then its closure did the
-  -- same.
+  -- If the results of the test turned the list `v` into the list `w`, then the results of its
+  -- closure also turned `v` into `w`.
   pub retained-through : {A : Type 0} (s : J) (v w : Thin T A) (t : J)
       → IsRetainedTo through s v w t → IsRetained R (inside s) v w
   retained-through s v w t h = (
