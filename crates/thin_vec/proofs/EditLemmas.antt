@@ -18,8 +18,8 @@ use Rattle.thin_vec.specs.declared.edits.holder.Holds.{Ghosts as HoldsGhosts}
 
 -- Section: `dedup_by` and `dedup_by_key`
 
--- In this module, `R` describes the calls of a closure that compares two items. It relates the
--- arguments of a call, the result, and the state of the closure and of both items after the call.
+-- In this module, `R` describes the calls of a closure that compares two items. For each call, `R`
+-- relates the arguments, the result, the new state of the closure, and both items after the call.
 module _ {S T : Type 0} (R : S → T → T → Bool → S → T → T → Type 0) where
   -- Let the items `xs` follow the kept item `k`. If each item of `xs` was compared with the last
   -- item kept before it, then std's `DedupsFrom` holds for `k`, `xs` and the kept items `ys`.
@@ -58,8 +58,8 @@ module _ {S T : Type 0} (R : S → T → T → Bool → S → T → T → Type 0
       record { told = dedups_all v.items s h.1.stays w.items h.0 h.1.asked }
 
   -- Suppose that the closure changes neither an item nor its own state, and that it returns
-  -- `same x y` for an item `x` and the last kept item `y`. If it turned the list `v` into the list
-  -- `w`, then `w.items` is `dedup same v.items`.
+  -- `same x y` for an item `x` and the last kept item `y`. If `dedup_by` with this closure turned
+  -- the list `v` into the list `w`, then `w.items` is `dedup same v.items`.
   pub deduped_dedup : {A : Type 0} (same : T → T → Bool) {s : S} {v w : Thin T A}
       → ((x y : T) (b : Bool) (t : S) (x' y' : T) → R s x y b t x' y'
       → (b ≡ same x y) × (t ≡ s) × (x' ≡ x) × (y' ≡ y))
@@ -74,15 +74,15 @@ module _ {T : Type 0} (test : T → Bool) where
   abbrev pub others : List T → List T
   others xs = filter (λ x. not (test x)) xs
 
-  -- This record describes one call of `next` that tests items from the start of the list `xs`. The
-  -- call yields `item`, which is `None` if no item of `xs` passes the test. The items `kept` were
-  -- tested and stay in the list, and the items `rest` were not tested.
+  -- `Parts` describes one call of `next`, which tests the items of the list `xs` in order until one
+  -- of them passes. The call yields this item as `item`, or yields `None`. The items `kept` were
+  -- tested before it, and the items `rest` were not tested.
   pub record Parts (xs : List T) (item : Option T) (kept rest : List T) : Type 0 where
     pub gone : filter test xs ≡ option_to_list item ++ filter test rest
     pub stay : others xs ≡ kept ++ others rest
     pub ended : item ≡ None → rest ≡ []
 
-  -- `None` is not equal to `Some x`
+  -- `None` is not equal to `Some x`.
   none-some : {x : T} → None ≡ Some x → ⊥
   none-some e = cc
 
@@ -147,7 +147,7 @@ module _ {T F A G : Type 0} {g : Ghosts G}
     pub count : length held + length (extract_rest now)
         ≤ length old + length (extract_rest start)
 
-  -- `IsExtracting` holds when the loop begins, before any item has been yielded.
+  -- `IsExtracting` holds at the start of the loop, before any item has been yielded.
   pub extract_start : (e : ExtractIf T F A G (Holder (Extracting T F A)) g h) (old : List T)
       → IsExtracting e e old old
   extract_start e old =
@@ -157,7 +157,7 @@ module _ {T F A G : Type 0} {g : Ghosts G}
       (says : (s : F) (x : T) (b : Bool) (t : F) (y : T) → R s x b t y
       → (b ≡ test x) × (y ≡ x)) where
     -- If `IsExtracting` holds and `next` yields an item, then `IsExtracting` holds again after this
-    -- item was appended to the list.
+    -- item is appended to the list.
     pub extract_step : {start now new : ExtractIf T F A G (Holder (Extracting T F A)) g h}
         {old held more : List T} {item : Option T} {x : T} → IsExtracting start now old held
         → ExtractSteps R now item new → item ≡ Some x → more ≡ held ++ x ∷ []
@@ -186,7 +186,7 @@ module _ {T F A G : Type 0} {g : Ghosts G}
 
     -- If `IsExtracting` holds and `next` returns `None`, then the loop has appended exactly the
     -- items of the range that pass the test. After the `ExtractIf` is dropped, the `ThinVec`
-    -- contains all its other items.
+    -- contains all other items.
     pub extract_end : {start now new : ExtractIf T F A G (Holder (Extracting T F A)) g h}
         {old held : List T} {item : Option T} → IsExtracting start now old held
         → ExtractSteps R now item new → item ≡ None

@@ -44,13 +44,14 @@ few_items R n (Err cause) few small told =
     cause-named (exact_capacity R 0 n) n cause (exact-few R n few small)
     (λ over. told.overflow.0 (ap Err over))
 
--- If `m` and `n` are less than `2 ^ 31`, then `if b then m else n` is less than `2 ^ 31`.
+-- If `m` and `n` are less than `2 ^ 31`, then the number `if b then m else n` is also less than
+-- `2 ^ 31`.
 either_few : (b : Bool) (m n : ℕ) → m < 2 ^ 31 → n < 2 ^ 31 → (if b then m else n) < 2 ^ 31
 either_few true m n few less = few
 either_few false m n few less = less
 
--- The number `first s` is less than `2 ^ 31`. It is the capacity that the growth rule `doubling`
--- chooses for the first block of a list with items of `s` bytes.
+-- `first s` is the capacity that the growth rule `doubling` chooses for the first block of a list
+-- with items of `s` bytes. This capacity is less than `2 ^ 31`.
 first_few : (s : ℕ) → first s < 2 ^ 31
 unfolding first
 first_few s = either_few (nat_lt (2 ^ 61 - 1) s) 1 4 (omega arith) (omega arith)
@@ -83,7 +84,7 @@ few_more R k v w (Err cause) few small told =
     cause-named (ruled_capacity doubling R v.capacity (length v.items + k)) named.0 cause named.1
     (λ over. told.overflow.0 (ap Err over))
 
--- If `if b then Some m else None` is equal to `Some n`, then `m` is equal to `n`.
+-- If the value `if b then Some m else None` is equal to `Some n`, then `m` is equal to `n`.
 named-by : (b : Bool) (m n : ℕ) → (if b then Some m else None) ≡ Some n → m ≡ n
 named-by true m n e = some-same e
 named-by false m n e = none_some n e
@@ -93,8 +94,8 @@ either_most : (b : Bool) → (if b then 1 else 4) ≤ 4
 either_most true = omega arith
 either_most false = omega arith
 
--- The number `first s` is at most 4. It is the capacity that the growth rule `doubling` chooses for
--- the first block of a list with items of `s` bytes.
+-- `first s` is the capacity that the growth rule `doubling` chooses for the first block of a list
+-- with items of `s` bytes. This capacity is at most 4.
 first_most : (s : ℕ) → first s ≤ 4
 unfolding first
 first_most s = either_most (nat_lt (2 ^ 61 - 1) s)

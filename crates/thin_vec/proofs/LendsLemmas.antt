@@ -40,8 +40,8 @@ module _ {T A : Type 0} where
       ∙ ap (λ n. full (refill (length xs) xs ws) ++ empty (length b.slots - n)) (sym same)))
       (t.packed.len ∙ sym same) (omega (arith, same, thin-room b a t))
 
-  -- Writing the items `ws` over the items in the block `b` has the same effect in contracts as
-  -- writing `ws` over the items of the list that owns `b`.
+  -- If the items `ws` are written over the items in the block `b` of a list, then contracts see
+  -- `ws` written over the items of the list.
   pub view-with_items : (b : Block T A) (a : A) (ws : List T) → IsThin b a
       → thin_of (block_with_items b 0 ws) a ≡ with_items (thin_of b a) ws
   view-with_items b a ws t =
@@ -62,8 +62,8 @@ module _ {T A : Type 0} where
       ∙ ap (λ n. full (set xs i v) ++ empty (length b.slots - n)) (sym same)))
       (t.packed.len ∙ sym same) (omega (arith, same, thin-room b a t))
 
-  -- Writing `w` into slot `i` of the block `b` has the same effect in contracts as replacing the
-  -- item at index `i` of the list by `w`.
+  -- If the item `w` is written into slot `i` of the block of a list, then contracts see the list
+  -- with `w` in place of its item at index `i`.
   pub view-with_item : (b : Block T A) (a : A) (i : ℕ) (w : T) → IsThin b a
       → i < length (items_in b.slots) → thin_of (block_with_item b i w)
       a ≡ with_item (thin_of b a) i w

@@ -32,8 +32,8 @@ module _ {T : Type 0} where
   items-full-alone [] = refl
   items-full-alone (x ∷ xs) = ap (λ (ys : List T). x ∷ ys) (items-full-alone xs)
 
-  -- `front xs c` is a list of `c` slots that starts with the items `xs` and continues with empty
-  -- slots. Its items are exactly `xs`.
+  -- `front xs c` consists of slots that hold the items `xs`, followed by empty slots. Its items are
+  -- exactly `xs`.
   pub items-front : (xs : List T) (c : ℕ) → items_in (front xs c) ≡ xs
   items-front xs c = items-full xs (replicate (c - length xs) None)
       ∙ (ap (λ (ys : List T). xs ++ ys) (items-empty (c - length xs)) ∙ append-nil xs)
@@ -65,8 +65,8 @@ module _ {T : Type 0} where
       let n : i < length (full xs) = omega (arith, length-full xs) in
       get_or_append_left (full xs) s None i n ∙ get_or-map (λ (x : T). Some x) xs i d None h
 
-  -- Suppose that the first of `c` slots hold the items `xs`, and that the other slots are empty.
-  -- Writing `v` into the first empty slot appends `v` to the items.
+  -- Suppose that a list of `c` slots begins with the items `xs`, and that its other slots are
+  -- empty. Writing `v` into the first empty slot appends `v` to the items.
   pub front-push : (xs : List T) (c : ℕ) (v : T) → length xs < c → set (front xs c) (length xs)
       (Some v) ≡ front (xs ++ v ∷ []) c
   front-push xs c v h =
@@ -80,9 +80,9 @@ module _ {T : Type 0} where
       (sym (map_push (λ (x : T). Some x) xs v))
       ∙ ap (λ (n : ℕ). full (xs ++ v ∷ []) ++ replicate n None) m)))
 
-  -- Suppose that the slots `full xs ++ s` begin with the items `xs`, and that `i` is less than the
-  -- length of `xs`. If slot `i` is emptied, then the new slots are: the items before index `i`, one
-  -- empty slot, the items after index `i`, and the slots `s`.
+  -- Let `i` be less than the length of `xs`. If slot `i` of `full xs ++ s` is emptied, the new
+  -- slots are, in this order: the items before index `i`, one empty slot, the items after index
+  -- `i`, and the slots `s`.
   pub full-take : (xs : List T) (s : List (Option T)) (i : ℕ) (d : T) → i < length xs
       → set (full xs ++ s) i None ≡ full (take i xs) ++ (None ∷ (full (drop (suc i) xs) ++ s))
   full-take [] s i d h = absurd (omega arith)
@@ -90,8 +90,8 @@ module _ {T : Type 0} where
   full-take (x ∷ xs) s (suc i) d h = let l : i < length xs = omega arith in
       ap (λ (r : List (Option T)). Some x ∷ r) (full-take xs s i d l)
 
-  -- Suppose that the first of `c` slots hold the items `xs` and then the item `v`. After the slot
-  -- of `v` was emptied, the first slots hold only the items `xs`.
+  -- Suppose that a list of `c` slots begins with the items `xs` and then `v`, and that its other
+  -- slots are empty. Emptying the slot of `v` removes `v` from the items.
   pub front-pop : (xs : List T) (c : ℕ) (v : T) → length (xs ++ v ∷ []) ≤ c
       → set (front (xs ++ v ∷ []) c) (length xs) None ≡ front xs c
   front-pop xs c v h =
@@ -131,8 +131,8 @@ module _ {T : Type 0} where
   get-some (x ∷ xs) (suc i) h = get-some xs i (omega arith)
 
 module _ {T A : Type 0} where
-  -- The block `b` is the block of a list with the items `xs`, the capacity `c` and the allocator
-  -- `a`.
+  -- `Settled b a xs c` holds if `b` is the block of a list with the items `xs`, the capacity `c`
+  -- and the allocator `a`.
   pub record Settled (b : Block T A) (a : A) (xs : List T) (c : ℕ) : Type 0 where
     pub thin : IsThin b a
     pub items : items_in b.slots ≡ xs
@@ -186,8 +186,8 @@ module _ {T A : Type 0} where
       let e : List (Option T) = replicate (length b.slots - length xs) None in
       omega (arith, ap length t.packed.row, length-append (full xs) e, length-full xs)
 
-  -- If a list has `n` items, then the first `n` slots of its block are filled and all others are
-  -- empty.
+  -- If a list has `n` items, then the first `n` slots of its block are filled, and all other slots
+  -- are empty.
   pub thin-packed : (b : Block T A) (a : A) (n : ℕ) → IsThin b a
       → length (items_in b.slots) ≡ n → IsPacked b.slots n
   thin-packed b a n t long = record { row = t.packed.row; len = sym long }
@@ -298,7 +298,8 @@ module _ {T A : Type 0} where
       → slice_get (items_in b.slots) i ≡ Some v
   thin-get b a i v t h e = sym (thin-slot b a i t h) ∙ e
 
-  -- After slot `i` of the block of a list was emptied, the slot of each later item is still filled.
+  -- If slot `i` of the block of a list is emptied, then the slot of each later item is still
+  -- filled.
   pub kept-filled : (b : Block T A) (a : A) (i j : ℕ) (s : List (Option T)) → IsThin b a → i < j
       → j < length (items_in b.slots) → s ≡ set b.slots i None → IsSome (slot s j)
   kept-filled b a i j s t n h e = let ne : j ≢ i = omega arith in

@@ -1,7 +1,7 @@
 -- These lemmas state how contracts see an open block after each operation on it. An open block is
--- the block of a list during an edit. It holds front items, middle items and tail items, with
--- possibly empty slots (gaps) between them. In this file, `h` is an open block as it is stored: a
--- block, and the indices at which the three groups of items begin and end.
+-- the block of a list during an edit. It holds front items, middle items and tail items, and there
+-- may be gaps of empty slots between these three groups. In this file, `h` is an open block as it
+-- is stored.
 use Rattle.std.proofs.Common.{◌≡◌, ℕ, suc, ◌+◌, ◌-◌, ◌<◌, ◌≤◌, List, [], ◌∷◌, ◌++◌, Option, Some, None, length, take, drop, refl, sym, ap, ◌∙◌, subst, arith, length-append, append_assoc}
 use Rattle.std.proofs.lemmas.List.{drop_at, get_or-append_right, get_or-replicate, get_or_append_left, get_or_at, length-drop, length-take, length-take-le, length_push, map_push, replicate-append-replicate, set_at, take_at}
 use Rattle.std.proofs.lemmas.List.Edits.{split_between}
@@ -268,8 +268,8 @@ module _ {T A : Type 0} where
       cost = v.cost;
     }
 
-    -- If the slot of the first middle item held `x` and was emptied, then the middle items were `x`
-    -- and a list `ys`. Contracts see the new open block as `first-seen ys`.
+    -- If the slot of the first middle item held `x` and was emptied, then the middle items were
+    -- `x`, followed by a list `ys`. Contracts see the new open block as `first-seen ys`.
     pub first-step : (x : T) → slot h.block.slots h.rest_start ≡ Some x
         → seen b ≡ record (seen h.block) { slots = set h.block.slots h.rest_start None }
         → (ys : List T) × (v.rest ≡ x ∷ ys) × Found first-left (first-seen ys)
@@ -337,7 +337,7 @@ module _ {T A : Type 0} where
     }
 
     -- If the slot of the last middle item held `x` and was emptied, then the middle items were a
-    -- list `ys` and `x`. Contracts see the new open block as `last-seen ys`.
+    -- list `ys`, followed by `x`. Contracts see the new open block as `last-seen ys`.
     pub last-step : (x : T) → slot h.block.slots (h.rest_end - 1) ≡ Some x
         → seen b ≡ record (seen h.block) { slots = set h.block.slots (h.rest_end - 1) None }
         → (ys : List T) × (v.rest ≡ ys ++ x ∷ []) × Found last-left (last-seen ys)
@@ -398,8 +398,7 @@ module _ {T A : Type 0} where
   -- This module is about two steps. If there are no middle items, the two gaps around them are
   -- joined. If there is no gap before the tail items, the open block can be closed.
   module _ (h : Inside T A) (o : IsOpen h) where
-    -- This is the open block `h` after its two gaps were joined into one gap behind the front
-    -- items.
+    -- This is the open block `h` after its two gaps were joined into one gap after the front items.
     abbrev pub joined : Inside T A
     joined = record {
       block = h.block;

@@ -37,9 +37,8 @@ module _ {S X : Type 0} {steps : S → Option X → S → Type 0} {can : S → T
   }
 
 module _ {T : Type 0} where
-  -- Suppose that the contents `ys` are written into slots from index `i + 1` onward, and then the
-  -- content `y` is written into slot `i`. The result is the same as writing `y ∷ ys` from index `i`
-  -- onward.
+  -- Writing the slots `ys` from index `i + 1` onward and then the slot `y` at index `i` is the same
+  -- as writing the slots `y ∷ ys` from index `i` onward.
   laid-before : (i k : ℕ) (y : Option T) (ys s : List (Option T)) → k ≡ i + 1 → i < length s
       → set (laid k ys s) i y ≡ laid i (y ∷ ys) s
   laid-before i k y ys s next low =

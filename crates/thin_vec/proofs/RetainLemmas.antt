@@ -19,7 +19,7 @@ pub moving-more : (a b : ℕ) (c : Cost) → moving a (moving b c) ≡ moving (b
 moving-more a b c = let e : c.moves + b + a ≡ c.moves + (b + a) = omega arith in
     λ i. record { blocks = c.blocks; grown = c.grown; moves = e i }
 
--- zero moves do not change a cost
+-- Adding zero moves to a cost does not change it.
 pub moving-none : (c : Cost) → moving 0 c ≡ c
 moving-none c = let e : c.moves + 0 ≡ c.moves = omega arith in
     λ i. record { blocks = c.blocks; grown = c.grown; moves = e i }
@@ -46,7 +46,7 @@ cons-head e = cc
 pub cons-tail : {X : Type 0} {x y : X} {xs ys : List X} → x ∷ xs ≡ y ∷ ys → xs ≡ ys
 cons-tail e = ap (drop 1) e
 
--- a list that begins with an item is not empty
+-- A list that begins with an item is not empty.
 pub cons-not-nil : {X : Type 0} {x : X} {xs : List X} → x ∷ xs ≡ [] → ⊥
 cons-not-nil e = let n = ap length e in omega (arith, n)
 
@@ -62,14 +62,13 @@ none-left [] none = refl
 none-left (x ∷ xs) none = absurd (none (omega arith))
 
 module _ {T : Type 0} where
-  -- A verdict is the result of a test: it says whether the item is kept. The verdicts `a ++ b` keep
-  -- the items that `a` keeps, followed by the items that `b` keeps.
+  -- The test results `a ++ b` keep the items that `a` keeps, followed by the items that `b` keeps.
   pub left_at-append : (a b : Verdicts T) → left_at true (a ++ b) ≡ left_at true a ++ left_at true b
   left_at-append [] b = refl
   left_at-append ((true, x) ∷ a) b = ap (λ (l : List T). x ∷ l) (left_at-append a b)
   left_at-append ((false, x) ∷ a) b = left_at-append a b
 
-  -- The number of items that the verdicts `a ++ b` keep is the sum of the numbers for `a` and for
+  -- The number of items that the test results `a ++ b` keep is the sum of the numbers for `a` and
   -- `b`.
   pub trues-append : (a b : Verdicts T) → trues (flags_of (a ++ b)) ≡ trues
       (flags_of a) + trues (flags_of b)
@@ -88,7 +87,7 @@ module _ {T : Type 0} where
   trues-stay (x ∷ xs) = ap suc (trues-stay xs)
 
   -- Only items after the first removed item are moved. If all items of `xs` are kept, then none of
-  -- them is moved, and the number of moved items depends only on the verdicts `a` on the later
+  -- them is moved, and the number of moved items depends only on the test results `a` for the later
   -- items.
   pub moved_down-stay : (xs : List T) (a : Verdicts T) → moved_down (flags_of (stay xs ++ a))
       ≡ moved_down (flags_of a)
@@ -96,8 +95,8 @@ module _ {T : Type 0} where
   moved_down-stay (x ∷ xs) a = moved_down-stay xs a
 
 module _ {S T : Type 0} (R : S → T → Bool → S → T → Type 0) where
-  -- In this module, the items `ys` were tested. The tests led from the state `t` of the closure to
-  -- the state `u`, with the verdicts `b`.
+  -- In this module, the items `ys` were tested with the results `b`. The tests led from the state
+  -- `t` of the closure to the state `u`.
   module _ (t u : S) (ys : List T) (b : Verdicts T) (k : Asked R t ys b u) where
     -- If the tests of the items `xs` led from the state `s` of the closure to the state `t`, and
     -- the tests of `ys` led from `t` to `u`, then the tests of `xs ++ ys` led from `s` to `u`.
@@ -165,7 +164,7 @@ module _ {S T : Type 0} (R : S → T → Bool → S → T → Type 0) where
     parted = h.now ∙ sym (append_assoc h.before h.left h.more)
 
     -- Suppose that the item at index `m` is tested next. Then the items before it are `asked-part`,
-    -- and it is the first of the items that have not been tested yet.
+    -- and it is the first item that has not been tested yet.
     next-parts : (b : Bool) (u : S) (zs : List T) (a : IsAskedAt R m t ys b u zs)
         → (a.before ≡ asked-part) × (h.more ≡ a.item ∷ a.after)
     next-parts b u zs a =
@@ -269,7 +268,7 @@ module _ {S T : Type 0} (R : S → T → Bool → S → T → Type 0) where
       ap suc (stay-count xs h.2 t ys
       (subst (λ (a : Verdicts T). Asked R h.2 xs a t) (sym (cons-tail h.6)) h.5))
 
-  -- The last test of a run of items, which stops the run, does not change the number of items.
+  -- The test that ends a run of kept items does not change the number of items.
   stop-count : (u : S) (b : List T) (t : S) (e : List T) → Stops R u b t e → length e ≡ length b
   stop-count u [] t e h = ap length h.0
   stop-count u (x ∷ b) t e h = ap length h.2
@@ -350,7 +349,7 @@ module _ {S T : Type 0} (R : S → T → Bool → S → T → Type 0) where
     pub count : trues (flags_of verdicts) ≡ m
 
   module _ (m : ℕ) (s : S) (xs : List T) (t : S) (ys : List T) (r : AskedUpTo R 0 m s xs t ys) where
-    -- There are no items before the run of tested items, since it begins at index 0.
+    -- There are no items before the run of kept items, since the run begins at index 0.
     run-none : r.before ≡ []
     run-none = nil_from_length r.before r.place
 
@@ -472,7 +471,7 @@ module _ {S T : Type 0} (R : S → T → Bool → S → T → Type 0) where
     moved = ap (λ u. u.cost) h.now ∙ moving-after v.gap h.count v.cost gap
 
     -- Suppose that the last tested item, `value`, is removed from the open block `w` after the
-    -- tests. Then `Sifts` holds for the open block `v` before the tests and the open block `z`
+    -- tests. Then `Sifts` holds for `v`, the open block before the tests, and `z`, the open block
     -- without `value`.
     pub advanced-goes : (value : T) (z : Open T A) → w.rest ≡ value ∷ z.rest
         → z ≡ record w { rest = z.rest; gap = w.gap + 1 } → Sifts R s v t z
@@ -548,16 +547,16 @@ module _ {S T : Type 0} (R : S → T → Bool → S → T → Type 0) where
 
   module _ {A : Type 0} (v w : Open T A) (m : ℕ) (s t : S) (ys : List T)
       (run : AskedUpTo R 0 m s v.rest t ys) where
-    -- `Passed` holds if the tested items that are kept were appended to the front items of the open
-    -- block `v` without a move. Only the gap and the middle items of the new open block `w` may
-    -- also differ.
+    -- `Passed` holds if the kept items were appended to the front items of the open block `v`
+    -- without a move. Apart from this, the new open block `w` may differ from `v` only in the gap
+    -- and the middle items.
     abbrev Passed : Type 0
     Passed = w ≡ record v
         { front = v.front ++ take m ys; gap = w.gap; rest = w.rest }
 
-    -- Suppose that `value`, the item after the run of kept items, is removed, and that the tests of
-    -- all later items led to the open block `z`. Then `IsSifted` holds for the open block `v`
-    -- before all tests and `z`.
+    -- Suppose that `value`, the item after the run of kept items, is removed, and that all later
+    -- items were tested. Then `IsSifted` holds for `v`, the open block before all tests, and `z`,
+    -- the open block after them.
     pub sifted-goes : (value : T) (u : S) (z : Open T A) → Passed → drop m ys ≡ value ∷ w.rest
         → Sifts R t w u z → z.rest ≡ [] → IsSifted R s v u z
     unfolding part-goes
@@ -667,7 +666,7 @@ module _ {S T : Type 0} (R : S → T → Bool → S → Type 0) where
       let left : y ≡ x = ap (λ (p : Bool × T). p.1) same ∙ h.4.1 in
       (ap suc rest.0, (h.2, answer, rest.1), first b y x a xs left rest.2)
     where
-      -- This is the induction step for the kept items. If the items kept of `xs` are the ones with
+      -- This is the induction step for the kept items. If the kept items of `xs` are the items with
       -- the flag true, and the test left the item `x` unchanged, then the same holds for `x ∷ xs`.
       first : (b : Bool) (y x : T) (a : Verdicts T) (xs : List T) → y ≡ x
           → left_at true a ≡ items_where_true (flags_of a) xs
@@ -711,7 +710,7 @@ module _ {S T : Type 0} (R : S → T → Bool → S → T → Type 0) where
       one true y a xs few = omega (arith, few)
       one false y a xs few = omega (arith, few)
 
-  -- `retain` does not increase the number of items
+  -- `retain` does not increase the number of items.
   pub few-retained : {A : Type 0} (s : S) (v w : Thin T A) → IsRetained R s v w
       → length w.items ≤ length v.items
   few-retained s v w h =

@@ -97,12 +97,12 @@ module _ {T A : Type 0} (v : Thin T A) (c : ℕ) where
       go false = refl
 
 -- These rewrite rules compute the cost of a growth. They are for callers that know the capacities
--- before and after it.
+-- before and after the growth.
 pub ruleset costs = (cost_at-same, cost_at-more)
 
--- Suppose that a cost is cheap for the capacity `c`, and that a new block of the capacity `c'` was
--- allocated and `n ≤ c` items were copied into it. If `c < c'` and `2 * c ≤ c'`, then the new cost
--- is cheap for `c'`.
+-- Suppose that a cost is within the bound `IsCheapAt` for the capacity `c`, and that at most `c`
+-- items are copied into a new block of the capacity `c'`. If `c < c'` and `2 * c ≤ c'`, then the
+-- new cost is within the bound for `c'`.
 cheap-growing : {c : ℕ} {k : Cost} (n c' : ℕ) → IsCheapAt c k → n ≤ c → c < c' → 2 * c ≤ c'
     → IsCheapAt c' (growing n k)
 cheap-growing {c = zero} {k} n c' h le larger doubled =
@@ -137,7 +137,8 @@ module _ {T A : Type 0} (rule : Rule) (R : RattleType) (law : KeepsLaw rule)
   cost_at-kept room e = cost_at-same v c (cap-kept room e)
 
   -- Suppose that the list `v` has no room for `k` more items, and that the growth rule chooses the
-  -- capacity `c`. Then `c` is large enough for all items, and at least twice the old capacity.
+  -- capacity `c`. Then `c` is enough for the old items and `k` more, and at least twice the old
+  -- capacity.
   pub cap-grown : v.capacity < length v.items + k → capacity_for rule R v k ≡ Some c
       → (length v.items + k ≤ c) × (2 * v.capacity ≤ c)
   cap-grown more e = let g = ruled-grows rule R v.capacity (length v.items + k) c law more e in
@@ -165,8 +166,8 @@ module _ {T A : Type 0} (rule : Rule) (R : RattleType) (law : KeepsLaw rule)
             omega (arith, paid, cap-kept spare e)
       ]
 
-  -- If the cost of a list is cheap for its capacity, then it is still cheap after the capacity
-  -- changed to the one that the growth rule chose.
+  -- If the cost of the list `v` is within the bound `IsCheap`, then it is still within this bound
+  -- after the list has grown to the capacity that the growth rule chooses.
   pub cheap-regrown : IsCheap v → length v.items ≤ v.capacity → capacity_for rule R v k ≡ Some c
       → IsCheapAt c (cost_at v c)
   cheap-regrown h room e =

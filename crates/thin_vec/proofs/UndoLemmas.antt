@@ -10,7 +10,7 @@ module _ {T : Type 0} where
   remove-insert [] (suc i) x h = absurd (omega arith)
   remove-insert (y ∷ xs) (suc i) x h = ap (λ l. y ∷ l) (remove-insert xs i x (omega arith))
 
-  -- After the item `x` was inserted at index `i`, the item at index `i` is `x`.
+  -- After the item `x` is inserted at index `i`, the item at index `i` is `x`.
   pub slice_get-insert : (xs : List T) (i : ℕ) (x : T) → i ≤ length xs
       → slice_get (insert xs i x) i ≡ Some x
   slice_get-insert [] zero x h = refl

@@ -20,7 +20,7 @@ use Rattle.thin_vec.proofs.LendsLemmas.{over-front}
 use Rattle.thin_vec.proofs.ListLemmas.{from-same, full-same, get-some, items-empty, items-full, length-empty, length-full, slot-get}
 
 module _ {T : Type 0} where
-  -- Empty slots before the slots `s` do not change the list of the items.
+  -- Adding empty slots before the slots `s` does not change the items.
   items-after : (k : ℕ) (s : List (Option T)) → items_in (empty k ++ s) ≡ items_in s
   items-after zero s = refl
   items-after (suc k) s = items-after k s
@@ -44,7 +44,7 @@ module _ {T : Type 0} where
       (append_assoc (full xs) (Some x ∷ []) (empty k))
       ∙ sym (append_assoc (empty start) (full xs) (Some x ∷ empty k)))
 
-  -- The number of `start` empty slots and the slots of the items `xs` is `start + length xs`.
+  -- `start` empty slots and the slots of the items `xs` are `start + length xs` slots in total.
   before-last : (start : ℕ) (xs : List T) → length (empty start ++ full xs) ≡ start + length xs
   before-last start xs =
       omega (arith, length-append (empty start) (full xs), length-empty T start, length-full xs)
@@ -273,8 +273,8 @@ module _ {T A : Type 0} where
       (omega (arith, t.len, length_refill (length xs) xs ws refl)) (walked-room b a start end t)
       (from-same b b' a t.from (ap (λ v. v.alloc) w))
 
-  -- Writing the items `ws` from slot `start` of the block onward has the same effect in contracts
-  -- as writing `ws` over the items of the iterator.
+  -- If the items `ws` are written into the block from slot `start` onward, then contracts see `ws`
+  -- written over the items of the iterator.
   pub view-written : (b : Block T A) (a : A) (start end : ℕ) (ws : List T) → IsWalked b a start end
       → thin_of (block_with_items b start ws) a ≡ with_items (thin_of b a) ws
   view-written b a start end ws t =

@@ -46,7 +46,7 @@ trues-all : (n : ℕ) → trues (replicate n true) ≡ n
 trues-all zero = refl
 trues-all (suc n) = ap suc (trues-all n)
 
--- Items at the start of a list that are all kept are not moved. So their `n` true flags do not
+-- If the first `n` items of a list are kept, they are not moved. So their `n` true flags do not
 -- change `moved_down`, the number of moved items.
 moved-all : (n : ℕ) (b : List Bool) → moved_down (replicate n true ++ b) ≡ moved_down b
 moved-all zero b = refl
@@ -95,8 +95,9 @@ module _ {S T : Type 0} (R : OnPairs S T) where
   -- In this module, the items `zs` were tested after the kept item `l`. The tests led from the
   -- state `t` of the closure to the state `u`.
   module _ (t u : S) (l : T) (g : List Bool) (ws zs : List T) (m : AskedLast R t l zs g ws u) where
-    -- If the items `xs` were tested, starting in the state `s` of the closure, and the items `zs`
-    -- were tested next, then the items `xs ++ zs` were tested, starting in the state `s`.
+    -- If the tests of the items `xs` led from the state `s` of the closure to the state `t`, and
+    -- the tests of the items `zs` led from `t` to `u`, then the tests of `xs ++ zs` led from `s` to
+    -- `u`.
     last-append : (xs : List T) (s : S) (k : T) (f : List Bool) (pre : List T)
         → AskedLast R s k xs f (pre ++ l ∷ []) t → AskedLast R s k (xs ++ zs) (f ++ g) (pre ++ ws) u
     last-append [] s k f pre h =
@@ -159,7 +160,7 @@ module _ {S T : Type 0} (R : OnPairs S T) where
       }
 
   module _ (m : ℕ) (s : S) (xs : List T) (t : S) (ys : List T) (h : PairStays m s xs t ys) where
-    -- `NextPair` holds if `a` is the next test: the first untested item was tested against the last
+    -- `NextPair` holds if `a` is the next test: it compared the first untested item with the last
     -- kept item.
     pub record NextPair (b : Bool) (u : S) (zs : List T)
         (a : IsPairAskedAt R m t ys b u zs) : Type 0 where
@@ -185,7 +186,7 @@ module _ {S T : Type 0} (R : OnPairs S T) where
         ∙ drop_at a.before (a.kept ∷ a.later ∷ a.after) (length h.pre) n) in
         record { front = sym fronts; last = sym (cons-head rests); after = cons-tail rests }
 
-    -- The later of the two items of the test `a` was tested against the last kept item.
+    -- The test `a` tested the later of its two items against the last kept item.
     next-asked : (b : Bool) (u : S) (zs : List T) (a : IsPairAskedAt R m t ys b u zs)
         → R t a.later h.last b u a.later_left a.kept_left
     next-asked b u zs a = subst (λ (k : T). R t a.later k b u a.later_left a.kept_left)
@@ -199,8 +200,8 @@ module _ {S T : Type 0} (R : OnPairs S T) where
         (ap (λ (l : List T). h.done ++ l) (next-pair b u zs a).after
         ∙ sym (append_assoc h.done (a.later ∷ []) a.after))
 
-    -- The list `zs` after the test `a` contains its two items as the test left them. No other item
-    -- has changed.
+    -- After the test `a`, the list `zs` contains the two items of this test as the test left them.
+    -- No other item has changed.
     next-now : (b : Bool) (u : S) (zs : List T) (a : IsPairAskedAt R m t ys b u zs)
         → zs ≡ (h.pre ++ a.kept_left ∷ []) ++ a.later_left ∷ a.after
     next-now b u zs a =
@@ -305,7 +306,7 @@ module _ {S T : Type 0} (R : OnPairs S T) where
 
   module _ {A : Type 0} (v w : Open T A) where
     -- `Moved front cost` holds if the open block `w` is the open block `v` with these front items
-    -- and this cost. Only the gap and the middle items of `w` may also differ.
+    -- and this cost. Apart from this, `w` may differ from `v` only in the gap and the middle items.
     abbrev Moved : List T → Cost → Type 0
     Moved front cost = w ≡ record v
         { front = front; gap = w.gap; rest = w.rest; cost = cost }
@@ -319,7 +320,7 @@ module _ {S T : Type 0} (R : OnPairs S T) where
 
     module _ (s t : S) where
       -- Suppose that the items `done` were tested after the last front item, and that the kept
-      -- items were moved to the front items. Then `Dedups` holds.
+      -- items were moved to the end of the front items. Then `Dedups` holds.
       dedups-of : (before : List T) (first : T) (done : List T) (stays : List Bool) (kept : List T)
           → v.front ≡ before ++ first ∷ [] → v.rest ≡ done ++ w.rest
           → AskedLast R s first done stays kept t → 0 < w.gap
@@ -347,8 +348,8 @@ module _ {S T : Type 0} (R : OnPairs S T) where
         (last-goes s t a.kept x y a.kept_left a.asked) gap
         (now ∙ moved (λ i. a.now i) (sym (moving-none v.cost)))
 
-    -- If the next item `x` was tested, is kept, and was moved to the front items at the cost of one
-    -- move, then `Dedups` holds.
+    -- If the next item `x` was tested, is kept, and was moved to the end of the front items at the
+    -- cost of one move, then `Dedups` holds.
     pub dedups-stays : {s t : S} (x y : T) (front : List T)
         → IsLastAsked R s x v.front false t y front → v.rest ≡ x ∷ w.rest
         → 0 < w.gap → Moved (front ++ y ∷ []) (moving 1 v.cost) → Dedups R s v t w
@@ -471,13 +472,14 @@ module _ {S T : Type 0} (R : OnPairs S T) where
   module _ {A : Type 0} (v w : Open T A) (m : ℕ) (s t : S) (ys : List T)
       (r : PairsAskedUpTo R m s v.rest t ys) where
     -- `RunPassed` holds if the front items of `w` are exactly the kept items, as the tests left
-    -- them, and `w` has the cost of `v`. Only the gap and the middle items may also differ.
+    -- them. Apart from this, `w` may differ from the open block `v` only in the gap and the middle
+    -- items.
     abbrev RunPassed : Type 0
     RunPassed = Moved v w (take m ys) v.cost
 
     -- Suppose that the item after the run of kept items is removed, and that all later items were
-    -- tested. Then `IsDeduped` holds for the open block `v` before all tests and the final open
-    -- block `z`.
+    -- tested. Then `IsDeduped` holds for `v`, the open block before all tests, and `z`, the open
+    -- block after them.
     pub deduped-goes : (value : T) (u : S) (z : Open T A) → RunPassed → drop m ys ≡ value ∷ w.rest
         → Dedups R t w u z → z.rest ≡ [] → IsDeduped R s v u z
     deduped-goes value u z p k h none =
@@ -581,8 +583,8 @@ module _ {J S T : Type 0} (R : OnPairs S T) (inside : J → S) where
 -- In this module, the test `E` has no state. So the two items alone decide whether the later item
 -- is kept.
 module _ {S T : Type 0} (E : T → T → Bool) where
-  -- If the items `xs` were tested after the kept item `k`, then the flags of the kept items are
-  -- `unlike_from E k xs`, and the kept items are `dedup_from E k xs`.
+  -- If the items `xs` were tested after the kept item `k`, then `unlike_from E k xs` are the flags
+  -- that say which of them are kept. The kept items are `dedup_from E k xs`.
   last-compares : (xs : List T) (s t : S) (k : T) (f : List Bool) (ys : List T)
       → AskedLast (Compares E) s k xs f ys t → (f ≡ unlike_from E k xs) × (ys ≡ dedup_from E k xs)
   last-compares [] s t k f ys h = (h.0, h.1)
@@ -608,8 +610,8 @@ module _ {S T : Type 0} (E : T → T → Bool) where
       ]
       h.5.0 h.6 h.7
 
-  -- If the items `xs` were tested, then the flags of the kept items are `unlike E xs`, and the kept
-  -- items are `dedup E xs`.
+  -- If the items `xs` were tested, then `unlike E xs` are the flags that say which items after the
+  -- first are kept. The kept items are `dedup E xs`.
   pub pairs-compare : (xs : List T) (s t : S) (f : List Bool) (ys : List T)
       → AskedPairs (Compares E) s xs f ys t → (f ≡ unlike E xs) × (ys ≡ dedup E xs)
   pairs-compare [] s t f ys h = (h.0, h.1)

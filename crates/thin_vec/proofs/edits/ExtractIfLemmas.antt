@@ -49,7 +49,7 @@ module _ {F T : Type 0} (R : F → T → Bool → F → T → Type 0) where
     J s x b t y = R (of s) x (not b) (of t) y
 
     -- In this module, the closure is called with the items `after`, starting in the state
-    -- `between`. It extracts the first of these items, or there are no such items.
+    -- `between`. It extracts the first of these items, unless there are none.
     module _ (between : S) (after : List T) (item : Option T) (t : F) (rest : List T)
         (e : ExtractsNext R (of between) after item t [] rest) where
       -- Suppose that all items of a run are kept, and that the items `after` follow the run. Then

@@ -136,7 +136,7 @@ module _ {T A : Type 0} where
   }
 
 -- If `P` holds for the error in the result `r`, and `P` implies `Q` for this error, then `Q` holds
--- for it. If `r` is `Ok`, the lemma claims nothing.
+-- for the error. If `r` is `Ok`, the lemma claims nothing.
 pub if-err : {X E : Type 0} {P Q : E → Type 0} (r : Result X E) → ((e : E) → r ≡ Err e → P e → Q e)
     → IfErr r P → IfErr r Q
 if-err (Ok _) h p = p
@@ -269,7 +269,7 @@ module _ (rule : Rule) (R : RattleType) where
         | inr spare ↦ inl (cap-kept rule R law v k d spare e)
       ]
 
--- Adding `n` moves to a cost does not change it if `n` is 0.
+-- If `n` is 0, then adding `n` moves to a cost does not change the cost.
 unmoved : (b : Bool) (c : Cost) (n : ℕ) → n ≡ 0 → (if b then c else moving n c) ≡ c
 unmoved true c n none = refl
 unmoved false c n none = ap (λ k. moving k c) none ∙ sym (moving-zero c)
@@ -320,7 +320,7 @@ module _ {T A : Type 0} where
       ∙ (ap (λ l. l ++ xs) (append-nil v.front)
       ∙ (sym (append-nil (v.front ++ xs)) ∙ (λ i. (v.front ++ xs) ++ sym none i)))
 
--- In this module, the items have the type `R`, and the lists grow by the growth rule `rule`.
+-- In this module, the items have the type `R`, and the growth rule `rule` chooses the capacities.
 module _ (rule : Rule) (R : RattleType) {T A : Type 0} where
   -- Suppose that `k` items were added to the list `v`, with `k + m` moves and without a change of
   -- the capacity. If `m ≤ n`, then `HasTaken` holds for `v` and the new list `w`, with the bound

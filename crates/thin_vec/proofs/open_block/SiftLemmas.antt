@@ -1,6 +1,6 @@
 -- These lemmas state how contracts see an open block after one of its middle items was tested, and
--- after its first middle items were moved to the front items. In this file, `h` is an open block as
--- it is stored.
+-- after its first middle items became front items. In this file, `h` is an open block as it is
+-- stored.
 use Rattle.std.proofs.Common.{◌≡◌, ℕ, zero, suc, ◌+◌, ◌-◌, ◌<◌, ◌≤◌, List, [], ◌∷◌, ◌++◌, Option, Some, None, length, take, drop, refl, sym, ap, ◌∙◌, arith, length-append, append_assoc}
 use Rattle.std.proofs.lemmas.List.{get_or_at, length-drop, length-take-le, set_at, take-append-drop}
 use lib.ListN.{set}
@@ -62,7 +62,7 @@ module _ {T A : Type 0} where
       len = h.len;
     }
 
-    -- `written-seen ys` is the open block as contracts see it if its new middle items are `ys`.
+    -- `written-seen ys` is the new open block as contracts see it if its middle items are `ys`.
     abbrev pub written-seen : List T → Open T A
     written-seen ys = record v { rest = ys }
 
@@ -234,8 +234,7 @@ module _ {T A : Type 0} where
         (sym o.gap) (sym few))) (ap (λ (z : Seen T A). z.alloc) now)
 
   -- If the first middle item was moved from its slot to the slot directly after the front items,
-  -- then contracts see the new open block as the old one with one more front item and one less
-  -- middle item.
+  -- then contracts see the open block with this item as the last front item.
   pub move_one_down-step : (h : Inside T A) (o : IsOpen h) (some : 1 ≤ length (open_of h).rest)
       → 0 < (open_of h).gap → (b : Block T A) {x : T} {c : Cost}
       → slot h.block.slots h.rest_start ≡ Some x

@@ -1,5 +1,5 @@
--- A call of `dedup_two` ends after it removed one item, or when no item remains to be tested. The
--- clause `dedups` holds in each of four cases, which differ in the item that is removed first.
+-- A call of `dedup_two` ends after it has removed one item, or when no item remains to be tested.
+-- The clause `dedups` holds in each of four cases, which differ in the item that is removed first.
 use Rattle.std.proofs.Common.{◌≡◌, ◌∷◌, [], ap, false, refl, sym, ◌∙◌, arith, rules}
 use Rattle.std.proofs.lemmas.List.{append-nil, nil_from_length}
 use Rattle.thin_vec.proofs.edits.DedupLemmas.{run-count, run-ends, run-goes, dedups-goes, dedups-run, dedups-two}
@@ -26,7 +26,7 @@ returns-then-goes-clause-dedups g c =
     c.if-goes.true c.take_first.result (search rules) (search rules) (search rules)
 
 -- The clause `dedups` holds if the next two items are kept and a later item is to be removed. All
--- items before the removed item are moved to the front items, and the removed item is dropped.
+-- items before the removed item are moved to the end of the front items.
 pub returns-then-rest_len-gt0-clause-dedups : goal.returns-then-rest_len-gt0-clause-dedups
 returns-then-rest_len-gt0-clause-dedups g c =
     let R = g.J.PairTest.tests in
@@ -45,7 +45,7 @@ returns-then-rest_len-gt0-clause-dedups g c =
     c.test_pairs-kept.new.self.rest r goes.0 (run-count R _ _ _ _ _ r (false ∷ []) refl goes.1)
     (search rules) (search rules)
 
--- The clause `dedups` holds if all items are kept: they are moved to the front items.
+-- The clause `dedups` holds if all items are kept: they are moved to the end of the front items.
 pub returns-else-rest_len-gt0-clause-dedups : goal.returns-else-rest_len-gt0-clause-dedups
 returns-else-rest_len-gt0-clause-dedups g c =
     let R = g.J.PairTest.tests in

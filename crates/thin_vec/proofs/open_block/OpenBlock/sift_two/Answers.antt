@@ -1,5 +1,5 @@
 -- The clause `sifts` holds whether an item is removed or all items are kept. In both cases, fewer
--- items remain to be tested.
+-- items remain to be tested than before the call.
 use Rattle.std.proofs.Common.{◌∙◌, ap, arith, length, sym}
 use Rattle.std.proofs.lemmas.Bool.{false≢true}
 use Rattle.thin_vec.proofs.RetainLemmas.{advanced-count, advanced-ends, advanced-goes, none-left}

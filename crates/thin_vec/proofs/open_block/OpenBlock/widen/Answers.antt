@@ -33,7 +33,7 @@ open_gap-opened-requires-clause-filled g c = λ j low high.
     subst (λ b. IsSome (slot b.slots j)) (sym c.replace-block.ensures.value)
     (tail-filled c.self.inside (open_of c.self.inside) o j low (omega (arith, high, o.tail)))
 
--- The block that was put back is the old block with its tail items moved up.
+-- The block after the call is the old block with its tail items moved up.
 stored : (g : _) (c : goal.After-self-2-1 g)
     → let h = c.self.inside in
     seen c.replace-none.new.dest ≡ record (seen h.block) {
