@@ -76,7 +76,7 @@ module _ {T : Type 0} (test : T → Bool) where
 
   -- `Parts` describes one call of `next`, which tests the items of the list `xs` in order until one
   -- of them passes. The call yields this item as `item`, or yields `None`. The items `kept` were
-  -- tested before it, and the items `rest` were not tested.
+  -- tested but not yielded, and the items `rest` were not tested.
   pub record Parts (xs : List T) (item : Option T) (kept rest : List T) : Type 0 where
     pub gone : filter test xs ≡ option_to_list item ++ filter test rest
     pub stay : others xs ≡ kept ++ others rest

@@ -1,7 +1,6 @@
--- These lemmas state how contracts see an open block after each operation on it. An open block is
--- the block of a list during an edit. It holds front items, middle items and tail items, and there
--- may be gaps of empty slots between these three groups. In this file, `h` is an open block as it
--- is stored.
+-- An open block is the block of a list during an edit. It holds front items, middle items and tail
+-- items, with gaps of empty slots between these groups. These lemmas state how contracts see an
+-- open block `h` after each operation on it.
 use Rattle.std.proofs.Common.{◌≡◌, ℕ, suc, ◌+◌, ◌-◌, ◌<◌, ◌≤◌, List, [], ◌∷◌, ◌++◌, Option, Some, None, length, take, drop, refl, sym, ap, ◌∙◌, subst, arith, length-append, append_assoc}
 use Rattle.std.proofs.lemmas.List.{drop_at, get_or-append_right, get_or-replicate, get_or_append_left, get_or_at, length-drop, length-take, length-take-le, length_push, map_push, replicate-append-replicate, set_at, take_at}
 use Rattle.std.proofs.lemmas.List.Edits.{split_between}
@@ -83,7 +82,7 @@ module _ {T A : Type 0} where
   past_after v = full v.tail ++ past_tail v
 
   -- These are the slots of an open block after its middle items: the second gap, the tail items,
-  -- and the empty slots after the tail.
+  -- and the empty slots at the end.
   abbrev pub past_rest : Open T A → List (Option T)
   past_rest v = empty v.gap_after ++ past_after v
 

@@ -52,10 +52,9 @@ module _ {T : Type 0} where
       ∙ (set_at (take i s) (get_or s i None) (ys ++ rest) y i (length-take-le i s (omega arith))
       ∙ ap (λ (n : ℕ). take i s ++ (y ∷ (ys ++ drop n s))) past))
 
-  -- This is the invariant of a loop that moves the items `xs` into the slots `r`, from index
-  -- `start` onward, beginning with the last item. The items `left` are the first items of `xs`,
-  -- which have not been moved yet. The slots `s` are the slots `r` after the other items of `xs`
-  -- were moved.
+  -- This is the invariant of a loop that moves the items `xs` into the slots from index `start`
+  -- onward, beginning with the last item. The items `left` have not been moved yet. The moves of
+  -- the other items of `xs` have turned the slots `r` into the slots `s`.
   pub record IsMoving (xs left : List T) (start : ℕ) (r s : List (Option T)) : Type 0 where
     pub rest : List T
     pub parts : xs ≡ left ++ rest

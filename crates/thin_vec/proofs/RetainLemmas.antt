@@ -76,7 +76,7 @@ module _ {T : Type 0} where
   trues-append ((true, x) ∷ a) b = let e = trues-append a b in omega arith
   trues-append ((false, x) ∷ a) b = trues-append a b
 
-  -- If the tests keep all items and leave them as `xs`, then the kept items are `xs`.
+  -- If the tests keep all items and leave them as `xs`, then the list of the kept items is `xs`.
   pub left_at-stay : (xs : List T) → left_at true (stay xs) ≡ xs
   left_at-stay [] = refl
   left_at-stay (x ∷ xs) = ap (λ (l : List T). x ∷ l) (left_at-stay xs)
@@ -258,7 +258,8 @@ module _ {S T : Type 0} (R : S → T → Bool → S → T → Type 0) where
         length-append h.before (h.left ∷ h.after),
       )
 
-  -- If the tests keep all items of the list `xs`, then they leave a list `ys` of the same length.
+  -- If the tests keep all items of the list `xs`, then the list `ys` after the tests has the same
+  -- length.
   stay-count : (xs : List T) (s t : S) (ys : List T) → Asked R s xs (stay ys) t
       → length xs ≡ length ys
   stay-count [] s t [] h = refl

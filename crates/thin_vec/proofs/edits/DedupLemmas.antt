@@ -128,9 +128,8 @@ module _ {S T : Type 0} (R : OnPairs S T) where
 
   -- Section: runs of items that are all kept
 
-  -- The first item of the list `xs` is kept without a test. The next `m - 1` items were tested and
-  -- are all kept. `ys` is `xs` with these items as the tests left them. The tests led from the
-  -- state `s` of the closure to the state `t`.
+  -- The first `m` items of the list `xs` are kept. The first item was not tested, and each later
+  -- one was tested. The tests turned `xs` into `ys`, and the state `s` of the closure into `t`.
   pub record PairStays (m : ℕ) (s : S) (xs : List T) (t : S) (ys : List T) : Type 0 where
     pub first : T
     pub done : List T

@@ -22,7 +22,7 @@ use Rattle.thin_vec.proofs.edits.SpliceLemmas.{between-length, between-more, dra
 
 module _ {T A : Type 0} where
   -- `IsWide` holds if the open block `b` is the list `u` with a gap of `count` slots before the
-  -- item at index `at`. The items from this index onward were moved up to make the gap, unless
+  -- item at index `at`. To open this gap, the items from index `at` onward were moved up, unless
   -- `count` is 0.
   pub record IsWide (b : Open T A) (u : Thin T A) (at count : ℕ) : Type 0 where
     pub in_bounds : at ≤ length u.items

@@ -267,8 +267,8 @@ pub if-le : (b : Bool) (k n : ℕ) → k + (if b then 0 else n) ≤ k + n
 if-le true k n = omega arith
 if-le false k n = omega arith
 
--- Suppose that `k` clones replace a range of `r` items. The first `k1` clones are put in the places
--- of the old items, and the other `k2` clones need additional places.
+-- Suppose that `k` clones replace a range of `r` items. The first `k1` clones replace old items,
+-- and the other `k2` clones need additional slots.
 pub record IsParted (k r k1 k2 : ℕ) : Type 0 where
   -- `k1` is the smaller of the number of clones and the length of the range.
   pub first : k1 ≡ min k r

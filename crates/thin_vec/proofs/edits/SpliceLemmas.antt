@@ -106,9 +106,9 @@ module _ {S X : Type 0} (steps : S → Option X → S → Type 0) where
   yields-drawn s u xs o x is all =
       yields-more steps s all.0 u xs x all.1 (subst (λ r. steps all.0 r u) is all.2)
 
-  -- Suppose that `next` yielded `x` and then the items `xs`, and that `x ∷ xs` consists of the
-  -- items `held` and the item in the option `o`. Then `next` yielded `held` and the item in `o`. If
-  -- `o` is `None`, `next` yielded `held` and then returned `None`.
+  -- Suppose that a call of `next` yielded `x` and later calls yielded `xs`. If `x ∷ xs` consists of
+  -- the items `held` and the item in the option `o`, then all calls together yielded `held` and the
+  -- item in `o`. If `o` is `None`, they yielded `held` and then returned `None`.
   pub drawn-after : (s t u : S) (x : X) (xs held : List X) (o : Option X) → steps s (Some x) t
       → held ++ option_to_list o ≡ x ∷ xs
       → MatchOption o (YieldsThen steps t xs None u) (λ _. Yields steps t xs u)
