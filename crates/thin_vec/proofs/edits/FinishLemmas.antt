@@ -33,9 +33,9 @@ module _ {T A : Type 0} where
 
 module _ {S T A : Type 0} (steps : S → Option T → S → Type 0) (can : S → Type 0)
     (remaining : S → Count) where
-  -- `FillsGap v a s w f` holds if items of the iterator `s` filled the gap of the open block `v`,
-  -- which then became the block of the list `w` with the allocator `a`. `f` contains the rest of
-  -- the iterator and says whether it has ended.
+  -- `FillsGap v a s w f` holds if items of the iterator `s` were put into the gap of the open block
+  -- `v` until the gap was full or the iterator ended, and `v` then became the block of the list `w`
+  -- with the allocator `a`. `f` contains the rest of the iterator.
   abbrev pub FillsGap : Open T A → A → S → Thin T A → Filled S → Type 0
   FillsGap v a s w f =
       (by : IsFilledBy steps can remaining v.gap s f) × IsClosedWith v by.items a w
@@ -58,8 +58,8 @@ module _ {S T A : Type 0} {steps : S → Option T → S → Type 0} {can : S →
     {remaining : S → Count} where
   module _ {v : Open T A} {a : A} {s : S} {w : Thin T A} {f : Filled S}
       (p : FillsGap steps can remaining v a s w f) where
-    -- After the gap was filled, the length of the list is the number of front items plus the number
-    -- of tail items plus the number of placed items.
+    -- After items were put into the gap, the length of the list is the number of front items plus
+    -- the number of tail items plus the number of these items.
     pub filled-long : length w.items ≡ length v.front + length v.tail + length p.0.items
     filled-long = omega (arith, ap length p.1.items, between-length v p.0.items)
 
