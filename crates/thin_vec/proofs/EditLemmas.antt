@@ -1,5 +1,5 @@
--- Lemmas for callers of `dedup_by`, `dedup_by_key` and `extract_if`. Most of them are for closures
--- that change no item and whose result depends only on the items.
+-- These lemmas are for callers of `dedup_by`, `dedup_by_key` and `extract_if`. Most of them require
+-- that the closure changes no item, and that its result depends only on the items passed to it.
 use Rattle.std.proofs.Common.{◌≡◌, ◌+◌, ◌≤◌, Bool, true, false, List, [], ◌∷◌, ◌++◌, Option, None, Some, ap, append_assoc, arith, length, refl, sym, ◌∙◌}
 use Rattle.std.proofs.lemmas.Fn.{dedup_same}
 use Rattle.std.proofs.lemmas.List.{append-nil, length-append}
@@ -18,10 +18,11 @@ use Rattle.thin_vec.specs.declared.edits.holder.Holds.{Ghosts as HoldsGhosts}
 
 -- Section: `dedup_by` and `dedup_by_key`
 
--- in this module, R is the relation of a closure that compares two items (see specs/Edits/Dedup)
+-- In this module, `R` describes the calls of a closure that compares two items. For each call, `R`
+-- relates the arguments, the result, the new state of the closure, and both items after the call.
 module _ {S T : Type 0} (R : S → T → T → Bool → S → T → T → Type 0) where
-  -- Let the items xs follow the kept item k. If each of them was compared with the last item kept
-  -- before it, the kept items ys satisfy std's `DedupsFrom`.
+  -- Let the items `xs` follow the kept item `k`. If each item of `xs` was compared with the last
+  -- item kept before it, then std's `DedupsFrom` holds for `k`, `xs` and the kept items `ys`.
   dedups_from : (xs : List T) (s : S) (k : T) (stays : List Bool) (ys : List T) (t : S)
       → AskedLast R s k xs stays ys t → DedupsFrom R s k xs ys
   dedups_from [] s k stays ys t h = h.1
@@ -41,22 +42,24 @@ module _ {S T : Type 0} (R : S → T → T → Bool → S → T → T → Type 0
         ]) h.7,
   )
 
-  -- if each item of xs after the first was compared with the last item kept before it, the kept
-  -- items ys satisfy std's `DedupsAll`
+  -- If each item of the list `xs`, except the first, was compared with the last item kept before
+  -- it, then std's `DedupsAll` holds for `xs` and the kept items `ys`.
   dedups_all : (xs : List T) (s : S) (stays : List Bool) (ys : List T) (t : S)
       → AskedPairs R s xs stays ys t → DedupsAll R s xs ys
   dedups_all [] s stays ys t h = h.1
   dedups_all (x ∷ xs) s stays ys t h = dedups_from xs s x stays ys t h
 
-  -- If `dedup_by` or `dedup_by_key` reduced the list v to w, the items of v and w satisfy std's
-  -- `IsDeduped`. Std's proofs have lemmas about `IsDeduped` in `lemmas/Fn`.
+  -- If `dedup_by` or `dedup_by_key` turned the list `v` into the list `w`, then std's `IsDeduped`
+  -- holds for the items of `v` and `w`. Lemmas about `IsDeduped` are in the file `lemmas/Fn` of
+  -- std's proofs.
   pub deduped_deduped : {A : Type 0} (s : S) (v w : Thin T A) → IsDedupedBy R s v w
       → IsDeduped R s v.items w.items
   deduped_deduped s v w h =
       record { told = dedups_all v.items s h.1.stays w.items h.0 h.1.asked }
 
-  -- If the closure is stateless, changes no item, and returns `same x y` for an item x and the last
-  -- kept item y, then the items kept are `dedup same` of the old items.
+  -- Suppose that the closure changes neither an item nor its own state, and that it returns
+  -- `same x y` for an item `x` and the last kept item `y`. If `dedup_by` with this closure turned
+  -- the list `v` into the list `w`, then `w.items` is `dedup same v.items`.
   pub deduped_dedup : {A : Type 0} (same : T → T → Bool) {s : S} {v w : Thin T A}
       → ((x y : T) (b : Bool) (t : S) (x' y' : T) → R s x y b t x' y'
       → (b ≡ same x y) × (t ≡ s) × (x' ≡ x) × (y' ≡ y))
@@ -67,27 +70,27 @@ module _ {S T : Type 0} (R : S → T → T → Bool → S → T → T → Type 0
 -- Section: `extract_if`
 
 module _ {T : Type 0} (test : T → Bool) where
-  -- `others xs` are the items of xs for which the test is false
+  -- `others xs` is the list of the items of `xs` that do not pass `test`.
   abbrev pub others : List T → List T
   others xs = filter (λ x. not (test x)) xs
 
-  -- What one call of `next` does with the items xs, which were not tested before. It extracts
-  -- `item` (`None` if no item of xs passes the test), keeps the items `kept` in the list, and does
-  -- not test the items `rest`.
+  -- `Parts` describes one call of `next`, which tests the items of the list `xs` in order until one
+  -- of them passes. The call yields this item as `item`, or yields `None`. The items `kept` were
+  -- tested but not yielded, and the items `rest` were not tested.
   pub record Parts (xs : List T) (item : Option T) (kept rest : List T) : Type 0 where
     pub gone : filter test xs ≡ option_to_list item ++ filter test rest
     pub stay : others xs ≡ kept ++ others rest
     pub ended : item ≡ None → rest ≡ []
 
-  -- `None` is not equal to `Some x`
+  -- `None` is not equal to `Some x`.
   none-some : {x : T} → None ≡ Some x → ⊥
   none-some e = cc
 
   module _ {S : Type 0} (R : S → T → Bool → S → T → Type 0)
       (says : (s : S) (x : T) (b : Bool) (t : S) (y : T) → R s x b t y
       → (b ≡ test x) × (y ≡ x)) where
-    -- if `Parts` describes what a call of `next` does with xs, it also describes what a call of
-    -- `next` does with x followed by xs
+    -- This is the induction step of the lemma `parts`: if `parts` holds for the list `xs`, it also
+    -- holds for the list `x ∷ xs`.
     part : (x : T) (xs : List T) (item : Option T) (t u : S) (y : T) (kept rest : List T)
         (b : Bool) → b ≡ test x → y ≡ x
         → ((ks : List T) → ExtractsNext R u xs item t ks rest → Parts xs item ks rest)
@@ -113,8 +116,8 @@ module _ {T : Type 0} (test : T → Bool) where
           ended = then.ended;
         }
 
-    -- If the closure changes no item, and its result is that of a fixed test, then `Parts`
-    -- describes what one call of `next` does with the items xs, which were not tested before.
+    -- Let `xs` be the items that have not been tested before a call of `next`. If the closure
+    -- changes no item and always returns the result of `test`, then `Parts` describes this call.
     pub parts : (s : S) (xs : List T) (item : Option T) (t : S) (kept rest : List T)
         → ExtractsNext R s xs item t kept rest → Parts xs item kept rest
     parts s [] item t kept rest e = record {
@@ -127,12 +130,13 @@ module _ {T : Type 0} (test : T → Bool) where
         part x xs item t e.1 e.2 kept rest e.0 answer.0 answer.1
         (λ ks n. parts e.1 xs item t ks rest n) e.4
 
--- in this module, `test` is a test of one item, and every `ExtractIf` has the type that users get
+-- In this module, `test` is a predicate on items. Each `ExtractIf` has the type that the method
+-- `extract_if` returns.
 module _ {T F A G : Type 0} {g : Ghosts G}
     {h : HoldsGhosts (Holder (Extracting T F A)) (Extracting T F A)} (test : T → Bool) where
-  -- A loop appends each item that an `ExtractIf` yields to a sequence. When the loop began, the
-  -- `ExtractIf` was `start` and the sequence was `old`; now the `ExtractIf` is `now` and the
-  -- sequence is `held`.
+  -- This is the invariant of a loop that appends each item yielded by an `ExtractIf` to a list.
+  -- When the loop began, the `ExtractIf` was `start` and the list was `old`. Now the `ExtractIf` is
+  -- `now` and the list is `held`.
   pub record IsExtracting (start now : ExtractIf T F A G (Holder (Extracting T F A)) g h)
       (old held : List T) : Type 0 where
     pub gone : held ++ filter test (extract_rest now) ≡ old ++ filter test (extract_rest start)
@@ -143,7 +147,7 @@ module _ {T F A G : Type 0} {g : Ghosts G}
     pub count : length held + length (extract_rest now)
         ≤ length old + length (extract_rest start)
 
-  -- before any item is yielded, `IsExtracting` holds
+  -- `IsExtracting` holds at the start of the loop, before any item has been yielded.
   pub extract_start : (e : ExtractIf T F A G (Holder (Extracting T F A)) g h) (old : List T)
       → IsExtracting e e old old
   extract_start e old =
@@ -153,7 +157,7 @@ module _ {T F A G : Type 0} {g : Ghosts G}
       (says : (s : F) (x : T) (b : Bool) (t : F) (y : T) → R s x b t y
       → (b ≡ test x) × (y ≡ x)) where
     -- If `IsExtracting` holds and `next` yields an item, then `IsExtracting` holds again after this
-    -- item is appended to the sequence.
+    -- item is appended to the list.
     pub extract_step : {start now new : ExtractIf T F A G (Holder (Extracting T F A)) g h}
         {old held more : List T} {item : Option T} {x : T} → IsExtracting start now old held
         → ExtractSteps R now item new → item ≡ Some x → more ≡ held ++ x ∷ []
@@ -180,9 +184,9 @@ module _ {T F A G : Type 0} {g : Ghosts G}
           );
         }
 
-    -- If `IsExtracting` holds, and `next` returns `None`, then the items appended are exactly the
-    -- items of the range that pass the test. The list has all other items once the `ExtractIf` is
-    -- dropped.
+    -- If `IsExtracting` holds and `next` returns `None`, then the loop has appended exactly the
+    -- items of the range that pass the test. After the `ExtractIf` is dropped, the `ThinVec`
+    -- contains all other items.
     pub extract_end : {start now new : ExtractIf T F A G (Holder (Extracting T F A)) g h}
         {old held : List T} {item : Option T} → IsExtracting start now old held
         → ExtractSteps R now item new → item ≡ None

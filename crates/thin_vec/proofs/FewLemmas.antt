@@ -1,5 +1,5 @@
--- Lemmas for callers that know the item type. They state for how many items the capacity cannot
--- overflow, and how large a capacity the rule `Doubling` chooses.
+-- These lemmas are for callers that know the item type. They state how many items a list can hold
+-- without an overflow of its capacity, and how large a capacity the growth rule `Doubling` chooses.
 use Rattle.std.proofs.Common.{if◌then◌else◌, Bool, true, false, ◌≡◌, ℕ, zero, suc, ◌+◌, ◌-◌, ◌*◌, ◌^◌, ◌<◌, ◌≤◌, ap, arith, length, IfErr, Option, Result, Ok, Err, Some, None, inl, inr, refl, sym, ◌∙◌}
 use Rattle.std.specs.Borrow.{RattleType}
 use Rattle.std.specs.Align.{type_align}
@@ -15,26 +15,27 @@ use Rattle.thin_block.proofs.Outcomes.{some-same}
 use Rattle.thin_vec.specs.List.Capacity.{Reserves, TellsOverflowOf}
 use Rattle.thin_vec.specs.ThinVec.{IsCause, Thin}
 
--- if n and the size of an item in bytes are less than 2 ^ 31, the exact capacity for n items is n
+-- If `n` and the size of an item in bytes are less than `2 ^ 31`, then `exact_capacity` returns the
+-- capacity `n` for a new list with room for `n` items.
 pub exact-few : (R : RattleType) (n : ℕ) → n < 2 ^ 31 → type_size R < 2 ^ 31
     → exact_capacity R 0 n ≡ Some n
 exact-few R zero few small = exact-same R 0 0 (omega arith)
 exact-few R (suc n) few small =
     exact-fits R 0 (suc n) (omega arith) (small_fits R (suc n) few small)
 
--- anything follows from `None ≡ Some x`, which is never true
+-- Since `None` is never equal to `Some x`, anything follows from `None ≡ Some x`.
 none_some : {A B : Type 0} (x : A) → None ≡ Some x → B
 none_some x e = cc
 
--- If a capacity was chosen, and `cause` can be `CapacityOverflow` only if no capacity was chosen,
--- then `cause` is `OutOfMemory`.
+-- Suppose that `cause` can be `CapacityOverflow` only if no capacity could be chosen. If a capacity
+-- was chosen, then `cause` is `OutOfMemory`.
 cause-named : (named : Option ℕ) (n : ℕ) (cause : ThinVecError) → named ≡ Some n
     → IsCause named cause → cause ≡ OutOfMemory
 cause-named named n OutOfMemory here told = refl
 cause-named named n CapacityOverflow here told = none_some n (sym (told refl) ∙ here)
 
--- if a call needs the exact capacity for fewer than 2 ^ 31 items of fewer than 2 ^ 31 bytes each,
--- it can fail only with `OutOfMemory`
+-- Suppose that a call creates a list with room for exactly `n` items. If `n` and the size of an
+-- item in bytes are less than `2 ^ 31`, then the call can fail only with `OutOfMemory`.
 pub few_items : {X : Type 0} (R : RattleType) (n : ℕ) (result : Result X ThinVecError)
     → n < 2 ^ 31 → type_size R < 2 ^ 31 → TellsOverflowOf R n result
     → IfErr result (λ cause. cause ≡ OutOfMemory)
@@ -43,18 +44,20 @@ few_items R n (Err cause) few small told =
     cause-named (exact_capacity R 0 n) n cause (exact-few R n few small)
     (λ over. told.overflow.0 (ap Err over))
 
--- if m and n are below 2 ^ 31, then `if b then m else n` is below 2 ^ 31, whatever b is
+-- If `m` and `n` are less than `2 ^ 31`, then the number `if b then m else n` is also less than
+-- `2 ^ 31`.
 either_few : (b : Bool) (m n : ℕ) → m < 2 ^ 31 → n < 2 ^ 31 → (if b then m else n) < 2 ^ 31
 either_few true m n few less = few
 either_few false m n few less = less
 
--- `first s`, the first capacity that doubling chooses for items of s bytes, is below 2 ^ 31
+-- `first s` is the capacity that the growth rule `doubling` chooses for the first block of a list
+-- with items of `s` bytes. This capacity is less than `2 ^ 31`.
 first_few : (s : ℕ) → first s < 2 ^ 31
 unfolding first
 first_few s = either_few (nat_lt (2 ^ 61 - 1) s) 1 4 (omega arith) (omega arith)
 
--- if w is less than 2 ^ 30, and an item has fewer than 2 ^ 31 bytes, then the rule `doubling`
--- chooses a capacity for w items
+-- If a list needs room for `w` items, `w` is less than `2 ^ 30`, and the size of an item in bytes
+-- is less than `2 ^ 31`, then the growth rule `doubling` chooses a capacity without an overflow.
 pub doubling-few : (R : RattleType) (c w : ℕ) → w < 2 ^ 30 → type_size R < 2 ^ 31
     → (n : ℕ) × (ruled_capacity doubling R c w ≡ Some n)
 unfolding doubling fitting
@@ -69,9 +72,9 @@ doubling-few R c w few small = elim (cases_lt c w) [
   | inr enough ↦ (c, ruled-same doubling R c w enough)
 ]
 
--- Under the rule `doubling`, a call makes room in the list v for k more items. If v with these
--- items has fewer than 2 ^ 30 items, of fewer than 2 ^ 31 bytes each, the call can fail only with
--- `OutOfMemory`.
+-- Suppose that a call reserves room for `k` more items under the growth rule `doubling`. If the
+-- list then needs room for fewer than `2 ^ 30` items, and the size of an item in bytes is less than
+-- `2 ^ 31`, then the call can fail only with `OutOfMemory`.
 pub few_more : {X T A : Type 0} (R : RattleType) (k : ℕ) (v w : Thin T A)
     (result : Result X ThinVecError) → length v.items + k < 2 ^ 30 → type_size R < 2 ^ 31
     → Reserves doubling R k v w result → IfErr result (λ cause. cause ≡ OutOfMemory)
@@ -81,29 +84,30 @@ few_more R k v w (Err cause) few small told =
     cause-named (ruled_capacity doubling R v.capacity (length v.items + k)) named.0 cause named.1
     (λ over. told.overflow.0 (ap Err over))
 
--- m is n whenever `if b then Some m else None` equals `Some n`
+-- If the value `if b then Some m else None` is equal to `Some n`, then `m` is equal to `n`.
 named-by : (b : Bool) (m n : ℕ) → (if b then Some m else None) ≡ Some n → m ≡ n
 named-by true m n e = some-same e
 named-by false m n e = none_some n e
 
--- `if b then 1 else 4` is at most 4, whatever b is
+-- The number `if b then 1 else 4` is at most 4.
 either_most : (b : Bool) → (if b then 1 else 4) ≤ 4
 either_most true = omega arith
 either_most false = omega arith
 
--- `first s`, the first capacity that doubling chooses for items of s bytes, is at most 4
+-- `first s` is the capacity that the growth rule `doubling` chooses for the first block of a list
+-- with items of `s` bytes. This capacity is at most 4.
 first_most : (s : ℕ) → first s ≤ 4
 unfolding first
 first_most s = either_most (nat_lt (2 ^ 61 - 1) s)
 
--- if w exceeds the capacity c, then both `2 * c` and the first capacity that doubling chooses are
--- at most the larger of 4 and `2 * w`
+-- If `w` is greater than the old capacity `c`, then each capacity that the growth rule `doubling`
+-- may choose, `first s` or `2 * c`, is at most `max 4 (2 * w)`.
 twice-most : (b : Bool) (s c w : ℕ) → c < w → (if b then first s else 2 * c) ≤ max 4 (2 * w)
 twice-most true s c w more = omega (arith, first_most s)
 twice-most false s c w more = omega (arith, more)
 
--- if the capacity c is too small for w items, the capacity n that the rule `doubling` chooses is at
--- most the larger of 4 and 2 * w
+-- If the old capacity `c` is less than `w`, and the growth rule `doubling` chooses the capacity `n`
+-- for `w` items, then `n` is at most `max 4 (2 * w)`.
 pub doubling-most : (R : RattleType) (c w n : ℕ) → c < w → ruled_capacity doubling R c w ≡ Some n
     → n ≤ max 4 (2 * w)
 unfolding doubling fitting

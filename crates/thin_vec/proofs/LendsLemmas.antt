@@ -1,4 +1,5 @@
--- Lemmas about the items of a list after a write through a borrow of the list.
+-- These lemmas state which items a list contains after a write through a mutable borrow of its
+-- items.
 use Rattle.std.proofs.Common.{◌≡◌, ℕ, zero, suc, ◌-◌, ◌<◌, List, [], ◌∷◌, ◌++◌, length, Some, ap, arith, refl, sym, ◌∙◌}
 use Rattle.std.proofs.Math.Seq.{take-length}
 use lib.ListN.{set, length-set}
@@ -13,8 +14,9 @@ use Rattle.thin_vec.proofs.list.InsertRemoveLemmas.{full-set}
 use Rattle.thin_vec.proofs.ListLemmas.{IsWritten, Settled, settle-front, thin-room}
 
 module _ {T : Type 0} where
-  -- Writing ws over slots that hold xs, followed by k empty slots, replaces the first items of xs
-  -- by those of ws. Items of ws beyond the length of xs are ignored.
+  -- If the items `ws` are written over slots that hold the items `xs`, then `ws` replaces the first
+  -- items of `xs`. Items of `ws` beyond the length of `xs` are ignored. The `k` empty slots after
+  -- `xs` do not change.
   pub over-front : (xs : List T) (k : ℕ) (ws : List T) → over (full xs ++ empty k) 0 ws ≡ full
       (refill (length xs) xs ws) ++ empty k
   over-front [] zero ws = refl
@@ -23,8 +25,9 @@ module _ {T : Type 0} where
   over-front (x ∷ xs) k (w ∷ ws) = ap (λ l. Some w ∷ l) (over-front xs k ws)
 
 module _ {T A : Type 0} where
-  -- if ws is written over the first slots of a list's block, the new block b' is that of a list of
-  -- the same length, in which ws replaces the first items
+  -- If the items `ws` are written over the first items in the block `b` of a list, then the new
+  -- block `b'` is the block of a list of the same length. In this list, `ws` replaces the first
+  -- items.
   pub settle-over : {b : Block T A} {a : A} → IsThin b a → (b' : Block T A) (ws : List T)
       {k : Cost} → IsWritten b b' (over b.slots 0 ws) b.len k
       → Settled b' a (refill (length (items_in b.slots)) (items_in b.slots) ws) (length b.slots)
@@ -37,16 +40,16 @@ module _ {T A : Type 0} where
       ∙ ap (λ n. full (refill (length xs) xs ws) ++ empty (length b.slots - n)) (sym same)))
       (t.packed.len ∙ sym same) (omega (arith, same, thin-room b a t))
 
-  -- if ws is written over the slots of the block b, contracts see the list of b with ws written
-  -- over its items
+  -- If the items `ws` are written over the items in the block `b` of a list, then contracts see
+  -- `ws` written over the items of the list.
   pub view-with_items : (b : Block T A) (a : A) (ws : List T) → IsThin b a
       → thin_of (block_with_items b 0 ws) a ≡ with_items (thin_of b a) ws
   view-with_items b a ws t =
       let f = settle-over t (block_with_items b 0 ws) ws refl in
       λ i. record { items = f.items i; capacity = f.cap i; alloc = a; cost = b.cost }
 
-  -- if v is written into the slot of the item at index i, the new block b' is that of the list with
-  -- v in place of this item
+  -- If `v` is written into the slot of the item at index `i`, then the new block `b'` is the block
+  -- of a list in which `v` replaces this item.
   pub settle-set : {b : Block T A} {a : A} → IsThin b a → (b' : Block T A) (i : ℕ) (v : T)
       {k : Cost} → i < length (items_in b.slots) → IsWritten b b' (set b.slots i (Some v)) b.len k
       → Settled b' a (set (items_in b.slots) i v) (length b.slots)
@@ -59,8 +62,8 @@ module _ {T A : Type 0} where
       ∙ ap (λ n. full (set xs i v) ++ empty (length b.slots - n)) (sym same)))
       (t.packed.len ∙ sym same) (omega (arith, same, thin-room b a t))
 
-  -- writing w into the slot of the item at index i replaces this item by w in the list that
-  -- contracts see
+  -- If the item `w` is written into slot `i` of the block of a list, then contracts see the list
+  -- with `w` in place of its item at index `i`.
   pub view-with_item : (b : Block T A) (a : A) (i : ℕ) (w : T) → IsThin b a
       → i < length (items_in b.slots) → thin_of (block_with_item b i w)
       a ≡ with_item (thin_of b a) i w

@@ -1,5 +1,6 @@
--- The lemma modules. ThinVecLemmas and RetainLemmas are for this crate and for callers. UndoLemmas,
--- FewLemmas, SliceLemmas, TakenLemmas, CollectLemmas and EditLemmas are only for callers.
+-- This file lists the modules of lemmas. `ThinVecLemmas` and `RetainLemmas` are for this crate and
+-- for its callers. `UndoLemmas`, `FewLemmas`, `SliceLemmas`, `TakenLemmas`, `CollectLemmas` and
+-- `EditLemmas` are only for callers.
 mod ListLemmas
 pub mod ThinVecLemmas
 pub mod UndoLemmas

@@ -1,5 +1,5 @@
--- Lemmas about the contents of a list's block after each step on the block. The items of a list are
--- in the first slots of its block.
+-- These lemmas state what the block of a list contains after each operation on the block. The items
+-- of a list are in the first slots of its block, and all later slots are empty.
 use Rattle.std.proofs.Common.{◌≡◌, ◌≢◌, ℕ, zero, suc, ◌+◌, ◌-◌, ◌<◌, ◌≤◌, List, [], ◌∷◌, ◌++◌, length, take, drop, Option, Some, None, refl, sym, ap, ◌∙◌, arith, get_or, length-append, append_assoc}
 use Rattle.std.proofs.lemmas.List.{length-replicate, length-map, take-append-drop, replicate-append-replicate, set_at, get_or_append_left, get_or-map, map_push, append-nil, length-take-le, drop_more, length_push, get_or-set_other}
 use Rattle.std.proofs.Math.Seq.{drop-length, take-append_seam}
@@ -11,36 +11,38 @@ use Rattle.thin_block.specs.declared.block.Block.{Block}
 use Rattle.thin_block.specs.Cost.{Cost}
 use Rattle.thin_vec.specs.ThinVec.{IsThin, Thin, thin_of}
 
--- a row of k empty slots has the length k
+-- A list of `k` empty slots has the length `k`.
 pub length-empty : (T : Type 0) (k : ℕ) → length (empty {T = T} k) ≡ k
 length-empty T k = length-replicate {A = Option T} k None
 
 module _ {T : Type 0} where
-  -- empty slots hold no items
+  -- A list of empty slots contains no items.
   pub items-empty : (k : ℕ) → items_in {T = T} (replicate k None) ≡ []
   items-empty zero = refl
   items-empty (suc k) = items-empty k
 
-  -- the items in the row `full xs ++ s` are xs, followed by the items in the slots s
+  -- `full xs` is a list of slots that hold the items `xs`. The slots `full xs ++ s` contain the
+  -- items `xs`, followed by the items in the slots `s`.
   pub items-full : (xs : List T) (s : List (Option T)) → items_in (full xs ++ s) ≡ xs ++ items_in s
   items-full [] s = refl
   items-full (x ∷ xs) s = ap (λ (ys : List T). x ∷ ys) (items-full xs s)
 
-  -- the items in the row `full xs` are xs
+  -- The items in the slots `full xs` are the items `xs`.
   pub items-full-alone : (xs : List T) → items_in (full xs) ≡ xs
   items-full-alone [] = refl
   items-full-alone (x ∷ xs) = ap (λ (ys : List T). x ∷ ys) (items-full-alone xs)
 
-  -- the row `front xs c` holds the items xs in its first slots, and no other items
+  -- `front xs c` consists of slots that hold the items `xs`, followed by empty slots. Its items are
+  -- exactly `xs`.
   pub items-front : (xs : List T) (c : ℕ) → items_in (front xs c) ≡ xs
   items-front xs c = items-full xs (replicate (c - length xs) None)
       ∙ (ap (λ (ys : List T). xs ++ ys) (items-empty (c - length xs)) ∙ append-nil xs)
 
-  -- the row `full xs` has as many slots as xs has items
+  -- The list of slots `full xs` has the same length as the list of items `xs`.
   pub length-full : (xs : List T) → length (full xs) ≡ length xs
   length-full xs = length-map xs (λ (x : T). Some x)
 
-  -- if xs has at most c items, `front xs c` has c slots
+  -- If the list `xs` has at most `c` items, then `front xs c` has exactly `c` slots.
   pub length-front : (xs : List T) (c : ℕ) → length xs ≤ c → length (front xs c) ≡ c
   length-front xs c h =
       let e : List (Option T) = replicate (c - length xs) None in
@@ -51,20 +53,20 @@ module _ {T : Type 0} where
         length-replicate {A = Option T} (c - length xs) None,
       )
 
-  -- if the rows `full xs` and `full ys` are equal, the lists xs and ys are equal
+  -- If the slots `full xs` and `full ys` are equal, then the lists `xs` and `ys` are equal.
   pub full-same : (xs ys : List T) → full xs ≡ full ys → xs ≡ ys
   full-same xs ys e = sym (items-full-alone xs) ∙ (ap items_in e ∙ items-full-alone ys)
 
-  -- in the row `full xs ++ s`, slot i holds the item of xs at index i, for each i below the
-  -- length of xs
+  -- If `i` is less than the length of `xs`, then slot `i` of `full xs ++ s` holds the item at index
+  -- `i` of `xs`.
   pub slot-full : (xs : List T) (s : List (Option T)) (i : ℕ) (d : T) → i < length xs
       → slot (full xs ++ s) i ≡ Some (get_or xs i d)
   slot-full xs s i d h =
       let n : i < length (full xs) = omega (arith, length-full xs) in
       get_or_append_left (full xs) s None i n ∙ get_or-map (λ (x : T). Some x) xs i d None h
 
-  -- if the first of c slots hold xs and the other slots are empty, writing v into the first empty
-  -- slot appends v to the items
+  -- Suppose that a list of `c` slots begins with the items `xs`, and that its other slots are
+  -- empty. Writing `v` into the first empty slot appends `v` to the items.
   pub front-push : (xs : List T) (c : ℕ) (v : T) → length xs < c → set (front xs c) (length xs)
       (Some v) ≡ front (xs ++ v ∷ []) c
   front-push xs c v h =
@@ -78,8 +80,9 @@ module _ {T : Type 0} where
       (sym (map_push (λ (x : T). Some x) xs v))
       ∙ ap (λ (n : ℕ). full (xs ++ v ∷ []) ++ replicate n None) m)))
 
-  -- In a row that holds the items xs and then the slots s, let i be an index of xs. Emptying the
-  -- slot i leaves the items before i, an empty slot, the items after i, and the slots s.
+  -- Let `i` be less than the length of `xs`. If slot `i` of `full xs ++ s` is emptied, the new
+  -- slots are, in this order: the items before index `i`, one empty slot, the items after index
+  -- `i`, and the slots `s`.
   pub full-take : (xs : List T) (s : List (Option T)) (i : ℕ) (d : T) → i < length xs
       → set (full xs ++ s) i None ≡ full (take i xs) ++ (None ∷ (full (drop (suc i) xs) ++ s))
   full-take [] s i d h = absurd (omega arith)
@@ -87,8 +90,8 @@ module _ {T : Type 0} where
   full-take (x ∷ xs) s (suc i) d h = let l : i < length xs = omega arith in
       ap (λ (r : List (Option T)). Some x ∷ r) (full-take xs s i d l)
 
-  -- if the first of c slots hold xs followed by v, emptying the slot of v leaves xs in the first
-  -- slots
+  -- Suppose that a list of `c` slots begins with the items `xs` and then `v`, and that its other
+  -- slots are empty. Emptying the slot of `v` removes `v` from the items.
   pub front-pop : (xs : List T) (c : ℕ) (v : T) → length (xs ++ v ∷ []) ≤ c
       → set (front (xs ++ v ∷ []) c) (length xs) None ≡ front xs c
   front-pop xs c v h =
@@ -102,8 +105,8 @@ module _ {T : Type 0} where
       ∙ (set_at (full xs) (Some v) (replicate k None) None (length xs) (length-full xs)
       ∙ ap (λ (q : ℕ). full xs ++ replicate q None) m))
 
-  -- if xs has at most c items and c ≤ d, appending d - c empty slots to `front xs c` gives
-  -- `front xs d`
+  -- If the list `xs` has at most `c` items and `c ≤ d`, then appending `d - c` empty slots to
+  -- `front xs c` yields `front xs d`.
   pub front-grow : (xs : List T) (c d : ℕ) → length xs ≤ c → c ≤ d
       → front xs c ++ replicate (d - c) None ≡ front xs d
   front-grow xs c d h l =
@@ -113,29 +116,31 @@ module _ {T : Type 0} where
       (replicate-append-replicate (c - length xs) (d - c) None
       ∙ ap (λ (q : ℕ). replicate q None) m)
 
-  -- in the row `full xs ++ s`, slot i holds the item of xs at index i, for each i below the
-  -- length of xs
+  -- If `i` is less than the length of `xs`, then slot `i` of `full xs ++ s` holds the item at index
+  -- `i` of `xs`.
   pub slot-get : (xs : List T) (s : List (Option T)) (i : ℕ) → i < length xs
       → slot (full xs ++ s) i ≡ slice_get xs i
   slot-get [] s i h = absurd (omega arith)
   slot-get (x ∷ xs) s zero h = refl
   slot-get (x ∷ xs) s (suc i) h = slot-get xs s i (omega arith)
 
-  -- a list xs has an item at each index i that is less than its length
+  -- A list has an item at each index that is less than its length.
   pub get-some : (xs : List T) (i : ℕ) → i < length xs → IsSome (slice_get xs i)
   get-some [] i h = absurd (omega arith)
   get-some (x ∷ xs) zero h = refl
   get-some (x ∷ xs) (suc i) h = get-some xs i (omega arith)
 
 module _ {T A : Type 0} where
-  -- the block b is that of a list with the items xs, the capacity c and the allocator `a`
+  -- `Settled b a xs c` holds if `b` is the block of a list with the items `xs`, the capacity `c`
+  -- and the allocator `a`.
   pub record Settled (b : Block T A) (a : A) (xs : List T) (c : ℕ) : Type 0 where
     pub thin : IsThin b a
     pub items : items_in b.slots ≡ xs
     pub cap : length b.slots ≡ c
 
-  -- If the slots of b are `front xs c`, its stored length is that of xs, and its memory came from
-  -- `a`, then b is the block of a list with the items xs and the capacity c.
+  -- Suppose that the slots of the block `b` are `front xs c`, that its stored length is the length
+  -- of `xs`, and that its memory came from the allocator `a`. Then `b` is the block of a list with
+  -- the items `xs` and the capacity `c`.
   pub settled : (b : Block T A) (a : A) (xs : List T) (c : ℕ) → b.slots ≡ front xs c
       → b.len ≡ length xs → length xs ≤ c → IsFrom b.alloc a → Settled b a xs c
   settled b a xs c e n h f =
@@ -154,8 +159,8 @@ module _ {T A : Type 0} where
         cap = l;
       }
 
-  -- if the block b' has c slots, the items xs and the cost k, contracts see b' as the list v, but
-  -- with the capacity c, the items xs and the cost k
+  -- If the new block `b'` has `c` slots, the items `xs` and the cost `k`, then contracts see it as
+  -- the old list `v` with the new capacity `c`, the new items `xs` and the new cost `k`.
   pub thin_of-becomes : {w v : Thin T A} → w ≡ v → (b' : Block T A) {xs : List T} {c : ℕ} {k : Cost}
       → length b'.slots ≡ c → items_in b'.slots ≡ xs → b'.cost ≡ k
       → thin_of b' w.alloc ≡ record v { items = xs; capacity = c; cost = k }
@@ -166,47 +171,49 @@ module _ {T A : Type 0} where
     cost = cost i;
   }
 
-  -- if the block b' has the items xs and the cost k, and its number of slots is the old capacity,
-  -- contracts see b' as the list v, but with the items xs and the cost k
+  -- If the new block `b'` has the old number of slots, the items `xs` and the cost `k`, then
+  -- contracts see it as the old list `v` with the new items `xs` and the new cost `k`.
   pub thin_of-keeps : {w v : Thin T A} → w ≡ v → (b' : Block T A) {xs : List T} {k : Cost}
       → length b'.slots ≡ w.capacity → items_in b'.slots ≡ xs → b'.cost ≡ k
       → thin_of b' w.alloc ≡ record v { items = xs; cost = k }
   thin_of-keeps is b' slots items cost =
       thin_of-becomes is b' (slots ∙ ap (λ (u : Thin T A). u.capacity) is) items cost
 
-  -- the block of a list has at least as many slots as items
+  -- The number of items in the block of a list is at most the number of its slots.
   pub thin-room : (b : Block T A) (a : A) → IsThin b a → length (items_in b.slots) ≤ length b.slots
   thin-room b a t =
       let xs : List T = items_in b.slots in
       let e : List (Option T) = replicate (length b.slots - length xs) None in
       omega (arith, ap length t.packed.row, length-append (full xs) e, length-full xs)
 
-  -- if a list has n items, exactly the first n slots of its block are filled
+  -- If a list has `n` items, then the first `n` slots of its block are filled, and all other slots
+  -- are empty.
   pub thin-packed : (b : Block T A) (a : A) (n : ℕ) → IsThin b a
       → length (items_in b.slots) ≡ n → IsPacked b.slots n
   thin-packed b a n t long = record { row = t.packed.row; len = sym long }
 
-  -- if b' has the same allocator as b, and the memory of b came from `a`, then the memory of b'
-  -- came from `a` too
+  -- If the blocks `b` and `b'` have the same allocator, and the memory of `b` came from the
+  -- allocator `a`, then the memory of `b'` also came from `a`.
   pub from-same : (b b' : Block T A) (a : A) → IsFrom b.alloc a → b'.alloc ≡ b.alloc
       → IsFrom b'.alloc a
   from-same b b' a f e = λ x h. f x (sym e ∙ h)
 
-  -- `IsWritten b b' s n k`: the block b' is the block b, except that its slots are s, its stored
-  -- length is n and its cost is k
+  -- `IsWritten b b' s n k` holds if the block `b'` is the block `b` with the new slots `s`, the new
+  -- stored length `n` and the new cost `k`.
   abbrev pub IsWritten : Block T A → Block T A → List (Option T) → ℕ → Cost → Type 0
   IsWritten b b' s n k = seen b' ≡ record (seen b) { slots = s; len = n; cost = k }
 
-  -- If the slots of a list's block became `front xs c`, and its stored length became that of xs,
-  -- then the new block b' is that of a list with the items xs and the capacity c.
+  -- Suppose that the slots of a list's block became `front xs c`, and that the stored length became
+  -- the length of `xs`. Then the new block `b'` is the block of a list with the items `xs` and the
+  -- capacity `c`.
   pub settle-front : {b : Block T A} {a : A} → IsThin b a → (b' : Block T A) (xs : List T) (c : ℕ)
       {s : List (Option T)} {n : ℕ} {k : Cost} → IsWritten b b' s n k → s ≡ front xs c
       → n ≡ length xs → length xs ≤ c → Settled b' a xs c
   settle-front {b} {a} t b' xs c w e n h = settled b' a xs c (ap (λ v. v.slots) w ∙ e)
       (ap (λ v. v.len) w ∙ n) h (from-same b b' a t.from (ap (λ v. v.alloc) w))
 
-  -- if v was written into the slot after the last item, and the stored length was incremented, the
-  -- new block is that of the list with v appended
+  -- If `v` was written into the slot after the last item, and the stored length was incremented,
+  -- then the new block is the block of the list with `v` appended.
   pub settle-push : {b : Block T A} {a : A} → IsThin b a → (b' : Block T A) (v : T) (i : ℕ)
       {k : Cost} → i ≡ b.len → i < length b.slots
       → IsWritten b b' (set b.slots i (Some v)) (i + 1) k
@@ -221,8 +228,8 @@ module _ {T A : Type 0} where
       ∙ front-push xs c v l))
       (omega (arith, t.packed.len, length_push xs v)) (omega (arith, length_push xs v))
 
-  -- if slot j is the last filled slot of a list's block b and holds v, the items of the list
-  -- are its first j items, followed by v
+  -- If slot `j` is the last filled slot in the block of a list and holds `v`, then the list
+  -- consists of its first `j` items, followed by `v`.
   pub last-item : (b : Block T A) (a : A) (v : T) (j : ℕ) → IsThin b a → j + 1 ≡ b.len
       → slot b.slots j ≡ Some v → items_in b.slots ≡ take j (items_in b.slots) ++ v ∷ []
   last-item b a v j t o w =
@@ -240,8 +247,8 @@ module _ {T A : Type 0} where
       (drop_more xs j v l
       ∙ (ap (λ (r : List T). get_or xs j v ∷ r) z ∙ ap (λ (r : T). r ∷ []) (sym y)))
 
-  -- if the slot of the last item was emptied, and the stored length was decremented, the new block
-  -- is that of the list without its last item
+  -- If the slot of the last item was emptied, and the stored length was decremented, then the new
+  -- block is the block of the list without its last item.
   pub settle-pop : {b : Block T A} {a : A} → IsThin b a → (b' : Block T A) (v : T) (j : ℕ)
       {k : Cost} → j + 1 ≡ b.len → slot b.slots j ≡ Some v
       → IsWritten b b' (set b.slots j None) j k
@@ -260,21 +267,21 @@ module _ {T A : Type 0} where
       ∙ (ap (λ (q : ℕ). set (front (ys ++ v ∷ []) c) q None) (sym m) ∙ front-pop ys c v k))
       (sym m) (omega (arith, length_push ys v))
 
-  -- in the block of a list, slot i holds the item at index i, for each i below the number of
-  -- items
+  -- If `i` is less than the length of a list, then slot `i` of the block of the list holds the item
+  -- at index `i`.
   thin-slot : (b : Block T A) (a : A) (i : ℕ) → IsThin b a → i < length (items_in b.slots)
       → slot b.slots i ≡ slice_get (items_in b.slots) i
   thin-slot b a i t h =
       ap (λ (r : List (Option T)). slot r i) t.packed.row ∙ slot-get (items_in b.slots)
       (replicate (length b.slots - length (items_in b.slots)) None) i h
 
-  -- in the block of a list, each slot i below the number of items is filled
+  -- If `i` is less than the length of a list, then slot `i` of the block of the list is filled.
   pub thin-filled : (b : Block T A) (a : A) (i : ℕ) → IsThin b a → i < length (items_in b.slots)
       → IsSome (slot b.slots i)
   thin-filled b a i t h = rw (thin-slot b a i t h) (get-some (items_in b.slots) i h)
 
-  -- if the first slots of a list's block, up to the stored length, hold exactly the items xs, then
-  -- xs are the items of the list
+  -- If the first slots of a list's block, up to the stored length, hold exactly the items `xs`,
+  -- then `xs` are the items of the list.
   pub thin-run : (b : Block T A) (a : A) (xs : List T) (n : ℕ) → IsThin b a → n ≡ b.len
       → full xs ≡ slice_range b.slots 0 n → xs ≡ items_in b.slots
   thin-run b a xs n t len run =
@@ -284,13 +291,15 @@ module _ {T A : Type 0} where
       ∙ (ap (λ (k : ℕ). take k (front ys (length b.slots))) all ∙ take-append_seam (full ys)
       (empty (length b.slots - length ys)))))
 
-  -- if slot i of a list's block holds v, the item at index i is v
+  -- If slot `i` of the block of a list holds `v`, and `i` is less than the length of the list, then
+  -- the item at index `i` is `v`.
   pub thin-get : (b : Block T A) (a : A) (i : ℕ) (v : T) → IsThin b a
       → i < length (items_in b.slots) → slot b.slots i ≡ Some v
       → slice_get (items_in b.slots) i ≡ Some v
   thin-get b a i v t h e = sym (thin-slot b a i t h) ∙ e
 
-  -- if slot i of a list's block was emptied, the slot of each later item is still filled
+  -- If slot `i` of the block of a list is emptied, then the slot of each later item is still
+  -- filled.
   pub kept-filled : (b : Block T A) (a : A) (i j : ℕ) (s : List (Option T)) → IsThin b a → i < j
       → j < length (items_in b.slots) → s ≡ set b.slots i None → IsSome (slot s j)
   kept-filled b a i j s t n h e = let ne : j ≢ i = omega arith in

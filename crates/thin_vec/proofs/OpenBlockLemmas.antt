@@ -1,6 +1,6 @@
--- Lemmas about what a contract sees of an open block after each step. In this file, h is an open
--- block as it is stored: a block, and the indices at which the parts of the open block begin and
--- end.
+-- An open block is the block of a list during an edit. It holds front items, middle items and tail
+-- items, with gaps of empty slots between these groups. These lemmas state how contracts see an
+-- open block `h` after each operation on it.
 use Rattle.std.proofs.Common.{◌≡◌, ℕ, suc, ◌+◌, ◌-◌, ◌<◌, ◌≤◌, List, [], ◌∷◌, ◌++◌, Option, Some, None, length, take, drop, refl, sym, ap, ◌∙◌, subst, arith, length-append, append_assoc}
 use Rattle.std.proofs.lemmas.List.{drop_at, get_or-append_right, get_or-replicate, get_or_append_left, get_or_at, length-drop, length-take, length-take-le, length_push, map_push, replicate-append-replicate, set_at, take_at}
 use Rattle.std.proofs.lemmas.List.Edits.{split_between}
@@ -18,12 +18,12 @@ use Rattle.thin_vec.specs.declared.open_block.OpenBlock.TheInside.{Inside}
 use Rattle.thin_vec.proofs.list.InsertRemoveLemmas.{full-append}
 use Rattle.thin_vec.proofs.ListLemmas.{get-some, items-front, items-full-alone, length-empty, length-full, slot-get, thin-room}
 
--- a non-empty list xs consists of its first item x, followed by a list ys
+-- A non-empty list `xs` consists of its first item `x`, followed by a list `ys`.
 pub first-of : {X : Type 0} (xs : List X) → 0 < length xs → (x : X) × (ys : List X) × (xs ≡ x ∷ ys)
 first-of [] h = absurd (omega arith)
 first-of (x ∷ ys) h = (x, ys, refl)
 
--- a non-empty list xs consists of a list ys, followed by the last item of xs
+-- A non-empty list `xs` consists of a list `ys`, followed by the last item of `xs`.
 pub last-of : {X : Type 0} (xs : List X) → 0 < length xs → (ys : List X)
     × (x : X) × (xs ≡ ys ++ x ∷ [])
 last-of [] h = absurd (omega arith)
@@ -32,7 +32,7 @@ last-of (x ∷ z ∷ zs) h = let p = last-of (z ∷ zs) (omega arith) in
     (x ∷ p.0, p.1, ap (λ q. x ∷ q) p.2)
 
 module _ {T : Type 0} where
-  -- in the row `pre ++ (full xs ++ post)`, each slot of `full xs` holds an item
+  -- In the list of slots `pre ++ (full xs ++ post)`, each slot of the part `full xs` holds an item.
   pub slot-in-full : (pre : List (Option T)) (xs : List T) (post : List (Option T)) (j : ℕ)
       → length pre ≤ j → j < length pre + length xs → IsSome (slot (pre ++ (full xs ++ post)) j)
   slot-in-full pre xs post j low high =
@@ -40,7 +40,7 @@ module _ {T : Type 0} where
       ∙ slot-get xs post (j - length pre) (omega arith))
       (get-some xs (j - length pre) (omega arith))
 
-  -- in the row `pre ++ (empty k ++ post)`, each slot of `empty k` is empty
+  -- In the list of slots `pre ++ (empty k ++ post)`, each slot of the part `empty k` is empty.
   slot-in-empty : (pre : List (Option T)) (k : ℕ) (post : List (Option T)) (j : ℕ) → length pre ≤ j
       → j < length pre + k → slot (pre ++ (empty k ++ post)) j ≡ None
   slot-in-empty pre k post j low high =
@@ -49,59 +49,60 @@ module _ {T : Type 0} where
       ∙ (get_or_append_left (empty k) post None (j - length pre) (omega (arith, length-empty T k))
       ∙ get_or-replicate k (j - length pre) None None n)
 
-  -- g empty slots followed by one more are g + 1 empty slots
+  -- If `g` empty slots are followed by one more empty slot, there are `g + 1` empty slots.
   pub empty-more : (g : ℕ) (z : List (Option T)) → empty g ++ (None ∷ z) ≡ empty (g + 1) ++ z
   empty-more g z = sym (append_assoc (empty g) (None ∷ []) z) ∙ ap (λ (e : List (Option T)). e ++ z)
       (replicate-append-replicate g 1 None)
 
 module _ {T A : Type 0} where
-  -- h is an open block, and contracts see it as v
+  -- `Found h v` holds if `h` is a valid open block, and contracts see it as `v`.
   pub record Found (h : Inside T A) (v : Open T A) : Type 0 where
     pub lies : IsOpen h
     pub view : open_of h ≡ v
 
-  -- the slots of an open block before its middle run
+  -- These are the slots of an open block before its middle items: the front items and the first
+  -- gap.
   abbrev pub to_rest : Open T A → List (Option T)
   to_rest v = full v.front ++ empty v.gap
 
-  -- the slots of an open block up to the end of its middle run
+  -- These are the slots of an open block from the first slot to the last middle item.
   abbrev to_after : Open T A → List (Option T)
   to_after v = to_rest v ++ full v.rest
 
-  -- the slots of an open block before its tail
+  -- These are all slots of an open block before its tail items.
   abbrev to_tail : Open T A → List (Option T)
   to_tail v = to_after v ++ empty v.gap_after
 
-  -- the slots of an open block after its tail
+  -- These are the slots of an open block after its tail items. They are empty.
   abbrev pub past_tail : Open T A → List (Option T)
   past_tail v = empty (v.capacity - reach v)
 
-  -- the slots of an open block from the start of its tail on
+  -- These are the slots of an open block from the first tail item onward.
   abbrev pub past_after : Open T A → List (Option T)
   past_after v = full v.tail ++ past_tail v
 
-  -- the slots of an open block after its middle run
+  -- These are the slots of an open block after its middle items: the second gap, the tail items,
+  -- and the empty slots at the end.
   abbrev pub past_rest : Open T A → List (Option T)
   past_rest v = empty v.gap_after ++ past_after v
 
   module _ (h : Inside T A) (v : Open T A) (s : Shows h v) where
-    -- the slots of h are, in order: the slots before the middle run, the middle run, and the slots
-    -- after the middle run
+    -- The slots of `h` are, in this order: the slots before the middle items, the middle items, and
+    -- the slots after the middle items.
     pub by_rest : h.block.slots ≡ to_rest v ++ (full v.rest ++ past_rest v)
     by_rest = s.row ∙ sym
         (append_assoc (full v.front) (empty v.gap) (full v.rest ++ past_rest v))
 
-    -- the slots of h are the slots up to the end of the middle run, followed by the slots after the
-    -- middle run
+    -- The slots of `h` are the slots up to the last middle item, followed by the slots after it.
     by_after : h.block.slots ≡ to_after v ++ past_rest v
     by_after = by_rest ∙ sym (append_assoc (to_rest v) (full v.rest) (past_rest v))
 
-    -- the slots of h are the slots before the tail, followed by the slots from the start of the
-    -- tail on
+    -- The slots of `h` are the slots before the tail items, followed by the slots from the first
+    -- tail item onward.
     by_tail : h.block.slots ≡ to_tail v ++ past_after v
     by_tail = by_after ∙ sym (append_assoc (to_after v) (empty v.gap_after) (past_after v))
 
-    -- the number of slots before the middle run is `rest_start`
+    -- The number of slots before the middle items is `h.rest_start`.
     pub at_rest : length (to_rest v) ≡ h.rest_start
     at_rest = omega (
       arith,
@@ -112,7 +113,7 @@ module _ {T A : Type 0} where
       s.gap,
     )
 
-    -- the number of slots up to the end of the middle run is `rest_end`
+    -- The number of slots up to the last middle item is `h.rest_end`.
     at_after : length (to_after v) ≡ h.rest_end
     at_after = omega (
       arith,
@@ -122,7 +123,7 @@ module _ {T A : Type 0} where
       s.rest,
     )
 
-    -- the number of slots before the tail is `tail_start`
+    -- The number of slots before the tail items is `h.tail_start`.
     at_tail : length (to_tail v) ≡ h.tail_start
     at_tail = omega (
       arith,
@@ -132,11 +133,11 @@ module _ {T A : Type 0} where
       s.gap_after,
     )
 
-    -- the number of slots up to the end of the tail is `h.len`
+    -- The number of slots up to the last tail item is `h.len`.
     pub reached : reach v ≡ h.len
     reached = omega (arith, s.front, s.gap, s.rest, s.gap_after, s.tail)
 
-    -- the number of slots of h is the capacity of v
+    -- The number of slots of the open block `h` is the capacity that contracts see.
     shown-cap : length h.block.slots ≡ v.capacity
     shown-cap =
         omega (
@@ -152,7 +153,7 @@ module _ {T A : Type 0} where
           s.room,
         )
 
-    -- the items in the slots up to `front_end` are the front of v
+    -- The items in the slots before index `front_end` are the front items of `v`.
     shown-front : items_in (take h.front_end h.block.slots) ≡ v.front
     shown-front =
         ap items_in (ap (take h.front_end) s.row
@@ -160,7 +161,7 @@ module _ {T A : Type 0} where
         (length-full v.front ∙ s.front))
         ∙ items-full-alone v.front
 
-    -- the items in the slots `rest_start..rest_end` are the middle run of v
+    -- The items in the slots `rest_start..rest_end` are the middle items of `v`.
     shown-rest : items_in (slice_range h.block.slots h.rest_start h.rest_end) ≡ v.rest
     shown-rest =
         let count : length (full v.rest) ≡ h.rest_end - h.rest_start =
@@ -172,7 +173,7 @@ module _ {T A : Type 0} where
         ∙ take_at (full v.rest) (past_rest v) (h.rest_end - h.rest_start) count))
         ∙ items-full-alone v.rest
 
-    -- the items in the slots from `tail_start` on are the tail of v
+    -- The items in the slots from index `tail_start` onward are the tail items of `v`.
     shown-tail : items_in (drop h.tail_start h.block.slots) ≡ v.tail
     shown-tail =
         let some : length v.tail + (v.capacity - reach v) - length v.tail ≡ v.capacity - reach v =
@@ -182,8 +183,8 @@ module _ {T A : Type 0} where
         ∙ ap (λ (k : ℕ). full v.tail ++ empty k) (sym some)))
         ∙ items-front v.tail (length v.tail + (v.capacity - reach v))
 
-    -- if h and v agree on the slots and the indices (`Shows`), on the allocator and on the cost,
-    -- contracts see h as v
+    -- If `h` and `v` agree on the slots and the indices (`Shows`), on the allocator and on the
+    -- cost, then contracts see `h` as `v`.
     pub found : h.block.alloc ≡ v.alloc → h.block.cost ≡ v.cost → Found h v
     found alloc cost =
         let gap : h.rest_start - h.front_end ≡ v.gap = omega (arith, s.gap) in
@@ -202,21 +203,21 @@ module _ {T A : Type 0} where
         } in
         record { lies = subst (Shows h) (sym view) s; view = view }
 
-    -- each slot of the middle run is filled
+    -- Each slot in the range `rest_start..rest_end` is filled: it holds one of the middle items.
     pub rest-filled : (j : ℕ) → h.rest_start ≤ j → j < h.rest_end → IsSome (slot h.block.slots j)
     rest-filled j low high =
         rw (ap (λ (r : List (Option T)). slot r j) by_rest)
         (slot-in-full (to_rest v) v.rest (past_rest v) j (omega (arith, at_rest))
         (omega (arith, at_rest, s.rest)))
 
-    -- each slot of the tail is filled
+    -- Each slot in the range `tail_start..len` is filled: it holds one of the tail items.
     pub tail-filled : (j : ℕ) → h.tail_start ≤ j → j < h.len → IsSome (slot h.block.slots j)
     tail-filled j low high =
         rw (ap (λ (r : List (Option T)). slot r j) by_tail)
         (slot-in-full (to_tail v) v.tail (past_tail v) j (omega (arith, at_tail))
         (omega (arith, at_tail, s.tail)))
 
-    -- each slot between the front and the middle run is empty
+    -- Each slot between the front items and the middle items is empty.
     pub before-empty : (j : ℕ) → h.front_end ≤ j → j < h.rest_start → slot h.block.slots j ≡ None
     before-empty j low high =
         ap (λ (r : List (Option T)). slot r j) s.row
@@ -224,24 +225,23 @@ module _ {T A : Type 0} where
         (omega (arith, length-full v.front, s.front))
         (omega (arith, length-full v.front, s.front, s.gap))
 
-  -- if the slots `rest_start..rest_end` hold exactly the items xs, then xs are the items of the
-  -- middle run
+  -- If the slots `rest_start..rest_end` hold exactly the items `xs`, then `xs` are the middle
+  -- items.
   pub rest-run : (h : Inside T A) (xs : List T) → full xs
       ≡ slice_range h.block.slots h.rest_start h.rest_end
       → xs ≡ (open_of h).rest
   rest-run h xs e = sym (items-full-alone xs) ∙ ap items_in e
 
-  -- Section: steps. Each step has two definitions and a lemma. The first definition is the block
-  -- after the step. The second definition is an `Open`. The lemma says that contracts see the block
-  -- as this `Open`.
+  -- Section: steps. For each step, two definitions describe the open block after the step: as it is
+  -- stored, and as contracts see it. A lemma proves that the two descriptions agree.
 
   module _ (h : Inside T A) (o : IsOpen h) (b : Block T A)
       (some : 0 < length (open_of h).rest) where
-    -- what a contract sees of the block before the step
+    -- `v` is the open block before the step, as contracts see it.
     abbrev v : Open T A
     v = open_of h
 
-    -- the block after the first item of the middle run was removed
+    -- This is the open block after its first middle item was removed.
     abbrev pub first-left : Inside T A
     first-left = record {
       block = b;
@@ -252,8 +252,9 @@ module _ {T A : Type 0} where
       len = h.len;
     }
 
-    -- `first-seen ys` is what a contract sees of `first-left` if the items ys are left in the
-    -- middle run. The gap before the middle run has one more slot than in h.
+    -- `first-seen ys` is the open block as contracts see it after its first middle item was
+    -- removed. The list `ys` contains the remaining middle items, and the gap before them has one
+    -- more slot.
     abbrev pub first-seen : List T → Open T A
     first-seen ys = record {
       front = v.front;
@@ -266,8 +267,8 @@ module _ {T A : Type 0} where
       cost = v.cost;
     }
 
-    -- if the first slot of the middle run held x and was emptied, the middle run was x followed by
-    -- a list ys, and contracts see `first-left` as `first-seen ys`
+    -- If the slot of the first middle item held `x` and was emptied, then the middle items were
+    -- `x`, followed by a list `ys`. Contracts see the new open block as `first-seen ys`.
     pub first-step : (x : T) → slot h.block.slots h.rest_start ≡ Some x
         → seen b ≡ record (seen h.block) { slots = set h.block.slots h.rest_start None }
         → (ys : List T) × (v.rest ≡ x ∷ ys) × Found first-left (first-seen ys)
@@ -309,7 +310,7 @@ module _ {T A : Type 0} where
               (ap (λ (z : Seen T A). z.cost) now),
         )
 
-    -- the block after the last item of the middle run was removed
+    -- This is the open block after its last middle item was removed.
     abbrev pub last-left : Inside T A
     last-left = record {
       block = b;
@@ -320,8 +321,8 @@ module _ {T A : Type 0} where
       len = h.len;
     }
 
-    -- `last-seen ys` is what a contract sees of `last-left` if the items ys are left in the middle
-    -- run. The gap after the middle run has one more slot than in h.
+    -- `last-seen ys` is the open block as contracts see it after its last middle item was removed.
+    -- The list `ys` contains the remaining middle items, and the gap after them has one more slot.
     abbrev pub last-seen : List T → Open T A
     last-seen ys = record {
       front = v.front;
@@ -334,8 +335,8 @@ module _ {T A : Type 0} where
       cost = v.cost;
     }
 
-    -- if the last slot of the middle run held x and was emptied, the middle run was a list ys
-    -- followed by x, and contracts see `last-left` as `last-seen ys`
+    -- If the slot of the last middle item held `x` and was emptied, then the middle items were a
+    -- list `ys`, followed by `x`. Contracts see the new open block as `last-seen ys`.
     pub last-step : (x : T) → slot h.block.slots (h.rest_end - 1) ≡ Some x
         → seen b ≡ record (seen h.block) { slots = set h.block.slots (h.rest_end - 1) None }
         → (ys : List T) × (v.rest ≡ ys ++ x ∷ []) × Found last-left (last-seen ys)
@@ -393,10 +394,10 @@ module _ {T A : Type 0} where
               (ap (λ (z : Seen T A). z.cost) now),
         )
 
-  -- in this module, the two gaps around an empty middle run become one gap, and an open block
-  -- without a gap before the tail is closed
+  -- This module is about two steps. If there are no middle items, the two gaps around them are
+  -- joined. If there is no gap before the tail items, the open block can be closed.
   module _ (h : Inside T A) (o : IsOpen h) where
-    -- the open block h with both gaps joined into one gap, directly after the front
+    -- This is the open block `h` after its two gaps were joined into one gap after the front items.
     abbrev pub joined : Inside T A
     joined = record {
       block = h.block;
@@ -407,8 +408,8 @@ module _ {T A : Type 0} where
       len = h.len;
     }
 
-    -- What a contract sees of `joined`. Its first gap has the slots of both gaps of h, and its
-    -- second gap has no slot.
+    -- `joined-seen` is the open block `joined` as contracts see it. Its first gap contains the
+    -- slots of both gaps of `h`, and its second gap is empty.
     abbrev pub joined-seen : Open T A
     joined-seen = let w : Open T A = open_of h in
         record {
@@ -422,7 +423,7 @@ module _ {T A : Type 0} where
           cost = w.cost;
         }
 
-    -- if the middle run is empty, contracts see `joined` as `joined-seen`
+    -- If there are no middle items, contracts see the open block `joined` as `joined-seen`.
     pub join-step : (open_of h).rest ≡ [] → Found joined joined-seen
     join-step none =
         let w : Open T A = open_of h in
@@ -449,12 +450,12 @@ module _ {T A : Type 0} where
         } in
         found joined joined-seen shows refl refl
 
-    -- the items of the middle run and of the tail, in order
+    -- These are the middle items, followed by the tail items.
     abbrev all-after : List T
     all-after = (open_of h).rest ++ (open_of h).tail
 
-    -- if there is no gap before the tail, the slots are, in order: the front, the gap before the
-    -- middle run, the middle run directly followed by the tail, and the empty slots after the tail
+    -- If there is no gap before the tail items, then the slots are, in this order: the front items,
+    -- the gap, the middle items, the tail items, and the empty slots at the end.
     side-by-side : (open_of h).gap_after ≡ 0 → h.block.slots ≡ full (open_of h).front
         ++ (empty (open_of h).gap ++ (full all-after ++ past_tail (open_of h)))
     side-by-side none =
@@ -465,14 +466,14 @@ module _ {T A : Type 0} where
         (sym (append_assoc (full w.rest) (full w.tail) (past_tail w))
         ∙ ap (λ (r : List (Option T)). r ++ past_tail w) (sym (full-append w.rest w.tail))))
 
-    -- if there is no gap before the tail, `len - rest_start` is the number of items in the middle
-    -- run and the tail together
+    -- If there is no gap before the tail items, then `len - rest_start` is the number of middle
+    -- items and tail items together.
     count-after : (open_of h).gap_after ≡ 0 → length all-after ≡ h.len - h.rest_start
     count-after none =
         omega (arith, length-append (open_of h).rest (open_of h).tail, o.rest, o.gap_after, o.tail)
 
-    -- if there is no gap before the tail, each slot from the start of the middle run to the end of
-    -- the tail is filled
+    -- If there is no gap before the tail items, then each slot from the first middle item to the
+    -- last tail item is filled.
     pub after-filled : (open_of h).gap_after ≡ 0 → (j : ℕ) → h.rest_start ≤ j → j < h.len
         → IsSome (slot h.block.slots j)
     after-filled none j low high =
@@ -485,13 +486,13 @@ module _ {T A : Type 0} where
         (slot-in-full pre all-after (past_tail w) j (omega (arith, start))
         (omega (arith, start, count-after none)))
 
-    -- the number of all items is the number of items in the front, plus the number of items in the
-    -- middle run and the tail
+    -- The number of all items is the number of front items, plus the number of middle items and
+    -- tail items together.
     count-all : length (items_of (open_of h)) ≡ h.front_end + length all-after
     count-all = omega (arith, length-append (open_of h).front all-after, o.front)
 
-    -- if there is no gap before the tail, moving the middle run and the tail to the slots directly
-    -- after the front packs all items into the first slots
+    -- Suppose that there is no gap before the tail items. If the middle items and the tail items
+    -- are moved to the slots directly after the front items, then all items are in the first slots.
     pub close-row : (open_of h).gap_after ≡ 0
         → moved h.rest_start h.front_end (h.len - h.rest_start) h.block.slots ≡ front
         (items_of (open_of h)) (length h.block.slots)
@@ -521,7 +522,7 @@ module _ {T A : Type 0} where
         (replicate-append-replicate w.gap (w.capacity - reach w) None
         ∙ ap (λ (k : ℕ). empty k) left))))
 
-    -- if an open block has no gap, all its items are in the first slots
+    -- If an open block has no gap between its items, then all its items are in the first slots.
     pub closed-row : (open_of h).gap_after ≡ 0 → h.front_end ≡ h.rest_start
         → h.block.slots ≡ front (items_of (open_of h)) (length h.block.slots)
     closed-row none here =
@@ -545,12 +546,12 @@ module _ {T A : Type 0} where
         ∙ (ap (λ (r : List (Option T)). r ++ past_tail w) (sym (full-append w.front all-after))
         ∙ ap (λ (k : ℕ). full (items_of w) ++ empty k) left)))
 
-  -- in this module, the block b of a list is opened, with the items from `start` up to `end` as the
-  -- middle run
+  -- In this module, the block `b` of a list becomes an open block. The items `start..end` of the
+  -- list become its middle items.
   module _ (b : Block T A) (a : A) (start end : ℕ) (t : IsThin b a) (order : start ≤ end)
       (within : end ≤ length (items_in b.slots)) where
-    -- `opened len` is the block b, opened: the items from `start` up to `end` are the middle run,
-    -- and there is no gap
+    -- `opened len` is the block `b` as an open block: the items `start..end` are its middle items,
+    -- and there are no gaps.
     abbrev pub opened : ℕ → Inside T A
     opened len =
         record {
@@ -562,7 +563,7 @@ module _ {T A : Type 0} where
           len = len;
         }
 
-    -- what a contract sees of `opened len`
+    -- `opened-seen` is the open block `opened len` as contracts see it.
     abbrev pub opened-seen : Open T A
     opened-seen = let xs : List T = items_in b.slots in
         record {
@@ -576,7 +577,7 @@ module _ {T A : Type 0} where
           cost = b.cost;
         }
 
-    -- if `len` is the number of items, contracts see `opened len` as `opened-seen`
+    -- If `len` is the number of items, contracts see the open block `opened len` as `opened-seen`.
     pub open-step : (len : ℕ) → len ≡ length (items_in b.slots) → Found (opened len) opened-seen
     open-step len all =
         let xs : List T = items_in b.slots in
@@ -610,11 +611,11 @@ module _ {T A : Type 0} where
               omega (arith, all, thin-room b a t);
         }) refl refl
 
-  -- in this module, the items xs are written into the gap after the front; `end` is the index of
-  -- the slot after the last of these items
+  -- In this module, the items `xs` are written into the gap after the front items. `end` is the
+  -- index of the slot after the last of the written items.
   module _ (h : Inside T A) (o : IsOpen h) (b : Block T A) (xs : List T) (end : ℕ)
       (ends : end ≡ h.front_end + length xs) (fits : end ≤ h.rest_start) where
-    -- the open block after the new items were written into the gap
+    -- This is the open block after the new items were written into the gap.
     abbrev pub filled : Inside T A
     filled =
         record {
@@ -626,8 +627,8 @@ module _ {T A : Type 0} where
           len = h.len;
         }
 
-    -- What a contract sees of `filled`. The front ends with the new items, and the gap after the
-    -- front is shorter by the number of these items.
+    -- `filled-seen` is the open block `filled` as contracts see it. The new items have become the
+    -- last front items, and the gap after them is shorter by their number.
     abbrev pub filled-seen : Open T A
     filled-seen =
         let v : Open T A = open_of h in
@@ -642,8 +643,8 @@ module _ {T A : Type 0} where
           cost = b.cost;
         }
 
-    -- if the items xs were written into the slots from the end of the front on, contracts see
-    -- `filled` as `filled-seen`
+    -- If the items `xs` were written into the slots directly after the front items, then contracts
+    -- see the open block `filled` as `filled-seen`.
     pub fill-step : b.slots ≡ laid h.front_end (full xs) h.block.slots → Found filled filled-seen
     fill-step now =
         let v : Open T A = open_of h in
@@ -686,11 +687,11 @@ module _ {T A : Type 0} where
         } in
         found filled filled-seen shows refl refl
 
-  -- in this module, the tail of h is moved up by `count` slots; before the move, at least `count`
-  -- empty slots follow the tail
+  -- In this module, the tail items of `h` are moved up by `count` slots. Before the move, at least
+  -- `count` empty slots follow the tail items.
   module _ (h : Inside T A) (o : IsOpen h) (b : Block T A) (count : ℕ)
       (room : h.len + count ≤ (open_of h).capacity) where
-    -- the block after the tail was moved
+    -- This is the open block after the tail items were moved up.
     abbrev pub widened : Inside T A
     widened = record {
       block = b;
@@ -701,7 +702,8 @@ module _ {T A : Type 0} where
       len = h.len + count;
     }
 
-    -- what a contract sees of `widened`: the gap before the tail has `count` more slots than in h
+    -- `widened-seen` is the open block `widened` as contracts see it. The gap before the tail items
+    -- has `count` more slots than before.
     abbrev pub widened-seen : Open T A
     widened-seen =
         let v : Open T A = open_of h in
@@ -716,8 +718,8 @@ module _ {T A : Type 0} where
           cost = b.cost;
         }
 
-    -- the slots of h are, in order: the slots before the tail, the tail, `count` empty slots, and
-    -- further empty slots
+    -- The slots of `h` are, in this order: the slots before the tail items, the tail items, `count`
+    -- empty slots, and further empty slots.
     spare : h.block.slots ≡ to_tail (open_of h)
         ++ (full (open_of h).tail
         ++ (empty count ++ empty ((open_of h).capacity - reach (open_of h) - count)))
@@ -729,7 +731,7 @@ module _ {T A : Type 0} where
         (ap (λ (k : ℕ). empty k) (sym all)
         ∙ sym (replicate-append-replicate count (v.capacity - reach v - count) None))
 
-    -- the first `count` slots after the tail are empty
+    -- The first `count` slots after the tail items are empty.
     pub spare-empty : (j : ℕ) → h.len ≤ j → j < h.len + count → slot h.block.slots j ≡ None
     spare-empty j low high =
         let v : Open T A = open_of h in
@@ -747,7 +749,8 @@ module _ {T A : Type 0} where
         (spare ∙ sym (append_assoc (to_tail v) (full v.tail) (empty count ++ end)))
         ∙ slot-in-empty before count end j (omega (arith, long)) (omega (arith, long))
 
-    -- if the slots of the tail were moved up by `count`, contracts see `widened` as `widened-seen`
+    -- If the slots of the tail items were moved up by `count` slots, then contracts see the open
+    -- block `widened` as `widened-seen`.
     pub widen-step : b.slots ≡ moved h.tail_start (h.tail_start + count)
         (h.len - h.tail_start) h.block.slots
         → Found widened widened-seen

@@ -1,5 +1,6 @@
--- Lemmas about the number of items that are put into slots from an iterator, and about a block
--- while the items of a `Vec` are moved into its slots, the last item first.
+-- These lemmas bound the number of items that are put into slots from an iterator. They also state
+-- what a block contains while the items of a `Vec` are moved into its slots, beginning with the
+-- last item.
 use Rattle.std.proofs.Common.{◌≡◌, ℕ, ◌+◌, ◌<◌, ◌≤◌, List, [], ◌∷◌, ◌++◌, length, take, drop, Option, Some, None, sym, ap, ◌∙◌, append_assoc, arith, get_or, length-append}
 use Rattle.std.proofs.lemmas.List.{append-nil, length-take-le, length_push, set_at, take_more}
 use lib.ListN.{set}
@@ -12,7 +13,8 @@ use Rattle.thin_vec.specs.declared.put.Filled.{Filled}
 
 module _ {S X : Type 0} {steps : S → Option X → S → Type 0} {can : S → Type 0}
     {remaining : S → Count} {s : S} {f : Filled S} where
-  -- if `room` slots were filled from an iterator, at most `room` items were placed in them
+  -- If items of an iterator were put into `room` empty slots, at most `room` items were put
+  -- there.
   pub filled-fits : {room : ℕ} (by : IsFilledBy steps can remaining room s f)
       → length by.items ≤ room
   filled-fits {room} by = go f.ended by.full by.short
@@ -22,7 +24,7 @@ module _ {S X : Type 0} {steps : S → Option X → S → Type 0} {can : S → T
       go true full short = omega (arith, short refl)
       go false full short = omega (arith, full refl)
 
-  -- if m equals n, and `IsFilledBy` holds for m slots, then it holds for n slots
+  -- If `m` equals `n`, and `IsFilledBy` holds for `m` slots, then it also holds for `n` slots.
   abbrev pub filled-room : {m n : ℕ} → m ≡ n → IsFilledBy steps can remaining m s f
       → IsFilledBy steps can remaining n s f
   filled-room same by = record {
@@ -35,8 +37,8 @@ module _ {S X : Type 0} {steps : S → Option X → S → Type 0} {can : S → T
   }
 
 module _ {T : Type 0} where
-  -- writing ys into a row from slot i + 1 on, and then y into slot i, is the same as
-  -- writing y followed by ys from slot i on
+  -- Writing the slots `ys` from index `i + 1` onward and then the slot `y` at index `i` is the same
+  -- as writing the slots `y ∷ ys` from index `i` onward.
   laid-before : (i k : ℕ) (y : Option T) (ys s : List (Option T)) → k ≡ i + 1 → i < length s
       → set (laid k ys s) i y ≡ laid i (y ∷ ys) s
   laid-before i k y ys s next low =
@@ -50,16 +52,16 @@ module _ {T : Type 0} where
       ∙ (set_at (take i s) (get_or s i None) (ys ++ rest) y i (length-take-le i s (omega arith))
       ∙ ap (λ (n : ℕ). take i s ++ (y ∷ (ys ++ drop n s))) past))
 
-  -- The items xs are being moved into the slots of the row r, from the slot `start` on, the last
-  -- item first. `left` are the first items of xs, which were not moved yet. The row s is r with the
-  -- moved items in their slots.
+  -- This is the invariant of a loop that moves the items `xs` into the slots from index `start`
+  -- onward, beginning with the last item. The items `left` have not been moved yet. The moves of
+  -- the other items of `xs` have turned the slots `r` into the slots `s`.
   pub record IsMoving (xs left : List T) (start : ℕ) (r s : List (Option T)) : Type 0 where
     pub rest : List T
     pub parts : xs ≡ left ++ rest
     pub row : s ≡ laid (start + length left) (full rest) r
 
-  -- before any item is moved, `IsMoving` holds: all items of xs are left to move, and the row s is
-  -- unchanged
+  -- `IsMoving` holds before the first item is moved: no item of `xs` has been moved, and the slots
+  -- are unchanged.
   pub moving-first : (xs : List T) (start : ℕ) (s : List (Option T)) → IsMoving xs xs start s s
   moving-first xs start s =
       record {
@@ -68,8 +70,8 @@ module _ {T : Type 0} where
         row = sym (laid-none (start + length xs) s);
       }
 
-  -- If v is the last of the items left to move, and is moved into its slot i, then `IsMoving` holds
-  -- again, with the items `left` before v still left to move.
+  -- Let `v` be the last of the items that have not been moved yet. If `v` is moved into its slot,
+  -- then `IsMoving` holds again, and only the items `left` before `v` have not been moved yet.
   pub moving-next : {xs : List T} (left : List T) {start : ℕ} (i : ℕ) (v : T)
       {r s : List (Option T)} → IsMoving xs (left ++ v ∷ []) start r s → i ≡ start + length left
       → start + length xs ≤ length r → IsMoving xs left start r (set s i (Some v))

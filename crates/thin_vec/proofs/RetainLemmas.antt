@@ -1,7 +1,6 @@
--- Lemmas about which items stay after a closure tested them, and about how the results of
--- consecutive tests combine. Throughout, R is the relation of the closure (as in
--- specs/Edits/Retain), and s, t and u are states of the closure. An item is tested when the closure
--- is called with it.
+-- These lemmas state which items are kept after a closure tested them, and how the results of
+-- consecutive tests combine. In this file, `R` describes the calls of the closure, and `s`, `t` and
+-- `u` are states of the closure. An item is tested if the closure is called with it.
 use Rattle.std.proofs.Common.{◌≡◌, ℕ, zero, suc, ◌+◌, ◌<◌, ◌≤◌, Bool, true, false, List, [], ◌∷◌, ◌++◌, length, take, drop, refl, sym, ap, subst, ◌∙◌, arith, length-append, append_assoc}
 use Rattle.std.proofs.lemmas.Bool.{ne_eqb}
 use Rattle.std.proofs.lemmas.List.{append-nil, drop_at, length-drop, length-take-le, map-append, map_push, nil_from_length, take-append-drop, take_at}
@@ -15,89 +14,92 @@ use Rattle.thin_vec.specs.Open.{Open}
 use Rattle.thin_vec.specs.ThinVec.{Thin}
 use Rattle.thin_vec.specs.OpenBlock.Sift.{Advances, IsAskedAt, IsSifted, AskedUpTo, Sifts, Stops}
 
--- adding b moves and then `a` moves to a cost is the same as adding b + a moves
+-- Adding `b` moves and then `a` moves to a cost is the same as adding `b + a` moves.
 pub moving-more : (a b : ℕ) (c : Cost) → moving a (moving b c) ≡ moving (b + a) c
 moving-more a b c = let e : c.moves + b + a ≡ c.moves + (b + a) = omega arith in
     λ i. record { blocks = c.blocks; grown = c.grown; moves = e i }
 
--- zero moves do not change a cost
+-- Adding zero moves to a cost does not change it.
 pub moving-none : (c : Cost) → moving 0 c ≡ c
 moving-none c = let e : c.moves + 0 ≡ c.moves = omega arith in
     λ i. record { blocks = c.blocks; grown = c.grown; moves = e i }
 
--- if there is a gap, moving k items over the gap costs k moves
+-- If there is a gap of empty slots, then moving `k` items across the gap costs `k` moves.
 pub moving-after : (gap k : ℕ) (c : Cost) → 0 < gap
     → (if gap == 0 then c else moving k c) ≡ moving k c
 moving-after gap k c some =
     ap (λ (b : Bool). if b then c else moving k c)
     (ne_eqb gap 0 (λ (e : gap ≡ 0). omega (arith, e)))
 
--- if there is no gap, k items stay in their slots, and the cost does not change
+-- If there is no gap of empty slots, then `k` items need not be moved, and the cost does not
+-- change.
 pub moving-before : (gap k : ℕ) (c : Cost) → (0 < gap → ⊥)
     → (if gap == 0 then c else moving k c) ≡ c
 moving-before zero k c none = refl
 moving-before (suc gap) k c none = absurd (none (omega arith))
 
--- if the lists `x ∷ xs` and `y ∷ ys` are equal, then their first items x and y are equal
+-- If the lists `x ∷ xs` and `y ∷ ys` are equal, then their first items `x` and `y` are equal.
 pub cons-head : {X : Type 0} {x y : X} {xs ys : List X} → x ∷ xs ≡ y ∷ ys → x ≡ y
 cons-head e = cc
 
--- if the lists `x ∷ xs` and `y ∷ ys` are equal, then xs and ys are equal
+-- If the lists `x ∷ xs` and `y ∷ ys` are equal, then the lists `xs` and `ys` are equal.
 pub cons-tail : {X : Type 0} {x y : X} {xs ys : List X} → x ∷ xs ≡ y ∷ ys → xs ≡ ys
 cons-tail e = ap (drop 1) e
 
--- a list that begins with an item is not empty
+-- A list that begins with an item is not empty.
 pub cons-not-nil : {X : Type 0} {x : X} {xs : List X} → x ∷ xs ≡ [] → ⊥
 cons-not-nil e = let n = ap length e in omega (arith, n)
 
--- a list of length 1 consists of one item
+-- A list of length 1 consists of a single item.
 pub single : {X : Type 0} (xs : List X) → length xs ≡ 1 → (x : X) × (xs ≡ x ∷ [])
 single [] e = absurd (omega (arith, e))
 single (x ∷ []) e = (x, refl)
 single (x ∷ y ∷ xs) e = absurd (omega (arith, e))
 
--- a list whose length is not positive is empty
+-- A list whose length is not greater than 0 is empty.
 pub none-left : {X : Type 0} (xs : List X) → (0 < length xs → ⊥) → xs ≡ []
 none-left [] none = refl
 none-left (x ∷ xs) none = absurd (none (omega arith))
 
 module _ {T : Type 0} where
-  -- the verdicts `a ++ b` keep the items that a keeps, followed by the items that b keeps
+  -- The test results `a ++ b` keep the items that `a` keeps, followed by the items that `b` keeps.
   pub left_at-append : (a b : Verdicts T) → left_at true (a ++ b) ≡ left_at true a ++ left_at true b
   left_at-append [] b = refl
   left_at-append ((true, x) ∷ a) b = ap (λ (l : List T). x ∷ l) (left_at-append a b)
   left_at-append ((false, x) ∷ a) b = left_at-append a b
 
-  -- the number of items that the verdicts `a ++ b` keep is the sum of the numbers for a and for b
+  -- The number of items that the test results `a ++ b` keep is the sum of the numbers for `a` and
+  -- `b`.
   pub trues-append : (a b : Verdicts T) → trues (flags_of (a ++ b)) ≡ trues
       (flags_of a) + trues (flags_of b)
   trues-append [] b = omega arith
   trues-append ((true, x) ∷ a) b = let e = trues-append a b in omega arith
   trues-append ((false, x) ∷ a) b = trues-append a b
 
-  -- if all items of xs stay, the items left are xs
+  -- If the tests keep all items and leave them as `xs`, then the list of the kept items is `xs`.
   pub left_at-stay : (xs : List T) → left_at true (stay xs) ≡ xs
   left_at-stay [] = refl
   left_at-stay (x ∷ xs) = ap (λ (l : List T). x ∷ l) (left_at-stay xs)
 
-  -- if all items of xs stay, the number of items that stay is the length of xs
+  -- If the tests keep all items of `xs`, then the number of kept items is the length of `xs`.
   pub trues-stay : (xs : List T) → trues (flags_of (stay xs)) ≡ length xs
   trues-stay [] = refl
   trues-stay (x ∷ xs) = ap suc (trues-stay xs)
 
-  -- if all items of xs are kept, none of them moves, so the number of items that move is the number
-  -- for the verdicts a on the later items
+  -- Only items after the first removed item are moved. If all items of `xs` are kept, then none of
+  -- them is moved, and the number of moved items depends only on the test results `a` for the later
+  -- items.
   pub moved_down-stay : (xs : List T) (a : Verdicts T) → moved_down (flags_of (stay xs ++ a))
       ≡ moved_down (flags_of a)
   moved_down-stay [] a = refl
   moved_down-stay (x ∷ xs) a = moved_down-stay xs a
 
 module _ {S T : Type 0} (R : S → T → Bool → S → T → Type 0) where
-  -- in this module, the items ys were tested, starting in the state t and ending in the state u,
-  -- with the verdicts b
+  -- In this module, the items `ys` were tested with the results `b`. The tests led from the state
+  -- `t` of the closure to the state `u`.
   module _ (t u : S) (ys : List T) (b : Verdicts T) (k : Asked R t ys b u) where
-    -- if the tests of the items xs led from the state s to the state t, and the tests of the items
-    -- ys led from t to u, then the tests of xs followed by ys led from s to u
+    -- If the tests of the items `xs` led from the state `s` of the closure to the state `t`, and
+    -- the tests of `ys` led from `t` to `u`, then the tests of `xs ++ ys` led from `s` to `u`.
     asked-append : (xs : List T) (s : S) (a : Verdicts T) → Asked R s xs a t
         → Asked R s (xs ++ ys) (a ++ b) u
     asked-append [] s a h = subst (λ (c : Verdicts T). Asked R s ys (c ++ b) u) (sym h.0)
@@ -112,15 +114,15 @@ module _ {S T : Type 0} (R : S → T → Bool → S → T → Type 0) where
       ap (λ (c : Verdicts T). c ++ b) h.6,
     )
 
-  -- if the item x was tested, `Asked` holds for the list with the single item x
+  -- If the single item `x` was tested, then `Asked` holds for the list `x ∷ []`.
   pub asked-one : (s t : S) (x y : T) (b : Bool) → R s x b t y → Asked R s (x ∷ []) ((b, y) ∷ []) t
   asked-one s t x y b h = (b, y, t, [], h, (refl, refl), refl)
 
-  -- Section: runs of items that all stay
+  -- Section: runs of items that are all kept
 
-  -- Starting in the state s, the items of xs from index k up to m were tested, and all of them
-  -- stay. t is the state after the tests, and ys is xs with the tested items as the tests left
-  -- them.
+  -- The items `k..m` of the list `xs` were tested, and all of them are kept. The tests led from the
+  -- state `s` of the closure to the state `t`. `ys` is `xs` with the tested items as the closure
+  -- left them.
   pub record Stays (k m : ℕ) (s : S) (xs : List T) (t : S) (ys : List T) : Type 0 where
     pub before : List T
     pub run : List T
@@ -132,8 +134,8 @@ module _ {S T : Type 0} (R : S → T → Bool → S → T → Type 0) where
     pub asked : Asked R s run (stay left) t
     pub now : ys ≡ before ++ (left ++ more)
 
-  -- before any item is tested, `Stays` holds for the empty range from k up to k, with the state s
-  -- and the items xs unchanged
+  -- `Stays` holds before the first test, for the empty range `k..k`. The state of the closure and
+  -- the items are unchanged.
   pub stays-start : (k : ℕ) (s : S) (xs : List T) → k ≤ length xs → Stays k k s xs s xs
   stays-start k s xs low =
       record {
@@ -149,7 +151,7 @@ module _ {S T : Type 0} (R : S → T → Bool → S → T → Type 0) where
       }
 
   module _ (k m : ℕ) (s : S) (xs : List T) (t : S) (ys : List T) (h : Stays k m s xs t ys) where
-    -- the items before the next item to be tested, as the tests left them
+    -- These are the items before the next item to be tested, as the earlier tests left them.
     abbrev asked-part : List T
     asked-part = h.before ++ h.left
 
@@ -157,12 +159,12 @@ module _ {S T : Type 0} (R : S → T → Bool → S → T → Type 0) where
     long : length asked-part ≡ m
     long = omega (arith, length-append h.before h.left, h.place, h.reached)
 
-    -- ys is `asked-part`, followed by the items not yet tested
+    -- `ys` consists of `asked-part`, followed by the items that have not been tested yet.
     parted : ys ≡ asked-part ++ h.more
     parted = h.now ∙ sym (append_assoc h.before h.left h.more)
 
-    -- if the item at index m is tested next, the items before it are `asked-part`, and it is the
-    -- first of the items not yet tested
+    -- Suppose that the item at index `m` is tested next. Then the items before it are `asked-part`,
+    -- and it is the first item that has not been tested yet.
     next-parts : (b : Bool) (u : S) (zs : List T) (a : IsAskedAt R m t ys b u zs)
         → (a.before ≡ asked-part) × (h.more ≡ a.item ∷ a.after)
     next-parts b u zs a =
@@ -173,13 +175,14 @@ module _ {S T : Type 0} (R : S → T → Bool → S → T → Type 0) where
               ∙ (ap (drop m) e ∙ drop_at a.before (a.item ∷ a.after) m a.place),
         )
 
-    -- the test of the item at index m changes no other item
+    -- The test of the item at index `m` changes no other item.
     next-now : (b : Bool) (u : S) (zs : List T) (a : IsAskedAt R m t ys b u zs)
         → zs ≡ h.before ++ (h.left ++ a.left ∷ a.after)
     next-now b u zs a = a.now ∙ (ap (λ (l : List T). l ++ a.left ∷ a.after) (next-parts b u zs a).0
         ∙ append_assoc h.before h.left (a.left ∷ a.after))
 
-    -- if the item at index m is tested and stays, `Stays` holds up to m + 1
+    -- If `Stays` holds up to index `m`, and the test keeps the item at index `m`, then `Stays`
+    -- holds up to index `m + 1`.
     pub stays-more : (u : S) (zs : List T) → IsAskedAt R m t ys true u zs
         → Stays k (m + 1) s xs u zs
     stays-more u zs a =
@@ -202,7 +205,8 @@ module _ {S T : Type 0} (R : S → T → Bool → S → T → Type 0) where
               (sym (append_assoc h.left (a.left ∷ []) a.after));
         }
 
-    -- if the item at index m is tested and does not stay, the tests stopped at m (`AskedUpTo`)
+    -- If the test of the item at index `m` says that the item is removed, then the tests stopped at
+    -- index `m` (`AskedUpTo`).
     pub stays-goes : (u : S) (zs : List T) → IsAskedAt R m t ys false u zs
         → AskedUpTo R k m s xs u zs
     stays-goes u zs a =
@@ -221,7 +225,7 @@ module _ {S T : Type 0} (R : S → T → Bool → S → T → Type 0) where
           now = next-now false u zs a;
         }
 
-    -- if there is no item at index m, the tests stopped at m (`AskedUpTo`)
+    -- If there is no item at index `m`, then the tests stopped at index `m` (`AskedUpTo`).
     pub stays-end : length ys ≤ m → AskedUpTo R k m s xs t ys
     stays-end short =
         let none : h.more ≡ [] =
@@ -242,7 +246,7 @@ module _ {S T : Type 0} (R : S → T → Bool → S → T → Type 0) where
           now = h.now ∙ ap (λ (l : List T). h.before ++ (h.left ++ l)) none;
         }
 
-  -- testing one item does not change the number of items
+  -- The test of one item does not change the number of items.
   pub asked-count : (k : ℕ) (s : S) (xs : List T) (b : Bool) (t : S) (ys : List T)
       → IsAskedAt R k s xs b t ys → length ys ≡ length xs
   asked-count k s xs b t ys h =
@@ -254,7 +258,8 @@ module _ {S T : Type 0} (R : S → T → Bool → S → T → Type 0) where
         length-append h.before (h.left ∷ h.after),
       )
 
-  -- if all tested items stay, the number of items does not change
+  -- If the tests keep all items of the list `xs`, then the list `ys` after the tests has the same
+  -- length.
   stay-count : (xs : List T) (s t : S) (ys : List T) → Asked R s xs (stay ys) t
       → length xs ≡ length ys
   stay-count [] s t [] h = refl
@@ -264,12 +269,12 @@ module _ {S T : Type 0} (R : S → T → Bool → S → T → Type 0) where
       ap suc (stay-count xs h.2 t ys
       (subst (λ (a : Verdicts T). Asked R h.2 xs a t) (sym (cons-tail h.6)) h.5))
 
-  -- the test that stops a run does not change the number of items
+  -- The test that ends a run of kept items does not change the number of items.
   stop-count : (u : S) (b : List T) (t : S) (e : List T) → Stops R u b t e → length e ≡ length b
   stop-count u [] t e h = ap length h.0
   stop-count u (x ∷ b) t e h = ap length h.2
 
-  -- testing a run of items does not change the number of items
+  -- The tests of a run of items do not change the number of items.
   pub runs-count : (k m : ℕ) (s : S) (xs : List T) (t : S) (ys : List T) → AskedUpTo R k m s xs t ys
       → length ys ≡ length xs
   runs-count k m s xs t ys r =
@@ -285,19 +290,19 @@ module _ {S T : Type 0} (R : S → T → Bool → S → T → Type 0) where
         stop-count r.between r.after t r.end r.stops,
       )
 
-  -- if the first item is tested and stays, `Stays` holds for this item
+  -- If the first item was tested and is kept, then `Stays` holds for this one item.
   pub one-stays : (s : S) (xs : List T) (t : S) (ys : List T)
       → IsAskedAt R 0 s xs true t ys → Stays 0 1 s xs t ys
   one-stays s xs t ys a = stays-more 0 0 s xs s xs (stays-start 0 s xs (omega arith)) t ys a
 
-  -- if the first two items are tested and stay, `Stays` holds for these two items
+  -- If the first two items were tested and are kept, then `Stays` holds for these two items.
   pub two-stay : (s : S) (xs : List T) (t : S) (ys : List T) (u : S) (zs : List T)
       → IsAskedAt R 0 s xs true t ys → IsAskedAt R 1 t ys true u zs → Stays 0 2 s xs u zs
   two-stay s xs t ys u zs a b = stays-more 0 1 s xs t ys (one-stays s xs t ys a) u zs b
 
   module _ (m n : ℕ) where
-    -- If all items before the index m were tested and stay, and the tests from m on stopped at the
-    -- index n, then the tests from 0 on stopped at n.
+    -- If all items before index `m` were tested and are kept, and the tests from index `m` onward
+    -- stopped at index `n`, then the tests from index 0 onward also stopped at index `n`.
     pub runs-join : (s : S) (xs : List T) (t : S) (ys : List T) (u : S) (zs : List T)
         → Stays 0 m s xs t ys → AskedUpTo R m n t ys u zs → AskedUpTo R 0 n s xs u zs
     runs-join s xs t ys u zs h r =
@@ -333,8 +338,9 @@ module _ {S T : Type 0} (R : S → T → Bool → S → T → Type 0) where
 
   -- Section: the items kept by the tests of a run
 
-  -- Starting in the state s, the items of xs before `rest` were tested; t is the final state.
-  -- `kept` are the tested items that stay, as the tests left them, and m is their number.
+  -- The items of the list `xs` before `rest` were tested, and `m` of them are kept. `kept` contains
+  -- the kept items as the closure left them. The tests led from the state `s` of the closure to the
+  -- state `t`.
   pub record Part (m : ℕ) (s : S) (xs : List T) (t : S) (kept rest : List T) : Type 0 where
     pub done : List T
     pub verdicts : Verdicts T
@@ -344,32 +350,33 @@ module _ {S T : Type 0} (R : S → T → Bool → S → T → Type 0) where
     pub count : trues (flags_of verdicts) ≡ m
 
   module _ (m : ℕ) (s : S) (xs : List T) (t : S) (ys : List T) (r : AskedUpTo R 0 m s xs t ys) where
-    -- no item precedes the run, which begins at index 0
+    -- There are no items before the run of kept items, since the run begins at index 0.
     run-none : r.before ≡ []
     run-none = nil_from_length r.before r.place
 
-    -- the run has m items
+    -- The run of kept items contains `m` items.
     run-long : length r.left ≡ m
     run-long = omega (arith, r.reached)
 
-    -- ys consists of the items of the run, as the tests left them, and the items after the run
+    -- After the tests, the list `ys` consists of the run of kept items and the items after the run.
     run-now : ys ≡ r.left ++ r.end
     run-now = r.now ∙ ap (λ (l : List T). l ++ (r.left ++ r.end)) run-none
 
-    -- xs consists of the items of the run, as they were before the tests, and the items after the
-    -- run
+    -- Before the tests, the list `xs` consisted of the same run of items and the items after the
+    -- run.
     pub run-was : xs ≡ r.run ++ r.after
     run-was = r.was ∙ ap (λ (l : List T). l ++ (r.run ++ r.after)) run-none
 
-    -- the first m items of ys are the items of the run, as the tests left them
+    -- The first `m` items of the list `ys` are the run of kept items, as the closure left them.
     pub run-kept : take m ys ≡ r.left
     run-kept = ap (take m) run-now ∙ take_at r.left r.end m run-long
 
-    -- the items of ys from index m on are the items after the run
+    -- The items of the list `ys` from index `m` onward are the items after the run of kept items.
     pub run-end : drop m ys ≡ r.end
     run-end = ap (drop m) run-now ∙ drop_at r.left r.end m run-long
 
-    -- if there is an item after the run, it was tested, and the closure returned false for it
+    -- If an item `v` follows the run of kept items, then it was tested, and the closure returned
+    -- false.
     pub stop-goes : (u : S) (b e : List T) (v : T) (rest : List T) → Stops R u b t e → e ≡ v ∷ rest
         → (x : T) × (b ≡ x ∷ rest) × R u x false t v
     stop-goes u [] e v rest h k = absurd (cons-not-nil (sym k ∙ h.0))
@@ -380,8 +387,8 @@ module _ {S T : Type 0} (R : S → T → Bool → S → T → Type 0) where
           subst (λ (y : T). R u x false t y) (cons-head same) h.1,
         )
 
-    -- If an item v follows the run, then the items of the run are kept, v is not kept, and the
-    -- items `rest` after v are not yet tested.
+    -- If an item `v` follows the run of kept items, then `v` is not kept, and the items `rest` after
+    -- `v` have not been tested yet.
     pub part-goes : (v : T) (rest : List T) → drop m ys ≡ v ∷ rest → Part m s xs t (take m ys) rest
     part-goes v rest k =
         let g = stop-goes r.between r.after r.end v rest r.stops (sym run-end ∙ k) in
@@ -404,12 +411,13 @@ module _ {S T : Type 0} (R : S → T → Bool → S → T → Type 0) where
               );
         }
 
-    -- if there is no item after the run, no further item was tested, and the state did not change
+    -- If no item follows the run of kept items, then no further item was tested, and the state of
+    -- the closure did not change.
     pub stop-ends : (u : S) (b e : List T) → Stops R u b t e → e ≡ [] → (b ≡ []) × (t ≡ u)
     stop-ends u [] e h k = (refl, h.1)
     stop-ends u (x ∷ b) e h k = absurd (cons-not-nil (sym h.2 ∙ k))
 
-    -- if there is no item after the run, all items were tested, and all are kept
+    -- If no item follows the run of kept items, then all items were tested and all are kept.
     pub part-ends : drop m ys ≡ [] → Part m s xs t (take m ys) []
     part-ends k =
         let g = stop-ends r.between r.after r.end r.stops (sym run-end ∙ k) in
@@ -425,8 +433,9 @@ module _ {S T : Type 0} (R : S → T → Bool → S → T → Type 0) where
   -- Section: open blocks
 
   module _ {A : Type 0} (v w : Open T A) where
-    -- If the first items of the middle run of v were tested (`Part`), and w is v with the m items
-    -- that stay moved to the front, for one move each, then v and w satisfy `Sifts`.
+    -- Suppose that some middle items of the open block `v` were tested, and that `m` of them were
+    -- moved to the end of the front items, each at the cost of one move. Then `Sifts` holds for `v`
+    -- and the new open block `w`.
     pub sifts-of : (m : ℕ) (s t : S) (kept : List T) → Part m s v.rest t kept w.rest
         → 0 < w.gap → w ≡ record v {
           front = v.front ++ kept;
@@ -449,21 +458,22 @@ module _ {S T : Type 0} (R : S → T → Bool → S → T → Type 0) where
           });
         }
 
-  -- In this module, the open block v has a gap before its middle run. The items of the middle run
-  -- were tested, up to and including the first that does not stay, or to the end. w is the open
-  -- block after the tests.
+  -- In this module, the open block `v` has a gap of empty slots before its middle items. These
+  -- items were tested in order, up to the first item that is to be removed. The open block after
+  -- the tests is `w`.
   module _ {A : Type 0} (s t : S) (v w : Open T A) (gap : 0 < v.gap)
       (h : Advances R s v t w) where
-    -- the tested items that stay, as the tests left them
+    -- These are the tested items that are kept, as the closure left them.
     abbrev kept : List T
     kept = take h.count h.left
 
-    -- each item of `kept` cost one move
+    -- The cost has increased by one move for each kept item.
     moved : w.cost ≡ moving h.count v.cost
     moved = ap (λ u. u.cost) h.now ∙ moving-after v.gap h.count v.cost gap
 
-    -- if z is w without `value`, the tested item that does not stay, then v (the open block before
-    -- the tests) and z satisfy `Sifts`
+    -- Suppose that the last tested item, `value`, is removed from the open block `w` after the
+    -- tests. Then `Sifts` holds for `v`, the open block before the tests, and `z`, the open block
+    -- without `value`.
     pub advanced-goes : (value : T) (z : Open T A) → w.rest ≡ value ∷ z.rest
         → z ≡ record w { rest = z.rest; gap = w.gap + 1 } → Sifts R s v t z
     advanced-goes value z rest same =
@@ -474,8 +484,8 @@ module _ {S T : Type 0} (R : S → T → Bool → S → T → Type 0) where
         (same ∙ (λ i. record (h.now i)
         { gap = sym (ap (λ u. u.gap) same) i; rest = z.rest; cost = moved i }))
 
-    -- if no item is left in the middle run of w, no item has to be removed, and v and w satisfy
-    -- `Sifts`
+    -- If the open block `w` has no middle items after the tests, then no item has to be removed,
+    -- and `Sifts` holds for `v` and `w`.
     pub advanced-ends : w.rest ≡ [] → Sifts R s v t w
     advanced-ends none =
         sifts-of v w h.count s t kept
@@ -484,7 +494,7 @@ module _ {S T : Type 0} (R : S → T → Bool → S → T → Type 0) where
         (omega (arith, ap (λ u. u.gap) h.now, gap))
         (λ i. record (h.now i) { gap = w.gap; rest = w.rest; cost = moved i })
 
-    -- the middle run of w has at most as many items as that of v
+    -- The tests do not increase the number of middle items.
     pub advanced-count : length w.rest ≤ length v.rest
     advanced-count = omega (
       arith,
@@ -493,7 +503,8 @@ module _ {S T : Type 0} (R : S → T → Bool → S → T → Type 0) where
       runs-count 0 h.count s v.rest t h.left h.run,
     )
 
-  -- before the first test, an open block v that has a gap satisfies `Sifts` with itself
+  -- Before the first test, `Sifts` holds for an open block and itself if the open block has a gap
+  -- of empty slots.
   pub sifts-start : {A : Type 0} (s : S) (v : Open T A) → 0 < v.gap → Sifts R s v s v
   sifts-start s v gap =
       record {
@@ -506,7 +517,8 @@ module _ {S T : Type 0} (R : S → T → Bool → S → T → Type 0) where
             { front = sym (append-nil v.front) i; cost = sym (moving-none v.cost) i };
       }
 
-  -- `Sifts` is transitive: if it holds for v and w, and for w and z, it holds for v and z
+  -- `Sifts` is transitive: if it holds for `v` and `w`, and for `w` and `z`, then it holds for `v`
+  -- and `z`.
   pub sifts-then : {A : Type 0} {s t u : S} {v w z : Open T A} → Sifts R s v t w
       → Sifts R t w u z → Sifts R s v u z
   sifts-then {s = s} {t} {u} {v} {w} {z} h k =
@@ -536,14 +548,16 @@ module _ {S T : Type 0} (R : S → T → Bool → S → T → Type 0) where
 
   module _ {A : Type 0} (v w : Open T A) (m : ℕ) (s t : S) (ys : List T)
       (run : AskedUpTo R 0 m s v.rest t ys) where
-    -- The open block w is the open block v with the tested items that stay appended to its front,
-    -- which costs no move. Only the gap and the middle run may also differ.
+    -- `Passed` holds if the kept items were appended to the front items of the open block `v`
+    -- without a move. Apart from this, the new open block `w` may differ from `v` only in the gap
+    -- and the middle items.
     abbrev Passed : Type 0
     Passed = w ≡ record v
         { front = v.front ++ take m ys; gap = w.gap; rest = w.rest }
 
-    -- If `value`, the item after the run, is removed, and the tests of all items after it led to
-    -- the open block z, then v (the open block before the tests) and z satisfy `IsSifted`.
+    -- Suppose that `value`, the item after the run of kept items, is removed, and that all later
+    -- items were tested. Then `IsSifted` holds for `v`, the open block before all tests, and `z`,
+    -- the open block after them.
     pub sifted-goes : (value : T) (u : S) (z : Open T A) → Passed → drop m ys ≡ value ∷ w.rest
         → Sifts R t w u z → z.rest ≡ [] → IsSifted R s v u z
     unfolding part-goes
@@ -580,7 +594,8 @@ module _ {S T : Type 0} (R : S → T → Bool → S → T → Type 0) where
               }));
         }
 
-    -- if no item follows the run, all items stay, and v and w satisfy `IsSifted`
+    -- If no item follows the run of kept items, then all items are kept, and `IsSifted` holds for
+    -- the open blocks `v` and `w`.
     pub sifted-ends : Passed → drop m ys ≡ [] → w.rest ≡ [] → IsSifted R s v t w
     unfolding part-ends
     sifted-ends p k none =
@@ -600,23 +615,24 @@ module _ {S T : Type 0} (R : S → T → Bool → S → T → Type 0) where
           });
         }
 
--- In this module, a test contains a closure and returns what the closure returns. J is the type of
--- the test's states, and `inside` maps a state of the test to the state of its closure.
+-- In this module, a test is a struct that calls a closure and returns its result. `J` is the type
+-- of the test, and `inside` maps a state of the test to the state of its closure.
 module _ {J S T : Type 0} (R : S → T → Bool → S → T → Type 0) (inside : J → S) where
-  -- the relation of the test, which is the closure's relation R on the closure's states
+  -- `through` describes the calls of the test. It is the relation `R` of the closure, applied to
+  -- the states of the closure inside the test.
   abbrev through : J → T → Bool → J → T → Type 0
   through s x b t y = R (inside s) x b (inside t) y
 
-  -- if the test was called with the items xs, its closure was called with them too, with the same
-  -- verdicts
+  -- If the test was called with the items `xs`, then its closure was called with the same items and
+  -- returned the same results.
   pub asked-through : (xs : List T) (s t : J) (a : Verdicts T) → Asked through s xs a t
       → Asked R (inside s) xs a (inside t)
   asked-through [] s t a h = (h.0, ap inside h.1)
   asked-through (x ∷ xs) s t a h =
       (h.0, h.1, inside h.2, h.3, h.4, asked-through xs h.2 t h.3 h.5, h.6)
 
-  -- if the verdicts of the test reduced the list v to w, then the verdicts of its closure reduced v
-  -- to w too
+  -- If the results of the test turned the list `v` into the list `w`, then the results of its
+  -- closure also turned `v` into `w`.
   pub retained-through : {A : Type 0} (s : J) (v w : Thin T A) (t : J)
       → IsRetainedTo through s v w t → IsRetained R (inside s) v w
   retained-through s v w t h = (
@@ -631,11 +647,11 @@ module _ {J S T : Type 0} (R : S → T → Bool → S → T → Type 0) (inside 
 
 -- Section: for callers
 
--- in this module, R is the relation of a closure that only reads the item
+-- In this module, `R` describes the calls of a closure that only reads the item.
 module _ {S T : Type 0} (R : S → T → Bool → S → Type 0) where
-  -- If the items xs were tested by a closure that only reads them, then there is one flag for each
-  -- item, the closure returned the flags in turn, and the items that stay are the items of xs whose
-  -- flag is true.
+  -- Suppose that the items `xs` were tested by a closure that only reads them. Then the closure
+  -- returned one Boolean flag for each item, in order. The kept items are the items of `xs` with
+  -- the flag true.
   told : (xs : List T) (s t : S) (a : Verdicts T) → Asked (Looks R) s xs a t
       → (length (flags_of a) ≡ length xs) × ReturnsInTurn R s (flags_of a) xs t
       × (left_at true a ≡ items_where_true (flags_of a) xs)
@@ -651,16 +667,17 @@ module _ {S T : Type 0} (R : S → T → Bool → S → Type 0) where
       let left : y ≡ x = ap (λ (p : Bool × T). p.1) same ∙ h.4.1 in
       (ap suc rest.0, (h.2, answer, rest.1), first b y x a xs left rest.2)
     where
-      -- If the items kept of xs are those whose flag is true, and the test left the item x
-      -- unchanged, then the items kept of x followed by xs are those whose flag is true.
+      -- This is the induction step for the kept items. If the kept items of `xs` are the items with
+      -- the flag true, and the test left the item `x` unchanged, then the same holds for `x ∷ xs`.
       first : (b : Bool) (y x : T) (a : Verdicts T) (xs : List T) → y ≡ x
           → left_at true a ≡ items_where_true (flags_of a) xs
           → left_at true ((b, y) ∷ a) ≡ items_where_true (b ∷ flags_of a) (x ∷ xs)
       first true y x a xs e f = λ i. e i ∷ f i
       first false y x a xs e f = f
 
-  -- If `retain` with a closure that only reads the items reduced the list v to w, the items of v
-  -- and w satisfy std's `IsFiltered`. Std's proofs have lemmas about `IsFiltered` in `lemmas/Fn`.
+  -- If `retain` with a closure that only reads the items turned the list `v` into the list `w`,
+  -- then std's `IsFiltered` holds for the items of `v` and `w`. Lemmas about `IsFiltered` are in
+  -- the file `lemmas/Fn` of std's proofs.
   pub retained_filtered : {A : Type 0} (s : S) (v w : Thin T A) → IsRetained (Looks R) s v w
       → IsFiltered R s v.items w.items
   retained_filtered s v w h =
@@ -668,8 +685,8 @@ module _ {S T : Type 0} (R : S → T → Bool → S → Type 0) where
       let t = told v.items s h.0 r.verdicts r.asked in
       (flags_of r.verdicts, h.0, t.0, t.1, r.items ∙ t.2)
 
-  -- if the closure is stateless, and returns `test x` for each item x, `retain` keeps exactly the
-  -- items that pass `test`
+  -- If the closure does not change its own state and returns `test x` for each item `x`, then
+  -- `retain` keeps exactly the items that pass `test`.
   pub retained_filter : {A : Type 0} (test : T → Bool) {s : S} {v w : Thin T A}
       → ((x : T) (b : Bool) (t : S) → R s x b t → (b ≡ test x) × (t ≡ s))
       → IsRetained (Looks R) s v w → w.items ≡ filter test v.items
@@ -677,7 +694,7 @@ module _ {S T : Type 0} (R : S → T → Bool → S → Type 0) where
       (retained_filtered s v w h)
 
 module _ {S T : Type 0} (R : S → T → Bool → S → T → Type 0) where
-  -- the number of items that stay is at most the number of items tested
+  -- The number of kept items is at most the number of tested items.
   pub few-left : (xs : List T) (s t : S) (a : Verdicts T) → Asked R s xs a t
       → length (left_at true a) ≤ length xs
   few-left [] s t a h =
@@ -687,14 +704,14 @@ module _ {S T : Type 0} (R : S → T → Bool → S → T → Type 0) where
       subst (λ (b : Verdicts T). length (left_at true b) ≤ suc (length xs)) (sym h.6)
       (one h.0 h.1 h.3 xs rest)
     where
-      -- one more verdict adds at most one item to the items that stay
+      -- The test of one more item increases the number of kept items by at most 1.
       one : (b : Bool) (y : T) (a : Verdicts T) (xs : List T)
           → length (left_at true a) ≤ length xs
           → length (left_at true ((b, y) ∷ a)) ≤ suc (length xs)
       one true y a xs few = omega (arith, few)
       one false y a xs few = omega (arith, few)
 
-  -- `retain` does not increase the number of items
+  -- `retain` does not increase the number of items.
   pub few-retained : {A : Type 0} (s : S) (v w : Thin T A) → IsRetained R s v w
       → length w.items ≤ length v.items
   few-retained s v w h =

@@ -1,5 +1,5 @@
--- Lemmas about the definitions of `specs/ThinVec.antt` and `specs/Cheap.antt`. They are for callers
--- too.
+-- These lemmas are about the capacity of a list and about the cost of its growth. They are for this
+-- crate and for its callers. The definitions are in `specs/ThinVec.antt` and `specs/Cheap.antt`.
 use Rattle.thin_block.proofs.Outcomes.{some-same}
 use Rattle.std.proofs.Common.{if◌then◌else◌, Bool, ◌≡◌, ℕ, zero, suc, ◌+◌, ◌*◌, ◌^◌, ◌<◌, ◌≤◌, true, false, Some, ap, List, [], arith, eqb, inl, inr, length, refl, subst, sym, ◌∙◌}
 use Rattle.std.specs.Borrow.{RattleType}
@@ -16,8 +16,8 @@ use Rattle.thin_vec.specs.Cheap.{IsCheap, IsCheapAt}
 use Rattle.thin_vec.specs.ThinVec.{IsThin, IsWithin, Thin, capacity_for, cost_at, thin_of}
 
 module _ {T A : Type 0} (R : RattleType) (b : Block T A) (a : A) where
-  -- if b is the block of the list v and is small enough to be allocated, v is within bounds
-  -- (`IsWithin`)
+  -- If `b` is the block of the list `v`, and a block of this size is small enough to be allocated,
+  -- then `v` satisfies `IsWithin`: its length and its capacity are within their bounds.
   pub within-of : (v : Thin T A) → IsThin b a → thin_of b a ≡ v
       → Fits R (length b.slots) → IsWithin R v
   within-of v thin is fits =
@@ -26,15 +26,16 @@ module _ {T A : Type 0} (R : RattleType) (b : Block T A) (a : A) where
       in
       subst (IsWithin R) is here
 
-  -- if the capacity of a list is c after a step, and a block of this capacity is small enough to be
-  -- allocated, then the list is within bounds
+  -- Suppose that an operation changed the items of a list to `xs` and its capacity to `c`. If a
+  -- block of the capacity `c` is small enough to be allocated, then the new list satisfies
+  -- `IsWithin`.
   pub within-settled : (xs : List T) (c : ℕ) → Fits R c → Settled b a xs c
       → IsWithin R (thin_of b a)
   within-settled xs c fits after =
       within-of (thin_of b a) after.thin refl (subst (Fits R) (sym after.cap) fits)
 
-  -- if a list is within bounds, it is still within bounds after a step that does not change its
-  -- capacity
+  -- If a list satisfies `IsWithin`, then it still satisfies `IsWithin` after an operation that does
+  -- not change its capacity.
   pub within-stays : (b' : Block T A) (v : Thin T A) (xs : List T) → IsWithin R v → thin_of b a ≡ v
       → Settled b' a xs (length b.slots) → IsWithin R (thin_of b' a)
   within-stays b' v xs kept is after = record {
@@ -43,8 +44,8 @@ module _ {T A : Type 0} (R : RattleType) (b : Block T A) (a : A) where
     fits = subst (Fits R) (sym (after.cap ∙ ap (λ (w : Thin T A). w.capacity) is)) kept.fits;
   }
 
-  -- if the block of a list is small enough to be allocated, the list is within bounds before and
-  -- after a step that kept its capacity
+  -- If the block of a list is small enough to be allocated, and an operation does not change the
+  -- capacity, then the list satisfies `IsWithin` before and after the operation.
   pub within-kept : (b' : Block T A) (v : Thin T A) (xs : List T) → IsThin b a → thin_of b a ≡ v
       → Fits R (length b.slots) → Settled b' a xs (length b.slots) → IsWithin R v
       × IsWithin R (thin_of b' a)
@@ -58,7 +59,7 @@ module _ {T A : Type 0} (R : RattleType) (b : Block T A) (a : A) where
   )
 
 module _ {T A : Type 0} (R : RattleType) (w : Thin T A) where
-  -- a list without items and with capacity 0 is within bounds
+  -- A list without items and with the capacity 0 satisfies `IsWithin`.
   pub within-none : w.items ≡ [] → w.capacity ≡ 0 → IsWithin R w
   within-none none nothing = record {
     room = omega (arith, ap length none);
@@ -66,8 +67,8 @@ module _ {T A : Type 0} (R : RattleType) (w : Thin T A) where
     fits = subst (Fits R) (sym nothing) (fits-none R);
   }
 
-  -- If v is within bounds, the list w has the same capacity, and the length of w is at most this
-  -- capacity, then w is within bounds.
+  -- If the list `v` satisfies `IsWithin`, the list `w` has the same capacity as `v`, and the length
+  -- of `w` is at most this capacity, then `w` also satisfies `IsWithin`.
   pub within-like : (v : Thin T A) → IsWithin R v → w.capacity ≡ v.capacity
       → length w.items ≤ v.capacity → IsWithin R w
   within-like v kept same room =
@@ -77,17 +78,17 @@ module _ {T A : Type 0} (R : RattleType) (w : Thin T A) where
         fits = subst (Fits R) (sym same) kept.fits;
       }
 
--- in this module, the capacity of the list v becomes c
+-- In this module, the capacity of the list `v` changes to `c`.
 module _ {T A : Type 0} (v : Thin T A) (c : ℕ) where
-  -- if the capacity does not change, the cost does not change
+  -- If the new capacity `c` is equal to the old capacity, then the cost does not change.
   pub cost_at-same : c ≡ v.capacity → cost_at v c ≡ v.cost
   cost_at-same e = let t : eqb c v.capacity ≡ true = grind (arith, nat_tests) in rw t refl
 
-  -- if the capacity grew, the cost counts one more block, into which all items were copied
+  -- If the capacity grew to `c`, then the cost includes one more block and a copy of each item.
   pub cost_at-more : v.capacity < c → cost_at v c ≡ growing (length v.items) v.cost
   cost_at-more e = let t : eqb c v.capacity ≡ false = grind (arith, nat_tests) in rw t refl
 
-  -- a change of capacity does not change the number of moves
+  -- A change of the capacity does not change the counted number of moves.
   pub cost_at-moves : (cost_at v c).moves ≡ v.cost.moves
   cost_at-moves = go (eqb c v.capacity)
     where
@@ -95,11 +96,13 @@ module _ {T A : Type 0} (v : Thin T A) (c : ℕ) where
       go true = refl
       go false = refl
 
--- the rules that compute the cost of a growth, for callers that know the capacities
+-- These rewrite rules compute the cost of a growth. They are for callers that know the capacities
+-- before and after the growth.
 pub ruleset costs = (cost_at-same, cost_at-more)
 
--- If a cost is cheap for the capacity c, and n ≤ c items are copied into a new block whose capacity
--- c' is greater than c and at least 2 * c, then the new cost is cheap for c'.
+-- Suppose that a cost is within the bound `IsCheapAt` for the capacity `c`, and that at most `c`
+-- items are copied into a new block of the capacity `c'`. If `c < c'` and `2 * c ≤ c'`, then the
+-- new cost is within the bound for `c'`.
 cheap-growing : {c : ℕ} {k : Cost} (n c' : ℕ) → IsCheapAt c k → n ≤ c → c < c' → 2 * c ≤ c'
     → IsCheapAt c' (growing n k)
 cheap-growing {c = zero} {k} n c' h le larger doubled =
@@ -123,32 +126,34 @@ cheap-growing {c = suc c} {k} n c' h le larger doubled =
 
 module _ {T A : Type 0} (rule : Rule) (R : RattleType) (law : KeepsLaw rule)
     (v : Thin T A) (k c : ℕ) where
-  -- if there is room for k more items, the ruled capacity for them is the old capacity
+  -- If the list `v` has room for `k` more items, then the growth rule does not change its capacity.
   pub cap-kept : length v.items + k ≤ v.capacity → capacity_for rule R v k ≡ Some c → c ≡ v.capacity
   cap-kept room e = some-same (sym e ∙ ruled-same rule R v.capacity (length v.items + k) room)
 
-  -- if there is room for k more items, changing to the ruled capacity for them costs nothing
+  -- If the list `v` has room for `k` more items, then reserving room for them does not change its
+  -- cost.
   pub cost_at-kept : length v.items + k ≤ v.capacity
       → capacity_for rule R v k ≡ Some c → cost_at v c ≡ v.cost
   cost_at-kept room e = cost_at-same v c (cap-kept room e)
 
-  -- if there is no room for k more items, the ruled capacity is enough for the old items and k
-  -- more, and at least twice the old capacity
+  -- Suppose that the list `v` has no room for `k` more items, and that the growth rule chooses the
+  -- capacity `c`. Then `c` is enough for the old items and `k` more, and at least twice the old
+  -- capacity.
   pub cap-grown : v.capacity < length v.items + k → capacity_for rule R v k ≡ Some c
       → (length v.items + k ≤ c) × (2 * v.capacity ≤ c)
   cap-grown more e = let g = ruled-grows rule R v.capacity (length v.items + k) c law more e in
       (g.enough, g.doubled)
 
-  -- if there is no room for k more items, changing to the ruled capacity for them costs one block,
-  -- into which all items are copied
+  -- If the list `v` has no room for `k` more items, then growing it to the capacity `c` that the
+  -- rule chooses costs one block, into which all items are copied.
   pub cost_at-grown : v.capacity < length v.items + k → capacity_for rule R v k ≡ Some c
       → cost_at v c ≡ growing (length v.items) v.cost
   cost_at-grown more e =
       let g = cap-grown more e in
       cost_at-more v c (omega (arith, g.0))
 
-  -- the number of items that a change to the ruled capacity copies is at most the number of slots
-  -- added
+  -- If a list grows to the capacity that the growth rule chooses, then the number of copied items
+  -- is at most the number of added slots.
   pub cost_at-copied : length v.items ≤ v.capacity → capacity_for rule R v k ≡ Some c
       → (cost_at v c).grown + v.capacity ≤ v.cost.grown + c
   cost_at-copied room e =
@@ -161,7 +166,8 @@ module _ {T A : Type 0} (rule : Rule) (R : RattleType) (law : KeepsLaw rule)
             omega (arith, paid, cap-kept spare e)
       ]
 
-  -- a cheap list stays cheap if its capacity becomes the ruled one
+  -- If the cost of the list `v` is within the bound `IsCheap`, then it is still within this bound
+  -- after the list has grown to the capacity that the growth rule chooses.
   pub cheap-regrown : IsCheap v → length v.items ≤ v.capacity → capacity_for rule R v k ≡ Some c
       → IsCheapAt c (cost_at v c)
   cheap-regrown h room e =

@@ -1,16 +1,16 @@
--- Lemmas for callers, about an item that is inserted and then removed at the same index.
+-- These lemmas are for callers that insert an item and then remove it at the same index.
 use Rattle.std.proofs.Common.{◌≡◌, ℕ, zero, suc, ◌≤◌, List, [], ◌∷◌, ap, arith, length, refl}
 use Rattle.std.specs.Prelude.{Some, insert, remove, slice_get}
 
 module _ {T : Type 0} where
-  -- inserting an item at index i and then removing it leaves the list xs unchanged
+  -- Inserting an item at index `i` and then removing the item at index `i` restores the list `xs`.
   pub remove-insert : (xs : List T) (i : ℕ) (x : T) → i ≤ length xs → remove (insert xs i x) i ≡ xs
   remove-insert [] zero x h = refl
   remove-insert (y ∷ xs) zero x h = refl
   remove-insert [] (suc i) x h = absurd (omega arith)
   remove-insert (y ∷ xs) (suc i) x h = ap (λ l. y ∷ l) (remove-insert xs i x (omega arith))
 
-  -- after x was inserted at i, the item at i is x
+  -- After the item `x` is inserted at index `i`, the item at index `i` is `x`.
   pub slice_get-insert : (xs : List T) (i : ℕ) (x : T) → i ≤ length xs
       → slice_get (insert xs i x) i ≡ Some x
   slice_get-insert [] zero x h = refl
@@ -18,5 +18,6 @@ module _ {T : Type 0} where
   slice_get-insert [] (suc i) x h = absurd (omega arith)
   slice_get-insert (y ∷ xs) (suc i) x h = slice_get-insert xs i x (omega arith)
 
--- the rules for a proof about an item that is inserted and then removed
+-- These rewrite rules simplify a list into which an item was inserted and from which it was then
+-- removed.
 pub ruleset undone = (remove-insert, slice_get-insert)

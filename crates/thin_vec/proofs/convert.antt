@@ -1,3 +1,3 @@
--- The lemma modules about `src/convert/`. Rattle adds this module by itself, so Lib.antt has no
--- line for it.
+-- This file lists the modules of lemmas about `src/convert/`. Rattle includes this file
+-- automatically, so `Lib.antt` does not mention it.
 pub mod IntoIterLemmas

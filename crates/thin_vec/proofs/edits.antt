@@ -1,5 +1,5 @@
--- The lemma modules about `src/edits/`. Rattle adds this module by itself, so Lib.antt has no line
--- for it.
+-- This file lists the modules of lemmas about `src/edits/`. Rattle includes this file
+-- automatically, so `Lib.antt` does not mention it.
 pub mod DedupLemmas
 pub mod DrainLemmas
 pub mod ExtractIfLemmas

@@ -1,4 +1,4 @@
--- The lemma modules about `src/open_block/`. Rattle adds this module by itself, so Lib.antt has no
--- line for it.
+-- This file lists the modules of lemmas about `src/open_block/`. Rattle includes this file
+-- automatically, so `Lib.antt` does not mention it.
 pub mod DedupLemmas
 pub mod SiftLemmas

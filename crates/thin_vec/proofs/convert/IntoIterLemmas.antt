@@ -1,6 +1,6 @@
--- Lemmas about what the block of an `IntoIter` contains after each step, and about what the
--- iterator yields. The items not yet yielded are in the slots from `start` up to `end`; all other
--- slots are empty.
+-- These lemmas state what the block of an `IntoIter` contains after each operation, and what the
+-- iterator yields. The items that have not been yielded yet are in the slots `start..end` of the
+-- block. All other slots are empty.
 use Rattle.std.proofs.Common.{◌≡◌, ℕ, zero, suc, ◌+◌, ◌-◌, ◌<◌, ◌≤◌, List, [], ◌∷◌, ◌++◌, Option, Some, None, length, take, drop, refl, sym, ap, ◌∙◌, arith, get_or, length-append, append_assoc}
 use Rattle.std.proofs.iter.runs.Sources.{as_is, as_is_back, from_back, from_front}
 use Rattle.std.proofs.lemmas.Grind.{take_at_read}
@@ -20,12 +20,12 @@ use Rattle.thin_vec.proofs.LendsLemmas.{over-front}
 use Rattle.thin_vec.proofs.ListLemmas.{from-same, full-same, get-some, items-empty, items-full, length-empty, length-full, slot-get}
 
 module _ {T : Type 0} where
-  -- empty slots before the slots s add no items
+  -- Adding empty slots before the slots `s` does not change the items.
   items-after : (k : ℕ) (s : List (Option T)) → items_in (empty k ++ s) ≡ items_in s
   items-after zero s = refl
   items-after (suc k) s = items-after k s
 
-  -- emptying the slot of the first item leaves one more empty slot before the other items
+  -- If the slot of the first item is emptied, then one more empty slot precedes the other items.
   set-first : (start k : ℕ) (x : T) (xs : List T) → set (empty start ++ (full (x ∷ xs) ++ empty k))
       start None ≡ empty (start + 1) ++ (full xs ++ empty k)
   set-first start k x xs =
@@ -34,8 +34,8 @@ module _ {T : Type 0} where
       ∙ ap (λ (s : List (Option T)). s ++ (full xs ++ empty k))
       (replicate-append-replicate start 1 None))
 
-  -- a row whose last item is x consists of the slots before x, the slot of x, and the empty slots
-  -- after x
+  -- Slots that hold the items `xs` and then `x` consist of three parts: the slots before `x`, the
+  -- slot of `x`, and the `k` empty slots after `x`.
   row-last : (start k : ℕ) (xs : List T) (x : T) → empty start ++ (full (xs ++ x ∷ []) ++ empty k)
       ≡ (empty start ++ full xs) ++ (Some x ∷ empty k)
   row-last start k xs x =
@@ -44,20 +44,20 @@ module _ {T : Type 0} where
       (append_assoc (full xs) (Some x ∷ []) (empty k))
       ∙ sym (append_assoc (empty start) (full xs) (Some x ∷ empty k)))
 
-  -- `start` empty slots and the items xs take `start + length xs` slots
+  -- `start` empty slots and the slots of the items `xs` are `start + length xs` slots in total.
   before-last : (start : ℕ) (xs : List T) → length (empty start ++ full xs) ≡ start + length xs
   before-last start xs =
       omega (arith, length-append (empty start) (full xs), length-empty T start, length-full xs)
 
-  -- in a row of `start` empty slots, the items xs, the item x and k empty slots, the slot after xs
-  -- holds x
+  -- Suppose that the slots are, in this order: `start` empty slots, the items `xs`, the item `x`,
+  -- and `k` empty slots. Then slot `start + length xs` holds `x`.
   slot-last : (start k : ℕ) (xs : List T) (x : T)
       → slot (empty start ++ (full (xs ++ x ∷ []) ++ empty k)) (start + length xs) ≡ Some x
   slot-last start k xs x = ap (λ (s : List (Option T)). slot s (start + length xs))
       (row-last start k xs x) ∙ get_or_at (empty start ++ full xs) (Some x) (empty k) None
       (start + length xs) (before-last start xs)
 
-  -- emptying the slot of the last item leaves one more empty slot after the other items
+  -- If the slot of the last item is emptied, then one more empty slot follows the other items.
   set-last : (start k : ℕ) (xs : List T) (x : T)
       → set (empty start ++ (full (xs ++ x ∷ []) ++ empty k)) (start + length xs) None ≡ empty start
       ++ (full xs ++ empty (k + 1))
@@ -69,32 +69,32 @@ module _ {T : Type 0} where
       ∙ ap (λ (n : ℕ). empty start ++ (full xs ++ empty n))
       (let e : suc k ≡ k + 1 = omega arith in e)))
 
-  -- a list of j + 1 items consists of its first j items and its last item
+  -- A list of `j + 1` items consists of its first `j` items and its last item.
   split-last : (xs : List T) (j : ℕ) (d : T) → j + 1 ≡ length xs
       → xs ≡ take j xs ++ get_or xs j d ∷ []
   split-last xs j d e = sym (all xs (j + 1) e) ∙ (take_at_read xs j d (omega arith)).1
     where
-      -- the first n items of a list of length n are all its items
+      -- The first `n` items of a list of length `n` are all its items.
       all : (ys : List T) (n : ℕ) → n ≡ length ys → take n ys ≡ ys
       all ys n same = ap (take n) (sym (append-nil ys)) ∙ take_at ys [] n (sym same)
 
-  -- in a row of `start` empty slots, followed by the slots s, writing ws from the slot `start` on
-  -- writes ws over s
+  -- Suppose that `start` empty slots are followed by the slots `s`. Writing the items `ws` from
+  -- slot `start` onward is the same as writing `ws` over the items of `s`.
   over-after : (start : ℕ) (s : List (Option T)) (ws : List T)
       → over (empty start ++ s) start ws ≡ empty start ++ over s 0 ws
   over-after zero s ws = refl
   over-after (suc start) s ws = ap (λ (r : List (Option T)). None ∷ r) (over-after start s ws)
 
 module _ {T A : Type 0} where
-  -- the block b is that of an iterator whose items xs are in the slots from `start` up to `end`; b
-  -- has c slots, and its memory came from `a`
+  -- `Walking` holds if the block `b` belongs to an iterator with the items `xs`, which are in the
+  -- slots `start..end`. The block has `c` slots, and its memory came from the allocator `a`.
   pub record Walking (b : Block T A) (a : A) (xs : List T) (start end c : ℕ) : Type 0 where
     pub walked : IsWalked b a start end
     pub items : items_in b.slots ≡ xs
     pub cap : length b.slots ≡ c
 
-  -- the block b satisfies `Walking` if its slots are `start` empty slots, the items xs, and
-  -- `c - end` empty slots, and its memory came from `a`
+  -- Suppose that the slots of the block `b` are `start` empty slots, the items `xs`, and `c - end`
+  -- empty slots. If the memory of `b` came from the allocator `a`, then `Walking` holds.
   walking : (b : Block T A) {a : A} (xs : List T) (start end : ℕ) {c : ℕ}
       → b.slots ≡ empty start ++ (full xs ++ empty (c - end)) → start + length xs ≡ end → end ≤ c
       → IsFrom b.alloc a → Walking b a xs start end c
@@ -126,7 +126,7 @@ module _ {T A : Type 0} where
         cap = l;
       }
 
-  -- in the block of an iterator, `end` is at most the number of slots
+  -- In the block of an iterator, `end` is at most the number of slots.
   pub walked-room : (b : Block T A) (a : A) (start end : ℕ)
       → IsWalked b a start end → end ≤ length b.slots
   walked-room b a start end t =
@@ -142,7 +142,7 @@ module _ {T A : Type 0} where
         length-full xs,
       )
 
-  -- in the block of an iterator, each slot from `start` up to `end` holds an item
+  -- In the block of an iterator, each slot in the range `start..end` holds an item.
   pub walked-filled : (b : Block T A) (a : A) (start end i : ℕ) → IsWalked b a start end → start ≤ i
       → i < end → IsSome (slot b.slots i)
   walked-filled b a start end i t low high =
@@ -154,8 +154,7 @@ module _ {T A : Type 0} where
       low ∙ slot-get xs after (i - start) within))
       (get-some xs (i - start) within)
 
-  -- if the slots from `start` up to `end` hold exactly the items ys, then ys are the items of the
-  -- iterator
+  -- If the slots `start..end` hold exactly the items `ys`, then `ys` are the items of the iterator.
   pub walked-run : (b : Block T A) (a : A) (start end : ℕ) (ys : List T) → IsWalked b a start end
       → full ys ≡ slice_range b.slots start end → ys ≡ items_in b.slots
   walked-run b a start end ys t run =
@@ -169,17 +168,17 @@ module _ {T A : Type 0} where
 
   module _ (b b' : Block T A) (a : A) (start end : ℕ) (v : T) (t : IsWalked b a start end)
       (some : start < end) where
-    -- the items not yet yielded
+    -- These are the items that have not been yielded yet.
     abbrev xs : List T
     xs = items_in b.slots
 
-    -- the number of empty slots after the items
+    -- This is the number of empty slots after the items.
     abbrev gap : ℕ
     gap = length b.slots - end
 
-    -- Take a row of `start` empty slots, the items ys and k empty slots. If its slot `start` holds
-    -- v, then v is the first item of ys, and emptying this slot leaves one more empty slot before
-    -- the other items.
+    -- Suppose that the slots are `start` empty slots, the items `ys`, and `k` empty slots. If slot
+    -- `start` holds `v`, then `v` is the first item of `ys`. If this slot is emptied, then
+    -- `start + 1` empty slots precede the other items.
     first-of : (ys : List T) (k : ℕ) → 0 < length ys
         → slot (empty start ++ (full ys ++ empty k)) start ≡ Some v
         → (ys ≡ v ∷ drop 1 ys)
@@ -193,8 +192,8 @@ module _ {T A : Type 0} where
         let same : y ≡ v = cc in
         (ap (λ (x : T). x ∷ ys) same, set-first start k y ys)
 
-    -- if the slot `start` of b holds v, then v is the first item, and emptying this slot leaves one
-    -- more empty slot before the other items
+    -- If slot `start` of the block `b` holds `v`, then `v` is the first item. If this slot is
+    -- emptied, then `start + 1` empty slots precede the other items.
     first : slot b.slots start ≡ Some v → (xs ≡ v ∷ drop 1 xs)
         × (set b.slots start None ≡ empty (start + 1) ++ (full (drop 1 xs) ++ empty gap))
     first e =
@@ -202,12 +201,12 @@ module _ {T A : Type 0} where
         (ap (λ (s : List (Option T)). slot s start) (sym t.row) ∙ e) in
         (h.0, ap (λ (s : List (Option T)). set s start None) t.row ∙ h.1)
 
-    -- if the slot `start` holds v, v is the first item
+    -- If slot `start` holds `v`, then `v` is the first item that has not been yielded yet.
     pub first-item : slot b.slots start ≡ Some v → xs ≡ v ∷ drop 1 xs
     first-item e = (first e).0
 
-    -- if the slot `start` held v and was emptied, the new block is that of the iterator without its
-    -- first item
+    -- If slot `start` held `v` and was emptied, then the new block is the block of the iterator
+    -- without its first item.
     pub settle-first : slot b.slots start ≡ Some v
         → seen b' ≡ record (seen b) { slots = set b.slots start None }
         → Walking b' a (drop 1 xs) (start + 1) end (length b.slots)
@@ -216,24 +215,24 @@ module _ {T A : Type 0} where
         (omega (arith, t.len, ap length (first e).0)) (walked-room b a start end t)
         (from-same b b' a t.from (ap (λ v. v.alloc) w))
 
-    -- all items except the last
+    -- These are all items except the last one.
     abbrev most : List T
     most = take (end - 1 - start) xs
 
-    -- the items are `most`, followed by the last item
+    -- The items are `most`, followed by the last item.
     whole : xs ≡ most ++ get_or xs (end - 1 - start) v ∷ []
     whole = split-last xs (end - 1 - start) v (omega (arith, t.len))
 
-    -- the last item is in the slot `end - 1`
+    -- The last item is in slot `end - 1`.
     place : start + length most ≡ end - 1
     place = omega (arith, t.len, length-take-le (end - 1 - start) xs (omega (arith, t.len)))
 
-    -- the slots of b are the empty slots before the items, `most`, the last item, and the empty
-    -- slots after it
+    -- The slots of `b` are, in this order: the empty slots before the items, the items `most`, the
+    -- last item, and the empty slots after it.
     row : b.slots ≡ empty start ++ (full (most ++ get_or xs (end - 1 - start) v ∷ []) ++ empty gap)
     row = t.row ∙ ap (λ (ys : List T). empty start ++ (full ys ++ empty gap)) whole
 
-    -- if the slot `end - 1` holds v, v is the last item
+    -- If slot `end - 1` holds `v`, then `v` is the last item.
     pub last-item : slot b.slots (end - 1) ≡ Some v → xs ≡ most ++ v ∷ []
     last-item e =
         let is : Some (get_or xs (end - 1 - start) v) ≡ Some v =
@@ -243,8 +242,8 @@ module _ {T A : Type 0} where
         let same : get_or xs (end - 1 - start) v ≡ v = cc in
         whole ∙ ap (λ (x : T). most ++ x ∷ []) same
 
-    -- if the slot `end - 1` was emptied, the new block is that of the iterator without its last
-    -- item
+    -- If slot `end - 1` was emptied, then the new block is the block of the iterator without its
+    -- last item.
     pub settle-last : seen b' ≡ record (seen b) { slots = set b.slots (end - 1) None }
         → Walking b' a most start (end - 1) (length b.slots)
     settle-last w =
@@ -257,8 +256,9 @@ module _ {T A : Type 0} where
         place (omega (arith, walked-room b a start end t))
         (from-same b b' a t.from (ap (λ v. v.alloc) w))
 
-  -- if ws was written over the slots from `start` on, the new block b' is that of an iterator of
-  -- the same length, in which ws replaces the first items
+  -- If the items `ws` were written over the items from slot `start` onward, then the new block `b'`
+  -- belongs to an iterator with the same number of items. In this iterator, `ws` replaces the first
+  -- items.
   pub settle-written : (b b' : Block T A) (a : A) (start end : ℕ) (ws : List T)
       → IsWalked b a start end → seen b' ≡ record (seen b) { slots = over b.slots start ws }
       → Walking b' a (refill (length (items_in b.slots)) (items_in b.slots) ws)
@@ -273,15 +273,15 @@ module _ {T A : Type 0} where
       (omega (arith, t.len, length_refill (length xs) xs ws refl)) (walked-room b a start end t)
       (from-same b b' a t.from (ap (λ v. v.alloc) w))
 
-  -- writing ws over the slots from `start` on writes ws over the items of the iterator that
-  -- contracts see
+  -- If the items `ws` are written into the block from slot `start` onward, then contracts see `ws`
+  -- written over the items of the iterator.
   pub view-written : (b : Block T A) (a : A) (start end : ℕ) (ws : List T) → IsWalked b a start end
       → thin_of (block_with_items b start ws) a ≡ with_items (thin_of b a) ws
   view-written b a start end ws t =
       let f = settle-written b (block_with_items b start ws) a start end ws t refl in
       λ i. record { items = f.items i; capacity = f.cap i; alloc = a; cost = b.cost }
 
-  -- if all items were yielded, every slot is empty
+  -- If all items have been yielded, then every slot is empty.
   pub walked-empty : (b : Block T A) (a : A) (start end : ℕ) → IsWalked b a start end
       → length (items_in b.slots) ≡ 0 → b.slots ≡ empty (length b.slots)
   walked-empty b a start end t none =
@@ -293,15 +293,15 @@ module _ {T A : Type 0} where
       ∙ (replicate-append-replicate start (length b.slots - end) None
       ∙ ap (λ (n : ℕ). empty n) all))
 
--- in this module, T is the item type and A the allocator type of an `IntoIter`
+-- In this module, `T` is the item type and `A` is the allocator type of an `IntoIter`.
 module _ (T A : Type 0) where
-  -- repeated calls of `next` yield the items not yet yielded, in order
+  -- Repeated calls of `next` yield the items that have not been yielded yet, in order.
   pub rest_in_order : RestInOrder T A
   rest_in_order p s =
       as_is p (rest p.from)
       (from_front (YieldsFirst rest) (λ x. x) rest (λ s t h. ap length h.0) (λ s x t h. h) p s)
 
-  -- repeated calls of `next_back` yield the items not yet yielded, in reverse order
+  -- Repeated calls of `next_back` yield the items that have not been yielded yet, in reverse order.
   pub rest_in_reverse : RestInReverse T A
   rest_in_reverse p s =
       as_is_back p (rest p.from)

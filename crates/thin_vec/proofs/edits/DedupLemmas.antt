@@ -1,6 +1,6 @@
--- Lemmas about which items stay if each item is tested against the last item kept so far, and about
--- how the results of consecutive tests combine. Throughout, R is the relation of the closure, and
--- s, t and u are states of the closure.
+-- These lemmas state which items are kept if each item is tested against the last item kept before
+-- it, and how the results of consecutive tests combine. In this file, `R` describes the calls of
+-- the closure, and `s`, `t` and `u` are states of the closure.
 use Rattle.std.proofs.Common.{◌≡◌, ℕ, zero, suc, ◌+◌, ◌<◌, ◌≤◌, Bool, true, false, List, [], ◌∷◌, ◌++◌, length, take, drop, refl, sym, ap, subst, ◌∙◌, arith, inl, inr, append_assoc}
 use Rattle.std.proofs.lemmas.List.{append-nil, drop_at, length_push, replicate-append-replicate, take_at}
 use Rattle.std.specs.List.{dedup, dedup_from}
@@ -14,14 +14,14 @@ use Rattle.thin_vec.specs.ThinVec.{Thin}
 use Rattle.thin_vec.proofs.RetainLemmas.{cons-head, cons-not-nil, cons-tail, moving-more, moving-none, single}
 use Rattle.thin_vec.proofs.OpenBlockLemmas.{last-of}
 
--- The type of relations for a test of two items. Such a relation has seven arguments: the state
--- before the test, the later item, the last item kept, whether the later item is removed, the state
--- after the test, and both items as the test left them.
+-- This is the type of relations for a test of two items. Such a relation has seven arguments: the
+-- state before the test, the later item, the last kept item, whether the later item is removed, the
+-- state after the test, and the two items after the test.
 abbrev OnPairs : Type 0 → Type 0 → Type 1
 OnPairs S T = S → T → T → Bool → S → T → T → Type 0
 
--- if two non-empty lists are equal, their last items are equal, and the lists without their last
--- items are equal
+-- If two lists with the last items `x` and `y` are equal, then `x` and `y` are equal, and the lists
+-- without their last items are equal.
 last-same : {X : Type 0} (a b : List X) (x y : X) → a ++ x ∷ [] ≡ b ++ y ∷ [] → (a ≡ b) × (x ≡ y)
 last-same [] [] x y e = (refl, cons-head e)
 last-same [] (z ∷ b) x y e = let n = ap length e in absurd (omega (arith, n, length_push b y))
@@ -30,48 +30,49 @@ last-same (z ∷ a) (q ∷ b) x y e =
     let p = last-same a b x y (cons-tail e) in
     ((λ i. cons-head e i ∷ p.0 i), p.1)
 
--- `all-stay n` is the list of the flags of n items that all stay
+-- `all-stay n` is the list of `n` Boolean flags that are all true: each flag says that its item is
+-- kept.
 abbrev pub all-stay : ℕ → List Bool
 all-stay n = replicate n true
 
--- the number of true flags in two joined lists is the sum of the numbers of true flags in the two
--- lists
+-- The number of true flags in `a ++ b` is the sum of the numbers of true flags in `a` and in `b`.
 trues-join : (a b : List Bool) → trues (a ++ b) ≡ trues a + trues b
 trues-join [] b = omega arith
 trues-join (true ∷ a) b = let e = trues-join a b in omega arith
 trues-join (false ∷ a) b = trues-join a b
 
--- a list of n flags that are all true contains n true flags
+-- A list of `n` flags that are all true contains `n` true flags.
 trues-all : (n : ℕ) → trues (replicate n true) ≡ n
 trues-all zero = refl
 trues-all (suc n) = ap suc (trues-all n)
 
--- items that stay at the start of a list do not move: `moved_down` is the same with and without
--- their n flags
+-- If the first `n` items of a list are kept, they are not moved. So their `n` true flags do not
+-- change `moved_down`, the number of moved items.
 moved-all : (n : ℕ) (b : List Bool) → moved_down (replicate n true ++ b) ≡ moved_down b
 moved-all zero b = refl
 moved-all (suc n) b = moved-all n b
 
--- if G follows from P and from Q, it follows from `MatchBool b P Q`
+-- `MatchBool b P Q` is `P` if `b` is true, and `Q` otherwise. If `P` implies `G` and `Q` implies
+-- `G`, then `MatchBool b P Q` implies `G`.
 by-answer : (b : Bool) (P Q G : Type 0) → (P → G) → (Q → G) → MatchBool b P Q → G
 by-answer true P Q G f g m = f m
 by-answer false P Q G f g m = g m
 
--- if P' follows from P, and Q' from Q, then `MatchBool b P' Q'` follows from `MatchBool b P Q`
+-- If `P` implies `P'` and `Q` implies `Q'`, then `MatchBool b P Q` implies `MatchBool b P' Q'`.
 map-answer : (b : Bool) {P Q P' Q' : Type 0} → (P → P') → (Q → Q') → MatchBool b P Q
     → MatchBool b P' Q'
 map-answer true f g m = f m
 map-answer false f g m = g m
 
--- if a list of at least two items begins with k and ends with l, it still ends with l without its
--- first item, and it still begins with k without its last item
+-- Suppose that a list of at least two items begins with `k` and ends with `l`. Without its first
+-- item, it still ends with `l`. Without its last item, it still begins with `k`.
 after-first : {X : Type 0} (pre zs : List X) (k l : X) → pre ++ l ∷ [] ≡ k ∷ zs → 0 < length zs
     → (p : List X) × (zs ≡ p ++ l ∷ []) × (pre ≡ k ∷ p)
 after-first [] zs k l e some = let n = ap length e in absurd (omega (arith, n, some))
 after-first (a ∷ p) zs k l e some = (p, sym (cons-tail e), ap (λ z. z ∷ p) (cons-head e))
 
 module _ {S T : Type 0} (R : OnPairs S T) where
-  -- if the items xs were tested after the kept item k, at least one item is kept
+  -- If the items `xs` were tested after the kept item `k`, then at least one item is kept.
   pub last-some : (xs : List T) (s t : S) (k : T) (stays : List Bool) (ys : List T)
       → AskedLast R s k xs stays ys t → 0 < length ys
   last-some [] s t k stays ys h = omega (arith, ap length h.1)
@@ -79,21 +80,24 @@ module _ {S T : Type 0} (R : OnPairs S T) where
       by-answer h.0 _ _ (0 < length ys) (λ m. last-some xs h.3 t h.2 h.4 ys m)
       (λ m. omega (arith, ap length m.2)) h.7
 
-  -- if x is tested against k and is removed, k alone is kept, as the test left it
+  -- If the item `x` is tested against the kept item `k` and is removed, then only `k` is kept, as
+  -- the test left it.
   pub last-goes : (s t : S) (k x x' k' : T) → R s x k true t x' k'
       → AskedLast R s k (x ∷ []) (false ∷ []) (k' ∷ []) t
   last-goes s t k x x' k' h = (true, x', k', t, [], h, refl, (refl, refl, refl))
 
-  -- if x is tested against k and stays, k and x are kept, as the test left them
+  -- If the item `x` is tested against the kept item `k` and is kept, then both items are kept, as
+  -- the test left them.
   pub last-stays : (s t : S) (k x x' k' : T) → R s x k false t x' k'
       → AskedLast R s k (x ∷ []) (true ∷ []) (k' ∷ x' ∷ []) t
   last-stays s t k x x' k' h = (false, x', k', t, [], h, refl, (x' ∷ [], (refl, refl, refl), refl))
 
-  -- in this module, the items zs were tested, starting in the state t and ending in the state u,
-  -- and l was the last item kept before them
+  -- In this module, the items `zs` were tested after the kept item `l`. The tests led from the
+  -- state `t` of the closure to the state `u`.
   module _ (t u : S) (l : T) (g : List Bool) (ws zs : List T) (m : AskedLast R t l zs g ws u) where
-    -- if the items xs were tested from the state s on, and the items zs were tested next, then xs
-    -- followed by zs were tested from the state s on
+    -- If the tests of the items `xs` led from the state `s` of the closure to the state `t`, and
+    -- the tests of the items `zs` led from `t` to `u`, then the tests of `xs ++ zs` led from `s` to
+    -- `u`.
     last-append : (xs : List T) (s : S) (k : T) (f : List Bool) (pre : List T)
         → AskedLast R s k xs f (pre ++ l ∷ []) t → AskedLast R s k (xs ++ zs) (f ++ g) (pre ++ ws) u
     last-append [] s k f pre h =
@@ -122,10 +126,10 @@ module _ {S T : Type 0} (R : OnPairs S T) where
           h.7,
     )
 
-  -- Section: runs of items that all stay
+  -- Section: runs of items that are all kept
 
-  -- The first item of xs stays, and the m - 1 items after it were tested and stay. ys is xs with
-  -- these items as the tests left them. s and t are the states before and after the tests.
+  -- The first `m` items of the list `xs` are kept. The first item was not tested, and each later
+  -- one was tested. The tests turned `xs` into `ys`, and the state `s` of the closure into `t`.
   pub record PairStays (m : ℕ) (s : S) (xs : List T) (t : S) (ys : List T) : Type 0 where
     pub first : T
     pub done : List T
@@ -137,7 +141,8 @@ module _ {S T : Type 0} (R : OnPairs S T) where
     pub kept : suc (length pre) ≡ m
     pub now : ys ≡ pre ++ last ∷ after
 
-  -- if xs is not empty, `PairStays` holds for its first item alone, before any test
+  -- Before any test, `PairStays` holds for the first item of a non-empty list: this item is kept
+  -- without a test.
   pub pair-start : (s : S) (xs : List T) → 0 < length xs → PairStays 1 s xs s xs
   pair-start s [] some = absurd (omega arith)
   pair-start s (x ∷ xs) some =
@@ -154,15 +159,16 @@ module _ {S T : Type 0} (R : OnPairs S T) where
       }
 
   module _ (m : ℕ) (s : S) (xs : List T) (t : S) (ys : List T) (h : PairStays m s xs t ys) where
-    -- `a` is the next test: it tested the first item not yet tested against the last item kept
+    -- `NextPair` holds if `a` is the next test: it compared the first untested item with the last
+    -- kept item.
     pub record NextPair (b : Bool) (u : S) (zs : List T)
         (a : IsPairAskedAt R m t ys b u zs) : Type 0 where
       pub front : a.before ≡ h.pre
       pub last : a.kept ≡ h.last
       pub after : h.after ≡ a.later ∷ a.after
 
-    -- if `a` tested the item at index m against the item before it, `a` is the next test
-    -- (`NextPair`)
+    -- If the test `a` tested the item at index `m` against the item before it, then `a` is the next
+    -- test (`NextPair`).
     next-pair : (b : Bool) (u : S) (zs : List T) (a : IsPairAskedAt R m t ys b u zs)
         → NextPair b u zs a
     next-pair b u zs a =
@@ -179,22 +185,22 @@ module _ {S T : Type 0} (R : OnPairs S T) where
         ∙ drop_at a.before (a.kept ∷ a.later ∷ a.after) (length h.pre) n) in
         record { front = sym fronts; last = sym (cons-head rests); after = cons-tail rests }
 
-    -- the later item of `a` was tested against the last item kept
+    -- The test `a` tested the later of its two items against the last kept item.
     next-asked : (b : Bool) (u : S) (zs : List T) (a : IsPairAskedAt R m t ys b u zs)
         → R t a.later h.last b u a.later_left a.kept_left
     next-asked b u zs a = subst (λ (k : T). R t a.later k b u a.later_left a.kept_left)
         (next-pair b u zs a).last a.asked
 
-    -- xs consists of its first item, the items tested before `a`, the item that `a` tested, and the
-    -- items not yet tested
+    -- The list `xs` consists of its first item, the items tested before the test `a`, the item that
+    -- `a` tested, and the items that have not been tested yet.
     next-was : (b : Bool) (u : S) (zs : List T) (a : IsPairAskedAt R m t ys b u zs)
         → xs ≡ h.first ∷ ((h.done ++ a.later ∷ []) ++ a.after)
     next-was b u zs a = h.was ∙ ap (λ (l : List T). h.first ∷ l)
         (ap (λ (l : List T). h.done ++ l) (next-pair b u zs a).after
         ∙ sym (append_assoc h.done (a.later ∷ []) a.after))
 
-    -- after the test `a`, zs has the two items of `a` as the test left them, and no other item has
-    -- changed
+    -- After the test `a`, the list `zs` contains the two items of this test as the test left them.
+    -- No other item has changed.
     next-now : (b : Bool) (u : S) (zs : List T) (a : IsPairAskedAt R m t ys b u zs)
         → zs ≡ (h.pre ++ a.kept_left ∷ []) ++ a.later_left ∷ a.after
     next-now b u zs a =
@@ -202,7 +208,8 @@ module _ {S T : Type 0} (R : OnPairs S T) where
         (next-pair b u zs a).front
         ∙ sym (append_assoc h.pre (a.kept_left ∷ []) (a.later_left ∷ a.after)))
 
-    -- if the item at index m was tested and stays, `PairStays` holds for the first m + 1 items
+    -- If the item at index `m` was tested and is kept, then `PairStays` holds for the first `m + 1`
+    -- items.
     pub pair-more : (u : S) (zs : List T) → IsPairAskedAt R m t ys false u zs
         → PairStays (m + 1) s xs u zs
     pair-more u zs a =
@@ -230,8 +237,8 @@ module _ {S T : Type 0} (R : OnPairs S T) where
           now = next-now false u zs a;
         }
 
-    -- if the item at index m was tested and is to be removed, the tests stopped there, with m items
-    -- kept (`PairsAskedUpTo`)
+    -- If the item at index `m` was tested and is to be removed, then the tests stopped there, and
+    -- `m` items are kept (`PairsAskedUpTo`).
     pub pair-goes : (u : S) (zs : List T) → IsPairAskedAt R m t ys true u zs
         → PairsAskedUpTo R m s xs u zs
     pair-goes u zs a =
@@ -257,17 +264,17 @@ module _ {S T : Type 0} (R : OnPairs S T) where
 
   module _ (m : ℕ) (s : S) (xs : List T) (t : S) (ys : List T)
       (r : PairsAskedUpTo R m s xs t ys) where
-    -- the first m items of ys are the items kept, as the tests left them
+    -- The first `m` items of the list `ys` are the kept items, as the tests left them.
     pub run-left : take m ys ≡ r.left
     run-left = ap (take m) r.now ∙ take_at r.left (r.over ++ r.after) m r.long
 
-    -- from index m on, ys has the item to be removed, if there is one, and then the items not yet
-    -- tested
+    -- From index `m` onward, the list `ys` consists of the item to be removed, if there is one, and
+    -- the untested items.
     pub run-over : drop m ys ≡ r.over ++ r.after
     run-over = ap (drop m) r.now ∙ drop_at r.left (r.over ++ r.after) m r.long
 
-    -- if an item follows the m items kept, that item is to be removed, and the items after it were
-    -- not yet tested
+    -- If an item follows the `m` kept items, then this item is to be removed, and the items after
+    -- it have not been tested yet.
     pub run-goes : (value : T) (rest : List T) → drop m ys ≡ value ∷ rest → (r.after ≡ rest)
         × (r.stays ≡ all-stay r.more ++ false ∷ [])
     run-goes value rest k =
@@ -277,7 +284,7 @@ module _ {S T : Type 0} (R : OnPairs S T) where
           | inr q ↦ absurd (cons-not-nil (sym k ∙ (run-over ∙ (λ i. q.0 i ++ q.1.0 i))))
         ]
 
-    -- if no item follows the m items kept, all items were tested, and all are kept
+    -- If no item follows the `m` kept items, then all items were tested and all are kept.
     pub run-ends : drop m ys ≡ [] → (r.after ≡ []) × (r.stays ≡ all-stay r.more)
     run-ends k =
         elim r.stops [
@@ -287,8 +294,8 @@ module _ {S T : Type 0} (R : OnPairs S T) where
           | inr q ↦ (q.1.0, q.1.1)
         ]
 
-    -- m, the number of items kept, is 1 (for the first item, which is not tested) plus the number
-    -- of tested items that stay
+    -- The first item is kept without a test. So the number `m` of kept items is 1 plus the number
+    -- of tested items that are kept.
     pub run-count : (f : List Bool) → trues f ≡ 0 → r.stays ≡ all-stay r.more ++ f
         → suc (trues r.stays) ≡ m
     run-count f none e =
@@ -297,21 +304,22 @@ module _ {S T : Type 0} (R : OnPairs S T) where
   -- Section: open blocks
 
   module _ {A : Type 0} (v w : Open T A) where
-    -- `Moved front cost` holds if w is v with this front and this cost. In addition, only the gap
-    -- and the middle run of w may differ from those of v.
+    -- `Moved front cost` holds if the open block `w` is the open block `v` with these front items
+    -- and this cost. Apart from this, `w` may differ from `v` only in the gap and the middle items.
     abbrev Moved : List T → Cost → Type 0
     Moved front cost = w ≡ record v
         { front = front; gap = w.gap; rest = w.rest; cost = cost }
 
-    -- an open block does not change if its front and its cost are replaced by equal ones
+    -- Replacing the front items and the cost of an open block by equal ones yields an equal open
+    -- block.
     moved : {f f' : List T} {k k' : Cost} → f ≡ f' → k ≡ k'
         → record v { front = f; gap = w.gap; rest = w.rest; cost = k }
         ≡ record v { front = f'; gap = w.gap; rest = w.rest; cost = k' }
     moved e n = λ i. record v { front = e i; gap = w.gap; rest = w.rest; cost = n i }
 
     module _ (s t : S) where
-      -- if the items `done` were tested, the first of them against `first`, the last item of the
-      -- front, and the items that stay were moved to the front, then `Dedups` holds
+      -- Suppose that the items `done` were tested after the last front item, and that the kept
+      -- items were moved to the end of the front items. Then `Dedups` holds.
       dedups-of : (before : List T) (first : T) (done : List T) (stays : List Bool) (kept : List T)
           → v.front ≡ before ++ first ∷ [] → v.rest ≡ done ++ w.rest
           → AskedLast R s first done stays kept t → 0 < w.gap
@@ -330,7 +338,7 @@ module _ {S T : Type 0} (R : OnPairs S T) where
             now = now;
           }
 
-    -- if the next item x was tested and removed, `Dedups` holds
+    -- If the next item `x` was tested and removed, then `Dedups` holds.
     pub dedups-goes : {s t : S} (x y : T) (front : List T)
         → IsLastAsked R s x v.front true t y front → v.rest ≡ x ∷ w.rest → 0 < w.gap
         → Moved front v.cost → Dedups R s v t w
@@ -339,8 +347,8 @@ module _ {S T : Type 0} (R : OnPairs S T) where
         (last-goes s t a.kept x y a.kept_left a.asked) gap
         (now ∙ moved (λ i. a.now i) (sym (moving-none v.cost)))
 
-    -- if the item x was tested, stays, and was moved to the front at the cost of one move, `Dedups`
-    -- holds
+    -- If the next item `x` was tested, is kept, and was moved to the end of the front items at the
+    -- cost of one move, then `Dedups` holds.
     pub dedups-stays : {s t : S} (x y : T) (front : List T)
         → IsLastAsked R s x v.front false t y front → v.rest ≡ x ∷ w.rest
         → 0 < w.gap → Moved (front ++ y ∷ []) (moving 1 v.cost) → Dedups R s v t w
@@ -353,14 +361,14 @@ module _ {S T : Type 0} (R : OnPairs S T) where
     module _ (s t u : S) (x y z : T) (front ys zs : List T)
         (a : IsLastAsked R s x v.front false t y front) (b : Bool)
         (n : IsNextAsked R t y ys b u z zs) (whole : v.rest ≡ x ∷ ys) where
-      -- If x stays, and the item after x was then tested, the front followed by x ends with two
-      -- items: the last item of the front, as the first test left it, and x, as the second test
-      -- left it.
+      -- Suppose that the item `x` is kept, and that the item after `x` was tested next. Then the
+      -- last two front items are the old last front item, as the first test left it, and `x`, as
+      -- the second test left it.
       two-front : (front ++ z ∷ [] ≡ a.before ++ a.kept_left ∷ z ∷ [])
       two-front = ap (λ (l : List T). l ++ z ∷ []) a.now
           ∙ append_assoc a.before (a.kept_left ∷ []) (z ∷ [])
 
-      -- if the next item stays, and the item after it is removed, `Dedups` holds
+      -- If the next item is kept, and the item after it is removed, then `Dedups` holds.
       pub dedups-two : b ≡ true → (value : T) → zs ≡ value ∷ w.rest → 0 < w.gap
           → Moved (front ++ z ∷ []) (moving 1 v.cost) → Dedups R s v u w
       dedups-two e value rest gap now =
@@ -374,8 +382,8 @@ module _ {S T : Type 0} (R : OnPairs S T) where
           (a.kept_left ∷ z ∷ []) a.was (whole ∙ ap (λ (l : List T). x ∷ l)
           (n.was ∙ ap (λ (l : List T). n.later ∷ l) same)) asked gap (now ∙ moved two-front refl)
 
-      -- `Dedups` holds if the next item stays, a run of m items after it stays, and the item after
-      -- that run, if there is one, is removed
+      -- If the next item and then a run of `m` items are kept, and the item after the run, if there
+      -- is one, is removed, then `Dedups` holds.
       pub dedups-run : b ≡ false → (m : ℕ) (q : S) (ws : List T) (r : PairsAskedUpTo R m u zs q ws)
           → r.after ≡ w.rest → suc (trues r.stays) ≡ m
           → 0 < w.gap → Moved ((front ++ z ∷ []) ++ take m ws) (moving m (moving 1 v.cost))
@@ -404,8 +412,8 @@ module _ {S T : Type 0} (R : OnPairs S T) where
           ∙ append_assoc a.before (a.kept_left ∷ z ∷ []) r.left)
           (moving-more m 1 v.cost ∙ ap (λ (k : ℕ). moving k v.cost) paid))
 
-  -- if the open block v has a gap and a non-empty front, `Dedups` holds for v and v itself: no item
-  -- was tested
+  -- If no item was tested, then `Dedups` holds for an open block and itself. The open block must
+  -- have a gap and at least one front item.
   pub dedups-start : {A : Type 0} (s : S) (v : Open T A) → 0 < length v.front
       → 0 < v.gap → Dedups R s v s v
   dedups-start s v some gap =
@@ -423,7 +431,8 @@ module _ {S T : Type 0} (R : OnPairs S T) where
         now = λ i. record v { front = p.2 i; cost = sym (moving-none v.cost) i };
       }
 
-  -- `Dedups` is transitive: if it holds for v and w, and for w and z, it holds for v and z
+  -- `Dedups` is transitive: if it holds for `v` and `w`, and for `w` and `z`, then it holds for `v`
+  -- and `z`.
   pub dedups-then : {A : Type 0} {s t u : S} {v w z : Open T A} → Dedups R s v t w
       → Dedups R t w u z → Dedups R s v u z
   dedups-then {s = s} {t} {u} {v} {w} {z} h k =
@@ -461,13 +470,15 @@ module _ {S T : Type 0} (R : OnPairs S T) where
 
   module _ {A : Type 0} (v w : Open T A) (m : ℕ) (s t : S) (ys : List T)
       (r : PairsAskedUpTo R m s v.rest t ys) where
-    -- w is v with a front of exactly the items kept, as the tests left them, and with the same
-    -- cost. In addition, only the gap and the middle run may differ.
+    -- `RunPassed` holds if the front items of `w` are exactly the kept items, as the tests left
+    -- them. Apart from this, `w` may differ from the open block `v` only in the gap and the middle
+    -- items.
     abbrev RunPassed : Type 0
     RunPassed = Moved v w (take m ys) v.cost
 
-    -- if the item after the run is removed, and all items after that item are then tested,
-    -- `IsDeduped` holds for the old open block v and the final one, z
+    -- Suppose that the item after the run of kept items is removed, and that all later items were
+    -- tested. Then `IsDeduped` holds for `v`, the open block before all tests, and `z`, the open
+    -- block after them.
     pub deduped-goes : (value : T) (u : S) (z : Open T A) → RunPassed → drop m ys ≡ value ∷ w.rest
         → Dedups R t w u z → z.rest ≡ [] → IsDeduped R s v u z
     deduped-goes value u z p k h none =
@@ -500,7 +511,8 @@ module _ {S T : Type 0} (R : OnPairs S T) where
           });
         }
 
-    -- if no item follows the run, all items stay, and `IsDeduped` holds for v and w
+    -- If no item follows the run of kept items, then all items are kept, and `IsDeduped` holds for
+    -- the open blocks `v` and `w`.
     pub deduped-ends : RunPassed → drop m ys ≡ [] → w.rest ≡ [] → IsDeduped R s v t w
     deduped-ends p k none =
         let g = run-ends m s v.rest t ys r k in
@@ -521,16 +533,16 @@ module _ {S T : Type 0} (R : OnPairs S T) where
           });
         }
 
--- in this module, J is a type of tests: a test contains a closure, and returns what the closure
--- returns. `inside` gives the state of the closure in a test.
+-- In this module, a test is a struct that calls a closure and returns its result. `J` is the type
+-- of the test, and `inside` maps a state of the test to the state of its closure.
 module _ {J S T : Type 0} (R : OnPairs S T) (inside : J → S) where
-  -- the relation of the test: the relation of the closure, between the states that the closure has
-  -- inside the test
+  -- `through` describes the calls of the test. It is the relation `R` of the closure, applied to
+  -- the states of the closure inside the test.
   abbrev through : OnPairs J T
   through s x k b t y l = R (inside s) x k b (inside t) y l
 
-  -- if the items xs were tested by the test, after the kept item k, they were tested by its
-  -- closure, with the same results
+  -- If the test tested the items `xs` after the kept item `k`, then its closure tested the same
+  -- items with the same results.
   last-through : (xs : List T) (s t : J) (k : T) (f : List Bool) (ys : List T)
       → AskedLast through s k xs f ys t → AskedLast R (inside s) k xs f ys (inside t)
   last-through [] s t k f ys h = (h.0, h.1, ap inside h.2)
@@ -546,13 +558,15 @@ module _ {J S T : Type 0} (R : OnPairs S T) (inside : J → S) where
         (λ q. (q.0, last-through xs h.3 t h.1 h.4 q.0 q.1, q.2)) h.7,
   )
 
-  -- if the items xs were tested by the test, they were tested by its closure, with the same results
+  -- If the test tested the items `xs`, then its closure tested the same items with the same
+  -- results.
   pairs-through : (xs : List T) (s t : J) (f : List Bool) (ys : List T)
       → AskedPairs through s xs f ys t → AskedPairs R (inside s) xs f ys (inside t)
   pairs-through [] s t f ys h = (h.0, h.1, ap inside h.2)
   pairs-through (x ∷ xs) s t f ys h = last-through xs s t x f ys h
 
-  -- if the test reduced the list v to w, its closure reduced v to w
+  -- If the results of the test turned the list `v` into the list `w`, then the results of its
+  -- closure also turned `v` into `w`.
   pub deduped-through : {A : Type 0} (s : J) (v w : Thin T A) (t : J) → IsDedupedTo through s v w t
       → IsDedupedBy R (inside s) v w
   deduped-through s v w t h = (
@@ -565,11 +579,11 @@ module _ {J S T : Type 0} (R : OnPairs S T) (inside : J → S) where
     },
   )
 
--- in this module, the test E is stateless, so the two items alone decide whether the later one
--- stays
+-- In this module, the test `E` has no state. So the two items alone decide whether the later item
+-- is kept.
 module _ {S T : Type 0} (E : T → T → Bool) where
-  -- if the items xs were tested after the kept item k, the flags are `unlike_from E k xs`, and the
-  -- items kept are `dedup_from E k xs`
+  -- If the items `xs` were tested after the kept item `k`, then `unlike_from E k xs` are the flags
+  -- that say which of them are kept. The kept items are `dedup_from E k xs`.
   last-compares : (xs : List T) (s t : S) (k : T) (f : List Bool) (ys : List T)
       → AskedLast (Compares E) s k xs f ys t → (f ≡ unlike_from E k xs) × (ys ≡ dedup_from E k xs)
   last-compares [] s t k f ys h = (h.0, h.1)
@@ -595,22 +609,23 @@ module _ {S T : Type 0} (E : T → T → Bool) where
       ]
       h.5.0 h.6 h.7
 
-  -- if the items xs were tested, the flags are `unlike E xs`, and the items kept are `dedup E xs`
+  -- If the items `xs` were tested, then `unlike E xs` are the flags that say which items after the
+  -- first are kept. The kept items are `dedup E xs`.
   pub pairs-compare : (xs : List T) (s t : S) (f : List Bool) (ys : List T)
       → AskedPairs (Compares E) s xs f ys t → (f ≡ unlike E xs) × (ys ≡ dedup E xs)
   pairs-compare [] s t f ys h = (h.0, h.1)
   pairs-compare (x ∷ xs) s t f ys h = last-compares xs s t x f ys h
 
 module _ {S T : Type 0} (R : OnPairs S T) where
-  -- if the items xs were tested after the kept item k, at most `1 + length xs` items are kept, k
-  -- included
+  -- If the items `xs` were tested after the kept item `k`, then at most `1 + length xs` items are
+  -- kept, including `k`.
   few-last : (xs : List T) (s t : S) (k : T) (stays : List Bool) (ys : List T)
       → AskedLast R s k xs stays ys t → length ys ≤ suc (length xs)
   few-last [] s t k stays ys h = omega (arith, ap length h.1)
   few-last (x ∷ xs) s t k stays ys h =
       one h.0 h.7 (λ l zs m. few-last xs h.3 t l h.4 zs m)
     where
-      -- one more test adds at most one item to those kept
+      -- One more test adds at most one item to the kept items.
       one : (b : Bool) → MatchBool b (AskedLast R h.3 h.2 xs h.4 ys t)
           ((zs : List T) × AskedLast R h.3 h.1 xs h.4 zs t × (ys ≡ h.2 ∷ zs))
           → ((l : T) (zs : List T) → AskedLast R h.3 l xs h.4 zs t → length zs ≤ suc (length xs))
@@ -618,13 +633,13 @@ module _ {S T : Type 0} (R : OnPairs S T) where
       one true m few = let f = few h.2 ys m in omega (arith, f)
       one false m few = let f = few h.1 m.0 m.1 in omega (arith, f, ap length m.2)
 
-  -- the number of items kept is at most the length of xs
+  -- The number of kept items is at most the length of the list `xs`.
   few-pairs : (xs : List T) (s t : S) (stays : List Bool) (ys : List T)
       → AskedPairs R s xs stays ys t → length ys ≤ length xs
   few-pairs [] s t stays ys h = omega (arith, ap length h.1)
   few-pairs (x ∷ xs) s t stays ys h = few-last xs s t x stays ys h
 
-  -- after `dedup_by`, the list has at most as many items as before
+  -- `dedup_by` does not increase the number of items of the list.
   pub few-deduped : {A : Type 0} (s : S) (v w : Thin T A) → IsDedupedBy R s v w
       → length w.items ≤ length v.items
   few-deduped s v w h = few-pairs v.items s h.0 h.1.stays w.items h.1.asked

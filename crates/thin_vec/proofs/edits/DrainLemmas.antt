@@ -1,5 +1,5 @@
--- Lemmas about what calls of `next` and `next_back` on a `Drain` yield, and about what these calls
--- do not change.
+-- These lemmas state what calls of `next` and `next_back` on a `Drain` yield, and what these calls
+-- leave unchanged.
 use Rattle.std.proofs.Common.{[], ◌∷◌, ap, refl, subst, ◌∙◌, length}
 use Rattle.std.proofs.iter.runs.Sources.{as_is, as_is_back, from_back, from_front}
 use Rattle.std.specs.Iterator.Runs.{YieldsInOrder, YieldsInReverse}
@@ -11,7 +11,8 @@ use Rattle.thin_vec.specs.declared.edits.holder.Holder.{Holder}
 use Rattle.thin_vec.specs.declared.edits.holder.Holds.{Ghosts as HoldsGhosts}
 
 module _ {T A G : Type 0} {g : Ghosts G} {h : HoldsGhosts (Holder (Open T A)) (Open T A)} where
-  -- `DrainKeeps` is transitive: if it holds for `a` and b, and for b and c, it holds for `a` and c
+  -- `DrainKeeps` is transitive: if it holds for `a` and `b`, and for `b` and `c`, then it holds for
+  -- `a` and `c`.
   drain_keeps_more : (a b c : Drain T A G (Holder (Open T A)) g h) → DrainKeeps a b
       → DrainKeeps b c → DrainKeeps a c
   drain_keeps_more a b c p q =
@@ -24,14 +25,14 @@ module _ {T A G : Type 0} {g : Ghosts G} {h : HoldsGhosts (Holder (Open T A)) (O
         cost = q.cost ∙ p.cost;
       }
 
-  -- calls of `next` do not change what the list will be once the `Drain` is dropped (`DrainKeeps`)
+  -- Calls of `next` do not change the list that remains after the `Drain` is dropped.
   pub drain_keeps_along : (d : Drain T A G (Holder (Open T A)) g h) → DrainKeepsAlong d
   drain_keeps_along d [] later e = subst (λ t. DrainKeeps d t) e
       (record { lender = refl; kept = refl; capacity = refl; alloc = refl; cost = refl })
   drain_keeps_along d (x ∷ xs) later e = drain_keeps_more d e.0 later e.1.keeps
       (drain_keeps_along e.0 xs later e.2)
 
-  -- repeated calls of `next` yield the items not yet yielded, in order
+  -- Repeated calls of `next` yield the items that have not been yielded yet, in order.
   pub drains_in_order : YieldsInOrder (DrainSteps {T = T} {A = A} {G = G} {g = g} {h = h})
       drain_rest
   drains_in_order p s =
@@ -39,7 +40,7 @@ module _ {T A G : Type 0} {g : Ghosts G} {h : HoldsGhosts (Holder (Open T A)) (O
       (from_front DrainSteps (λ x. x) drain_rest (λ a b n. ap length n.gave.0)
       (λ a x b n. n.gave) p s)
 
-  -- repeated calls of `next_back` yield the items not yet yielded, in reverse order
+  -- Repeated calls of `next_back` yield the items that have not been yielded yet, in reverse order.
   pub drains_in_reverse : YieldsInReverse (DrainStepsBack {T = T} {A = A} {G = G} {g = g} {h = h})
       drain_rest
   drains_in_reverse p s =

@@ -1,4 +1,5 @@
--- Lemmas about the item that a closure extracts: the first item for which it returns true.
+-- These lemmas are about the item that a call of `next` on an `ExtractIf` extracts. It is the first
+-- untested item for which the closure returns true.
 use Rattle.std.proofs.Common.{◌≡◌, ℕ, ◌+◌, ◌≤◌, Bool, true, false, List, [], ◌∷◌, ◌++◌, Option, None, Some, length, take, drop, refl, sym, ap, subst, ◌∙◌, arith, length-append}
 use Rattle.std.proofs.lemmas.List.{drop_at, length-take-le, nil_from_length, take_at}
 use Rattle.std.specs.List.Retain.{ExtractsNext}
@@ -9,14 +10,14 @@ use Rattle.thin_vec.specs.Edits.Retain.{Verdicts, Asked, stay}
 use Rattle.thin_vec.specs.OpenBlock.Sift.{AskedUpTo, Stops}
 use Rattle.thin_vec.proofs.RetainLemmas.{cons-head, cons-not-nil, cons-tail}
 
--- negating a flag twice gives the flag
+-- Negating a Boolean flag twice yields the same flag.
 pub not-not : (b : Bool) → not (not b) ≡ b
 not-not true = refl
 not-not false = refl
 
 module _ {F T : Type 0} (R : F → T → Bool → F → T → Type 0) where
-  -- the number of items in xs is the number of kept items, plus 1 if an item was extracted, plus
-  -- the number of items not yet tested
+  -- The length of the list `xs` is the number of kept items, plus 1 if an item was extracted, plus
+  -- the number of untested items.
   pub picked-count : (s : F) (xs : List T) (item : Option T) (t : F) (kept rest : List T)
       → ExtractsNext R s xs item t kept rest → length xs ≡ length kept + length
       (option_to_list item) + length rest
@@ -28,8 +29,8 @@ module _ {F T : Type 0} (R : F → T → Bool → F → T → Type 0) where
   picked-count s (x ∷ xs) item t kept rest e =
       answered e.0 (λ ks m. picked-count e.1 xs item t ks rest m) e.4
     where
-      -- if `picked-count` holds for the items after the first item, it holds for all items,
-      -- whatever the closure returned for the first item
+      -- This is the induction step of `picked-count`: if the lemma holds for the items after the
+      -- first item, then it holds for all items.
       answered : (b : Bool)
           → ((ks : List T) → ExtractsNext R e.1 xs item t ks rest
           → length xs ≡ length ks + length (option_to_list item) + length rest)
@@ -42,17 +43,17 @@ module _ {F T : Type 0} (R : F → T → Bool → F → T → Type 0) where
       answered false more m = omega (arith, more m.0 m.1, ap length m.2)
 
   module _ {S : Type 0} (of : S → F) where
-    -- The relation of a test that keeps exactly the items which the closure does not extract. `of
-    -- s` is the state of the closure in the state s of the test.
+    -- `J` describes a test that keeps exactly the items that the closure does not extract. `of s`
+    -- is the state of the closure in the state `s` of the test.
     abbrev J : S → T → Bool → S → T → Type 0
     J s x b t y = R (of s) x (not b) (of t) y
 
-    -- In this module, the closure begins in the state `between` and keeps none of the items
-    -- `after`: it extracts the first of these items, or there are none.
+    -- In this module, the closure is called with the items `after`, starting in the state
+    -- `between`. It extracts the first of these items, unless there are none.
     module _ (between : S) (after : List T) (item : Option T) (t : F) (rest : List T)
         (e : ExtractsNext R (of between) after item t [] rest) where
-      -- if all items of a run stay, and the items `after` follow the run, the closure keeps the run
-      -- and then extracts the first of the items `after`, if there is one
+      -- Suppose that all items of a run are kept, and that the items `after` follow the run. Then
+      -- the closure keeps the run and extracts the first item of `after`, if there is one.
       picked-after : (s : S) (run left : List T) → Asked J s run (stay left) between
           → ExtractsNext R (of s) (run ++ after) item t left rest
       picked-after s [] [] a =
@@ -70,13 +71,13 @@ module _ {F T : Type 0} (R : F → T → Bool → F → T → Type 0) where
           subst (λ (q : Verdicts T). Asked J a.2 run q between) (sym (cons-tail a.6)) a.5 in
           (false, of a.2, z, called, (left, picked-after a.2 run left on, refl))
 
-    -- if the tests stopped at the end of the items, the closure extracted nothing
+    -- If the tests stopped because no item remained, then the closure extracted nothing.
     stops-at-end : (between t : S) (after ys : List T) → Stops J between after t ys → ys ≡ []
         → ExtractsNext R (of between) after None (of t) [] ys
     stops-at-end between t [] ys a none = (refl, ap of a.1, refl, none)
     stops-at-end between t (x ∷ xs) ys a none = absurd (cons-not-nil (sym a.2 ∙ none))
 
-    -- if the tests stopped at an item v, the closure extracted v
+    -- If the tests stopped at the item `v`, then the closure extracted `v`.
     stops-at-item : (between t : S) (after ys : List T) (v : T) (zs : List T)
         → Stops J between after t ys → ys ≡ v ∷ zs → ExtractsNext R (of between)
         after (Some v) (of t) [] zs
@@ -87,36 +88,38 @@ module _ {F T : Type 0} (R : F → T → Bool → F → T → Type 0) where
 
     module _ (m : ℕ) (s : S) (xs : List T) (t : S) (ys : List T)
         (h : AskedUpTo J 0 m s xs t ys) where
-      -- no item is before the tested run
+      -- There are no items before the run of kept items.
       none-before : h.before ≡ []
       none-before = nil_from_length h.before h.place
 
-      -- xs is the tested run, followed by the items after it
+      -- Before the tests, the list `xs` consisted of the run of kept items and the items after the
+      -- run.
       was : xs ≡ h.run ++ h.after
       was = h.was ∙ ap (λ (l : List T). l ++ (h.run ++ h.after)) none-before
 
-      -- ys is the tested run, as the tests left it, followed by the items after it
+      -- After the tests, the list `ys` consists of the run of kept items and the items after the
+      -- run.
       now : ys ≡ h.left ++ h.end
       now = h.now ∙ ap (λ (l : List T). l ++ (h.left ++ h.end)) none-before
 
-      -- the tested run has m items
+      -- The run of kept items contains `m` items.
       reached : length h.left ≡ m
       reached = omega (arith, h.reached)
 
-      -- the first m items of ys are the tested run, as the tests left it
+      -- The first `m` items of the list `ys` are the run of kept items, as the closure left them.
       left-is : take m ys ≡ h.left
       left-is = ap (take m) now ∙ take_at h.left h.end m reached
 
-      -- the items of ys from m on are those after the tested run
+      -- The items of the list `ys` from index `m` onward are the items after the run of kept items.
       end-is : drop m ys ≡ h.end
       end-is = ap (drop m) now ∙ drop_at h.left h.end m reached
 
-      -- ys has at least m items
+      -- The list `ys` contains at least `m` items.
       pub picked-room : m ≤ length ys
       picked-room = omega (arith, reached, ap length now, length-append h.left h.end)
 
-      -- if the closure keeps the run, and then extracts `item` from the items after the run, `item`
-      -- is what the closure extracts from all items
+      -- Suppose that the closure keeps a run of items and then extracts `item` from the items after
+      -- the run. Then `item` is also what the closure extracts from the whole list.
       whole : (item : Option T) (rest : List T) → ExtractsNext R (of h.between) h.after item (of t)
           [] rest → ExtractsNext R (of s) xs item (of t) (take m ys) rest
       whole item rest e =
@@ -125,7 +128,7 @@ module _ {F T : Type 0} (R : F → T → Bool → F → T → Type 0) where
           (sym left-is)
           (picked-after h.between h.after item (of t) rest e s h.run h.left h.asked))
 
-      -- if no item is left after the run, the closure extracted nothing
+      -- If no item follows the run of kept items, then the closure extracted nothing.
       pub picked-none : drop m ys ≡ [] → ExtractsNext R (of s) xs None (of t)
           (take m ys) (drop m ys)
       picked-none none =
@@ -133,15 +136,15 @@ module _ {F T : Type 0} (R : F → T → Bool → F → T → Type 0) where
           (subst (λ (l : List T). ExtractsNext R (of h.between) h.after None (of t) [] l)
           (sym end-is) (stops-at-end h.between t h.after h.end h.stops (sym end-is ∙ none)))
 
-      -- if the first item after the run is v, the closure extracted v
+      -- If the first item after the run of kept items is `v`, then the closure extracted `v`.
       pub picked-some : (v : T) (zs : List T) → drop m ys ≡ v ∷ zs
           → ExtractsNext R (of s) xs (Some v) (of t) (take m ys) zs
       picked-some v zs some =
           whole (Some v) zs (stops-at-item h.between t h.after h.end v zs
           h.stops (sym end-is ∙ some))
 
--- if xs has at least k items, moving k items costs the same as moving the items of `take k xs`: no
--- move if there is no gap, and one move for each item otherwise
+-- If the list `xs` contains at least `k` items, then moving `k` items costs the same as moving the
+-- items `take k xs`. If there is no gap, nothing is moved, and the cost does not change.
 pub cost-of : {T : Type 0} (gap : ℕ) (cost : Cost) (k : ℕ) (xs : List T) → k ≤ length xs
     → (if gap == 0 then cost else moving k cost)
     ≡ (if gap == 0 then cost else moving (length (take k xs)) cost)

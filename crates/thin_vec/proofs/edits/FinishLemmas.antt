@@ -1,5 +1,5 @@
--- Lemmas about the steps by which `finish` fills the gap of a splice, and about how these steps
--- combine.
+-- These lemmas are about `finish`, which completes a splice. They state what the list contains
+-- after each step of `finish`, and how these steps combine.
 use Rattle.std.proofs.Common.{if◌then◌else◌, inl, inr, Option, drop, take, subst, ◌≡◌, ℕ, ◌+◌, ◌-◌, ◌*◌, ◌<◌, ◌≤◌, true, false, eqb, List, [], ◌++◌, ap, arith, length, length-append, refl, sym, ◌∙◌}
 use Rattle.std.proofs.lemmas.List.{length-drop, length-take-le}
 use Rattle.std.specs.Borrow.{RattleType}
@@ -21,8 +21,9 @@ use Rattle.thin_vec.proofs.list.ExtendLemmas.{yields-join}
 use Rattle.thin_vec.proofs.edits.SpliceLemmas.{between-length, between-more, drains-more, run-moves, stopped-more, taken-join, taken-spare}
 
 module _ {T A : Type 0} where
-  -- the open block b is the list u, opened before the item at index `at`: the items from this index
-  -- on were moved up for a gap of `count` slots, unless `count` is 0
+  -- `IsWide` holds if the open block `b` is the list `u` with a gap of `count` slots before the
+  -- item at index `at`. To open this gap, the items from index `at` onward were moved up, unless
+  -- `count` is 0.
   pub record IsWide (b : Open T A) (u : Thin T A) (at count : ℕ) : Type 0 where
     pub in_bounds : at ≤ length u.items
     pub front : b.front ≡ take at u.items
@@ -32,17 +33,17 @@ module _ {T A : Type 0} where
 
 module _ {S T A : Type 0} (steps : S → Option T → S → Type 0) (can : S → Type 0)
     (remaining : S → Count) where
-  -- `FillsGap v a s w f`: the gap of the open block v was filled from the iterator s, and v became
-  -- the block of the list w with the allocator `a`. f tells at which slot the filling ended,
-  -- whether the iterator has ended, and what is left of the iterator.
+  -- `FillsGap v a s w f` holds if items of the iterator `s` were put into the gap of the open block
+  -- `v` until the gap was full or the iterator ended, and `v` then became the block of the list `w`
+  -- with the allocator `a`. `f` contains the rest of the iterator.
   abbrev pub FillsGap : Open T A → A → S → Thin T A → Filled S → Type 0
   FillsGap v a s w f =
       (by : IsFilledBy steps can remaining v.gap s f) × IsClosedWith v by.items a w
       × (f.end ≡ length v.front + length by.items)
 
-  -- The list u is the open block v with the items xs between its front and its tail. There are
-  -- enough of these items to fill the gap, and the last of them is in the slot before `end`. Calls
-  -- of `next` yielded xs and led from the iterator s to t, and `next` may be called on t.
+  -- The list `u` consists of the front items of the open block `v`, the items `xs`, and the tail
+  -- items of `v`. The items `xs` fill the gap of `v` and end before slot `end`. They were yielded
+  -- by calls of `next` on the iterator `s`, which led to the iterator `t`.
   pub record IsReached (v : Open T A) (s : S) (u : Thin T A) (xs : List T) (end : ℕ)
       (t : S) : Type 0 where
     pub items : u.items ≡ with_between v xs
@@ -57,12 +58,12 @@ module _ {S T A : Type 0} {steps : S → Option T → S → Type 0} {can : S →
     {remaining : S → Count} where
   module _ {v : Open T A} {a : A} {s : S} {w : Thin T A} {f : Filled S}
       (p : FillsGap steps can remaining v a s w f) where
-    -- after the gap was filled, the list has as many items as the front, the tail and the placed
-    -- items together
+    -- After items were put into the gap, the length of the list is the number of front items plus
+    -- the number of tail items plus the number of these items.
     pub filled-long : length w.items ≡ length v.front + length v.tail + length p.0.items
     filled-long = omega (arith, ap length p.1.items, between-length v p.0.items)
 
-    -- if the iterator has not ended after the gap was filled, `IsReached` holds
+    -- If the gap was filled and the iterator has not ended yet, then `IsReached` holds.
     pub filled-reached : f.ended ≡ false
         → IsReached steps can remaining v s w p.0.items f.end f.rest
     filled-reached more = record {
@@ -75,20 +76,21 @@ module _ {S T A : Type 0} {steps : S → Option T → S → Type 0} {can : S →
       nearer = p.0.nearer more;
     }
 
-    -- if the iterator has ended, the placed items are all items that it yields
+    -- If the iterator has ended, then the placed items are all items that it yields.
     pub filled-drains : f.ended ≡ true → Drains steps s p.0.items
     filled-drains done = (f.rest, subst (λ b. Gives steps s p.0.items b f.rest) done p.0.gave)
 
     module _ (rule : Rule) (R : RattleType) (n : ℕ) (left : Count) where
-      -- if closing the gap took at most n moves, `HasTaken` holds with at most n moves of old items
+      -- If closing the gap took at most `n` moves, then `HasTaken` holds with the bound `n` on the
+      -- moves of old items.
       pub filled-taken : p.1.cost.0 ≤ n → HasTaken rule R (left_of v a) w n left
       filled-taken few =
           taken-spare rule R (left_of v a) w (length p.0.items) p.1.cost.0 n left p.1.cost.1
           p.1.capacity (omega (arith, filled-long, length-append v.front v.tail)) few p.1.alloc
 
-      -- If a gap was opened in the list u, filled, and closed, and opening and closing the gap took
-      -- at most n moves, then `HasTaken` holds for u and the new list, with at most n moves of old
-      -- items.
+      -- Suppose that a gap was opened in the list `u`, filled, and closed, and that opening and
+      -- closing it took at most `n` moves. Then `HasTaken` holds for `u` and the new list, with the
+      -- bound `n` on the moves of old items.
       pub wide-taken : (u : Thin T A) (at count : ℕ) → IsWide v u at count → a ≡ u.alloc
           → p.1.cost.0 + (length u.items - at) ≤ n → HasTaken rule R u w n left
       wide-taken u at count wide from few =
@@ -109,11 +111,12 @@ module _ {S T A : Type 0} {steps : S → Option T → S → Type 0} {can : S →
 
   module _ {v : Open T A} {s t : S} {u : Thin T A} {xs : List T} {end : ℕ}
       (p : IsReached steps can remaining v s u xs end t) where
-    -- the length of the list u is `end` plus the length of the tail
+    -- The length of the list `u` is `end` plus the number of tail items.
     pub reached-long : length u.items ≡ end + length v.tail
     reached-long = omega (arith, ap length p.items, between-length v xs, p.ends)
 
-    -- if u grows to w with the same items, `IsReached` holds for w too
+    -- If the list `u` grows to the list `w` with the same items, then `IsReached` also holds for
+    -- `w`.
     pub reached-grown : (w : Thin T A) → w.items ≡ u.items
         → IsReached steps can remaining v s w xs end t
     reached-grown w same = record {
@@ -126,9 +129,9 @@ module _ {S T A : Type 0} {steps : S → Option T → S → Type 0} {can : S →
       nearer = p.nearer;
     }
 
-    -- If the steps so far satisfy `HasTaken` with at most m moves of old items, and the later
-    -- steps, up to the list w, satisfy it with at most n, then all steps together satisfy it with
-    -- at most k, where k is at least m + n.
+    -- If `HasTaken` holds for the earlier steps with the bound `m` on the moves of old items, and
+    -- for the later steps with the bound `n`, then it holds for all steps together with each bound
+    -- `k` that is at least `m + n`.
     pub reached-taken : (rule : Rule) (R : RattleType) → KeepsLaw rule → (a : A) (w : Thin T A)
         (m n k : ℕ) → m + n ≤ k → HasTaken rule R (left_of v a) u m (remaining s)
         → HasTaken rule R u w n (remaining t) → HasTaken rule R (left_of v a) w k (remaining s)
@@ -139,8 +142,8 @@ module _ {S T A : Type 0} {steps : S → Option T → S → Type 0} {can : S →
         (λ fit same. omega (arith, fit, same, ap length p.items, long, left, p.nearer))
         before now
 
-    -- if the capacity has not changed so far, a capacity d that satisfies `IsExtended` for the
-    -- later steps also satisfies `IsExtended` for all steps
+    -- Suppose that the earlier steps did not change the capacity. If the later steps satisfy
+    -- `IsExtended` with the new capacity `d`, then all steps together also satisfy it with `d`.
     pub reached-extended : (rule : Rule) (R : RattleType) (a : A) (d n : ℕ)
         → u.capacity ≡ v.capacity → IsExtended rule R u d n (remaining t)
         → IsExtended rule R (left_of v a) d n (remaining s)
@@ -157,8 +160,8 @@ module _ {S T A : Type 0} {steps : S → Option T → S → Type 0} {can : S →
               ((ap (λ n. n + (length xs + e.0)) (length-append v.front v.tail) ∙ want) i)) ∙ e.2,
         )
 
-    -- if more items were inserted at `end`, and the iterator has still not ended, `IsReached` still
-    -- holds, with the inserted items included
+    -- If more items were inserted at index `end`, and the iterator has not ended yet, then
+    -- `IsReached` also holds with the inserted items included.
     pub reached-more : {w : Thin T A} {room : ℕ} {f : Filled S}
         (by : IsFilledBy steps can remaining room t f)
         → w.items ≡ (take end u.items ++ by.items) ++ drop end u.items
@@ -179,8 +182,8 @@ module _ {S T A : Type 0} {steps : S → Option T → S → Type 0} {can : S →
         }
 
   module _ {rule : Rule} {R : RattleType} (v : Open T A) (a : A) (s : S) (w : Thin T A) where
-    -- if all items that the iterator yields were placed, and the list satisfies `HasTaken` and
-    -- `IsExtended`, then a `finish` that returned `Ok` satisfies `IsFinished`
+    -- Suppose that `finish` returned `Ok` and placed all items that the iterator yields. If
+    -- `HasTaken` and `IsExtended` hold for the new list, then `IsFinished` holds.
     pub finished-ok : (x : Unit {0})
         → (xs : List T) × Drains steps s xs × (w.items ≡ with_between v xs)
         → HasTaken rule R (left_of v a) w (2 * length v.tail) (remaining s)
@@ -198,8 +201,9 @@ module _ {S T A : Type 0} {steps : S → Option T → S → Type 0} {can : S →
       cause = tt;
     }
 
-    -- if the items xs were placed before a non-empty tail, and the later steps returned the result
-    -- r, then `finish` as a whole satisfies `IsFinished` with r
+    -- Suppose that the items `xs` were placed before at least one tail item, and that the later
+    -- steps returned the result `r`. Then `IsFinished` holds for the whole call of `finish` with
+    -- the result `r`.
     pub finished-from : {t : S} {u : Thin T A} {xs : List T} {end : ℕ}
         (r : Result (Unit {0}) (SpliceRefused T S A))
         → IsReached steps can remaining v s u xs end t → 0 < length v.tail

@@ -1,6 +1,5 @@
--- Lemmas about replacing a range by clones: what the list contains while the clones are still
--- outside the range, and what contracts see of the open block after the clones were moved into the
--- range.
+-- These lemmas are about replacing a range of a list by clones. They state what the list contains
+-- before the clones are moved into the range, and how contracts see the block after this move.
 use Rattle.std.proofs.Common.{if◌then◌else◌, inl, inr, eqb, min, Bool, true, false, ◌≡◌, ℕ, zero, suc, ◌+◌, ◌-◌, ◌≤◌, List, [], ◌∷◌, ◌++◌, None, Option, append_assoc, ap, arith, drop, length, length-append, refl, sym, take, ◌∙◌}
 use Rattle.std.proofs.lemmas.List.{drop_at, length-drop, length-take-le, replicate-append-replicate, take-append-drop, take-append-le, take_at}
 use Rattle.std.proofs.lemmas.Bool.{cases_lt}
@@ -20,8 +19,8 @@ use Rattle.thin_vec.proofs.edits.SpliceLemmas.{moving-add, moving-zero}
 use Rattle.thin_vec.proofs.OpenBlockLemmas.{Found, found, past_tail, reached}
 use Rattle.thin_vec.proofs.ListLemmas.{length-empty, length-full}
 
--- if xs are clones of ss, and ys are clones of ts, then xs followed by ys are clones of ss followed
--- by ts
+-- If `xs` are clones of `ss`, and `ys` are clones of `ts`, then `xs ++ ys` are clones of
+-- `ss ++ ts`.
 pub all_zip-append : {X : Type 0} (R : X → X → Type 0) (ss ts xs ys : List X) → AllZip R ss xs
     → AllZip R ts ys → AllZip R (ss ++ ts) (xs ++ ys)
 all_zip-append R [] ts [] ys e h = h
@@ -30,7 +29,7 @@ all_zip-append R (a ∷ ss) ts [] ys e h = absurd e
 all_zip-append R (a ∷ ss) ts (x ∷ xs) ys e h = (e.0, all_zip-append R ss ts xs ys e.1 h)
 
 module _ {T : Type 0} where
-  -- if i ≤ j, the first i of the first j items are the first i items
+  -- If `i ≤ j`, then `take i (take j xs)` is `take i xs`.
   take-less : (xs : List T) (i j : ℕ) → i ≤ j → take i (take j xs) ≡ take i xs
   take-less xs zero j h = refl
   take-less xs (suc i) zero h = absurd (omega arith)
@@ -38,7 +37,7 @@ module _ {T : Type 0} where
   take-less (x ∷ xs) (suc i) (suc j) h = ap (λ (l : List T). x ∷ l)
       (take-less xs i j (omega arith))
 
-  -- removing the n items ys that were inserted at i restores the list
+  -- Inserting `n` items at index `i` of the list `xs` and then removing them restores `xs`.
   pub put-and-gone : (xs ys : List T) {zs : List T} (i : ℕ) {n : ℕ} → i ≤ length xs
       → length ys ≡ n → zs ≡ replace_range xs i i ys → take i zs ++ drop (i + n) zs ≡ xs
   put-and-gone xs ys {zs} i {n} within count is =
@@ -52,9 +51,9 @@ module _ {T : Type 0} where
       (λ m. front m ++ past m) ∙ take-append-drop i xs
 
 module _ {T : Type 0} (xs : List T) (i j : ℕ) (order : i ≤ j) (within : j ≤ length xs) where
-  -- Let w be the list xs with zs inserted at the index j and ys appended. If ys are moved from the
-  -- end of w to the index i, and replace the items from there up to j, the result is xs with ys and
-  -- zs in place of these items.
+  -- Suppose that `zs` was inserted into the list `xs` at index `j`, and that `ys` was appended. If
+  -- `ys` is then moved from the end to index `i` and replaces the items `i..j`, the result is `xs`
+  -- with `ys ++ zs` in place of the items `i..j`.
   pub brought-in : (ys zs : List T) {w : List T} {n : ℕ} → length ys ≡ n
       → w ≡ replace_range xs j j zs ++ ys
       → (take i w ++ drop (length w - n) w) ++ take (length w - n - j) (drop j w)
@@ -92,11 +91,11 @@ module _ {T : Type 0} (xs : List T) (i j : ℕ) (order : i ≤ j) (within : j �
 
 module _ {T A : Type 0} (h : Inside T A) (o : IsOpen h) (b : Block T A) (k : ℕ)
     (few : k ≤ length (open_of h).tail) (room : k ≤ (open_of h).gap) where
-  -- what a contract sees of the open block before the move
+  -- `v` is the open block as contracts see it before the move.
   abbrev v : Open T A
   v = open_of h
 
-  -- the open block after the last items of its tail were moved to the end of its front
+  -- This is the open block after its last `k` tail items were moved to the end of its front items.
   abbrev pub brought : Inside T A
   brought = record {
     block = b;
@@ -107,8 +106,8 @@ module _ {T A : Type 0} (h : Inside T A) (o : IsOpen h) (b : Block T A) (k : ℕ
     len = h.len - k;
   }
 
-  -- what a contract sees of `brought`: the last items of the tail are now the last items of the
-  -- front
+  -- `brought-seen` is the open block `brought` as contracts see it. The last `k` tail items have
+  -- become the last front items.
   abbrev pub brought-seen : Open T A
   brought-seen = record {
     front = v.front ++ drop (length v.tail - k) v.tail;
@@ -121,8 +120,8 @@ module _ {T A : Type 0} (h : Inside T A) (o : IsOpen h) (b : Block T A) (k : ℕ
     cost = b.cost;
   }
 
-  -- if the slots of the last k items of the tail were moved to the end of the front, contracts see
-  -- `brought` as `brought-seen`
+  -- If the last `k` tail items were moved to the slots directly after the front items, then
+  -- contracts see the open block `brought` as `brought-seen`.
   pub bring-step : b.slots ≡ moved (h.len - k) h.front_end k h.block.slots
       → Found brought brought-seen
   bring-step now =
@@ -220,8 +219,8 @@ module _ {T A : Type 0} (h : Inside T A) (o : IsOpen h) (b : Block T A) (k : ℕ
         room = omega (arith, o.room);
       }) refl refl
 
--- if clones of the sources were inserted into xs, the new length is the length of xs plus the
--- number of sources
+-- If clones of the items `sources` were inserted into the list `xs`, then the new length is the
+-- length of `xs` plus the length of `sources`.
 pub replaced-length : {T : Type 0} (clones : T → T → Type 0) (xs : List T) (i : ℕ)
     (sources ys : List T) → i ≤ length xs → ReplacesByClones clones xs i i sources ys
     → length ys ≡ length xs + length sources
@@ -237,8 +236,8 @@ replaced-length clones xs i sources ys within is =
       length_all_zip clones sources zs is.cloned,
     )
 
--- if at most n moves lead from the cost c to d, m moves lead from d to e, and m ≤ k, then at most n
--- + k moves lead from c to e
+-- Suppose that at most `n` moves turn the cost `c` into `d`, and that `m` more moves turn `d` into
+-- `e`. If `m ≤ k`, then at most `n + k` moves turn `c` into `e`.
 pub at-most-more : {n m k : ℕ} {c d e : Cost} → MovesAtMost n c d → (few : m ≤ k)
     → e ≡ moving m d → MovesAtMost (n + k) c e
 at-most-more {n} {m} {k} {c} {d} {e} h few is = record {
@@ -247,7 +246,8 @@ at-most-more {n} {m} {k} {c} {d} {e} h few is = record {
   cost = is ∙ (ap (λ q. moving m q) h.cost ∙ moving-add m h.moves c);
 }
 
--- if at most n moves lead from the cost c to d, and n ≤ m, then at most m moves lead from c to d
+-- If at most `n` moves turn the cost `c` into `d`, and `n ≤ m`, then at most `m` moves turn `c`
+-- into `d`.
 pub at-most-le : {n m : ℕ} {c d : Cost} → MovesAtMost n c d → n ≤ m → MovesAtMost m c d
 at-most-le {n} {m} {c} {d} h le = record {
   moves = h.moves;
@@ -255,28 +255,29 @@ at-most-le {n} {m} {c} {d} h le = record {
   cost = h.cost;
 }
 
--- if the cost d is c after either no move or n moves, then at most n moves lead from c to d
+-- If either no move or `n` moves turn the cost `c` into `d`, then at most `n` moves turn `c` into
+-- `d`.
 pub at-most-if : (b : Bool) (n : ℕ) (c d : Cost) → d ≡ (if b then c else moving n c)
     → MovesAtMost n c d
 at-most-if true n c d is = record { moves = 0; few = omega arith; cost = is ∙ moving-zero c }
 at-most-if false n c d is = record { moves = n; few = omega arith; cost = is }
 
--- k plus either 0 or n is at most k + n
+-- The number `k + (if b then 0 else n)` is at most `k + n`.
 pub if-le : (b : Bool) (k n : ℕ) → k + (if b then 0 else n) ≤ k + n
 if-le true k n = omega arith
 if-le false k n = omega arith
 
--- k clones replace a range of r items: the first k1 clones take the places of the range, and the
--- other k2 need further places
+-- Suppose that `k` clones replace a range of `r` items. The first `k1` clones replace old items,
+-- and the other `k2` clones need additional slots.
 pub record IsParted (k r k1 k2 : ℕ) : Type 0 where
-  -- k1 is the number of clones, or the number of places of the range if that is smaller
+  -- `k1` is the smaller of the number of clones and the length of the range.
   pub first : k1 ≡ min k r
-  -- the k1 clones and the k2 clones together are all the clones
+  -- The number of all clones is `k1 + k2`.
   pub all : k1 + k2 ≡ k
 
--- Let t items follow the range. If the k2 clones are inserted after the range, and the k1 clones
--- are appended to the list and then moved into the range, then the number of moves is the number
--- for a replacement plus one for each of the k1 clones.
+-- Suppose that `t` items follow the range, that `k2` clones are inserted after the range, and that
+-- `k1` clones are appended to the list and then moved into the range. Then the number of moves is
+-- the number for a plain replacement, plus one move for each of the `k1` clones.
 pub cloning-moves : {k r k1 k2 : ℕ} → IsParted k r k1 k2 → (t : ℕ) {z u : ℕ} → z ≡ 0 → u ≡ t + k2
     → ((k2 + (if eqb k2 z then 0 else t)) + k1) + (k1 + (if eqb k1 r then 0 else u))
     ≡ (k + (if eqb k r then 0 else t)) + min k r

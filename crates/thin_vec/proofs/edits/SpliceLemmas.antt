@@ -1,5 +1,5 @@
--- Lemmas about how many items a splice moves, what the splice costs, what its iterator yielded, and
--- why `finish` failed.
+-- These lemmas are about splices. They state how many items a splice moves, what the splice costs,
+-- which items its iterator has yielded, and why `finish` failed.
 use Rattle.std.proofs.Common.{if◌then◌else◌, inl, inr, Option, Some, None, append_assoc, drop, take, subst, ◌≡◌, ℕ, ◌+◌, ◌-◌, ◌*◌, ◌^◌, ◌<◌, ◌≤◌, Bool, true, false, eqb, List, [], ◌∷◌, ◌++◌, ap, arith, length, length-append, refl, sym, ◌∙◌}
 use Rattle.std.proofs.lemmas.List.{append-nil, drop_at, length-drop, length-take-le, take_at}
 use Rattle.std.specs.Borrow.{RattleType}
@@ -24,25 +24,25 @@ use Rattle.thin_vec.specs.declared.errors.SpliceRefused.{SpliceRefused}
 use Rattle.thin_vec.proofs.list.ExtendLemmas.{adding-join, filled-reserved, loose-join, loose-le, loose-ruled, yields-join, yields-more}
 use Rattle.thin_vec.proofs.ThinVecLemmas.{cap-kept, cost_at-copied}
 
--- adding b moves to a cost, and then `a` moves, adds b + a moves
+-- Adding `b` moves and then `a` moves to a cost is the same as adding `b + a` moves.
 pub moving-add : (a b : ℕ) (c : Cost) → moving a (moving b c) ≡ moving (b + a) c
 moving-add a b c = ap (λ m. let d : Cost = record c { moves = m } in d)
     (let e : c.moves + b + a ≡ c.moves + (b + a) = omega arith in e)
 
--- zero moves do not change a cost
+-- Adding zero moves to a cost does not change it.
 pub moving-zero : (c : Cost) → c ≡ moving 0 c
 moving-zero c = ap (λ m. let d : Cost = record c { moves = m } in d)
     (let e : c.moves ≡ c.moves + 0 = omega arith in e)
 
--- Let w be the open block v with n items placed into its gap. Closing w moves each item of the tail
--- at most once, and no item if the gap is full.
+-- Suppose that `n` items were placed into the gap of the open block `v`, which became the open
+-- block `w`. Closing `w` moves each tail item at most once. It moves no item if the gap is full.
 pub closed-moves : {T A : Type 0} (v w : Open T A) (n : ℕ) → w.cost ≡ moving (v.gap - w.gap)
     v.cost → w.rest ≡ [] → w.tail ≡ v.tail → n ≡ v.gap - w.gap
     → (m : ℕ) × (cost_closed w ≡ moving (n + m) v.cost) × (m ≤ length v.tail)
     × (w.gap ≡ 0 → m ≡ 0)
 closed-moves v w n paid none same count = go (eqb w.gap 0) refl
   where
-    -- the cost of w is that of v plus n moves
+    -- The cost of `w` is the cost of `v` plus `n` moves.
     filled : w.cost ≡ moving n v.cost
     filled = paid ∙ ap (λ k. moving k v.cost) (sym count)
 
@@ -66,12 +66,12 @@ closed-moves v w n paid none same count = go (eqb w.gap 0) refl
               absurd (false-true (sym e ∙ t)),
         )
       where
-        -- if false equals true, anything follows
+        -- The Boolean value `false` is not equal to `true`.
         false-true : false ≡ true → ⊥
         false-true h = cc
 
--- First n items are moved up, unless `count` is 0; next k items are placed, and then m items are
--- moved. At most n + m moves are counted in addition to the k moves of the placed items.
+-- Suppose that `n` items are moved up, unless `count` is 0. Then `k` items are placed, and `m`
+-- items are moved. The total number of moves is `k` for the placed items, plus at most `n + m`.
 pub run-moves : (count n k m : ℕ) (c d : Cost) → d ≡ (if eqb count 0 then c else moving n c)
     → (x : ℕ) × (moving (k + m) d ≡ moving (k + x) c) × (x ≤ n + m)
 run-moves count n k m c d e = go (eqb count 0) e
@@ -88,8 +88,8 @@ run-moves count n k m c d e = go (eqb count 0) e
     )
 
 module _ {S X : Type 0} (steps : S → Option X → S → Type 0) where
-  -- if calls of `next` yielded xs, and later calls yielded ys and then returned o, then all these
-  -- calls yielded zs, which is xs followed by ys, and then returned o
+  -- If calls of `next` yielded the items `xs`, and later calls yielded the items `ys` and then
+  -- returned `o`, then all these calls together yielded `xs ++ ys` and then returned `o`.
   pub yields-held : (s t u : S) (xs ys zs : List X) (o : Option X) → Yields steps s xs t
       → zs ≡ xs ++ ys → YieldsThen steps t ys o u → YieldsThen steps s zs o u
   yields-held s t u xs ys zs o before e now = (
@@ -99,16 +99,16 @@ module _ {S X : Type 0} (steps : S → Option X → S → Type 0) where
     now.2,
   )
 
-  -- if calls of `next` yielded xs and then returned o, and o is `Some x`, these calls yielded xs
-  -- followed by x
+  -- If calls of `next` yielded the items `xs` and then returned `Some x`, then these calls yielded
+  -- the items `xs ++ x ∷ []`.
   pub yields-drawn : (s u : S) (xs : List X) (o : Option X) (x : X) → o ≡ Some x
       → YieldsThen steps s xs o u → Yields steps s (xs ++ x ∷ []) u
   yields-drawn s u xs o x is all =
       yields-more steps s all.0 u xs x all.1 (subst (λ r. steps all.0 r u) is all.2)
 
-  -- Let x followed by xs be the items `held` and then the item in o, if there is one. If a call of
-  -- `next` yielded x, and later calls yielded xs, then these calls together yielded `held` and then
-  -- the item in o. If o is `None`, they yielded `held` and then returned `None`.
+  -- Suppose that a call of `next` yielded `x` and later calls yielded `xs`. If `x ∷ xs` consists of
+  -- the items `held` and the item in the option `o`, then all calls together yielded `held` and the
+  -- item in `o`. If `o` is `None`, they yielded `held` and then returned `None`.
   pub drawn-after : (s t u : S) (x : X) (xs held : List X) (o : Option X) → steps s (Some x) t
       → held ++ option_to_list o ≡ x ∷ xs
       → MatchOption o (YieldsThen steps t xs None u) (λ _. Yields steps t xs u)
@@ -122,8 +122,9 @@ module _ {S X : Type 0} (steps : S → Option X → S → Type 0) where
       subst (λ l. Yields steps s l u) (sym parts) (t, one, now)
 
 module _ {T A : Type 0} where
-  -- if k items were placed into spare capacity, with k + m moves, and m ≤ n, then v and w satisfy
-  -- `CostsAdding` with at most n moves of old items
+  -- Suppose that `k` items were added to the list `v`, with `k + m` moves and without a change of
+  -- the capacity. If `m ≤ n`, then `CostsAdding` holds for `v` and the new list `w`, with the bound
+  -- `n` on the moves of old items.
   pub adding-run : (v w : Thin T A) (k m n : ℕ) → w.cost ≡ moving (k + m) v.cost
       → w.capacity ≡ v.capacity → length w.items ≡ length v.items + k → m ≤ n → CostsAdding v w n
   adding-run v w k m n e same long few = record {
@@ -134,18 +135,19 @@ module _ {T A : Type 0} where
     grown = λ more. absurd (omega (arith, more, same));
   }
 
--- if P holds for the error of a result, and Q follows from P, then Q holds for the error
+-- If `P` holds for the error in the result `r`, and `P` implies `Q` for this error, then `Q` holds
+-- for the error. If `r` is `Ok`, the lemma claims nothing.
 pub if-err : {X E : Type 0} {P Q : E → Type 0} (r : Result X E) → ((e : E) → r ≡ Err e → P e → Q e)
     → IfErr r P → IfErr r Q
 if-err (Ok _) h p = p
 if-err (Err e) h p = h e refl p
 
--- if Q holds for every error, then Q holds for the error of a result, if there is one
+-- If `Q` holds for every error, then it holds for the error in the result `r`, if there is one.
 pub any-err : {X E : Type 0} {Q : E → Type 0} (r : Result X E) → ((e : E) → Q e) → IfErr r Q
 any-err (Ok _) h = tt
 any-err (Err e) h = h e
 
--- the length of xs with ys inserted is the length of xs plus the length of ys
+-- Inserting the list `ys` into the list `xs` yields a list of the length `length xs + length ys`.
 pub inserted-long : {T : Type 0} (xs ys : List T) (at : ℕ) → at ≤ length xs
     → length ((take at xs ++ ys) ++ drop at xs) ≡ length xs + length ys
 inserted-long xs ys at in_bounds =
@@ -159,8 +161,8 @@ inserted-long xs ys at in_bounds =
     )
 
 module _ {S X : Type 0} (steps : S → Option X → S → Type 0) where
-  -- if calls of `next` yielded xs, and later calls yielded ys and then `None`, then all these calls
-  -- yielded xs, then ys, and then `None`
+  -- If calls of `next` yielded the items `xs`, and later calls yielded the items `ys` and then
+  -- returned `None`, then all these calls together yielded `xs ++ ys` and then returned `None`.
   pub drains-more : (s t : S) (xs ys : List X) → Yields steps s xs t → Drains steps t ys
       → Drains steps s (xs ++ ys)
   drains-more s t xs ys before now =
@@ -168,8 +170,9 @@ module _ {S X : Type 0} (steps : S → Option X → S → Type 0) where
 
 module _ {S X A : Type 0} (steps : S → Option X → S → Type 0) (can : S → Type 0)
     (remaining : S → Count) where
-  -- if calls of `next` yielded xs, and later calls satisfy `Stopped` with no item placed, then all
-  -- these calls satisfy `Stopped` with xs as the placed items
+  -- Suppose that calls of `next` yielded the items `xs`, and that `Stopped` holds for the later
+  -- calls without any placed items. Then `Stopped` holds for all calls together, with `xs` as the
+  -- placed items.
   pub stopped-more : (s t : S) (xs : List X) (error : SpliceRefused X S A) → Yields steps s xs t
       → Stopped steps can remaining t [] error → Stopped steps can remaining s xs error
   stopped-more s t xs error before (inl now) =
@@ -190,8 +193,9 @@ module _ {S X A : Type 0} (steps : S → Option X → S → Type 0) (can : S →
         (now.2.0, yields-join steps s t now.2.0 xs error.held.items before now.2.1, now.2.2),
       )
 
-  -- if no item is held, and calls of `next` yielded the placed items and then the item in hand, if
-  -- there is one, then these calls satisfy `Stopped`
+  -- Suppose that the list `held` in the error is empty, and that calls of `next` yielded the placed
+  -- items and then the item `in_hand` of the error, if there is one. Then `Stopped` holds for these
+  -- calls.
   pub stopped-now : (s : S) (xs : List X) (error : SpliceRefused X S A) → error.held.items ≡ []
       → PausedAfter steps can remaining s (xs ++ option_to_list error.in_hand) error.rest
       → Stopped steps can remaining s xs error
@@ -206,12 +210,12 @@ module _ {S X A : Type 0} (steps : S → Option X → S → Type 0) (can : S →
         λ _. none,
       )
 
--- in this module, `error` is the error of a `finish` that failed, v is the list after the failure,
--- and `left` bounds how many items the rest of the iterator may yield
+-- In this module, `error` is the error of a failed call of `finish`, and `v` is the list after the
+-- failure. `left` is an upper bound on the number of items that the iterator may still yield.
 module _ {S T A : Type 0} (rule : Rule) (R : RattleType) (v : Thin T A) (tail : List T)
     (left : Count) (error : SpliceRefused T S A) where
-  -- `IsStopCause` holds if there is a tail, no item is held, no item is in hand, and room for the
-  -- size hint could not be reserved
+  -- Suppose that items follow the range, that the error contains no items, and that room for the
+  -- size hint of the iterator could not be reserved. Then `IsStopCause` holds.
   pub stop-at-hint : 0 < length tail → error.held.items ≡ [] → error.in_hand ≡ None
       → FailsAtHint rule R v left error.cause → IsStopCause rule R v tail left error
   stop-at-hint some none empty fails = record {
@@ -221,8 +225,8 @@ module _ {S T A : Type 0} (rule : Rule) (R : RattleType) (v : Thin T A) (tail : 
     by_push = λ no_tail. absurd (omega (arith, some, ap length no_tail));
   }
 
-  -- `IsStopCause` holds if there is a tail, an item is held or in hand, and the cause of the
-  -- failure is what `IsStopCause` says for held items and for an item in hand
+  -- Suppose that items follow the range, that the error contains at least one item, and that its
+  -- cause is the one that `IsStopCause` requires in this case. Then `IsStopCause` holds.
   pub stop-at-held : 0 < length tail → (error.in_hand ≡ None → 0 < length error.held.items)
       → (error.in_hand ≡ None → (error.cause ≡ CapacityOverflow)
       ↔ (capacity_for rule R v (length error.held.items) ≡ None))
@@ -235,8 +239,9 @@ module _ {S T A : Type 0} (rule : Rule) (R : RattleType) (v : Thin T A) (tail : 
     by_push = λ no_tail. absurd (omega (arith, some, ap length no_tail));
   }
 
-  -- if there is no tail, no item is held, and `extend` failed with the same cause and the same item
-  -- in hand, then `IsStopCause` follows from `IsExtendCause`
+  -- Suppose that no items follow the range, that the list `held` in the error is empty, and that
+  -- `extend` failed with the same cause and the same item `in_hand`. Then `IsExtendCause` implies
+  -- `IsStopCause`.
   pub stop-at-end : (e : ExtendRefused T S) → tail ≡ [] → error.held.items ≡ []
       → error.cause ≡ e.cause → error.in_hand ≡ e.in_hand → IsExtendCause rule R v left e
       → IsStopCause rule R v tail left error
@@ -253,8 +258,8 @@ module _ {S T A : Type 0} (rule : Rule) (R : RattleType) (v : Thin T A) (tail : 
   }
 
 module _ (rule : Rule) (R : RattleType) where
-  -- if d is the ruled capacity of v for k more items, and n is at least the length of v plus k,
-  -- then d satisfies `IsKeptOrRuled` with n
+  -- If the growth rule chooses the capacity `d` for the list `v` and `k` more items, and `n` is at
+  -- least the length of `v` plus `k`, then `IsKeptOrRuled` holds for `d` and `n`.
   pub kept-or-ruled : KeepsLaw rule → {T A : Type 0} (v : Thin T A) (k d n : ℕ)
       → capacity_for rule R v k ≡ Some d → length v.items + k ≤ n
       → IsKeptOrRuled rule R v.capacity d n
@@ -264,13 +269,14 @@ module _ (rule : Rule) (R : RattleType) where
         | inr spare ↦ inl (cap-kept rule R law v k d spare e)
       ]
 
--- if n is 0, adding n moves to a cost does not change the cost
+-- If `n` is 0, then adding `n` moves to a cost does not change the cost.
 unmoved : (b : Bool) (c : Cost) (n : ℕ) → n ≡ 0 → (if b then c else moving n c) ≡ c
 unmoved true c n none = refl
 unmoved false c n none = ap (λ k. moving k c) none ∙ sym (moving-zero c)
 
 module _ {T A : Type 0} where
-  -- closing an open block with an empty middle run and no tail makes the list `left_of v`
+  -- If the open block `v` has no middle items and no tail items, then closing it yields the list
+  -- `left_of v`, and no item is moved.
   pub closed-left : (v : Open T A) (u : Thin T A) → v.rest ≡ [] → v.tail ≡ []
       → record u { items = items_of v; capacity = v.capacity; cost = cost_closed v }
       ≡ left_of v u.alloc
@@ -285,8 +291,9 @@ module _ {T A : Type 0} where
         cost = free i;
       }
 
-  -- if us is v with xs in place of the middle run, inserting ys directly after xs makes v with xs
-  -- and ys in place of the middle run
+  -- Suppose that `us` are the items of the open block `v` with `xs` in place of its middle items.
+  -- Inserting `ys` directly after `xs` yields the items of `v` with `xs ++ ys` in place of its
+  -- middle items.
   pub between-more : (v : Open T A) (us xs ys : List T) (end : ℕ) → us ≡ with_between v xs
       → end ≡ length v.front + length xs
       → (take end us ++ ys) ++ drop end us ≡ with_between v (xs ++ ys)
@@ -297,14 +304,15 @@ module _ {T A : Type 0} where
       ∙ ((λ i. (take_at pre v.tail end here i ++ ys) ++ drop_at pre v.tail end here i)
       ∙ ap (λ l. l ++ v.tail) (append_assoc v.front xs ys))
 
-  -- v with xs in place of its middle run has as many items as its front, xs and its tail together
+  -- If `xs` replaces the middle items of an open block, then the new number of items is the number
+  -- of front items, plus the length of `xs`, plus the number of tail items.
   pub between-length : (v : Open T A) (xs : List T)
       → length (with_between v xs) ≡ length v.front + length xs + length v.tail
   between-length v xs =
       omega (arith, length-append (v.front ++ xs) v.tail, length-append v.front xs)
 
-  -- if v has no tail, appending xs to the items of v outside its middle run is the same as putting
-  -- xs in place of the middle run
+  -- If the open block `v` has no tail items, then appending `xs` to its front items is the same as
+  -- replacing its middle items by `xs`.
   pub after-items : (v : Open T A) (xs : List T) → v.tail ≡ []
       → (v.front ++ v.tail) ++ xs ≡ with_between v xs
   after-items v xs none =
@@ -312,10 +320,11 @@ module _ {T A : Type 0} where
       ∙ (ap (λ l. l ++ xs) (append-nil v.front)
       ∙ (sym (append-nil (v.front ++ xs)) ∙ (λ i. (v.front ++ xs) ++ sym none i)))
 
--- in this module, the steps of `finish` work on lists of items of R, under the growth rule `rule`
+-- In this module, the items have the type `R`, and the growth rule `rule` chooses the capacities.
 module _ (rule : Rule) (R : RattleType) {T A : Type 0} where
-  -- if k items were placed into spare capacity, with k + m moves, and m ≤ n, then v and w satisfy
-  -- `HasTaken` with at most n moves of old items
+  -- Suppose that `k` items were added to the list `v`, with `k + m` moves and without a change of
+  -- the capacity. If `m ≤ n`, then `HasTaken` holds for `v` and the new list `w`, with the bound
+  -- `n` on the moves of old items.
   pub taken-spare : (v w : Thin T A) (k m n : ℕ) (left : Count) → w.cost ≡ moving (k + m) v.cost
       → w.capacity ≡ v.capacity → length w.items ≡ length v.items + k → m ≤ n → w.alloc ≡ v.alloc
       → HasTaken rule R v w n left
@@ -339,7 +348,7 @@ module _ (rule : Rule) (R : RattleType) {T A : Type 0} where
     };
   }
 
-  -- if w equals v, `HasTaken` holds for v and w
+  -- If the lists `v` and `w` are equal, then `HasTaken` holds for `v` and `w`.
   pub taken-none : (v w : Thin T A) (n : ℕ) (left : Count) → w ≡ v → HasTaken rule R v w n left
   taken-none v w n left e =
       taken-spare v w 0 0 n left (ap (λ z. z.cost) e ∙ moving-zero v.cost)
@@ -347,8 +356,9 @@ module _ (rule : Rule) (R : RattleType) {T A : Type 0} where
       (ap (λ z. z.alloc) e)
 
   module _ (law : KeepsLaw rule) where
-    -- if v grew to the ruled capacity for h more items, and h is at most the number of items that
-    -- the iterator has left, then v and w satisfy `HasTaken` with no move of old items
+    -- Suppose that the list `v` grew to the capacity that the growth rule chooses for `h` more
+    -- items, and that `h` is at most `left`, the bound on the items of the iterator. Then
+    -- `HasTaken` holds for `v` and the new list `w`, without a move of old items.
     pub taken-reserved : (v w : Thin T A) (h : ℕ) (left : Count)
         → capacity_for rule R v h ≡ Some w.capacity → w.items ≡ v.items → w.alloc ≡ v.alloc
         → w.cost ≡ cost_at v w.capacity → (IsCheap v → IsCheap w) → h ≤ size left
@@ -362,8 +372,9 @@ module _ (rule : Rule) (R : RattleType) {T A : Type 0} where
       cheap = cheap;
     }
 
-    -- If v and u satisfy `HasTaken` with at most m moves of old items, and u and w satisfy it with
-    -- at most n, then v and w satisfy it with at most k, where k is at least m + n.
+    -- If `HasTaken` holds for `v` and `u` with the bound `m` on the moves of old items, and for `u`
+    -- and `w` with the bound `n`, then it holds for `v` and `w` with each bound `k` that is at
+    -- least `m + n`.
     pub taken-join : (v u w : Thin T A) (m n k : ℕ) (left more : Count) → m + n ≤ k
         → length v.items ≤ length u.items
         → (HasRoomFor v (size left) → u.capacity ≡ v.capacity → HasRoomFor u (size more))

@@ -1,5 +1,5 @@
--- Lemmas about what contracts see of an open block while one of its items is tested against
--- another: each lemma is about one step of the test.
+-- These lemmas state how contracts see an open block while one of its items is tested against
+-- another item. Each lemma is about one step of such a test.
 use Rattle.std.proofs.Common.{◌≡◌, ◌≢◌, ℕ, zero, suc, ◌+◌, ◌-◌, ◌<◌, ◌≤◌, List, [], ◌∷◌, ◌++◌, Option, Some, None, length, take, drop, refl, sym, ap, ◌∙◌, arith, length-append, append_assoc, get_or}
 use Rattle.std.proofs.lemmas.List.{drop_at, get_or_at, get_or-set_other, length-drop, length-take-le, length_push, set_at, take_at}
 use Rattle.std.specs.Prelude.{IsSome, slice_range}
@@ -22,20 +22,21 @@ use Rattle.thin_vec.proofs.open_block.SiftLemmas.{row-at, same-past, write-step,
 module _ {T : Type 0} where
   -- Section: two neighbouring items
 
-  -- writing no items over the slots s does not change s
+  -- Writing no items over the slots `s` does not change these slots.
   over-none : (s : List (Option T)) → over s 0 [] ≡ s
   over-none [] = refl
   over-none (None ∷ s) = refl
   over-none (Some x ∷ s) = refl
 
-  -- The slots i and i + 1 hold the items k and x. Writing k' and x' over these items puts k' into
-  -- slot i and x' into slot i + 1.
+  -- The slots `i` and `i + 1` hold the items `k` and `x`. Writing `k'` and `x'` over these items
+  -- puts `k'` into slot `i` and `x'` into slot `i + 1`.
   pub record Neighbours (s : List (Option T)) (i : ℕ) (k x k' x' : T) : Type 0 where
     pub first : slot s i ≡ Some k
     pub second : slot s (suc i) ≡ Some x
     pub now : over s i (k' ∷ x' ∷ []) ≡ set (set s i (Some k')) (suc i) (Some x')
 
-  -- if the first two slots from slot i on hold k and x, `Neighbours` holds
+  -- If the slots `i` and `i + 1` hold the items `k` and `x`, then `Neighbours` holds for these
+  -- items.
   pub neighbours : (s : List (Option T)) (i : ℕ) (k x k' x' : T) → Some k ∷ Some x ∷ [] ≡ take 2
       (drop i s) → Neighbours s i k x k' x'
   neighbours [] zero k x k' x' e = absurd (cons-not-nil e)
@@ -54,12 +55,13 @@ module _ {T : Type 0} where
       let h = neighbours s i k x k' x' e in
       record { first = h.first; second = h.second; now = ap (λ (r : List (Option T)). p ∷ r) h.now }
 
-  -- in this module, the slice `all` of the two items from slot i on is cut into two slices of
-  -- one item each, `a` and `b`
+  -- In this module, `all` is a slice of the two items in the slots `i` and `i + 1`. It is split
+  -- into the slices `a` and `b` of one item each.
   module _ (s : List (Option T)) (i : ℕ) (all a b : List T) (within : i + 2 ≤ length s)
       (lent : full all ≡ slice_range s i (i + 2)) (cut : all ≡ a ++ b) (one : length a ≡ 1) where
-    -- if the item of `a` is k, and the item of `b` is x, then `Neighbours` holds, and writing k'
-    -- into `a` and x' into `b` puts k' into slot i and x' into slot i + 1
+    -- Suppose that the slice `a` consists of the item `k`, and the slice `b` of the item `x`. Then
+    -- `Neighbours` holds. Writing `k'` into `a` and `x'` into `b` puts `k'` into slot `i` and `x'`
+    -- into slot `i + 1`.
     pub parts-of : {k x : T} (k' x' : T) → k ≡ get_or a 0 k → x ≡ get_or b 0 x
         → Neighbours s i k x k' x'
         × (over s i (set a 0 k' ++ set b 0 x') ≡ set (set s i (Some k')) (suc i) (Some x'))
@@ -89,8 +91,8 @@ module _ {T : Type 0} where
 module _ {T A : Type 0} where
   -- Section: open blocks
 
-  -- the items x and y, at the indices k and k + 1 of the middle run, were overwritten by x' and y',
-  -- and contracts see the block b as h with x' and y' in place of x and y
+  -- The middle items `x` and `y`, at the indices `k` and `k + 1`, were overwritten by `x'` and
+  -- `y'`. Contracts see the new block `b` as `h` with these two items replaced.
   pub record WrittenTwo (h : Inside T A) (o : IsOpen h) (k : ℕ) (b : Block T A)
       (x y x' y' : T) : Type 0 where
     pub pre : List T
@@ -108,8 +110,8 @@ module _ {T A : Type 0} where
 
   module _ (h : Inside T A) (o : IsOpen h) (b : Block T A)
       (kept : seen b ≡ record (seen h.block) { slots = b.slots }) where
-    -- if two neighbouring slots of the middle run were overwritten, `WrittenTwo` holds: nothing
-    -- else changes
+    -- If two neighboring middle items were overwritten, then `WrittenTwo` holds: nothing else has
+    -- changed.
     pub write-two-step : (k : ℕ) {x y : T} (x' y' : T) → suc k < length (open_of h).rest
         → slot h.block.slots (h.rest_start + k) ≡ Some x
         → slot h.block.slots (suc (h.rest_start + k)) ≡ Some y
@@ -165,8 +167,8 @@ module _ {T A : Type 0} where
           };
         }
 
-  -- x, the last item of the front, was overwritten by y, and contracts see the block b as h with y
-  -- in place of x
+  -- The last front item `x` was overwritten by `y`. Contracts see the new block `b` as the open
+  -- block `h` with `y` in place of `x`.
   pub record WrittenLast (h : Inside T A) (b : Block T A) (x y : T) : Type 0 where
     pub pre : List T
     pub was : (open_of h).front ≡ pre ++ x ∷ []
@@ -179,7 +181,7 @@ module _ {T A : Type 0} where
       len = h.len;
     }) (record (open_of h) { front = pre ++ y ∷ [] })
 
-  -- if the last slot of the front was overwritten, `WrittenLast` holds: nothing else changes
+  -- If the last front item was overwritten, then `WrittenLast` holds: nothing else has changed.
   pub write-last-step : (h : Inside T A) (o : IsOpen h) (b : Block T A) {x : T} (y : T)
       → 0 < length (open_of h).front → slot h.block.slots (h.front_end - 1) ≡ Some x
       → seen b ≡ record (seen h.block) { slots = set h.block.slots (h.front_end - 1) (Some y) }
@@ -232,8 +234,8 @@ module _ {T A : Type 0} where
             (ap (λ (z : Seen T A). z.cost) now);
       }
 
-  -- if x was written into the first slot of the gap, contracts see the block with x as the last
-  -- item of the front, and with a gap that is shorter by one
+  -- If the item `x` was written into the first slot of the gap, then contracts see the block with
+  -- `x` as the last front item and with a gap that is shorter by one slot.
   pub put-step : (h : Inside T A) (o : IsOpen h) (b : Block T A) (x : T) {c : Cost}
       → 0 < (open_of h).gap
       → seen b ≡ record (seen h.block)
@@ -290,7 +292,7 @@ module _ {T A : Type 0} where
       } in
       found i w shows (ap (λ (z : Seen T A). z.alloc) now) refl
 
-  -- if the front is not empty, its last slot is filled
+  -- If there are front items, then the slot of the last front item is filled.
   pub last-filled : (h : Inside T A) (o : IsOpen h) → 0 < length (open_of h).front
       → IsSome (slot h.block.slots (h.front_end - 1))
   last-filled h o some =

@@ -1,6 +1,6 @@
--- Lemmas about what a contract sees of an open block after an item of its middle run was tested,
--- and after the first items of its middle run were moved to the front. Throughout, h is an open
--- block as it is stored.
+-- These lemmas state how contracts see an open block after one of its middle items was tested, and
+-- after its first middle items became front items. In this file, `h` is an open block as it is
+-- stored.
 use Rattle.std.proofs.Common.{◌≡◌, ℕ, zero, suc, ◌+◌, ◌-◌, ◌<◌, ◌≤◌, List, [], ◌∷◌, ◌++◌, Option, Some, None, length, take, drop, refl, sym, ap, ◌∙◌, arith, length-append, append_assoc}
 use Rattle.std.proofs.lemmas.List.{get_or_at, length-drop, length-take-le, set_at, take-append-drop}
 use lib.ListN.{set}
@@ -17,8 +17,8 @@ use Rattle.thin_block.proofs.Outcomes.{some-same}
 use Rattle.thin_vec.proofs.OpenBlockLemmas.{Found, at_rest, by_rest, empty-more, first-of, found, past_rest, to_rest}
 use Rattle.thin_vec.proofs.ListLemmas.{length-full}
 
--- a list with more than k items consists of its first k items, the item at index k, and the items
--- after that item
+-- A list with more than `k` items consists of its first `k` items, the item at index `k`, and the
+-- items after it.
 pub split-at : {X : Type 0} (xs : List X) (k : ℕ) → k < length xs → (pre : List X) × (x : X)
     × (post : List X) × (length pre ≡ k) × (xs ≡ pre ++ x ∷ post)
 split-at [] k low = absurd (omega arith)
@@ -29,8 +29,8 @@ split-at (x ∷ xs) (suc k) low =
     (x ∷ p.0, p.1, p.2, ap suc p.3, ap (λ l. x ∷ l) p.4)
 
 module _ {T : Type 0} where
-  -- a row that contains the items pre, x and post consists of the slots before x, the slot of x,
-  -- and the slots after x
+  -- If a list of slots contains the items `pre`, the item `x` and the items `post`, it consists of
+  -- the slots before `x`, the slot of `x`, and the slots after `x`.
   pub row-at : (a : List (Option T)) (pre : List T) (x : T) (post : List T) (z : List (Option T))
       → a ++ (full (pre ++ x ∷ post) ++ z) ≡ (a ++ full pre) ++ (Some x ∷ (full post ++ z))
   row-at a pre x post z =
@@ -39,19 +39,19 @@ module _ {T : Type 0} where
       ∙ sym (append_assoc a (full pre) (Some x ∷ (full post ++ z))))
 
 module _ {T A : Type 0} where
-  -- if two open blocks have the same gap before the tail, the same tail, and the same number of
-  -- empty slots after the tail, their slots after the middle run are equal
+  -- Suppose that two open blocks have the same gap before the tail items, the same tail items, and
+  -- the same number of empty slots after them. Then their slots after the middle items are equal.
   pub same-past : (v w : Open T A) → w.gap_after ≡ v.gap_after → w.tail ≡ v.tail
       → v.capacity - reach v ≡ w.capacity - reach w → past_rest v ≡ past_rest w
   same-past v w b t n = λ i. empty (sym b i) ++ (full (sym t i) ++ empty (n i))
 
   module _ (h : Inside T A) (o : IsOpen h) (b : Block T A) (k : ℕ)
       (low : k < length (open_of h).rest) where
-    -- what a contract sees of the open block before the item was overwritten
+    -- This is the open block as contracts see it before the item was overwritten.
     abbrev v : Open T A
     v = open_of h
 
-    -- the open block after one item of its middle run was overwritten
+    -- This is the open block after one of its middle items was overwritten.
     abbrev pub written : Inside T A
     written = record {
       block = b;
@@ -62,12 +62,12 @@ module _ {T A : Type 0} where
       len = h.len;
     }
 
-    -- `written-seen ys` is what a contract sees of `written` if ys is the middle run of `written`
+    -- `written-seen ys` is the new open block as contracts see it if its middle items are `ys`.
     abbrev pub written-seen : List T → Open T A
     written-seen ys = record v { rest = ys }
 
-    -- x was the item that was overwritten, and contracts see `written` as the old open block with y
-    -- in place of x
+    -- `Written x y` holds if the overwritten item was `x`, and contracts see the new open block as
+    -- the old one with `y` in place of `x`.
     pub record Written (x y : T) : Type 0 where
       pub pre : List T
       pub post : List T
@@ -75,8 +75,8 @@ module _ {T A : Type 0} where
       pub was : v.rest ≡ pre ++ x ∷ post
       pub shown : Found written (written-seen (pre ++ y ∷ post))
 
-    -- if the slot of the item at index k of the middle run held x, and y was written into this
-    -- slot, `Written x y` holds
+    -- If the slot of the middle item at index `k` held `x`, and `y` was written into this slot,
+    -- then `Written x y` holds.
     pub write-step : (x y : T) → slot h.block.slots (h.rest_start + k) ≡ Some x
         → seen b ≡ record (seen h.block)
         { slots = set h.block.slots (h.rest_start + k) (Some y) } → Written x y
@@ -135,14 +135,14 @@ module _ {T A : Type 0} where
               (ap (λ (z : Seen T A). z.cost) now);
         }
 
-  -- in this module, the first k items of the middle run are moved to the end of the front
+  -- In this module, the first `k` middle items are moved to the end of the front items.
   module _ (h : Inside T A) (o : IsOpen h) (k : ℕ) (low : k ≤ length (open_of h).rest) where
-    -- what a contract sees of the open block before the move
+    -- This is the open block as contracts see it before the move.
     abbrev u : Open T A
     u = open_of h
 
-    -- `moved_run b` is the open block whose slots are in the block b, after the first items of the
-    -- middle run became the last items of the front
+    -- `moved_run b` is the open block after its first middle items became front items. Its slots
+    -- are in the block `b`.
     abbrev pub moved_run : Block T A → Inside T A
     moved_run b = record {
       block = b;
@@ -153,14 +153,14 @@ module _ {T A : Type 0} where
       len = h.len;
     }
 
-    -- `moved_run-seen b` is what a contract sees of `moved_run b`: the first items of the middle
-    -- run are now the last items of the front
+    -- `moved_run-seen b` is the open block as contracts see it after the move: its first middle
+    -- items have become the last front items.
     abbrev pub moved_run-seen : Block T A → Open T A
     moved_run-seen b = record u
         { front = u.front ++ take k u.rest; rest = drop k u.rest; cost = b.cost }
 
-    -- if the slots of b are, in this order, the front, the moved items, the gap, and the other
-    -- slots, contracts see `moved_run b` as `moved_run-seen b`
+    -- If the slots of `b` are, in this order, the front items, the moved items, the gap, and the
+    -- other slots, then contracts see `moved_run b` as `moved_run-seen b`.
     moved_run-shows : (b : Block T A)
         → b.slots ≡ full u.front
         ++ (full (take k u.rest) ++ (empty u.gap ++ (full (drop k u.rest) ++ past_rest u)))
@@ -192,8 +192,8 @@ module _ {T A : Type 0} where
         })
         alloc refl
 
-    -- the slots from the middle run on are the slots of its first k items, followed by the slots
-    -- after these
+    -- The slots from the first middle item onward are the slots of the first `k` middle items,
+    -- followed by all later slots.
     cut : full u.rest ++ past_rest u ≡ full (take k u.rest) ++ (full (drop k u.rest) ++ past_rest u)
     cut =
         ap (λ (l : List T). full l ++ past_rest u) (sym (take-append-drop k u.rest))
@@ -201,14 +201,14 @@ module _ {T A : Type 0} where
         (full-append (take k u.rest) (drop k u.rest)) ∙ append_assoc (full (take k u.rest))
         (full (drop k u.rest)) (past_rest u))
 
-    -- the slots of h are, in this order, the front, the gap, the items to be moved, and the other
-    -- slots
+    -- The slots of `h` are, in this order, the front items, the gap, the items to be moved, and the
+    -- other slots.
     parted : h.block.slots ≡ full u.front
         ++ (empty u.gap ++ (full (take k u.rest) ++ (full (drop k u.rest) ++ past_rest u)))
     parted = o.row ∙ ap (λ (r : List (Option T)). full u.front ++ (empty u.gap ++ r)) cut
 
-    -- if there is no gap after the front, the first items of the middle run join the front without
-    -- a move
+    -- If there is no gap after the front items, then the first middle items become front items
+    -- without a move.
     pub pass-step : u.gap ≡ 0 → Found (moved_run h.block) (moved_run-seen h.block)
     pass-step none =
         moved_run-shows h.block
@@ -218,8 +218,8 @@ module _ {T A : Type 0} where
         ++ (full (take k u.rest) ++ (empty n ++ (full (drop k u.rest) ++ past_rest u))))
         (sym none))) refl
 
-    -- if the first items of the middle run were moved to the end of the front, contracts see
-    -- `moved_run b` as `moved_run-seen b`
+    -- If the first middle items were moved to the slots directly after the front items, then
+    -- contracts see `moved_run b` as `moved_run-seen b`.
     pub move_run_down-step : (b : Block T A) {c : Cost}
         → seen b ≡ record (seen h.block)
         { slots = moved h.rest_start h.front_end k h.block.slots; cost = c }
@@ -233,8 +233,8 @@ module _ {T A : Type 0} where
         (full (drop k u.rest) ++ past_rest u) (sym (length-full u.front ∙ o.front))
         (sym o.gap) (sym few))) (ap (λ (z : Seen T A). z.alloc) now)
 
-  -- if the first item of the middle run was taken out of its slot and written into the first slot
-  -- after the front, contracts see `moved_run b` as `moved_run-seen b`, both for one moved item
+  -- If the first middle item was moved from its slot to the slot directly after the front items,
+  -- then contracts see the open block with this item as the last front item.
   pub move_one_down-step : (h : Inside T A) (o : IsOpen h) (some : 1 ≤ length (open_of h).rest)
       → 0 < (open_of h).gap → (b : Block T A) {x : T} {c : Cost}
       → slot h.block.slots h.rest_start ≡ Some x
@@ -272,6 +272,6 @@ module _ {T A : Type 0} where
       ++ (empty w.gap ++ (full (drop 1 (firsts same parts.2 i)) ++ past_rest w))))))))
       (ap (λ (z : Seen T A). z.alloc) now)
     where
-      -- if y equals x, and xs is y followed by ys, then xs is x followed by ys
+      -- If `y` is equal to `x`, and `xs` is equal to `y ∷ ys`, then `x ∷ ys` is equal to `xs`.
       firsts : {x y : T} {ys xs : List T} → y ≡ x → xs ≡ y ∷ ys → x ∷ ys ≡ xs
       firsts {x} {y} {ys} e f = ap (λ (a : T). a ∷ ys) (sym e) ∙ sym f

@@ -1,5 +1,5 @@
--- The loop takes the items out of their slots, one by one. After the last item is taken out, every
--- slot is empty.
+-- The loop moves the items out of their slots, one by one, and drops them. After the last
+-- iteration, every slot is empty.
 use Rattle.thin_block.proofs.BlockLemmas.{slots-are}
 use Rattle.std.proofs.Common.{◌≡◌, ◌≤◌, ◌-◌, sym, ap, ◌∙◌, length, arith, None, refl}
 use lib.ListN.{set}

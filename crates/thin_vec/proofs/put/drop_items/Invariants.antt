@@ -1,4 +1,5 @@
--- When the loop reaches i, the slots before i are empty, and the slots from i on are unchanged.
+-- When the loop reaches index `i`, the slots before index `i` are empty, and all other slots are
+-- unchanged.
 use Rattle.std.proofs.Common.{◌≡◌, length}
 use Rattle.thin_block.specs.Block.{seen}
 use Rattle.thin_block.specs.Slots.{items_in}

@@ -1,5 +1,5 @@
--- Each turn of the loop puts a clone of the next item into the next slot. If a clone fails, the
--- item that was cloned is one whose clones can fail.
+-- Each iteration of the loop puts a clone of the next item into the next slot. The loop can end
+-- early only at an item whose `clone` can fail.
 use Rattle.thin_block.specs.Block.{seen}
 use Rattle.thin_vec.proofs.list.ExtendLemmas.{put-more}
 use Rattle.std.proofs.lemmas.Grind.{common_steps}
@@ -7,8 +7,8 @@ use Rattle.std.proofs.Common.{ap, arith, ◌∙◌, refl, ◌+◌}
 use Rattle.thin_vec.proofs.list.ClonesLemmas.{lays-more}
 use Rattle.thin_vec.proofs.put.put_clones.Goals as goal
 
--- if clones of the first i items are in their slots before a turn, clones of the first i + 1 items
--- are in their slots after it
+-- If clones of the first `i` items are in the slots before an iteration, then clones of the first
+-- `i + 1` items are in the slots after it.
 pub loop-i-preserved : goal.loop-i-preserved
 loop-i-preserved g c =
     let was = c.loop-i.invariant in

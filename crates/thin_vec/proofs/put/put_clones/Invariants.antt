@@ -1,12 +1,13 @@
--- The loop of `put_clones` puts a clone of each item, in order, into the slots from `start` on.
+-- The loop of `put_clones` puts clones of the items, in order, into the slots from index `start`
+-- onward.
 use Rattle.std.proofs.Common.{◌≡◌}
 use Rattle.thin_block.specs.Block.{seen}
 use Rattle.thin_block.specs.Cost.{moving}
 use Rattle.thin_vec.specs.List.Clones.{LaysClones}
 use Rattle.thin_vec.proofs.put.put_clones.Given as goal
 
--- when the loop reaches i, clones of the first i items lie in the slots from `start` on, and i
--- moves are counted
+-- When the loop reaches index `i`, clones of the first `i` items are in the slots from index
+-- `start` onward, and `i` moves have been counted.
 abbrev pub invariant-loop-i : goal.invariant-loop-i
 invariant-loop-i g l =
     record {

@@ -1,4 +1,4 @@
--- Each turn of the loop puts one more clone of `value` into the next slot.
+-- Each iteration of the loop puts one more clone of `value` into the next slot.
 use Rattle.thin_block.specs.Block.{seen}
 use Rattle.thin_vec.proofs.list.ExtendLemmas.{put-more}
 use Rattle.std.proofs.Common.{ap, arith, sym, ◌∙◌, refl, ◌+◌}
@@ -6,7 +6,8 @@ use Rattle.std.proofs.lemmas.List.{get_or-replicate, length-replicate}
 use Rattle.thin_vec.proofs.list.ClonesLemmas.{lays-more}
 use Rattle.thin_vec.proofs.put.put_repeated.Goals as goal
 
--- if i clones are in their slots before a turn, i + 1 clones are in their slots after it
+-- If `i` clones are in the slots before an iteration, then `i + 1` clones are in the slots after
+-- it.
 pub loop-i-preserved : goal.loop-i-preserved
 loop-i-preserved g c =
     let was = c.loop-i.invariant in

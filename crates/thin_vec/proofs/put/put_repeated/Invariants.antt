@@ -1,12 +1,13 @@
--- The loop of `put_repeated` puts `count` clones of `value` into the slots from `start` on.
+-- The loop of `put_repeated` puts `count` clones of `value` into the slots from index `start`
+-- onward.
 use Rattle.std.proofs.Common.{◌≡◌, replicate}
 use Rattle.thin_block.specs.Block.{seen}
 use Rattle.thin_block.specs.Cost.{moving}
 use Rattle.thin_vec.specs.List.Clones.{LaysClones}
 use Rattle.thin_vec.proofs.put.put_repeated.Given as goal
 
--- when the loop reaches i, clones of `value` lie in the i slots from `start` on, and i moves are
--- counted
+-- When the loop reaches `i`, the first `i` slots from index `start` onward hold clones of `value`,
+-- and `i` moves have been counted.
 abbrev pub invariant-loop-i : goal.invariant-loop-i
 invariant-loop-i g l =
     record {

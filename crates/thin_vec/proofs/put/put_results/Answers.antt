@@ -1,4 +1,4 @@
--- Each turn of the loop calls `make` and puts the result into the next slot, which is empty.
+-- Each iteration of the loop calls `make` and puts the result into the next slot, which is empty.
 use Rattle.thin_block.specs.Block.{seen}
 use Rattle.std.proofs.Common.{◌≡◌, [], ◌∷◌, ◌+◌, ◌++◌, ap, arith, drop, of_calls, refl, sym, take, ◌∙◌}
 use Rattle.std.proofs.SliceLists.{chained_more}

@@ -1,5 +1,5 @@
--- The loop of `put_results` puts the results of `count` calls of `make` into the slots from `start`
--- on.
+-- The loop of `put_results` calls the closure `make` `count` times. It puts the results into the
+-- slots from index `start` onward.
 use Rattle.std.proofs.Common.{◌≡◌, List, length}
 use Rattle.std.specs.Fn.{Called}
 use Rattle.std.specs.List.{FoldsTo}
@@ -8,8 +8,8 @@ use Rattle.thin_block.specs.Cost.{moving}
 use Rattle.thin_block.specs.Slots.{full, laid}
 use Rattle.thin_vec.proofs.put.put_results.Given as goal
 
--- when the loop reaches i, the results of i calls of `make` lie in the slots from `start` on, in
--- order, and i moves are counted
+-- When the loop reaches `i`, the first `i` slots from index `start` onward hold the results of `i`
+-- calls of `make`, in order, and `i` moves have been counted.
 abbrev pub invariant-loop-i : goal.invariant-loop-i
 invariant-loop-i g l = record {
   placed : (xs : List g.row.T.Denot) × (l.block.slots ≡ laid l.start (full xs) l.fn.block.slots)

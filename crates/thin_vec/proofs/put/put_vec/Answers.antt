@@ -1,5 +1,5 @@
--- Each turn of the loop takes the last item out of the vector and puts it into its slot. Once the
--- vector is empty, all items are in their slots.
+-- Each iteration of the loop removes the last item of the vector and puts it into its slot. When
+-- the vector is empty, all items are in their slots.
 use Rattle.std.proofs.lemmas.Grind.{common_steps}
 use Rattle.thin_block.specs.Cost.{moving}
 use Rattle.thin_block.specs.Slots.{full, laid}

@@ -1,5 +1,5 @@
--- The items that were taken out of the vector lie in their slots, and one move is counted for each
--- of them. Each turn of the loop reduces the number of items in the vector.
+-- The items that have been removed from the vector are in their slots, and one move has been
+-- counted for each of them. Each iteration of the loop reduces the number of items in the vector.
 use Rattle.std.proofs.Common.{◌≡◌, ◌-◌, length}
 use Rattle.thin_block.specs.Block.{seen}
 use Rattle.thin_block.specs.Cost.{moving}

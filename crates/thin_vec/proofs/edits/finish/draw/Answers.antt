@@ -1,6 +1,6 @@
--- Each turn of the loop pushes the item `next`, and then items of the iterator into the spare
--- capacity of the vector. If `draw_spare` draws one more item, this item is `next` in the following
--- turn.
+-- Each iteration of the loop pushes the item `next` to the vector, and then pushes items of the
+-- iterator until the capacity of the vector is used up. If `draw_spare` returns one more item, this
+-- item becomes `next` in the following iteration.
 use Rattle.std.proofs.Common.{[], ◌++◌, ◌∷◌, ◌∙◌, ap, arith, length, refl, subst}
 use Rattle.std.proofs.lemmas.List.{append-nil, length_push}
 use Rattle.std.specs.Iterator.{YieldsThen}

@@ -1,4 +1,4 @@
--- Each turn of the loop pushes the next item of the iterator to the end of the vector.
+-- Each iteration of the loop pushes the next item of the iterator to the vector.
 use Rattle.std.proofs.Common.{◌∷◌, ◌++◌, [], ◌∙◌, ap, append_assoc, arith, length}
 use Rattle.std.proofs.lemmas.List.{length_push}
 use Rattle.thin_vec.proofs.list.ExtendLemmas.{yields-more}

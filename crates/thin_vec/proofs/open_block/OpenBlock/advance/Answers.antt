@@ -1,11 +1,11 @@
--- If there is no gap, the items before the first item to be removed become part of the front
--- without a move.
+-- If there is no gap after the front items, then the items before the first item to be removed
+-- become front items without a move.
 use Rattle.std.proofs.Common.{◌≡◌, ◌<◌, ◌++◌, ◌∙◌, ap, drop, sym, take}
 use Rattle.std.proofs.lemmas.Bool.{false≢true}
 use Rattle.thin_vec.proofs.RetainLemmas.{moving-before}
 use Rattle.thin_vec.proofs.open_block.OpenBlock.advance.Goals as goal
 
--- if there is no gap, `Advances` holds with no move counted
+-- The clause `advances` holds if there is no gap: no move is counted.
 pub returns-clause-advances : goal.returns-clause-advances
 returns-clause-advances g c =
     let v = c.args.self.now in

@@ -1,5 +1,5 @@
--- The middle run has at most one item. `Advances` holds in each of three cases: there is no item,
--- the item stays and is moved to the front, or the item is to be removed.
+-- The open block has at most one middle item. The clause `advances` holds in each of three cases:
+-- there is no middle item, the item is kept and becomes a front item, or the item is to be removed.
 use Rattle.std.proofs.Common.{◌++◌, ◌∙◌, ap, arith, drop, rules, sym, take}
 use Rattle.std.proofs.lemmas.List.{append-nil}
 use Rattle.thin_block.specs.Cost.{moving}
@@ -7,7 +7,7 @@ use Rattle.thin_vec.proofs.RetainLemmas.{asked-count, moving-after, moving-none,
 use Rattle.std.proofs.lemmas.Grind.{common_steps}
 use Rattle.thin_vec.proofs.open_block.OpenBlock.advance_last.Goals as goal
 
--- if the middle run is empty, `Advances` holds: nothing changes
+-- The clause `advances` holds if there is no middle item: nothing has changed.
 pub returns-then-rest_len-eq0-clause-advances : goal.returns-then-rest_len-eq0-clause-advances
 returns-then-rest_len-eq0-clause-advances g c =
     let R = g.J.Test.tests in
@@ -24,7 +24,8 @@ returns-then-rest_len-eq0-clause-advances g c =
       };
     }
 
--- if the only item of the middle run stays, `Advances` holds: the item is moved to the front
+-- The clause `advances` holds if the only middle item is kept: the item was moved to the end of the
+-- front items.
 pub returns-then-test-clause-advances : goal.returns-then-test-clause-advances
 returns-then-test-clause-advances g c =
     let R = g.J.Test.tests in
@@ -45,8 +46,8 @@ returns-then-test-clause-advances g c =
       });
     }
 
--- if the only item of the middle run is to be removed, `Advances` holds: the item is left in the
--- middle run, as the test left it
+-- The clause `advances` holds if the only middle item is to be removed. The item is still in its
+-- slot, as the test left it.
 pub returns-clause-advances : goal.returns-clause-advances
 returns-clause-advances g c =
     let R = g.J.Test.tests in

@@ -1,5 +1,5 @@
--- So far the loop has tested items from the start of the middle run, in order, and there is still a
--- gap. Each turn of the loop reduces the number of items left to test.
+-- The loop has tested the first middle items, in order, and there is still a gap after the front
+-- items. Each iteration reduces the number of untested items.
 use Rattle.std.proofs.Common.{◌<◌, length}
 use Rattle.thin_vec.specs.OpenBlock.Dedup.{Dedups}
 use Rattle.thin_vec.proofs.open_block.OpenBlock.dedup_past_gap.Given as goal

@@ -1,4 +1,4 @@
--- The items before the first item to be removed become part of the front. If there is an item to be
+-- The items before the first item to be removed become front items. If there is an item to be
 -- removed, it is dropped, and `dedup_past_gap` tests the items after it.
 use Rattle.std.proofs.Common.{◌≡◌, [], sym, ap, ◌∙◌, arith, rules}
 use Rattle.thin_vec.proofs.edits.DedupLemmas.{deduped-ends, deduped-goes}

@@ -1,5 +1,6 @@
--- `move_run_to` moves the items of `other` into the slots directly after the front, so these items
--- are added to the front. Afterwards all slots of `other` are empty.
+-- `move_run_to` moves the items of the list `other` into the empty slots directly after the front
+-- items of the open block. So these items become front items, and all slots of `other` are empty
+-- afterwards.
 use Rattle.thin_block.proofs.BlockLemmas.{then-len}
 use Rattle.thin_block.specs.Cost.{moving}
 use Rattle.thin_block.specs.Slots.{full, items_in, laid, run}
@@ -15,7 +16,7 @@ move_run_to-requires-clause-filled g c = λ i low high.
     thin-filled c.other.inside.block c.other.inside.alloc i c.other.invariant
     (omega (arith, high, c.len-count.ensures.value, c.other.invariant.packed.len))
 
--- `count` is the number of items in the block of `other`
+-- `count` is the number of items in the block of the list `other`.
 count : (g : _) (c : goal.After-self-1 g)
     → c.len-count.result ≡ length (items_in c.other.inside.block.slots)
 count g c = c.len-count.ensures.value ∙ c.other.invariant.packed.len
@@ -23,8 +24,8 @@ count g c = c.len-count.ensures.value ∙ c.other.invariant.packed.len
 same : (g : _) (c : goal.After-self-1 g) → c.len-count.result ≡ length c.args.other.now.items
 same g c = count g c ∙ ap (λ v. length v.items) c.other.view_is
 
--- after the move, the items of `other` lie in the slots of the open block from `front_end` on, and
--- no other slot of the open block has changed
+-- After the move, the items of the list `other` are in the slots of the open block from index
+-- `front_end` onward. No other slot of the open block has changed.
 lies : (g : _) (c : goal.After-self-1 g) → c.move_run_to.new.other.slots
     ≡ laid c.self.inside.front_end (full (items_in c.other.inside.block.slots))
     c.self.inside.block.slots

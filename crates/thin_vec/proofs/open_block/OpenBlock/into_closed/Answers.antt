@@ -1,5 +1,5 @@
--- If there is a gap after the front, `close_small_gap` moves the items after the gap to the start
--- of the gap. With or without a gap, all items then lie in the first slots of the block.
+-- After the call, all items are in the first slots of the block. If there is a gap after the front
+-- items, `close_small_gap` moves all later items down to the start of the gap.
 use Rattle.std.proofs.Common.{◌≡◌, ◌+◌, ◌-◌, ap, arith, ◌∙◌}
 use Rattle.thin_block.specs.Slots.{front, moved}
 use Rattle.thin_vec.specs.OpenBlock.{open_of}

@@ -1,5 +1,4 @@
--- The middle run is empty, so no item lies between the two gaps, and the two gaps together are one
--- gap.
+-- Since there are no middle items, no item is between the two gaps, and they form one gap.
 use Rattle.std.proofs.Common.{◌+◌, ap, sym, ◌∙◌}
 use Rattle.thin_vec.proofs.OpenBlockLemmas.{Found, join-step, joined, joined-seen}
 use Rattle.thin_vec.proofs.open_block.OpenBlock.join.Goals as goal

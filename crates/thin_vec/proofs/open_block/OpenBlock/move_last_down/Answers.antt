@@ -1,5 +1,5 @@
--- The last `count` slots of the tail are filled. `move_run` moves their items into the slots
--- directly after the front, so these items belong to the front and no longer to the tail.
+-- The slots of the last `count` tail items are filled. `move_run` moves these items into the empty
+-- slots directly after the front items, so they become front items.
 use Rattle.std.proofs.Common.{◌≡◌, ◌-◌, ◌≤◌, ◌++◌, ◌∙◌, ap, arith, drop, length, take}
 use Rattle.thin_block.specs.Cost.{moving}
 use Rattle.thin_vec.specs.OpenBlock.{open_of}

@@ -1,5 +1,5 @@
--- The first slot of the middle run is filled. Its item is moved into the slot directly after the
--- front, so it belongs to the front and no longer to the middle run.
+-- The slot of the first middle item is filled. This item is moved into the empty slot directly
+-- after the front items, so it becomes a front item.
 use Rattle.thin_block.specs.Block.{Seen}
 use Rattle.std.proofs.Common.{Some, ◌≤◌, ◌++◌, ap, ◌∙◌, arith, length, take, drop, rules, ◌≡◌}
 use lib.ListN.{set}

@@ -1,5 +1,5 @@
--- There is no gap, so the first `k` items of the middle run already lie directly after the front.
--- They become part of the front without a move.
+-- Since there is no gap, the middle items directly follow the front items. So the first `k` middle
+-- items become front items without a move.
 use Rattle.std.proofs.Common.{◌≤◌, ◌++◌, ap, ◌∙◌, arith, length, take, drop}
 use Rattle.thin_vec.specs.OpenBlock.{open_of}
 use Rattle.thin_vec.proofs.OpenBlockLemmas.{Found}

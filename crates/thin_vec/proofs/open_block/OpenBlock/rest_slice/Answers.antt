@@ -1,4 +1,4 @@
--- The slots of the middle run are all filled, and the items in them are the middle run.
+-- The slots in the range `rest_start..rest_end` are all filled, and they hold the middle items.
 use Rattle.std.proofs.Common.{ap, ◌∙◌}
 use Rattle.thin_vec.specs.OpenBlock.{open_of}
 use Rattle.thin_vec.proofs.OpenBlockLemmas.{rest-filled, rest-run}

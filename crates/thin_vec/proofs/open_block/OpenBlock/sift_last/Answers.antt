@@ -1,19 +1,20 @@
--- The middle run has at most one item. `Sifts` holds in each of three cases: there is no item, the
--- item stays, or the item is removed. In each case no item is left to test.
+-- The open block has at most one middle item. The clause `sifts` holds in each of three cases:
+-- there is no middle item, the item is kept, or the item is removed. No item remains to be tested.
 use Rattle.std.proofs.Common.{◌∙◌, ap, arith, length, sym}
 use Rattle.std.proofs.lemmas.Bool.{false≢true}
 use Rattle.std.proofs.lemmas.List.{nil_from_length}
 use Rattle.thin_vec.proofs.RetainLemmas.{advanced-count, advanced-ends, advanced-goes, none-left}
 use Rattle.thin_vec.proofs.open_block.OpenBlock.sift_last.Goals as goal
 
--- if `advance_last` returns true, `Sifts` holds: the next item is removed
+-- The clause `sifts` holds if `advance_last` returns true: the next item is removed.
 pub returns-then-advance_last-clause-sifts : goal.returns-then-advance_last-clause-sifts
 returns-then-advance_last-clause-sifts g c =
     advanced-goes g.J.Test.tests c.args.test.now c.advance_last.new.test c.args.self.now
     c.advance_last.new.self c.requires.gap c.advance_last.ensures.advances c.take_first.result
     c.take_first.new.self c.take_first.ensures.rest c.take_first.ensures.changes
 
--- if `advance_last` returns false, `Sifts` holds: no item is removed, and none is left to test
+-- The clause `sifts` holds if `advance_last` returns false: no item is removed, and no item remains
+-- to be tested.
 pub returns-else-advance_last-clause-sifts : goal.returns-else-advance_last-clause-sifts
 returns-else-advance_last-clause-sifts g c =
     advanced-ends g.J.Test.tests c.args.test.now c.advance_last.new.test c.args.self.now
@@ -21,7 +22,7 @@ returns-else-advance_last-clause-sifts g c =
     (none-left c.advance_last.new.self.rest
     (λ some. false≢true (sym c.if-advance_last.false ∙ c.advance_last.ensures.goes.1 some)))
 
--- if an item is removed, it was the last item of the middle run, so no item is left to test
+-- If an item is removed, it was the last middle item, so no item remains to be tested.
 pub returns-then-advance_last-clause-rest : goal.returns-then-advance_last-clause-rest
 returns-then-advance_last-clause-rest g c =
     let few = advanced-count g.J.Test.tests c.args.test.now c.advance_last.new.test c.args.self.now

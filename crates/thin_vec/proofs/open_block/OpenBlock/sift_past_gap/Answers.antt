@@ -1,5 +1,5 @@
--- If `Sifts` holds for the turns of the loop so far, and for one more turn, it holds for all these
--- turns together. `sift_last` then tests the item that is left after the loop, if there is one.
+-- If `Sifts` holds for the earlier iterations of the loop and for one more iteration, then it holds
+-- for all of them together. After the loop, `sift_last` tests the remaining item, if there is one.
 use Rattle.thin_vec.proofs.RetainLemmas.{sifts-start, sifts-then}
 use Rattle.thin_vec.proofs.open_block.OpenBlock.sift_past_gap.Goals as goal
 

@@ -1,18 +1,19 @@
--- `Sifts` holds whether an item is removed or all items stay. In both cases fewer items are left to
--- test.
+-- The clause `sifts` holds whether an item is removed or all items are kept. In both cases, fewer
+-- items remain to be tested than before the call.
 use Rattle.std.proofs.Common.{◌∙◌, ap, arith, length, sym}
 use Rattle.std.proofs.lemmas.Bool.{false≢true}
 use Rattle.thin_vec.proofs.RetainLemmas.{advanced-count, advanced-ends, advanced-goes, none-left}
 use Rattle.thin_vec.proofs.open_block.OpenBlock.sift_two.Goals as goal
 
--- if `advance_two` returns true, `Sifts` holds: the next item is removed
+-- The clause `sifts` holds if `advance_two` returns true: the next item is removed.
 pub returns-then-advance_two-clause-sifts : goal.returns-then-advance_two-clause-sifts
 returns-then-advance_two-clause-sifts g c =
     advanced-goes g.J.Test.tests c.args.test.now c.advance_two.new.test c.args.self.now
     c.advance_two.new.self c.requires.gap c.advance_two.ensures.advances c.take_first.result
     c.take_first.new.self c.take_first.ensures.rest c.take_first.ensures.changes
 
--- if `advance_two` returns false, `Sifts` holds: no item is removed, and none is left to test
+-- The clause `sifts` holds if `advance_two` returns false: no item is removed, and no item remains
+-- to be tested.
 pub returns-else-advance_two-clause-sifts : goal.returns-else-advance_two-clause-sifts
 returns-else-advance_two-clause-sifts g c =
     advanced-ends g.J.Test.tests c.args.test.now c.advance_two.new.test c.args.self.now
@@ -20,14 +21,15 @@ returns-else-advance_two-clause-sifts g c =
     (none-left c.advance_two.new.self.rest
     (λ some. false≢true (sym c.if-advance_two.false ∙ c.advance_two.ensures.goes.1 some)))
 
--- if an item is removed, fewer items are left to test than before
+-- If an item is removed, then fewer items remain to be tested than before the call.
 pub returns-then-advance_two-clause-less : goal.returns-then-advance_two-clause-less
 returns-then-advance_two-clause-less g c =
     let few = advanced-count g.J.Test.tests c.args.test.now c.advance_two.new.test c.args.self.now
     c.advance_two.new.self c.requires.gap c.advance_two.ensures.advances in
     omega (arith, few, ap length c.take_first.ensures.rest)
 
--- if no item is removed, no item is left to test, and at least two were left before
+-- If no item is removed, then no item remains to be tested. Before the call, there were at least
+-- two untested items.
 pub returns-else-advance_two-clause-less : goal.returns-else-advance_two-clause-less
 returns-else-advance_two-clause-less g c =
     let none = none-left c.advance_two.new.self.rest

@@ -1,5 +1,5 @@
--- The slot at `rest_start` holds the first item of the middle run. `take_first` empties this slot,
--- which becomes part of the gap after the front.
+-- The slot at index `rest_start` holds the first middle item. `take_first` empties this slot, which
+-- becomes part of the gap after the front items.
 use Rattle.std.proofs.Common.{◌≡◌, ◌<◌, ◌+◌, ◌∷◌, List, ap, sym, ◌∙◌, arith, length}
 use Rattle.thin_vec.specs.OpenBlock.{open_of}
 use Rattle.thin_vec.proofs.OpenBlockLemmas.{Found, first-left, first-seen, first-step, rest-filled}
@@ -17,8 +17,8 @@ take-requires g c =
 some : (g : _) (c : goal.After-take g) → 0 < length (open_of c.self.inside).rest
 some g c = omega (arith, c.requires.some, ap (λ v. length v.rest) c.self.view_is)
 
--- before the call, the middle run was the returned item followed by a list ys; after the call, the
--- middle run is ys
+-- Before the call, the middle items were the returned item, followed by a list `ys`. After the
+-- call, the middle items are `ys`.
 facts : (g : _) (c : goal.After-take g) → (ys : List g.row.T.Denot)
     × ((open_of c.self.inside).rest ≡ c.take.result ∷ ys)
     × Found (first-left c.self.inside c.self.invariant c.take.new.self (some g c))

@@ -1,5 +1,5 @@
--- The slot before `rest_end` holds the last item of the middle run. `take_last` empties this slot,
--- which becomes part of the gap after the middle run.
+-- The slot at index `rest_end - 1` holds the last middle item. `take_last` empties this slot, which
+-- becomes part of the gap before the tail items.
 use Rattle.std.proofs.Common.{◌≡◌, ◌<◌, ◌+◌, ◌∷◌, ◌++◌, ◌-◌, [], List, ap, sym, ◌∙◌, arith, length}
 use Rattle.thin_vec.specs.OpenBlock.{open_of}
 use Rattle.thin_vec.proofs.OpenBlockLemmas.{Found, last-left, last-seen, last-step, rest-filled}
@@ -18,8 +18,8 @@ take-requires g c =
 some : (g : _) (c : goal.After-take g) → 0 < length (open_of c.self.inside).rest
 some g c = omega (arith, c.requires.some, ap (λ v. length v.rest) c.self.view_is)
 
--- before the call, the middle run was a list ys followed by the returned item; after the call, the
--- middle run is ys
+-- Before the call, the middle items were a list `ys`, followed by the returned item. After the
+-- call, the middle items are `ys`.
 facts : (g : _) (c : goal.After-take g) → (ys : List g.row.T.Denot)
     × ((open_of c.self.inside).rest ≡ ys ++ c.take.result ∷ [])
     × Found (last-left c.self.inside c.self.invariant c.take.new.self (some g c))

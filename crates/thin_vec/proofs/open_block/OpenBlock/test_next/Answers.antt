@@ -1,4 +1,4 @@
--- The first slot of the middle run is filled. After the test, the slot holds its item as the test
+-- The slot of the first middle item is filled. After the test, this slot holds the item as the test
 -- left it, and nothing else has changed.
 use Rattle.thin_block.proofs.BlockLemmas.{slots-are}
 use Rattle.std.proofs.Common.{◌≡◌, ◌<◌, ◌+◌, refl, ap, sym, ◌∙◌, arith, length}
@@ -24,8 +24,7 @@ slot_mut-requires g c =
 low : (g : _) (c : goal.After-self-1 g) → 0 < length (open_of c.self.inside).rest
 low g c = omega (arith, c.requires.some, ap (λ v. length v.rest) c.self.view_is)
 
--- after the test, the first item of the middle run is as the test left it, and nothing else has
--- changed
+-- After the test, the first middle item is as the test left it, and nothing else has changed.
 facts : (g : _) (c : goal.After-self-1 g) → Written c.self.inside c.self.invariant
     (with_item c.self.inside.block c.self.inside.rest_start c.test.new.later) 0 (low g c)
     c.slot_mut.result.now c.test.new.later

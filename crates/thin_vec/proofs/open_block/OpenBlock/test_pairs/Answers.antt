@@ -1,6 +1,6 @@
--- The first item of the middle run stays without a test, and each turn of the loop tests the next
--- item. If this item stays, the run of items that stay is one item longer; if it is to be removed,
--- the run ends before it.
+-- The first middle item is kept without a test, and each iteration of the loop tests the next item.
+-- If this item is kept, then the run of kept items becomes one item longer. If it is to be removed,
+-- then the run ends before it.
 use Rattle.std.proofs.Common.{arith, refl, rules}
 use Rattle.thin_vec.proofs.edits.DedupLemmas.{pair-goes, pair-more, pair-start}
 use Rattle.std.proofs.lemmas.Grind.{common_steps}

@@ -1,5 +1,5 @@
--- The items of the middle run from `k` up to `at` were tested and stay, and nothing outside the
--- middle run has changed. Each turn of the loop reduces the number of items left to test.
+-- The middle items `k..at` were tested and are kept, and only middle items have changed. Each
+-- iteration of the loop reduces the number of untested items.
 use Rattle.std.proofs.Common.{◌≡◌, ◌-◌, length}
 use Rattle.thin_vec.proofs.RetainLemmas.{Stays}
 use Rattle.thin_vec.proofs.open_block.OpenBlock.test_run.Given as goal

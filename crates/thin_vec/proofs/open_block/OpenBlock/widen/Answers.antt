@@ -1,5 +1,5 @@
--- There are at least `count` empty slots after the tail, so the tail can be moved up by `count`
--- slots. The gap before the tail then has `count` more slots.
+-- At least `count` empty slots follow the tail items, so the tail items can be moved up by `count`
+-- slots. The gap before the tail items becomes longer by `count` slots.
 use Rattle.std.proofs.Common.{◌≡◌, ℕ, ◌+◌, ◌-◌, ◌≤◌, ◌∙◌, ap, arith, length, subst, sym}
 use Rattle.std.specs.Prelude.{IsSome}
 use Rattle.thin_block.specs.Block.{seen}
@@ -11,8 +11,8 @@ use Rattle.thin_vec.specs.declared.open_block.OpenBlock.TheInside.{Inside}
 use Rattle.thin_vec.proofs.OpenBlockLemmas.{Found, reached, spare-empty, tail-filled, widen-step, widened, widened-seen}
 use Rattle.thin_vec.proofs.open_block.OpenBlock.widen.Goals as goal
 
--- if contracts see h as the open block v, and v has at least k slots after its tail, then h has at
--- least k slots from `h.len` on
+-- If contracts see `h` as the open block `v`, and at least `k` slots of `v` follow its tail items,
+-- then `h` has at least `k` slots from index `h.len` onward.
 fits : {T A : Type 0} (h : Inside T A) (v : Open T A) (k : ℕ) → Shows h (open_of h) → open_of h ≡ v
     → reach v + k ≤ v.capacity → h.len + k ≤ (open_of h).capacity
 fits h v k shows is room =
@@ -33,7 +33,7 @@ open_gap-opened-requires-clause-filled g c = λ j low high.
     subst (λ b. IsSome (slot b.slots j)) (sym c.replace-block.ensures.value)
     (tail-filled c.self.inside (open_of c.self.inside) o j low (omega (arith, high, o.tail)))
 
--- the block that was put back is the old block with the tail moved up
+-- The block after the call is the old block with its tail items moved up.
 stored : (g : _) (c : goal.After-self-2-1 g)
     → let h = c.self.inside in
     seen c.replace-none.new.dest ≡ record (seen h.block) {

@@ -1,4 +1,4 @@
--- The slice of two slots is split into two parts of one item each. After the test the two slots
+-- The slice of two slots is split into two slices of one item each. After the test, the two slots
 -- hold the items as the test left them.
 use Rattle.std.proofs.Common.{arith, rules}
 use Rattle.thin_vec.proofs.open_block.DedupLemmas.{parts-of}

@@ -1,6 +1,6 @@
--- `from_str` calls `from_copies`, whose contract names the capacity for a generic item type of the
--- same size and alignment as `u8`. This is also the capacity for items of type `u8`, so `from_str`
--- fails with the same error as `from_copies`.
+-- `from_str` fails with the same error as `from_copies`, which it calls. The contract of
+-- `from_copies` is about a generic item type with the size and the alignment of `u8`. The capacity
+-- is the same for this type and for `u8`.
 use Rattle.std.proofs.Common.{◌∙◌, ap, length, refl, arith}
 use Rattle.std.specs.Borrow.{u8}
 use Rattle.thin_block.proofs.CapacityLemmas.{exact-at}
@@ -9,7 +9,7 @@ use Rattle.thin_vec.proofs.list.ReservesLemmas.{tells-same}
 use Rattle.thin_vec.proofs.convert.bytes.ThinVec+u8+A.from_str.Goals as goal
 
 -- `from_str` fails with `CapacityOverflow` if and only if a block for exactly the bytes of the text
--- would be too large to be allocated
+-- is too large to be allocated.
 pub returns-clause-overflow : goal.returns-clause-overflow
 returns-clause-overflow g c =
     tells-same _ _ _ _ (exact-at _ u8 0 (length c.as_bytes.result.now) refl refl

@@ -1,14 +1,14 @@
--- `write_all` calls `reserve_run`, whose contract names the capacity for a generic item type of the
--- same size and alignment as `u8`. This is also the capacity for items of type `u8`. If there is
--- none, the call fails.
+-- `write_all` reserves capacity by a call of `reserve_run`. The contract of `reserve_run` is about
+-- a generic item type with the size and the alignment of `u8`. The growth rule chooses the same
+-- capacity for this type and for `u8`.
 use Rattle.std.proofs.Common.{◌+◌, ◌∙◌, Some, ap, length, refl, sym}
 use Rattle.std.specs.Borrow.{u8}
 use Rattle.thin_block.proofs.CapacityLemmas.{ruled-at}
 use Rattle.thin_block.proofs.Outcomes.{none-some}
 use Rattle.thin_vec.proofs.convert.bytes.ThinVecU8Write.write_all.Goals as goal
 
--- if `write_all` succeeds, the new capacity is the one ruled for the old bytes and the bytes
--- written
+-- If `write_all` succeeds, then the new capacity is the capacity that the growth rule chooses for
+-- the old bytes and the written bytes.
 pub returns-clause-capacity : goal.returns-clause-capacity
 returns-clause-capacity g c =
     ruled-at u8 _ c.args.self.now.capacity (length c.args.self.now.items + length c.args.buf.now)

@@ -1,5 +1,5 @@
--- The list has no items before the call, and `put_vec` puts the items of the vector into the first
--- slots. So the items of the vector become the items of the list.
+-- The items of the vector become the items of the list. This holds because the list has no items
+-- before the call, and `put_vec` puts the items of the vector into the first slots.
 use Rattle.std.proofs.Common.{◌≡◌, [], ◌++◌, ◌∙◌, ap, arith, length, sym, rules}
 use Rattle.thin_block.proofs.BlockLemmas.{then-len}
 use Rattle.thin_block.specs.Slots.{items_in}
@@ -8,7 +8,7 @@ use Rattle.thin_vec.proofs.list.AppendSplitLemmas.{settle-more}
 use Rattle.thin_vec.proofs.convert.from.ThinVec+T+A.extend_from_vec_reserved.Goals as goal
 use Rattle.thin_vec.proofs.ThinVecLemmas.{within-stays}
 
--- the block holds no items before the call
+-- The block contains no items before the call.
 none : (g : _) (c : goal.After-set_len g) → items_in c.self.inside.block.slots ≡ []
 none g c = ap (λ v. v.items) c.self.view_is ∙ c.requires.empty
 

@@ -1,6 +1,6 @@
--- The capacity requested is the length of the boxed slice, which is the number of its items. So the
--- list has exactly this capacity, and the call fails with `CapacityOverflow` if and only if this
--- capacity does not fit.
+-- The call requests a capacity that is equal to the number of items in the boxed slice. The new
+-- list has exactly this capacity. The call fails with `CapacityOverflow` if and only if a block of
+-- this capacity is too large to be allocated.
 use Rattle.std.proofs.Common.{arith, ◌∙◌, ap}
 use denote.Param.{param}
 use Rattle.thin_block.specs.Growth.{exact_capacity}

@@ -1,6 +1,6 @@
--- The item type of `from_copies` is known to be `Copy`, and the item type in the contract of
--- `with_capacity` is not. Both types have the same size and alignment, so both calls fail with
--- `CapacityOverflow` for the same lengths.
+-- `from_copies` fails with `CapacityOverflow` for the same lengths as `with_capacity`, which it
+-- calls. The contracts are about different item types: one is `Copy`, and the other need not be.
+-- The error depends only on the size and the alignment, which are the same for both types.
 use Rattle.std.proofs.Common.{length, refl}
 use Rattle.thin_block.proofs.CapacityLemmas.{exact-at}
 use Rattle.thin_vec.proofs.list.ReservesLemmas.{tells-made, tells-same}

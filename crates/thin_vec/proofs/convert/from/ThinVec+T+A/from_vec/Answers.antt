@@ -1,5 +1,5 @@
--- The capacity requested is the length of the vector, which is the number of its items. So the call
--- fails with `CapacityOverflow` if and only if this capacity does not fit.
+-- The call requests a capacity that is equal to the number of items in the vector. It fails with
+-- `CapacityOverflow` if and only if a block of this capacity is too large to be allocated.
 use Rattle.std.proofs.Common.{◌∙◌, ap}
 use denote.Param.{param}
 use Rattle.thin_block.specs.Growth.{exact_capacity}

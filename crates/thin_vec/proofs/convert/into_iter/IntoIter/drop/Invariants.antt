@@ -1,4 +1,4 @@
--- Each turn of the loop in `drop` reduces the number of items left, so the loop ends.
+-- The loop in `drop` ends because each iteration reduces the number of remaining items.
 use Rattle.std.proofs.Common.{length}
 use Rattle.thin_vec.proofs.convert.into_iter.IntoIter.drop.Given as goal
 

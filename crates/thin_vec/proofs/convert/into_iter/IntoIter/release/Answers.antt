@@ -1,4 +1,5 @@
--- `release` requires that no item is left. So each slot is empty, and the block may be released.
+-- The block may be released because all its slots are empty: `release` requires that no item
+-- remains.
 use Rattle.std.proofs.Common.{ap, arith, length}
 use Rattle.thin_vec.proofs.convert.IntoIterLemmas.{walked-empty}
 use Rattle.thin_vec.proofs.convert.into_iter.IntoIter.release.Goals as goal

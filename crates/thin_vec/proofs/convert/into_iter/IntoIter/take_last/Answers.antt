@@ -1,12 +1,12 @@
--- The last item not yet yielded is in the slot before `end`. `take_last` empties this slot and
--- decreases `end` by 1, so all other items remain.
+-- Slot `end - 1` holds the last item that has not been yielded yet. `take_last` empties this slot
+-- and decreases `end` by 1, so all other items remain.
 use Rattle.std.proofs.Common.{◌-◌, ◌<◌, ◌≤◌, ◌∷◌, ◌++◌, [], ap, sym, ◌∙◌, arith, length, take, refl, rules}
 use Rattle.thin_block.specs.Slots.{items_in}
 use Rattle.thin_vec.proofs.convert.IntoIterLemmas.{Walking, last-item, settle-last, walked-filled}
 use Rattle.thin_vec.proofs.ListLemmas.{thin_of-keeps}
 use Rattle.thin_vec.proofs.convert.into_iter.IntoIter.take_last.Goals as goal
 
--- an item is left, so `start` is less than `end`
+-- Since at least one item remains, `start` is less than `end`.
 some : (g : _) (c : goal.After-take g) → c.self.inside.start < c.self.inside.end
 some g c = omega (
   arith,
@@ -15,7 +15,7 @@ some g c = omega (
   ap (λ v. length v.items) c.self.view_is,
 )
 
--- the slot before `end` is filled, as `take` requires
+-- Slot `end - 1` is filled, which the call of `take` requires.
 pub take-requires : goal.take-requires
 take-requires g c =
     let it = c.self.inside in
@@ -28,7 +28,7 @@ take-requires g c =
           c.self.invariant from to;
     }
 
--- after the call, the block holds all items but the last, in the slots from `start` up to `end - 1`
+-- After the call, the slots `start..end - 1` hold all items except the last one.
 facts : (g : _) (c : goal.After-take g)
     → let it = c.self.inside in
     let most = take (it.end - 1 - it.start) (items_in it.block.slots) in

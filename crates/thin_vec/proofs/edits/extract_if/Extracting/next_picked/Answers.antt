@@ -1,5 +1,5 @@
--- `advance` tests items up to the first item to be extracted, and adds the tested items before that
--- item to the front. `next_picked` then extracts that item, or returns `None` if no item is left.
+-- `advance` tests items up to the first item to be extracted. The tested items before this item
+-- become front items. `next_picked` then extracts this item, or returns `None` if no item remains.
 use Rattle.std.proofs.Common.{◌≡◌, ◌∙◌, [], ap, arith, rules, sym, take}
 use Rattle.std.proofs.lemmas.Bool.{false≢true}
 use Rattle.std.specs.Fn.{CalledAtMut}
@@ -7,7 +7,7 @@ use Rattle.thin_vec.proofs.edits.ExtractIfLemmas.{cost-of, picked-count, picked-
 use Rattle.thin_vec.proofs.RetainLemmas.{none-left}
 use Rattle.thin_vec.proofs.edits.extract_if.Extracting.next_picked.Goals as goal
 
--- if `advance` returns true, `Extracts` holds: the next item is extracted
+-- The clause `extracts` holds if `advance` returns true: the next item is extracted.
 pub returns-then-advance-clause-extracts : goal.returns-then-advance-clause-extracts
 returns-then-advance-clause-extracts g c =
     let R = CalledAtMut g.F.FnMut in
@@ -32,7 +32,7 @@ returns-then-advance-clause-extracts g c =
           (picked-room R (λ s. s.pick) a.count v.picks v.block.rest t a.left a.run));
     }
 
--- if `advance` returns false, `Extracts` holds: no item is extracted
+-- The clause `extracts` holds if `advance` returns false: no item is extracted.
 pub returns-else-advance-clause-extracts : goal.returns-else-advance-clause-extracts
 returns-else-advance-clause-extracts g c =
     let R = CalledAtMut g.F.FnMut in

@@ -1,11 +1,11 @@
--- An item is extracted if and only if the closure returns true: the test returns the negation of
--- the closure's result, and the definition of `tests` negates the test's result.
+-- An item is extracted if and only if the closure returns true. The test returns the negation of
+-- this result, and the definition of `tests` negates it again.
 use Rattle.std.proofs.Common.{Bool, rules, sym, subst}
 use Rattle.std.specs.Fn.{CalledAtMut}
 use Rattle.thin_vec.proofs.edits.ExtractIfLemmas.{not-not}
 use Rattle.thin_vec.proofs.edits.extract_if.PicksTest.test.Goals as goal
 
--- negating the closure's result twice gives the same result
+-- Negating the result of the closure twice yields the same result.
 pub returns-clause-asked : goal.returns-clause-asked
 returns-clause-asked g c =
     let called : CalledAtMut g.F.FnMut c.args.self.now.pick c.args.item.now c.pick.result
