@@ -67,9 +67,9 @@ pub fn assert_same_items<T: Sample, R: Abort>(rt: &R, at: &At, items: &[T], numb
     assert_same(rt, at, "first item that differs", difference, None);
 }
 
-/// Asserts that exactly `items` items are not dropped, if the ledger counts items of type `T`. Also
-/// asserts the number of allocated blocks: one for each item if items own blocks, plus one for the
-/// list if `capacity` is not 0.
+/// If the ledger counts items of type `T`, asserts that exactly `items` items have not been
+/// dropped. Also asserts the number of allocated blocks: one for each item if items own blocks,
+/// plus one for the list if `capacity` is not 0.
 pub fn assert_live<T: Sample, R: Abort>(
     rt: &R,
     at: &At,
@@ -87,8 +87,8 @@ pub fn assert_live<T: Sample, R: Abort>(
     assert_same(rt, at, "blocks that are not freed", out, blocks);
 }
 
-// Returns the first index at which the item is not the one that is made from the number. Returns
-// `None` if there is no such index.
+// Returns the first index at which `items[index]` is not the item that is made from
+// `numbers[index]`. Returns `None` if there is no such index.
 fn first_difference<T: Sample>(items: &[T], numbers: &[u64]) -> Option<usize> {
     let mut index: usize = 0;
     for (item, number) in items.iter().zip(numbers.iter()) {

@@ -1,5 +1,5 @@
-//! One case of a sweep: a call on a list, and the expected result. Each item is made from a number,
-//! so the expected items are a `Vec` of numbers.
+//! One test case of a sweep: a call on a list, and the expected result. Each item is made from a
+//! number, so the expected items are a `Vec` of numbers.
 use crate::assertions::{At, assert_live, assert_same, assert_same_item, assert_same_items};
 use crate::ledger::Ledger;
 use crate::samples::Sample;
@@ -57,8 +57,8 @@ pub struct Case<T: Drop, G: Ruled> {
 }
 
 impl<T: Sample, G: Ruled> Case<T, G> {
-    /// Returns a case whose list has the length and the spare capacity of `at.shape`. The items of
-    /// the list are made from the numbers 1, 2, 3, and so on.
+    /// Returns a test case whose list has the length and the spare capacity of `at.shape`. The
+    /// items of the list are made from the numbers 1, 2, 3, and so on.
     pub fn new<R: Abort>(rt: &R, ledger: &'static Ledger, at: At) -> Case<T, G> {
         ledger.begin(0);
         let list = filled(rt, ledger, at.shape, 1);
@@ -114,8 +114,9 @@ impl<T: Sample, G: Ruled> Case<T, G> {
         self.is_left_out
     }
 
-    /// Returns the number of requests to refuse in further cases, one in each case. For a skipped
-    /// call, this number is 1, because a call whose first request is refused takes no memory.
+    /// Returns the number of further test cases, in each of which one request of the call is
+    /// refused. If the call was skipped, this number is 1, because the call takes no memory if its
+    /// first request is refused.
     pub fn requests_in_turn(&self) -> u64 {
         if self.is_left_out { 1 } else { self.requests }
     }
@@ -198,7 +199,7 @@ impl<T: Sample, G: Ruled> Case<T, G> {
         }
     }
 
-    /// Asserts that `answer`, the return value of the call, is the one that `verdict` requires.
+    /// Asserts that `answer`, the return value of the call, agrees with `verdict`.
     pub fn assert_answer<R: Abort>(
         &self,
         rt: &R,
@@ -321,8 +322,8 @@ impl<T: Sample, G: Ruled> Case<T, G> {
         }
     }
 
-    /// Moves the list and its expected items out of the case. Leaves an empty list of capacity 0 in
-    /// the case.
+    /// Moves the list and its expected items out of the test case. Leaves an empty list of capacity
+    /// 0 in the test case.
     pub fn take(&mut self) -> (List<T, G>, Vec<u64, Global>) {
         self.capacity = 0;
         let list = mem::replace(&mut self.list, ThinVec::ruled(&self.ledger.alloc));
@@ -330,7 +331,7 @@ impl<T: Sample, G: Ruled> Case<T, G> {
         (list, items)
     }
 
-    /// Sets the list of the case, its expected items and its expected capacity.
+    /// Sets the list of the test case, its expected items and its expected capacity.
     pub fn set(&mut self, list: List<T, G>, items: Vec<u64, Global>, capacity: usize) {
         self.list = list;
         self.items = items;
@@ -338,7 +339,7 @@ impl<T: Sample, G: Ruled> Case<T, G> {
     }
 
     /// Checks the state after the call: the items and the capacity of the list, and the numbers of
-    /// requests and clones. Also asserts that there are no other items and no other blocks.
+    /// requests and clones. Also asserts that no other items and no other blocks exist.
     pub fn check<R: Abort>(&self, rt: &R) {
         let requests = self.ledger.alloc.requests();
         assert_same(rt, &self.at, "requests", requests, self.requests);
@@ -350,8 +351,8 @@ impl<T: Sample, G: Ruled> Case<T, G> {
         assert_live::<T, R>(rt, &self.at, self.ledger, self.items.len(), self.capacity);
     }
 
-    /// Drops the case, and adds it to the count of cases. Then asserts that all items are dropped
-    /// and all blocks are freed.
+    /// Counts the completed test case, and drops it. Then asserts that all items are dropped and
+    /// all blocks are freed.
     pub fn end<R: Abort>(self, rt: &R) {
         let at = self.at;
         let ledger = self.ledger;

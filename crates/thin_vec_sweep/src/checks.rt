@@ -39,7 +39,7 @@ fn small_sweep_runs_each_case(rt: HostRuntime) {
     assert_eq!(rt; ledger.counted(), (247, 221, 2470));
 }
 
-// Returns a scope with all lists of one or two items and zero to four empty slots.
+// Selects the lists to test: all lists of one or two items with zero to four empty slots.
 fn few<R: Abort>(rt: &R, alloc: Global) -> Scope {
     Scope {
         ledger: Ledger::new(rt, alloc),
@@ -47,8 +47,8 @@ fn few<R: Abort>(rt: &R, alloc: Global) -> Scope {
     }
 }
 
-// For each group of calls, the numbers of cases, of refused requests, and of comparisons on the
-// lists of `few`. If a call is added to a group, only the line of this group changes.
+// For each group of calls, the numbers of test cases, of refused requests, and of comparisons on
+// the lists of `few`. If a call is added to a group, only the line of this group changes.
 const COUNTS: [(u64, u64, u64); 12] = [
     // every_growth
     (6334, 2380, 81767),
@@ -120,7 +120,7 @@ fn each_call_makes_expected_number_of_comparisons(rt: HostRuntime) {
     assert_eq!(rt; counts, COUNTS);
 }
 
-// Returns a case whose list has the capacity 3 and contains two items of type `Counted`.
+// Returns a test case whose list has the capacity 3 and contains two items of type `Counted`.
 fn two_items<R: Abort>(rt: &R, alloc: Global) -> Case<Counted, Doubling> {
     let ledger = Ledger::new(rt, alloc);
     let shape = Shape {
@@ -137,8 +137,8 @@ fn two_items<R: Abort>(rt: &R, alloc: Global) -> Case<Counted, Doubling> {
     Case::new(rt, ledger, at)
 }
 
-// Returns an empty list that owns a block. The case does not expect this block, so a check of the
-// case must fail.
+// Returns an empty list that owns a block. The test case does not expect this block, so a check of
+// the test case must fail.
 fn block<R: Abort>(rt: &R, case: &Case<Counted, Doubling>) -> List<Counted, Doubling> {
     let shape = Shape {
         length: 0,

@@ -1,16 +1,16 @@
 //! The ledger of a test. It counts allocation requests, allocated blocks, items and clones, and
-//! also the cases and the comparisons of the test.
+//! also the test cases and the comparisons of the test.
 use std::alloc::Global;
 use std::cell::Cell;
 use std::process::Abort;
 use thin_testing::Refusing;
 
-/// The numbers of cases, of refused allocation requests, and of comparisons in a test.
+/// The numbers of test cases, of refused allocation requests, and of comparisons in a test.
 #[derive(Debug, Drop)]
 pub struct Counts {
-    /// The number of cases that have been completed.
+    /// The number of test cases that have been completed.
     pub cases: Cell<u64>,
-    /// The number of completed cases in which an allocation request was refused.
+    /// The number of completed test cases in which an allocation request was refused.
     pub refusals: Cell<u64>,
     /// The number of comparisons that the test has made.
     pub comparisons: Cell<u64>,
@@ -30,7 +30,7 @@ pub struct Ledger {
     pub asked: Cell<u64>,
     /// The number of calls of `size_hint` on a `Claims` iterator since the last call of `begin`.
     pub hinted: Cell<u64>,
-    /// The numbers of cases, of refused requests, and of comparisons since the test began.
+    /// The numbers of test cases, of refused requests, and of comparisons since the test began.
     pub counts: Counts,
 }
 
@@ -64,8 +64,8 @@ impl Ledger {
         self.hinted.set(0);
     }
 
-    /// Counts a completed case. Also counts a refusal if the request with the number `refused` is
-    /// among the `requests` requests of the case.
+    /// Counts a completed test case. Also counts a refusal if the request with the number `refused`
+    /// is among the `requests` requests of the test case.
     pub fn count_case(&self, refused: u64, requests: u64) {
         count(&self.counts.cases);
         if 0 < refused && refused <= requests {
@@ -73,7 +73,7 @@ impl Ledger {
         }
     }
 
-    /// Returns the numbers of cases, of refusals, and of comparisons so far.
+    /// Returns the numbers of test cases, of refusals, and of comparisons so far.
     pub fn counted(&self) -> (u64, u64, u64) {
         let Counts {
             cases,

@@ -8,17 +8,17 @@ pub struct Shape {
     pub spare: usize,
 }
 
-/// The number of shapes, without the two longest ones.
+/// The number of list shapes that the tests use, without the two longest shapes.
 pub const SHAPES: usize = 110;
 
-/// The number of shapes that have at most 40 items. Their numbers are `0..SHORT`.
+/// The number of list shapes that have at most 40 items. Their numbers are `0..SHORT`.
 pub const SHORT: usize = 107;
 
-/// The number of the first shape that has 100,000 items. Only some sweeps use the two shapes of
+/// The number of the first list shape that has 100,000 items. Only some tests use the two shapes of
 /// this length.
 pub const LONGEST: usize = SHAPES;
 
-/// The number of all shapes, including the two longest ones.
+/// The number of all list shapes, including the two longest shapes.
 pub const ALL: usize = LONGEST + 2;
 
 // The numbers of items that a test adds to a list: `FEW` for lists of at most 4 items, `SOME` for
@@ -31,15 +31,15 @@ const MANY: [usize; 2] = [1, 300];
 
 const MOST: [usize; 2] = [1, 100_000];
 
-/// For each number of items from 0 to 6, the number of cases of a call on that many items. On a
-/// list of at most 6 items, a sweep runs all these cases, either on the whole list or on each
+/// For each number of items from 0 to 6, the number of test cases of a call on that many items. On
+/// a list of at most 6 items, all these test cases are run, either on the whole list or on each
 /// range.
 pub type Cases = [usize; 7];
 
 // The number of ranges that are tried on a list of more than 6 items.
 const RANGES: usize = 4;
 
-/// A range of a list, and the number of a case that is tried on this range.
+/// A range of a list, and the number of a test case on this range.
 #[derive(Clone, Copy)]
 pub struct Ranged {
     pub start: usize,
@@ -97,20 +97,20 @@ impl Shape {
         self.length > 40
     }
 
-    // Returns whether the list has at most 4 items. On such a list, a sweep tries each index and
+    // Returns whether the list has at most 4 items. On such a list, the tests try each index and
     // each number in `FEW`.
     fn is_small(self) -> bool {
         self.length < 5
     }
 
-    /// Returns the maximum number of cases for one argument: one case with enough memory, and one
-    /// case for each refused request. At most the first 49 requests are refused in turn. On a list
-    /// of more than 40 items, only the first request is refused.
+    /// Returns the maximum number of test cases for one argument: one with enough memory, and one
+    /// for each refused request. At most the first 49 requests are refused in turn. On a list of
+    /// more than 40 items, only the first request is refused.
     pub fn rounds(self) -> u64 {
         if self.is_long() { 2 } else { 50 }
     }
 
-    /// Returns the number of indices, from 0 to the length, that a sweep tries.
+    /// Returns the number of indices, from 0 to the length, that a test tries.
     pub fn indices(self) -> usize {
         if self.is_small() {
             self.length.saturating_add(1)
@@ -119,7 +119,7 @@ impl Shape {
         }
     }
 
-    /// Returns one of the indices that a sweep tries. `number` selects the index.
+    /// Returns one of the indices that a test tries. `number` selects the index.
     pub fn index(self, number: usize) -> usize {
         if self.is_small() {
             return number;
@@ -132,19 +132,19 @@ impl Shape {
         }
     }
 
-    /// Returns the number of cases of a call on the whole list. If the list has at most 6 items,
-    /// `cases` contains this number.
+    /// Returns the number of test cases of a call on the whole list. If the list has at most 6
+    /// items, `cases` contains this number.
     pub fn cases(self, cases: &Cases) -> usize {
         cases.get(self.length).copied().unwrap_or(self.some())
     }
 
-    // Returns the number of cases on a list of more than 6 items. It is 0 if the list has spare
-    // capacity.
+    // Returns the number of test cases on a list of more than 6 items. It is 0 if the list has
+    // spare capacity.
     fn some(self) -> usize {
         self.alone(if self.is_long() { 2 } else { 20 })
     }
 
-    /// Returns the number of cases of a call on a range of the list. If the list has at most 6
+    /// Returns the number of test cases of a call on a range of the list. If the list has at most 6
     /// items, all cases are tried on all ranges.
     pub fn ranged_cases(self, cases: &Cases) -> usize {
         if self.length >= cases.len() {
@@ -162,7 +162,7 @@ impl Shape {
         self.length.saturating_add(1).saturating_sub(width)
     }
 
-    /// Returns the range and the case with the number `number`. All pairs of a range and a case on
+    /// Returns the range and the case of the test case `number`. All pairs of a range and a case on
     /// this range are numbered consecutively.
     pub fn ranged_case(self, cases: &Cases, number: usize) -> Ranged {
         if self.length >= cases.len() {
@@ -185,7 +185,7 @@ impl Shape {
     }
 
     // Returns one of the four ranges that are tried on a list of more than 6 items. `range` selects
-    // the range, and `number` is the number of a case on this range.
+    // the range, and `number` is the number of a test case on this range.
     fn some_range(self, range: usize, number: usize) -> Ranged {
         let length = self.length;
         let (start, end) = match range {
@@ -203,7 +203,7 @@ impl Shape {
         if self.spare == 0 { arguments } else { 0 }
     }
 
-    /// Returns how many different numbers of new items a sweep tries.
+    /// Returns how many different numbers of new items a test tries.
     pub fn counts(self) -> usize {
         if self.is_small() {
             12
@@ -214,7 +214,7 @@ impl Shape {
         }
     }
 
-    /// Returns one of the numbers of new items that a sweep tries. `number` selects one of them.
+    /// Returns one of the numbers of new items that a test tries. `number` selects one of them.
     pub fn count(self, number: usize) -> usize {
         let count = if self.is_small() {
             FEW.get(number)

@@ -1,5 +1,5 @@
-//! How a sweep tests a call. The call is made on lists of many shapes, with several arguments, and
-//! with each allocation request refused in turn.
+//! How a sweep tests a call. The call is made on many lists, with several arguments, and with each
+//! allocation request refused in turn.
 use crate::assertions::At;
 use crate::case::Case;
 use crate::ledger::Ledger;
@@ -28,7 +28,7 @@ pub trait Call<T: Sample, G: Ruled> {
         1
     }
 
-    /// Makes the call on the list of the case, updates the expected values, and checks the return
+    /// Makes the call on the list of `case`, updates the expected values, and checks the return
     /// value. The caller of `run` then compares the list with the expected values.
     fn run<R: Abort>(rt: &R, case: &mut Case<T, G>, argument: usize);
 }
@@ -47,7 +47,7 @@ pub fn sweep<C: Call<T, G>, T: Sample, G: Ruled, R: Abort>(rt: &R, scope: &Scope
 }
 
 // Makes the call once with enough memory. Then makes the call again for each of its allocation
-// requests, with that request refused. The shape of the list limits the number of refused requests.
+// requests, with that request refused. `shape.rounds()` limits the number of refused requests.
 fn each_refusal<C: Call<T, G>, T: Sample, G: Ruled, R: Abort>(
     rt: &R,
     ledger: &'static Ledger,
@@ -70,7 +70,7 @@ fn each_refusal<C: Call<T, G>, T: Sample, G: Ruled, R: Abort>(
     }
 }
 
-// Runs one case. Returns the number of allocation requests of the call, or 1 if the call was
+// Runs one test case. Returns the number of allocation requests of the call, or 1 if the call was
 // skipped because it would need too much memory.
 #[inline(never)]
 fn case<C: Call<T, G>, T: Sample, G: Ruled, R: Abort>(

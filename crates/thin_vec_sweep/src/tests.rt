@@ -1,4 +1,4 @@
-//! The tests that run the sweeps for all item types. Each test finishes within seconds.
+//! The tests of all calls for all item types. Each test finishes within seconds.
 ghost use Rattle.std.specs.Mem.{type_size};
 ghost use Rattle.std.specs.Prelude.{◌*◌, ◌<◌, ◌^◌};
 
@@ -16,8 +16,8 @@ use std::process::Abort;
 use thin_testing::{Fourfold, Ruled, Threefold};
 use thin_vec::{Doubling, PowerBytes};
 
-// Returns a scope with lists of all shapes except the two longest. If each item owns a block, the
-// lists have at most 40 items.
+// Selects the lists to test: all list shapes except the two longest. If each item owns a block,
+// only lists of at most 40 items are selected.
 fn all<T: Sample, R: Abort>(rt: &R, alloc: Global) -> Scope {
     let shapes = if T::OWNS_BLOCK { SHORT } else { SHAPES };
     Scope {
@@ -26,7 +26,7 @@ fn all<T: Sample, R: Abort>(rt: &R, alloc: Global) -> Scope {
     }
 }
 
-// Returns a scope with lists of all shapes of at most 40 items.
+// Selects the lists to test: all list shapes of at most 40 items.
 fn short<R: Abort>(rt: &R, alloc: Global) -> Scope {
     Scope {
         ledger: Ledger::new(rt, alloc),
@@ -34,7 +34,7 @@ fn short<R: Abort>(rt: &R, alloc: Global) -> Scope {
     }
 }
 
-// Returns a scope with only the longest lists, which have 100,000 items.
+// Selects the lists to test: only the longest lists, which have 100,000 items.
 fn longest<R: Abort>(rt: &R, alloc: Global) -> Scope {
     Scope {
         ledger: Ledger::new(rt, alloc),
@@ -50,14 +50,14 @@ fn assert_swept<R: Abort>(rt: &R, scope: &Scope, cases: u64, refusals: u64) {
     assert!(rt; is_swept, "cases, refusals, comparisons: {counted:?}");
 }
 
-// Runs the sweeps of calls that may grow a list of `T`, with the growth rule `G`.
+// Tests calls that may grow a list of `T`, with the growth rule `G`.
 fn growths<T: Sample, G: Ruled, R: Abort>(rt: &R, alloc: Global) {
     let scope = all::<T, R>(rt, alloc);
     every_growth::<T, G, R>(rt, &scope);
     assert_swept(rt, &scope, 30_000, 5_000);
 }
 
-// Runs the sweeps of calls that edit a list of `T` without growing it, such as `pop` and `retain`.
+// Tests calls that edit a list of `T` without growing it, such as `pop` and `retain`.
 fn edits<T: Sample, G: Ruled, R: Abort>(rt: &R, alloc: Global) {
     let scope = all::<T, R>(rt, alloc);
     every_edit::<T, G, R>(rt, &scope);
@@ -65,8 +65,7 @@ fn edits<T: Sample, G: Ruled, R: Abort>(rt: &R, alloc: Global) {
     assert_swept(rt, &scope, 20_000, 400);
 }
 
-// Runs the sweeps of calls that read or make a list of `T`, and of the conversions between arrays
-// and lists.
+// Tests calls that read or make a list of `T`, and the conversions between arrays and lists.
 fn readings<T: Sample, R: Abort>(rt: &R, alloc: Global)
     requires small { 6 * type_size T.row < 2 ^ 63 }
 {
@@ -77,8 +76,7 @@ fn readings<T: Sample, R: Abort>(rt: &R, alloc: Global)
     assert_swept(rt, &scope, 10_000, 1_000);
 }
 
-// Runs the same sweeps as `readings`, and also the sweeps of calls that copy items instead of
-// cloning them.
+// Tests the same calls as `readings`, and also calls that copy items instead of cloning them.
 fn readings_and_copies<T: Sample + Copy, R: Abort>(rt: &R, alloc: Global)
     requires small { 6 * type_size T.row < 2 ^ 63 }
 {
@@ -86,15 +84,14 @@ fn readings_and_copies<T: Sample + Copy, R: Abort>(rt: &R, alloc: Global)
     every_copying::<T, R>(rt, &all::<T, R>(rt, alloc));
 }
 
-// Runs the sweeps of calls that replace a range of a list of `T`, and of calls that append items to
-// spare capacity.
+// Tests calls that replace a range of a list of `T`, and calls that append items to spare capacity.
 fn replacings<T: Sample, G: Ruled, R: Abort>(rt: &R, alloc: Global) {
     let scope = short(rt, alloc);
     every_replacing::<T, G, R>(rt, &scope);
     assert_swept(rt, &scope, 10_000, 2_000);
 }
 
-// Runs the sweeps of `replace_range_from_copies` and `extend_from_copies_reserved`.
+// Tests `replace_range_from_copies` and `extend_from_copies_reserved`.
 fn replacings_by_copies<T: Sample + Copy, R: Abort>(rt: &R, alloc: Global) {
     let scope = short(rt, alloc);
     every_replacing_by_copies::<T, Doubling, R>(rt, &scope);

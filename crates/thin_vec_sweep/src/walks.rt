@@ -6,7 +6,7 @@ use crate::shapes::Cases;
 /// step is from the front or from the back.
 pub const WALKS: Cases = [3, 7, 15, 31, 63, 127, 255];
 
-// Four variants of the steps over more than 6 items. Each bit stands for one step: 1 is a step from
+// Four sequences of steps over more than 6 items. Each bit stands for one step: 1 is a step from
 // the back, and 0 is a step from the front.
 const ENDS: [u64; 4] = [0x5555_5555_5555_5555, u64::MAX, 0, 0xcccc_cccc_cccc_cccc];
 

@@ -16,7 +16,7 @@ use thin_testing::Refusing;
 use thin_vec::{Doubling, ThinVec, ThinVecError, thin_vec};
 
 /// A test that makes a list of one, two or three items by `thin_vec![alloc => x, y]` or by
-/// `thin_vec![in alloc; x, y]`. The shape of the case determines the number of items.
+/// `thin_vec![in alloc; x, y]`.
 pub struct Listed {}
 
 impl<T: Sample> Call<T, Doubling> for Listed {
@@ -111,7 +111,7 @@ fn arrays<T: Sample, const N: usize, R: Abort>(rt: &R, ledger: &'static Ledger)
     }
 }
 
-// Runs one case. If the list has `N` items, it must be converted to an array and back to a list.
+// Runs one test case. If the list has `N` items, it must become an array, and then a list again.
 // Otherwise, `into_array` must return the list unchanged.
 fn array<T: Sample, const N: usize, R: Abort>(rt: &R, ledger: &'static Ledger, at: At)
     requires small { N * type_size T.row < 2 ^ 63 }
@@ -122,7 +122,7 @@ fn array<T: Sample, const N: usize, R: Abort>(rt: &R, ledger: &'static Ledger, a
     case.end(rt);
 }
 
-// Calls `into_array` on the list of the case. If the call returns an array, passes this array to
+// Calls `into_array` on the list under test. If the call returns an array, passes this array to
 // `from_array`. Checks the results of both calls.
 fn become_array<T: Sample, const N: usize, R: Abort>(rt: &R, case: &mut Case<T, Doubling>)
     requires small { N * type_size T.row < 2 ^ 63 }

@@ -37,8 +37,8 @@ impl<T: Sample, G: Ruled> Call<T, G> for Resize {
     }
 }
 
-// Returns the new length for `argument`, and the number of items that are added. With the first few
-// arguments, the new length is at most the old length, so no item is added.
+// Returns the new length in the test case `argument`, and the number of items that are added. In
+// the first few test cases, the new length is at most the old length, so no item is added.
 fn length(shape: Shape, argument: usize) -> (usize, usize) {
     match argument.checked_sub(shape.indices()) {
         None => (shape.index(argument), 0),
@@ -101,8 +101,8 @@ fn add_from_last<T: Sample, G: Ruled, R: Abort>(rt: &R, case: &mut Case<T, G>, m
     case.items.append(&mut new).expect(rt, "memory");
 }
 
-// On a list of at most 6 items, each range is tried once. The index in this array is the length of
-// the range.
+// For each length of a range, from 0 to 6, the number of test cases on that range. Each range is
+// tried once.
 const EACH_RANGE: Cases = [1; 7];
 
 /// A test that calls `extend_from_within` with each range of a list of at most 6 items, and with

@@ -32,7 +32,7 @@ impl<T: Sample + Ord + Hash + Debug, G: Ruled> Call<T, G> for Compare {
     }
 }
 
-// Returns the second list, with which the list of the case is compared. `argument` determines how
+// Returns the second list, with which the list under test is compared. `argument` determines how
 // the two lists differ.
 fn other<T: Sample, G: Ruled, R: Abort>(rt: &R, case: &Case<T, G>, argument: usize) -> List<T, G> {
     let length = case.at.shape.length;

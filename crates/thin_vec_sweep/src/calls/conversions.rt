@@ -79,8 +79,8 @@ impl<T: Sample, G: Ruled> Call<T, G> for TryTake {
     }
 }
 
-// Converts the list of the case to a `Vec`, and reserves room for `spare` more items in the `Vec`.
-// Leaves an empty list in the case.
+// Converts the list under test to a `Vec`, and reserves room for `spare` more items in the `Vec`.
+// Leaves an empty list in `case`.
 fn vec_of<T: Sample, R: Abort>(
     rt: &R,
     case: &mut Case<T, Doubling>,
@@ -181,7 +181,7 @@ fn numbers_of<R: Abort>(rt: &R, global: Global, bytes: &[u8]) -> Vec<u64, Global
     numbers
 }
 
-/// A test that calls `with_capacity` with the length of the shape, with the greatest possible
+/// A test that calls `with_capacity` with an ordinary capacity, with the greatest possible
 /// capacity, and with other large numbers.
 pub struct WithCapacity {}
 
@@ -216,8 +216,8 @@ impl<T: Sample> Call<T, Doubling> for WithCapacity {
     }
 }
 
-/// A test that makes a list of equal items by `thin_vec![alloc => x; k]` and by
-/// `thin_vec![in alloc; x; k]`. The number of items, `k`, is the length of the shape.
+/// A test that makes a list of `k` equal items by `thin_vec![alloc => x; k]` and by
+/// `thin_vec![in alloc; x; k]`, for several numbers `k`.
 pub struct Repeated {}
 
 impl<T: Sample> Call<T, Doubling> for Repeated {
@@ -244,7 +244,7 @@ impl<T: Sample> Call<T, Doubling> for Repeated {
             case.items.resize(count, FRESH).expect(rt, "memory");
         }
         if verdict == Verdict::NoClone {
-            // If a clone fails, the new list is dropped. The case then still contains its old,
+            // If a clone fails, the new list is dropped. The test case then still contains its old,
             // empty list, whose capacity is 0.
             case.capacity = 0;
         }
@@ -280,8 +280,8 @@ impl<T: Sample> Call<T, Doubling> for New {
     }
 }
 
-/// Checks the result of a call that makes a list. If the call succeeded, stores the new list in the
-/// case.
+/// Checks the result of a call that makes a list. If the call succeeded, stores the new list in
+/// `case`.
 pub fn made<T: Sample, R: Abort>(
     rt: &R,
     case: &mut Case<T, Doubling>,

@@ -91,9 +91,9 @@ impl Ending {
     }
 }
 
-/// Returns the expected outcome of a call that appends the `count` items of an iterator, and
-/// updates `case.items`. Because of the size hint, the call first grows the list to the capacity
-/// `hinted`. After this, it grows the list whenever there is no room for the next item.
+/// Returns the expected outcome of a call that appends `count` items from an iterator. Also appends
+/// the expected items to `case.items`. Because of the size hint, the call first grows the list to
+/// the capacity `hinted`. After this, it grows the list whenever the list is full.
 pub fn fill<T: Sample, G: Ruled, R: Abort>(
     rt: &R,
     case: &mut Case<T, G>,
@@ -264,8 +264,7 @@ fn extension<T: Sample, G: Ruled, R: Abort>(
     Some((claims, count, ending))
 }
 
-/// A test that calls `from_iter` with several size hints. The number of items of the iterator is
-/// the length of the shape.
+/// A test that calls `from_iter` with iterators of several lengths and several size hints.
 pub struct FromIter {}
 
 impl<T: Sample> Call<T, Doubling> for FromIter {
@@ -328,7 +327,7 @@ impl<T: Sample> Call<T, Doubling> for Collect {
     }
 }
 
-// Drops the list of the case. Returns an iterator, and the expected outcome of a call that makes a
+// Drops the list under test. Returns an iterator, and the expected outcome of a call that makes a
 // list from this iterator. Returns `None` if the call would need too much memory.
 fn collection<T: Sample, R: Abort>(
     rt: &R,

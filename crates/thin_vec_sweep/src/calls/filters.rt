@@ -125,9 +125,9 @@ impl<T: Sample, G: Ruled> Call<T, G> for PopIf {
     }
 }
 
-// Updates the numbers of the items after the test `PopIf`. Replaces the last number, if there is
-// one, by the number of the new item. If `goes` is true, removes and returns the number of the new
-// item.
+// Updates `items`, the numbers of the expected items, for the test `PopIf`. Replaces the last
+// number, if there is one, by the number of the new item. If `goes` is true, removes and returns
+// the new number.
 fn popped<R: Abort>(rt: &R, items: &mut Vec<u64, Global>, goes: bool) -> Option<u64> {
     let _last = items.pop()?;
     if goes {
@@ -188,9 +188,8 @@ fn exchanged<R: Abort>(rt: &R, global: Global, count: usize, pattern: usize) -> 
 }
 
 /// A test that calls `dedup_by_key`, which compares the key of each item with the key of the last
-/// kept item. The key of the item is always 1. The key of the last kept item is 1 if the item is to
-/// be removed, and 0 otherwise. The ledger counts the keys, so a key that is not dropped is
-/// detected.
+/// kept item. The first key is always 1. The second key is 1 if the item is to be removed, and 0
+/// otherwise. The test detects keys that are not dropped.
 pub struct DedupByKey {}
 
 impl<T: Sample, G: Ruled> Call<T, G> for DedupByKey {

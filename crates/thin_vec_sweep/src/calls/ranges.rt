@@ -1,5 +1,6 @@
 //! Tests of `drain` and `extract_if`, which remove items of a range, and of the function `bounds`.
-//! The iterators that `drain` and `extract_if` return are dropped after some calls of `next`.
+//! The iterators that `drain` and `extract_if` return are dropped after they have yielded some
+//! items.
 use crate::assertions::{At, assert_same, assert_same_item, assert_same_items};
 use crate::case::{Case, put};
 use crate::closures::{number_at, stays};
@@ -99,8 +100,8 @@ fn step_through<'a, T: Sample, A: Allocator, G: Growth, R: Abort>(
     remaining.of(numbers)
 }
 
-// For each length `k` of a range, from 0 to 6, the number of cases of `extract_if`. The test calls
-// `next` up to `k + 1` times, and tries all `2^k` combinations of the closure's results.
+// For each length `k` of a range, from 0 to 6, the number of test cases of `extract_if`. The test
+// calls `next` up to `k + 1` times, and tries all `2^k` combinations of the closure's results.
 const EXTRACTIONS: Cases = [2, 6, 16, 40, 96, 224, 512];
 
 /// A test that calls `extract_if` on several ranges, with several closures. The test calls `next` a
@@ -124,12 +125,12 @@ impl<T: Sample, G: Ruled> Call<T, G> for Extracted {
     }
 }
 
-// One case of `extract_if`: which calls are made, and what the expected results are.
+// One test case of `extract_if`: which calls are made, and what the expected results are.
 #[derive(Drop)]
 struct Extraction {
     // The number of times `next` is called.
     calls: usize,
-    // The number of a pattern, which determines the results of the closure.
+    // The number that determines the results of the closure (its pattern).
     pattern: usize,
     // The number of times the closure must be called.
     asked: usize,
@@ -140,7 +141,8 @@ struct Extraction {
 }
 
 impl Extraction {
-    // Returns the case with the number `range.number`, for this range of a list of `length` items.
+    // Returns the test case with the number `range.number`, for a range of a list of `length`
+    // items.
     fn new<R: Abort>(rt: &R, global: Global, length: usize, range: Ranged) -> Extraction {
         let width = range.width();
         let (calls, pattern) = calls_and_pattern(width, range.number);
@@ -170,8 +172,8 @@ impl Extraction {
     }
 }
 
-// Returns the number of calls of `next`, and the number of the pattern of the closure's results, in
-// the case `number` on a range of `width` items.
+// Returns two properties of the test case `number` on a range of `width` items: how many times
+// `next` is called, and which pattern of results the closure returns.
 fn calls_and_pattern(width: usize, number: usize) -> (usize, usize) {
     if width >= EXTRACTIONS.len() {
         return (some_steps(width, number % 5), number / 5);

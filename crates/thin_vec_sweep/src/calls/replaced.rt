@@ -11,14 +11,13 @@ use thin_testing::Ruled;
 // Test items are made from numbers. This is the number of the first new item.
 const FRESH: u64 = 80_000;
 
-// The number of different lengths of the replacement that are tried for each range.
+// Each range is replaced in this number of test cases, which differ in the number of new items.
 const COUNTS: usize = 7;
 
-// On a list of at most 6 items, `COUNTS` lengths of the replacement are tried for each range. The
-// index in this array is the length of the range.
+// For each length of a range, from 0 to 6, the number of test cases on that range.
 const EACH_COUNT: Cases = [COUNTS; 7];
 
-// Returns the number of new items in the case with the number `range.number`. It is at most the
+// Returns the number of new items in the test case `range.number`. This number is at most the
 // length of the range plus 9. On a list of more than 40 items, only the cases 0 and 1 are run, in
 // which the list becomes longer.
 fn count_for(range: Ranged) -> usize {

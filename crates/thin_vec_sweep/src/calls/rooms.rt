@@ -100,8 +100,8 @@ impl<T: Sample, G: Ruled> Call<T, G> for ShrinkToFit {
 const GREAT: usize = 6;
 
 // Returns the number of additional items to reserve. The last `GREAT` arguments select very large
-// numbers. The first of these leads to the greatest possible capacity, and the second exceeds it by
-// one.
+// numbers. The first of these numbers leads to the greatest possible capacity. The second leads to
+// a capacity that is too great by one.
 fn additional<T: Sample>(shape: Shape, argument: usize) -> usize {
     let most = T::LIMIT.saturating_sub(shape.length);
     match argument.checked_sub(shape.counts()) {

@@ -22,25 +22,25 @@ use thin_vec::{Growth, Splice, SpliceRefused, ThinVec};
 // The number of size hints that are tried.
 const HINTS: usize = 5;
 
-// The number of pairs of a number of new items, from 0 to 5, and a size hint. All these pairs are
-// tried on lists of at most 6 items.
+// On lists of at most 6 items, each size hint is combined with each number of new items from 0 to
+// 5. This is the number of combinations.
 const FILLS: usize = 30;
 
 // The number of short sequences of steps: no step, one step from the front, and one step from the
-// back. Each of them is tried with each number of new items and each size hint.
+// back. Each of these sequences is tried with each size hint and each number of new items.
 const SHORT_WALKS: usize = 3;
 
-// For each length of a range, from 0 to 6, the number of cases of `splice`. Each short sequence of
-// steps is tried with each number of new items and each size hint, and each longer sequence with
-// only one such combination. On an empty range, there are only 3 cases with a step.
+// For each length of a range, from 0 to 6, the number of test cases. Each sequence of at most one
+// step is combined with each size hint and each number of new items. Each longer sequence is tried
+// once. On an empty range, there are only 3 test cases with a step.
 const AFTER_STEPS: Cases = [33, 94, 102, 118, 150, 214, 342];
 
-// The number of cases of `splice` on a range if no step is taken: one case for each pair of a
-// number of new items and a size hint.
+// For each length of a range, from 0 to 6, the number of test cases without steps: one for each
+// combination of a size hint and a number of new items.
 const AT_ONCE: Cases = [FILLS; 7];
 
-// Returns the number of cases for each length of the range. Spare capacity affects only `finish`,
-// so no steps are taken on lists with spare capacity.
+// Returns the number of test cases for each length of a range. Spare capacity affects only
+// `finish`, so no steps are taken on lists with spare capacity.
 fn cases(shape: Shape) -> Cases {
     if shape.spare == 0 {
         AFTER_STEPS
@@ -49,12 +49,12 @@ fn cases(shape: Shape) -> Cases {
     }
 }
 
-// One case of `splice`: the replaced range, the steps before the call of `finish`, and the
+// One test case of `splice`: the replaced range, the steps before the call of `finish`, and the
 // properties of the iterator over the new items.
 #[derive(Drop)]
 struct Plan {
     range: Ranged,
-    // The numbers of the items in the range.
+    // The numbers from which the items in the range are made.
     numbers: Vec<u64, Global>,
     // The steps before `finish`.
     walk: Walk,
@@ -65,9 +65,9 @@ struct Plan {
 }
 
 impl Plan {
-    // Returns the plan of the case with the number `argument`. When `finish` reads the size hint,
-    // some new items have already been moved into the range. One of the tried size hints is exact
-    // at that moment.
+    // Returns the plan of the test case `argument`. When `finish` reads the size hint, some new
+    // items have already been moved into the range. One of the tried size hints is exact at that
+    // moment.
     fn new<T: Sample, G: Ruled, R: Abort>(rt: &R, case: &Case<T, G>, argument: usize) -> Plan {
         let shape = case.at.shape;
         let range = shape.ranged_case(&cases(shape), argument);
@@ -92,8 +92,8 @@ impl Plan {
     }
 }
 
-// Returns the number of the walk (the sequence of steps) in the case `number`, on a list of at most
-// 6 items.
+// Returns the number of the walk (the sequence of steps) in the test case `number`, on a list of at
+// most 6 items.
 fn few_steps(number: usize) -> usize {
     let crossed = SHORT_WALKS.saturating_mul(FILLS);
     match number.checked_sub(crossed) {
@@ -125,8 +125,8 @@ fn hint(number: usize, left: usize, all: usize) -> usize {
     }
 }
 
-// Returns the expected outcome of `finish`, and updates `case.items`. If there are no items after
-// the range, `finish` works like `extend`.
+// Returns the expected outcome of `finish`, and updates the expected items in `case.items`. If
+// there are no items after the range, `finish` works like `extend`.
 fn finish<T: Sample, G: Ruled, R: Abort>(rt: &R, case: &mut Case<T, G>, plan: &Plan) -> Ending {
     let range = plan.range;
     let length = case.items.len();
@@ -249,8 +249,8 @@ impl Walked {
     }
 }
 
-// Calls `splice` on the range of `plan`, calls `next` and `next_back` as `plan` says, and calls
-// `finish`.
+// Calls `splice` on the range of `plan`, takes the steps of `plan` by `next` and `next_back`, and
+// calls `finish`.
 fn splice<T: Sample, A: Allocator, G: Growth, I: Iterator<Item = T>>(
     list: &mut ThinVec<T, A, G>,
     plan: &Plan,

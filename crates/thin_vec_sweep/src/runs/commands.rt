@@ -14,8 +14,8 @@ use thin_runner::judge::Judge;
 use thin_testing::{Refusing, Ruled};
 use thin_vec::{Doubling, Growth, PowerBytes, ThinVec, ThinVecError};
 
-// All possible replies to the commands. Each line contains the command, the variant of the reply,
-// and the cause of the failure, if any.
+// All possible replies to the commands. Each line names a command, the variant of its reply, and
+// the cause of the failure, if any.
 const REPLIES: &str = "\
     Push Done None\n\
     Push Returned Some(OutOfMemory)\n\

@@ -28,8 +28,9 @@ fn has_its_blocks<'a, T: Numbered<Lender<'a>>, G: Ruled>(
     blocks == alloc.blocks()
 }
 
-// Executes a command by the runner. The allocator refuses the request with the number `nth`, or no
-// request if `nth` is 0. Returns the parts of the reply, and whether a request was refused.
+// Executes a command on a `ThinVec`, by the runner. The allocator refuses the request with the
+// number `nth`, or no request if `nth` is 0. Returns the parts of the reply, and whether a request
+// was refused.
 fn shown_by_runner<'a, T: Numbered<Lender<'a>>, G: Ruled, J: Judge<T>>(
     alloc: Lender<'a>,
     list: &mut ThinVec<T, Lender<'a>, G>,
@@ -45,10 +46,10 @@ fn shown_by_runner<'a, T: Numbered<Lender<'a>>, G: Ruled, J: Judge<T>>(
     Ok((show(alloc, reply)?, refused))
 }
 
-/// Executes a command both by the runner and on the model. For the runner, the allocator refuses
-/// the request with the number `nth`, or no request if `nth` is 0. Returns the variant of the
-/// reply, and the cause if the command failed. If the runner and the model differ, the variant is
-/// `Never`.
+/// Executes a command both by the runner and on the model. While the runner executes the command,
+/// the allocator refuses the request with the number `nth`, or no request if `nth` is 0. Returns
+/// the variant of the reply (`Never` if the runner and the model differ), and the cause if the
+/// command failed.
 pub fn both<'a, T: Numbered<Lender<'a>>, G: Ruled, J: Judge<T>>(
     alloc: Lender<'a>,
     list: &mut ThinVec<T, Lender<'a>, G>,

@@ -15,7 +15,7 @@ use thin_testing::Ruled;
 use thin_vec::{ThinVec, ThinVecError};
 
 // The greatest capacity that the model allows. It is lower than the true limit, but no test
-// requests a capacity between the two.
+// requests a capacity between the two limits.
 const LIMIT: usize = 1_000_000_000_000;
 
 /// The model of a list: its items and its capacity.
@@ -241,8 +241,8 @@ impl<T: Numbered<A>, A: Allocator + Copy, G: Ruled> Model<T, A, G> {
         Ok(Shown::with_items(Form::List, None, alloc, copy, capacity))
     }
 
-    // If `asked` is the kind of a command, asks the judge whether to keep the item. Appends the
-    // item to `answers` if the judge removes it, and to the list otherwise.
+    // If `asked` contains the kind of a command, asks the judge whether to keep the item. Appends
+    // the item to `answers` if the judge removes it, and to the list otherwise.
     fn sift_one<J: Judge<T>>(
         &mut self,
         asked: Option<Kind>,
@@ -260,7 +260,7 @@ impl<T: Numbered<A>, A: Allocator + Copy, G: Ruled> Model<T, A, G> {
         }
     }
 
-    // Asks the judge about the items in order, and removes those that the judge does not keep.
+    // Asks the judge about the items in order, and removes the items that the judge does not keep.
     // `ExtractIf` asks only about the items of its range, and stops after it has removed
     // `order.count` items.
     fn sift<J: Judge<T>>(

@@ -45,8 +45,8 @@ impl Dice {
         }
     }
 
-    // Returns a random number: the number of the request that is to be refused, or 0 for none. The
-    // number is small, because most commands make few requests.
+    // Returns a random number for the request that is to be refused, or 0 if no request is to be
+    // refused. The number is small, because most commands make few requests.
     fn refused(&mut self) -> u64 {
         let few = self.below(4);
         if self.below(2) == 0 {
@@ -121,8 +121,8 @@ fn are_alike<'a, T: Numbered<Lender<'a>>, G: Ruled, J: Judge<T> + From<u64>>(
     Ok(true)
 }
 
-// Executes up to 30 random commands, and records them in `done`. Returns whether `ThinVec` and the
-// model agree on all commands, and all blocks are freed at the end.
+// Executes up to 30 random commands, and records them in `done`. Returns `true` if `ThinVec` and
+// the model agree on all commands and all blocks are freed at the end.
 fn runs_alike<'a, T: Numbered<Lender<'a>>, G: Ruled, J: Judge<T> + From<u64>>(
     alloc: Lender<'a>,
     seed: u64,
@@ -136,7 +136,7 @@ fn runs_alike<'a, T: Numbered<Lender<'a>>, G: Ruled, J: Judge<T> + From<u64>>(
 }
 
 /// Executes the random commands that `seed` determines, and records them in `done`. Asserts that
-/// `ThinVec` and the model agree on all commands.
+/// `ThinVec` and the model agree on all commands, and that all blocks are freed at the end.
 pub fn assert_alike<'a, T: Numbered<Lender<'a>>, G: Ruled, J: Judge<T> + From<u64>, R: Abort>(
     rt: &R,
     alloc: Lender<'a>,
@@ -237,7 +237,7 @@ fn assert_alike_by_other_rules<'a, T: Numbered<Lender<'a>>, R: Abort>(
 // A seed for which the run has no commands.
 const NO_COMMANDS: u64 = 52;
 
-// The numbers of commands in the runs of the seeds from 0 to 11.
+// For each seed from 0 to 11, the number of commands in its run.
 const COMMANDS: [usize; 12] = [7, 24, 9, 24, 10, 26, 10, 27, 12, 27, 12, 29];
 
 #[test]

@@ -81,12 +81,12 @@ pub struct Shown<T, A: Allocator> {
     /// Whether the failed command had taken an item from the iterator and found no room for it. In
     /// `items`, this item follows the items that had been stored in a temporary vector.
     pub in_hand: bool,
-    /// The index or the range of a command that was returned because it is out of bounds.
+    /// The index or the range of the returned command, if the reply is `OutOfRange`.
     pub place: Place,
 }
 
 impl<T: Drop, A: Allocator + Copy> Shown<T, A> {
-    /// Returns the parts of a reply without items.
+    /// Returns the parts of a reply that contains no items.
     pub fn plain(alloc: A, form: Form, cause: Option<ThinVecError>) -> Shown<T, A> {
         Shown {
             form,
@@ -99,7 +99,7 @@ impl<T: Drop, A: Allocator + Copy> Shown<T, A> {
         }
     }
 
-    /// Returns the parts of a reply with items and a number.
+    /// Returns the parts of a reply that contains items and a number.
     pub fn with_items(
         form: Form,
         cause: Option<ThinVecError>,

@@ -25,10 +25,10 @@ impl<T: Numbered<A>, A: Allocator + Copy, G: Ruled> Model<T, A, G> {
         }
     }
 
-    // Increases the capacity as the splice does, and returns whether this succeeded. If there are
-    // no items after the range, the capacity grows for the size hint, and then for each new item.
-    // Otherwise, it grows for the size hint, and then once for all new items. In this case, it
-    // stays the same if there are fewer new items than items in the range.
+    // Increases the capacity as a splice does, and returns whether this succeeded. If there are no
+    // items after the range, the list grows for the size hint, and then for one new item after
+    // another. If there are items after the range, the list grows only if the new items fill the
+    // range: first for the size hint, and then for all new items at once.
     fn make_rooms(&mut self, order: Order) -> bool {
         let len = self.items.len();
         let gap = order.to.saturating_sub(order.at);
@@ -84,10 +84,10 @@ impl<T: Numbered<A>, A: Allocator + Copy, G: Ruled> Model<T, A, G> {
         self.fill(alloc, order, placed, Some(ThinVecError::CapacityOverflow))
     }
 
-    // Returns whether `given` is a possible reply to a command one of whose requests was refused.
-    // The reply contains the new items that were not moved into the list. An item is in hand if no
-    // room was found after it was taken from the iterator. An item is held back if it was stored in
-    // a temporary vector.
+    // Returns whether `given` is a possible reply if a request of the command was refused. The
+    // reply contains the new items that were not moved into the list. An item is in hand if no room
+    // was found after it was taken from the iterator. An item is held back if it was stored in a
+    // temporary vector.
     //
     // If there are no items after the range, no item is held back. Also, either an item is in hand
     // and the list is full, or no item is in hand and no new item was moved into the list.
@@ -107,7 +107,7 @@ impl<T: Numbered<A>, A: Allocator + Copy, G: Ruled> Model<T, A, G> {
 
     // Increases the capacity as the command did before its request was refused. If the reply says
     // that the command had taken items for which it had no room, the capacity grows for the size
-    // hint and for the first `placed` items. Otherwise, it does not grow.
+    // hint and for the first `placed` items. Otherwise, the capacity stays the same.
     fn make_first_rooms(&mut self, order: Order, placed: usize, given: &Shown<T, A>) {
         if given.number > 0 || given.in_hand {
             let first = Order {
@@ -118,7 +118,7 @@ impl<T: Numbered<A>, A: Allocator + Copy, G: Ruled> Model<T, A, G> {
         }
     }
 
-    // Executes a `Splice` or an `Extend` one of whose requests was refused. The number of items in
+    // Executes a `Splice` or an `Extend` with a refused allocation request. The number of items in
     // the reply `given` determines how many items were moved into the list before the refusal.
     pub(crate) fn stop(
         &mut self,

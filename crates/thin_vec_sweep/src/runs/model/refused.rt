@@ -9,8 +9,7 @@ use std::alloc::{AllocError, Allocator};
 use thin_testing::Ruled;
 use thin_vec::ThinVecError;
 
-// Returns `Refused` if a refused request can lead to this reply to the command, and `Never`
-// otherwise.
+// Returns `Refused` if this is a possible reply to the command, and `Never` otherwise.
 fn form_of(order: Order) -> Form {
     let may_be = match order.kind {
         Kind::Drain | Kind::Splice => order.steps > 0,
