@@ -6,9 +6,9 @@ use crate::shapes::Shape;
 use std::fmt::Debug;
 use std::process::Abort;
 
-/// Identifies one case of a sweep: the call, the length and the spare capacity of the list, the
-/// argument, and the refused allocation request. The message of a failed assertion contains these
-/// values.
+/// Identifies one test case of a sweep: the call, the length and the spare capacity of the list,
+/// the argument, and the refused allocation request. The message of a failed assertion contains
+/// these values.
 #[derive(Debug, Clone, Copy)]
 pub struct At {
     pub call: &'static str,

@@ -162,8 +162,8 @@ impl Shape {
         self.length.saturating_add(1).saturating_sub(width)
     }
 
-    /// Returns the range and the case of the test case `number`. All pairs of a range and a case on
-    /// this range are numbered consecutively.
+    /// Returns a range, and the number of a test case on this range. All such pairs are numbered
+    /// consecutively, and `number` selects one of them.
     pub fn ranged_case(self, cases: &Cases, number: usize) -> Ranged {
         if self.length >= cases.len() {
             return self.some_range(number % RANGES, number / RANGES);

@@ -57,7 +57,7 @@ impl<T: Sample, G: Ruled> Call<T, G> for PushMut {
 
 // Checks the result of `push_mut` or `insert_mut` at `index`. If the call succeeded, `hand` must be
 // the item that was passed to the call, because the test has swapped it with another item. If the
-// call failed, it must have returned the item.
+// call failed, the call must have returned the passed item.
 fn lent<T: Sample, G: Ruled, R: Abort>(
     rt: &R,
     case: &mut Case<T, G>,
