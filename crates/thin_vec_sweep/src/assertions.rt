@@ -1,24 +1,27 @@
-//! The assertions of the sweeps. An assertion that fails prints which case was running (`At`).
+//! Assertions for the sweeps. A sweep tests one call on many small lists. The message of a failed
+//! assertion contains an `At`, which says on which list and with which argument the call was made.
 use crate::ledger::{Counts, Ledger, count};
 use crate::samples::Sample;
 use crate::shapes::Shape;
 use std::fmt::Debug;
 use std::process::Abort;
 
-/// Identifies the running case of a sweep: the call, the shape of the list, the argument, and the
-/// refused request. An assertion that fails prints all of them.
+/// Identifies one test case of a sweep: the call, the length and the spare capacity of the list,
+/// the argument, and the refused allocation request. The message of a failed assertion contains
+/// these values.
 #[derive(Debug, Clone, Copy)]
 pub struct At {
     pub call: &'static str,
     pub shape: Shape,
     pub argument: usize,
-    /// The number of the request that the allocator refuses, or 0 if it refuses none.
+    /// The number of the allocation request that is refused, counting from 1. It is 0 if no request
+    /// is refused.
     pub refused: u64,
-    /// The counts of the test, to which each comparison is added.
+    /// The counters of the running test. Each comparison increments one of them.
     pub counts: &'static Counts,
 }
 
-/// Asserts that the two values are equal, and counts the comparison.
+/// Asserts that `value` equals `wanted`, and counts the comparison.
 pub fn assert_same<T: PartialEq + Debug + Drop, R: Abort>(
     rt: &R,
     at: &At,
@@ -48,7 +51,7 @@ pub fn assert_same_item<T: Sample, R: Abort>(
     assert_same(rt, at, "item", found, expected);
 }
 
-/// Returns whether `item` is the item that is made from `number`, or both are `None`.
+/// Returns `true` if `item` is the item that is made from `number`, or if both are `None`.
 pub fn is_item<T: Sample>(item: Option<T>, number: Option<u64>) -> bool {
     match (item, number) {
         (Some(item), Some(number)) => item.kept_number() == T::expected_number(number),
@@ -57,16 +60,16 @@ pub fn is_item<T: Sample>(item: Option<T>, number: Option<u64>) -> bool {
     }
 }
 
-/// Asserts that `items` are the items that are made from `numbers`, in order.
+/// Asserts that `items` consists of the items that are made from `numbers`, in the same order.
 pub fn assert_same_items<T: Sample, R: Abort>(rt: &R, at: &At, items: &[T], numbers: &[u64]) {
     assert_same(rt, at, "length", items.len(), numbers.len());
     let difference = first_difference(items, numbers);
     assert_same(rt, at, "first item that differs", difference, None);
 }
 
-/// If the ledger counts items of type `T`, asserts that `items` items are not yet dropped. Also
-/// asserts the number of allocated blocks: one for each of the `items` items if each item owns a
-/// block, and one for the list if `capacity` is not 0.
+/// If the ledger counts items of type `T`, asserts that exactly `items` items have not been
+/// dropped. Also asserts the number of allocated blocks: one for each item if items own blocks,
+/// plus one for the list if `capacity` is not 0.
 pub fn assert_live<T: Sample, R: Abort>(
     rt: &R,
     at: &At,
@@ -84,8 +87,8 @@ pub fn assert_live<T: Sample, R: Abort>(
     assert_same(rt, at, "blocks that are not freed", out, blocks);
 }
 
-// Compares each item with the number at the same index. Returns the first index at which the item
-// is not made from the number.
+// Returns the first index at which `items[index]` is not the item that is made from
+// `numbers[index]`. Returns `None` if there is no such index.
 fn first_difference<T: Sample>(items: &[T], numbers: &[u64]) -> Option<usize> {
     let mut index: usize = 0;
     for (item, number) in items.iter().zip(numbers.iter()) {

@@ -1,5 +1,5 @@
-//! The groups of calls that the tests sweep. Some groups accept all item types, and some only types
-//! with certain traits.
+//! Groups of sweeps. A sweep tests one call on many small lists. Some groups accept every item
+//! type, and others only types that implement certain traits.
 pub mod arrays;
 pub mod clones;
 pub mod compared;
@@ -51,7 +51,7 @@ use std::process::Abort;
 use thin_testing::Ruled;
 use thin_vec::{Doubling, PowerBytes};
 
-/// Sweeps the calls that may grow a list.
+/// Tests calls that may grow a list, such as `push` and `extend`, on the lists in `scope`.
 pub fn every_growth<T: Sample, G: Ruled, R: Abort>(rt: &R, scope: &Scope) {
     sweep::<Push, T, G, R>(rt, scope);
     sweep::<PushMut, T, G, R>(rt, scope);
@@ -68,8 +68,8 @@ pub fn every_growth<T: Sample, G: Ruled, R: Abort>(rt: &R, scope: &Scope) {
     sweep::<Spliced, T, G, R>(rt, scope);
 }
 
-/// Sweeps the calls that add items to spare room, that remove items, that shrink a list, or that
-/// take the list by value.
+/// Tests calls that edit a list without growing it, such as `pop` and `split_off`, and calls that
+/// consume the list.
 pub fn every_edit<T: Sample, G: Ruled, R: Abort>(rt: &R, scope: &Scope) {
     sweep::<PushReserved, T, G, R>(rt, scope);
     sweep::<InsertReserved, T, G, R>(rt, scope);
@@ -86,7 +86,8 @@ pub fn every_edit<T: Sample, G: Ruled, R: Abort>(rt: &R, scope: &Scope) {
     sweep::<TryTake, T, G, R>(rt, scope);
 }
 
-/// Sweeps the calls that replace a range, and the calls that append several items to spare room.
+/// Tests calls that replace a range, and calls that append several items to spare capacity, on the
+/// lists in `scope`.
 pub fn every_replacing<T: Sample, G: Ruled, R: Abort>(rt: &R, scope: &Scope) {
     sweep::<ReplaceRange, T, G, R>(rt, scope);
     sweep::<ReplaceRangeFromList, T, G, R>(rt, scope);
@@ -94,14 +95,15 @@ pub fn every_replacing<T: Sample, G: Ruled, R: Abort>(rt: &R, scope: &Scope) {
     sweep::<AppendSlice<ExtendFromSliceReserved>, T, G, R>(rt, scope);
 }
 
-/// Sweeps the calls of `every_replacing` in their variants that copy the items, instead of cloning
-/// or moving them.
+/// Tests two calls that copy the new items: `replace_range_from_copies` and
+/// `extend_from_copies_reserved`.
 pub fn every_replacing_by_copies<T: Sample + Copy, G: Ruled, R: Abort>(rt: &R, scope: &Scope) {
     sweep::<ReplaceRangeFromCopies, T, G, R>(rt, scope);
     sweep::<AppendSlice<ExtendFromCopiesReserved>, T, G, R>(rt, scope);
 }
 
-/// Sweeps the calls that remove items by a test, and the calls that remove the items of a range.
+/// Tests calls that remove some of the items, such as `retain`, `dedup` and `drain`, on the lists
+/// in `scope`.
 pub fn every_filter<T: Sample, G: Ruled, R: Abort>(rt: &R, scope: &Scope) {
     sweep::<Retain, T, G, R>(rt, scope);
     sweep::<RetainMut, T, G, R>(rt, scope);
@@ -113,7 +115,7 @@ pub fn every_filter<T: Sample, G: Ruled, R: Abort>(rt: &R, scope: &Scope) {
     sweep::<Extracted, T, G, R>(rt, scope);
 }
 
-/// Sweeps the calls that read the items, overwrite single items, or clone all items.
+/// Tests calls that read items, overwrite items, or clone all items, on the lists in `scope`.
 pub fn every_reading<T: Sample, G: Ruled, R: Abort>(rt: &R, scope: &Scope) {
     sweep::<Read, T, G, R>(rt, scope);
     sweep::<Index, T, G, R>(rt, scope);
@@ -127,8 +129,8 @@ pub fn every_reading<T: Sample, G: Ruled, R: Abort>(rt: &R, scope: &Scope) {
     sweep::<IntoIterClone, T, G, R>(rt, scope);
 }
 
-/// Sweeps the calls that make a list (`collect` is one of them), and the method `extend` of the
-/// trait `Extend` of `std`. All these calls are swept only under the growth rule `Doubling`.
+/// Tests calls that make a list, such as `from_iter` and `collect`, and the method `extend` of the
+/// trait `Extend`. All tests use the growth rule `Doubling`.
 pub fn every_making<T: Sample, R: Abort>(rt: &R, scope: &Scope) {
     sweep::<New, T, Doubling, R>(rt, scope);
     sweep::<WithCapacity, T, Doubling, R>(rt, scope);
@@ -141,7 +143,8 @@ pub fn every_making<T: Sample, R: Abort>(rt: &R, scope: &Scope) {
     sweep::<FromOthers, T, Doubling, R>(rt, scope);
 }
 
-/// Sweeps the calls that copy the items of a list as one run of bytes.
+/// Tests calls that copy items instead of cloning them, such as `clone_copies`, on the lists in
+/// `scope`.
 pub fn every_copying<T: Sample + Copy, R: Abort>(rt: &R, scope: &Scope) {
     sweep::<AppendSlice<ExtendFromCopies>, T, Doubling, R>(rt, scope);
     sweep::<AppendSlice<ExtendFromCopies>, T, PowerBytes, R>(rt, scope);
@@ -149,20 +152,20 @@ pub fn every_copying<T: Sample + Copy, R: Abort>(rt: &R, scope: &Scope) {
     sweep::<MakeSecond<FromCopies>, T, Doubling, R>(rt, scope);
 }
 
-/// Sweeps the calls that compare, hash or print the items of a list.
+/// Tests calls that compare, hash or print a list, on the lists in `scope`.
 pub fn every_comparing<T: Sample + Ord + Hash + Debug, R: Abort>(rt: &R, scope: &Scope) {
     sweep::<Compare, T, PowerBytes, R>(rt, scope);
     sweep::<Print, T, PowerBytes, R>(rt, scope);
 }
 
-/// Sweeps the calls that exist only for lists of bytes.
+/// Tests calls that exist only for lists of bytes, such as `write`, on the lists in `scope`.
 pub fn every_call_of_bytes<R: Abort>(rt: &R, scope: &Scope) {
     every_writing::<Doubling, R>(rt, scope);
     every_writing::<PowerBytes, R>(rt, scope);
     sweep::<FromStr, u8, Doubling, R>(rt, scope);
 }
 
-/// Sweeps the function `bounds`, which makes a range from two bounds.
+/// Tests the function `bounds`, which converts two bounds to a range of indices.
 pub fn every_bound<R: Abort>(rt: &R, scope: &Scope) {
     sweep::<Bounds, u8, Doubling, R>(rt, scope);
 }

@@ -1,5 +1,5 @@
-//! One case of a sweep: a list, and a reference with which the list is compared. The reference is
-//! made of a `Vec`, which has a number for each item, and of the capacity.
+//! One test case of a sweep: a call on a list, and the expected result. Each item is made from a
+//! number, so the expected items are a `Vec` of numbers.
 use crate::assertions::{At, assert_live, assert_same, assert_same_item, assert_same_items};
 use crate::ledger::Ledger;
 use crate::samples::Sample;
@@ -10,23 +10,24 @@ use std::process::Abort;
 use thin_testing::{Refusing, Ruled};
 use thin_vec::{Growth, Rejected, ThinVec, ThinVecError};
 
-/// A list under test. Its block is allocated by the ledger's allocator.
+/// A list under test. Its allocator counts the allocation requests, and can refuse one of them.
 pub type List<T, G> = ThinVec<T, &'static Refusing<Global>, G>;
 
-/// How a call must end.
+/// The expected outcome of a call.
 #[derive(Debug, Clone, Copy, PartialEq, Eq)]
 pub enum Verdict {
     Done,
-    /// The call fails because the capacity would overflow. No request is refused.
+    /// The call fails because the capacity would overflow, and not because the allocator refuses a
+    /// request.
     Overflow,
-    /// The call fails because a request for a block of items is refused.
+    /// The call fails because the allocator refuses a request for a block of items.
     NoRoom,
     /// The call fails because cloning an item fails. The clones that were already made are dropped.
     NoClone,
 }
 
 impl Verdict {
-    /// Returns the result that a call with this verdict must return.
+    /// Returns the expected return value of a call with this outcome.
     pub fn answer(self) -> Result<(), ThinVecError> {
         match self {
             Verdict::Done => Ok(()),
@@ -36,28 +37,28 @@ impl Verdict {
     }
 }
 
-/// A list, the items and the capacity that it must have after the call, and how many requests and
-/// clones the call must make.
+/// A list, and what is expected of a call on this list: the items and the capacity after the call,
+/// and the numbers of allocation requests and clones during the call.
 #[derive(Drop)]
 pub struct Case<T: Drop, G: Ruled> {
     pub at: At,
     pub ledger: &'static Ledger,
     pub list: List<T, G>,
-    /// The numbers of the items that the list must have after the call, in order.
+    /// The expected items of the list after the call, as the numbers from which they are made.
     pub items: Vec<u64, Global>,
-    /// The capacity that the list must have after the call.
+    /// The expected capacity of the list after the call.
     pub capacity: usize,
-    /// How many requests the call must make.
+    /// The number of allocation requests that the call must make.
     pub requests: u64,
-    /// How many clones the call must make.
+    /// The number of clones that the ledger must count during the call.
     pub clones: u64,
-    /// Whether the call was left out because it would take too much memory.
+    /// Whether the call was skipped because it would need too much memory.
     pub is_left_out: bool,
 }
 
 impl<T: Sample, G: Ruled> Case<T, G> {
-    /// Makes a case with a list of the shape `at.shape`. The items of the list are made from the
-    /// numbers 1, 2, and so on.
+    /// Returns a test case whose list has the length and the spare capacity of `at.shape`. The
+    /// items of the list are made from the numbers 1, 2, 3, and so on.
     pub fn new<R: Abort>(rt: &R, ledger: &'static Ledger, at: At) -> Case<T, G> {
         ledger.begin(0);
         let list = filled(rt, ledger, at.shape, 1);
@@ -74,20 +75,20 @@ impl<T: Sample, G: Ruled> Case<T, G> {
         }
     }
 
-    /// Makes an item from `number`, for example to pass it to the call.
+    /// Returns an item that is made from `number`.
     pub fn item<R: Abort>(&self, rt: &R, number: u64) -> T {
         T::nth(rt, self.ledger, number)
     }
 
-    /// Prepares the call: resets the counts of requests and clones. From then on, the allocator
-    /// refuses the request with the number `at.refused`.
+    /// Resets the counts that concern a single call, and makes the allocator refuse the request
+    /// with the number `at.refused`. A test calls `begin` immediately before the call under test.
     pub fn begin(&self) {
         self.ledger.begin(self.at.refused);
     }
 
-    /// Returns the capacity that a call must give the list to make room for `additional` more
-    /// items. This is the present capacity if it suffices, and otherwise the capacity that the
-    /// growth rule names. Returns `None` if the capacity overflows.
+    /// Returns the expected capacity of the list after a call that makes room for `additional` more
+    /// items. If the list must grow, the growth rule determines this capacity. Returns `None` if
+    /// the capacity overflows.
     pub fn ruled(&self, additional: usize) -> Option<usize> {
         let want = self.items.len().checked_add(additional)?;
         if want <= self.capacity {
@@ -96,30 +97,33 @@ impl<T: Sample, G: Ruled> Case<T, G> {
         fitting::<T>(G::expected_capacity(T::SIZE, self.capacity, want))
     }
 
-    /// Returns the length plus `additional`, or the present capacity if it is greater. Returns
-    /// `None` if a block cannot have this capacity.
+    /// Returns the expected capacity of the list after a call such as `reserve_exact(additional)`:
+    /// the length plus `additional`, or the current capacity if that is greater. Returns `None` if
+    /// no block can have this capacity.
     pub fn exact(&self, additional: usize) -> Option<usize> {
         let want = self.items.len().checked_add(additional)?;
         fitting::<T>(want.max(self.capacity))
     }
 
-    /// Returns whether the call must be left out, because `capacity` fits but takes too much
-    /// memory. A call whose first request is refused takes no memory, so it is not left out.
+    /// Returns whether the call must be skipped because a list of this capacity would take too much
+    /// memory, and stores the result in `is_left_out`. A call whose first request is refused takes
+    /// no memory, so it is not skipped.
     pub fn is_too_much(&mut self, capacity: Option<usize>) -> bool {
         let is_great = capacity.is_some_and(|capacity| capacity > 1_000_000);
         self.is_left_out = is_great && self.at.refused != 1 && T::LIMIT < isize::MAX as usize;
         self.is_left_out
     }
 
-    /// Returns how many requests the call made. For a call that was left out, returns 1, so that
-    /// the case in which the first request is refused is still run.
+    /// Returns the number of further test cases, in each of which one request of the call is
+    /// refused. If the call was skipped, this number is 1, because the call takes no memory if its
+    /// first request is refused.
     pub fn requests_in_turn(&self) -> u64 {
         if self.is_left_out { 1 } else { self.requests }
     }
 
-    /// Returns how a call must end that first changes the capacity of the list to `capacity`, and
-    /// then makes `clones` clones. If `capacity` is `None`, the capacity overflows. Sets the
-    /// capacity that the list must have, and how many requests and clones the call must make.
+    /// Returns the expected outcome of a call that changes the capacity of the list to `capacity`
+    /// and then clones `clones` items. `None` stands for a capacity overflow. Also updates the
+    /// expected capacity and the expected numbers of requests and clones.
     pub fn growth(&mut self, capacity: Option<usize>, clones: usize) -> Verdict {
         let Some(capacity) = capacity else {
             return Verdict::Overflow;
@@ -132,9 +136,9 @@ impl<T: Sample, G: Ruled> Case<T, G> {
         verdict
     }
 
-    /// Returns whether a growth of the list to `capacity` must succeed. Counts the request of the
-    /// growth, and sets the capacity of the reference if the growth succeeds. This is for calls
-    /// that may grow the list several times.
+    /// Records that the call grows the list to `capacity`, which takes one allocation request.
+    /// Returns whether this growth must succeed. This function is for calls that may grow the list
+    /// several times.
     pub fn grows(&mut self, capacity: Option<usize>) -> bool {
         let Some(capacity) = capacity else {
             return false;
@@ -146,14 +150,15 @@ impl<T: Sample, G: Ruled> Case<T, G> {
         true
     }
 
-    /// Counts one more request of the call, and returns whether the allocator grants it.
+    /// Adds one to the expected number of allocation requests, and returns whether the allocator
+    /// grants the new request.
     pub fn granted(&mut self) -> bool {
         self.requests = self.requests.saturating_add(1);
         self.requests != self.at.refused
     }
 
-    /// Returns how a growth of the list to `capacity` must end. If the list already has this
-    /// capacity, no request is made. This is for calls that may grow the list several times.
+    /// Returns the expected outcome of one growth to `capacity`, in a call that may grow the list
+    /// several times. If the list already has this capacity, the call makes no request.
     pub fn further_growth(&mut self, capacity: Option<usize>) -> Verdict {
         let Some(wanted) = capacity else {
             return Verdict::Overflow;
@@ -165,8 +170,8 @@ impl<T: Sample, G: Ruled> Case<T, G> {
         }
     }
 
-    /// Returns how a call must end that allocates another list or a `Vec` with this capacity, and
-    /// then makes `clones` clones.
+    /// Returns the expected outcome of a call that allocates a new list or `Vec` of this capacity
+    /// and then clones `clones` items.
     pub fn fresh(&mut self, capacity: Option<usize>, clones: usize) -> Verdict {
         match capacity {
             Some(capacity) => self.verdict(u64::from(capacity != 0), clones),
@@ -174,8 +179,8 @@ impl<T: Sample, G: Ruled> Case<T, G> {
         }
     }
 
-    // Returns how a call must end that requests `blocks` blocks and then makes `clones` clones.
-    // Sets how many requests and clones the call must make.
+    // Returns the expected outcome of a call that requests `blocks` blocks and then clones `clones`
+    // items. Also sets the expected numbers of requests and clones.
     fn verdict(&mut self, blocks: u64, clones: usize) -> Verdict {
         let refused = self.at.refused;
         let clones = clones as u64;
@@ -194,8 +199,7 @@ impl<T: Sample, G: Ruled> Case<T, G> {
         }
     }
 
-    /// Asserts that `answer`, which the call returned, is the result that a call with this verdict
-    /// must return.
+    /// Asserts that `answer`, the return value of the call, agrees with `verdict`.
     pub fn assert_answer<R: Abort>(
         &self,
         rt: &R,
@@ -205,8 +209,9 @@ impl<T: Sample, G: Ruled> Case<T, G> {
         assert_same(rt, &self.at, "answer", answer, verdict.answer());
     }
 
-    /// Checks a call that adds the item made from `number` at `index`. If the call succeeded, adds
-    /// the number to the reference. If the call failed, asserts that it returned the item.
+    /// Checks the result of a call that adds an item at `index`. The item is made from `number`. If
+    /// the call succeeded, inserts `number` into the expected items. If the call failed, asserts
+    /// that the call returned the item.
     pub fn put<R: Abort>(
         &mut self,
         rt: &R,
@@ -245,7 +250,8 @@ impl<T: Sample, G: Ruled> Case<T, G> {
         assert_same_item(rt, &self.at, item, number);
     }
 
-    /// If the call succeeded, appends the `count` numbers from `first` on to the reference.
+    /// If the call must succeed, appends `count` consecutive numbers, beginning with `first`, to
+    /// the expected items.
     pub fn add<R: Abort>(&mut self, rt: &R, first: u64, count: usize, verdict: Verdict) {
         if verdict == Verdict::Done {
             let mut new = numbers(rt, self.ledger, first, count);
@@ -253,12 +259,13 @@ impl<T: Sample, G: Ruled> Case<T, G> {
         }
     }
 
-    /// Asserts that `items` are the items that are made from `numbers`, in order.
+    /// Asserts that `items` consists of the items that are made from `numbers`, in the same order.
     pub fn assert_items<R: Abort>(&self, rt: &R, items: &[T], numbers: &[u64]) {
         assert_same_items(rt, &self.at, items, numbers);
     }
 
-    /// Asserts that a list has the items that are made from `numbers`, and this capacity.
+    /// Asserts that `list` contains the items that are made from `numbers`, and that its capacity
+    /// is `capacity`.
     pub fn assert_list<H: Growth, R: Abort>(
         &self,
         rt: &R,
@@ -276,9 +283,9 @@ impl<T: Sample, G: Ruled> Case<T, G> {
         );
     }
 
-    /// Checks a list whose items a call moves to another list. If the call succeeded, the list must
-    /// be empty and keep its capacity. If the call failed, the list must be unchanged. Before the
-    /// call, the list had this shape, and its items were made from the numbers from `first` on.
+    /// Checks the list from which a call moves all items to another list. On success, the list must
+    /// be empty and keep its capacity. On failure, the list must be unchanged. `shape` and `first`
+    /// describe the list before the call.
     pub fn assert_moved_from<R: Abort>(
         &self,
         rt: &R,
@@ -296,8 +303,8 @@ impl<T: Sample, G: Ruled> Case<T, G> {
         self.assert_list(rt, list, numbers.as_slice(), capacity);
     }
 
-    /// Checks a call that makes a second list. If the call succeeded, the second list must have the
-    /// items that are made from `numbers`, and this capacity.
+    /// Checks the result of a call that makes a second list. On success, the second list must
+    /// contain the items that are made from `numbers`, and its capacity must be `capacity`.
     pub fn assert_second_list<H: Growth, R: Abort>(
         &self,
         rt: &R,
@@ -315,8 +322,8 @@ impl<T: Sample, G: Ruled> Case<T, G> {
         }
     }
 
-    /// Returns the list of the case and the numbers of its items. Leaves an empty list without a
-    /// block in the case.
+    /// Moves the list and its expected items out of the test case. Leaves an empty list of capacity
+    /// 0 in the test case.
     pub fn take(&mut self) -> (List<T, G>, Vec<u64, Global>) {
         self.capacity = 0;
         let list = mem::replace(&mut self.list, ThinVec::ruled(&self.ledger.alloc));
@@ -324,16 +331,15 @@ impl<T: Sample, G: Ruled> Case<T, G> {
         (list, items)
     }
 
-    /// Replaces the empty list of the case by `list`, which must have the items that are made from
-    /// the numbers in `items`, and this capacity.
+    /// Sets the list of the test case, its expected items and its expected capacity.
     pub fn set(&mut self, list: List<T, G>, items: Vec<u64, Global>, capacity: usize) {
         self.list = list;
         self.items = items;
         self.capacity = capacity;
     }
 
-    /// Checks the list after the call: its items, its capacity, and how many requests and clones
-    /// the call made. Also asserts that there are no other items or blocks.
+    /// Checks the state after the call: the items and the capacity of the list, and the numbers of
+    /// requests and clones. Also asserts that no other items and no other blocks exist.
     pub fn check<R: Abort>(&self, rt: &R) {
         let requests = self.ledger.alloc.requests();
         assert_same(rt, &self.at, "requests", requests, self.requests);
@@ -345,8 +351,8 @@ impl<T: Sample, G: Ruled> Case<T, G> {
         assert_live::<T, R>(rt, &self.at, self.ledger, self.items.len(), self.capacity);
     }
 
-    /// Drops the case, and counts it. Asserts that all its items are dropped and all its blocks are
-    /// freed.
+    /// Counts the completed test case, and drops it. Then asserts that all items are dropped and
+    /// all blocks are freed.
     pub fn end<R: Abort>(self, rt: &R) {
         let at = self.at;
         let ledger = self.ledger;
@@ -356,7 +362,8 @@ impl<T: Sample, G: Ruled> Case<T, G> {
     }
 }
 
-/// Returns a list of this shape. Its items are made from the numbers from `first` on.
+/// Returns a list with the length and the spare capacity of `shape`. Its items are made from
+/// `first` and the following numbers.
 pub fn filled<T: Sample, G: Ruled, R: Abort>(
     rt: &R,
     ledger: &'static Ledger,
@@ -374,7 +381,7 @@ pub fn filled<T: Sample, G: Ruled, R: Abort>(
     list
 }
 
-/// Returns `count` items, which are made from the numbers from `first` on.
+/// Returns `count` items, which are made from `first` and the following numbers.
 pub fn source<T: Sample, R: Abort>(
     rt: &R,
     ledger: &'static Ledger,
@@ -395,7 +402,7 @@ pub fn put<R: Abort>(rt: &R, numbers: &mut Vec<u64, Global>, number: u64) {
     numbers.push(number).ok().expect(rt, "memory");
 }
 
-/// Returns the `count` numbers from `first` on.
+/// Returns `count` consecutive numbers, beginning with `first`.
 pub fn numbers<R: Abort>(
     rt: &R,
     ledger: &'static Ledger,
@@ -410,8 +417,7 @@ pub fn numbers<R: Abort>(
     numbers
 }
 
-// Returns `capacity` if it is at most the greatest capacity for items of type `T`, and `None`
-// otherwise.
+// Returns `capacity` if a list of items of type `T` can have this capacity, and `None` otherwise.
 fn fitting<T: Sample>(capacity: usize) -> Option<usize> {
     if capacity <= T::LIMIT {
         Some(capacity)

@@ -1,5 +1,5 @@
-//! Tests of the sweep itself: that a small sweep runs each of its cases, and that each comparison
-//! fails if there is a difference.
+//! Tests of the sweeps themselves. They check that a small sweep runs all its cases, and that each
+//! comparison detects a difference.
 use crate::assertions::At;
 use crate::calls::arrays::every_array;
 use crate::calls::clones::Resize;
@@ -18,16 +18,16 @@ use std::alloc::Global;
 use std::process::Abort;
 use thin_vec::Doubling;
 
-// Checks the counts of a sweep of `Resize` on two shapes. If there is no spare room, adding k items
-// makes k requests: one for the block, and one for each of the k - 1 clones (the last of the k
-// items is the passed value itself). So there are k + 1 cases, but at most 50: one without a
-// refusal, and one for each refused request. Adding 0 items is tried twice, and adding 1 to 9, 17
-// and 100 items once each.
+// Runs the sweep of `resize` on two kinds of empty lists, and checks the counts. Without spare
+// capacity, adding `k` items makes `k` allocation requests: one for the block, and one for each of
+// the `k - 1` clones. (The last new item is the passed value itself.) There is one case without a
+// refusal, and one case for each refused request, but at most 50 cases in total.
 //
-// An empty list without a block has 2 + (2 + .. + 10) + 18 + 50 = 124 cases. In (1 + .. + 9) + 17 +
-// 49 = 111 of these cases, a request is refused. If the empty list has one empty slot, adding one
-// item makes no request, so there are 123 cases, with 110 refusals. Each case makes ten
-// comparisons: one of the answer, seven by `check`, and two by `end`.
+// The tested numbers of new items are 0 (twice), 1 to 9, 17, and 100. On an empty list of capacity
+// 0, there are 2 + (2 + .. + 10) + 18 + 50 = 124 cases. In (1 + .. + 9) + 17 + 49 = 111 of these
+// cases, a request is refused. On an empty list of capacity 1, adding one item makes no request, so
+// there are 123 cases, with 110 refusals. Each case makes ten comparisons: one of the return value,
+// seven by `check`, and two by `end`.
 #[test]
 fn small_sweep_runs_each_case(rt: HostRuntime) {
     let ledger = Ledger::new(&rt, rt.alloc());
@@ -39,7 +39,7 @@ fn small_sweep_runs_each_case(rt: HostRuntime) {
     assert_eq!(rt; ledger.counted(), (247, 221, 2470));
 }
 
-// Returns a scope of the shapes with one or two items and with zero to four empty slots.
+// Selects the lists to test: all lists of one or two items with zero to four empty slots.
 fn few<R: Abort>(rt: &R, alloc: Global) -> Scope {
     Scope {
         ledger: Ledger::new(rt, alloc),
@@ -47,8 +47,8 @@ fn few<R: Abort>(rt: &R, alloc: Global) -> Scope {
     }
 }
 
-// How many cases, refusals and comparisons each group of calls makes on the shapes of `few`. Adding
-// a call to a group changes only the line of this group.
+// For each group of calls, the numbers of test cases, of refused requests, and of comparisons on
+// the lists of `few`. If a call is added to a group, only the line of this group changes.
 const COUNTS: [(u64, u64, u64); 12] = [
     // every_growth
     (6334, 2380, 81767),
@@ -120,7 +120,7 @@ fn each_call_makes_expected_number_of_comparisons(rt: HostRuntime) {
     assert_eq!(rt; counts, COUNTS);
 }
 
-// Returns a case whose list has two counted items, and room for one more.
+// Returns a test case whose list has the capacity 3 and contains two items of type `Counted`.
 fn two_items<R: Abort>(rt: &R, alloc: Global) -> Case<Counted, Doubling> {
     let ledger = Ledger::new(rt, alloc);
     let shape = Shape {
@@ -137,8 +137,8 @@ fn two_items<R: Abort>(rt: &R, alloc: Global) -> Case<Counted, Doubling> {
     Case::new(rt, ledger, at)
 }
 
-// Returns an empty list that owns a block. A check of the case finds this block in addition to the
-// block of the case.
+// Returns an empty list that owns a block. The test case does not expect this block, so a check of
+// the test case must fail.
 fn block<R: Abort>(rt: &R, case: &Case<Counted, Doubling>) -> List<Counted, Doubling> {
     let shape = Shape {
         length: 0,

@@ -1,5 +1,5 @@
-//! An iterator whose size hint may differ from the number of its items. It counts the calls of
-//! `next` and of `size_hint`.
+//! An iterator whose size hint may be wrong. The iterator counts the calls of `next` and of
+//! `size_hint`.
 ghost use Rattle.std.specs.Prelude.{◌+◌, length};
 ghost use Rattle.std.specs.Iterator.{at_most};
 
@@ -7,8 +7,8 @@ use crate::ledger::{Ledger, count};
 use crate::samples::Counted;
 
 /// An iterator that yields its items in reverse order, and then `None` forever. Its size hint is
-/// always `(lower, None)`, however many items are left. The ledger counts the iterator itself as
-/// one item until the iterator is dropped.
+/// always `(lower, None)`, no matter how many items remain. The ledger counts the iterator itself
+/// as one item until the iterator is dropped.
 #[derive(Drop)]
 pub struct Claims<T> {
     items: Vec<T>,
@@ -18,7 +18,7 @@ pub struct Claims<T> {
 }
 
 impl<T> Claims<T> {
-    /// Returns an iterator over `items` whose size hint has the lower bound `lower`. The ledger
+    /// Returns an iterator over `items`. The lower bound of its size hint is `lower`. The ledger
     /// counts each call of `next` and of `size_hint`.
     pub fn new(items: Vec<T>, lower: usize, ledger: &'static Ledger) -> Claims<T> {
         Claims {
@@ -29,8 +29,8 @@ impl<T> Claims<T> {
         }
     }
 
-    /// Returns the items that were not yet yielded. The last of these items would have been yielded
-    /// next.
+    /// Returns the items that have not been yielded yet. The next call of `next` would have yielded
+    /// the last of these items.
     pub fn into_items(self) -> Vec<T> {
         let Claims {
             items,

@@ -1,5 +1,5 @@
-//! The results that the closures of the sweeps return, and checks of the items with which the
-//! closures are called.
+//! Helpers for the closures that the sweeps pass to methods such as `retain`. They determine what a
+//! closure returns, and check the items that are passed to the closure.
 use crate::assertions::{At, assert_same};
 use crate::ledger::count;
 use crate::samples::Sample;
@@ -7,13 +7,13 @@ use crate::shapes::Cases;
 use std::cell::Cell;
 use std::process::Abort;
 
-/// For each k from 0 to 6: the number of patterns of results (2 ^ k) for a closure that is called
-/// with k items.
+/// The numbers of patterns for lists of 0 to 6 items. A pattern says for each item whether it is
+/// kept, so a list of `k` items has `2^k` patterns.
 pub const PATTERNS: Cases = [1, 2, 4, 8, 16, 32, 64];
 
-/// Returns whether the item at `index`, of `count` items, stays by the pattern with the number
-/// `pattern`. If there are at most 6 items, each binary digit of `pattern` stands for one item: the
-/// digit 1 removes the item.
+/// Returns whether the pattern with the number `pattern` keeps the item at `index`, out of `count`
+/// items. If `count` is at most 6, the item is removed if and only if bit `index` of `pattern` is
+/// 1.
 pub fn stays(count: usize, pattern: usize, index: usize) -> bool {
     if count < PATTERNS.len() {
         return pattern >> (index % 64) & 1 == 0;
@@ -32,19 +32,19 @@ pub fn stays(count: usize, pattern: usize, index: usize) -> bool {
     }
 }
 
-/// Returns the number from which the item at `index` is made before the call.
+/// Returns the number from which the item at `index` was made when the list was created.
 pub fn number_at(index: usize) -> u64 {
     (index as u64).saturating_add(1)
 }
 
-/// How often a closure was called, and how often it was called with a wrong item.
+/// The number of calls of a closure, and the number of calls with a wrong item.
 pub struct ClosureCalls {
     asked: Cell<usize>,
     wrong: Cell<u64>,
 }
 
 impl ClosureCalls {
-    /// Returns the counts of a closure that has not yet been called.
+    /// Returns counters for a closure that has not been called yet.
     pub fn new() -> ClosureCalls {
         ClosureCalls {
             asked: Cell::new(0),
@@ -52,22 +52,22 @@ impl ClosureCalls {
         }
     }
 
-    /// Counts one call of the closure, and returns the number of this call. The first call has the
-    /// number 0.
+    /// Counts one call of the closure, and returns the number of previous calls.
     pub fn next(&self) -> usize {
         let number = self.asked.get();
         self.asked.set(number.saturating_add(1));
         number
     }
 
-    /// Counts a wrong item if `item` is not the item that is made from `number`.
+    /// Compares `item` with the item that is made from `number`, and counts an error if they
+    /// differ.
     pub fn check_item<T: Sample>(&self, item: &T, number: u64) {
         if item.kept_number() != T::expected_number(number) {
             count(&self.wrong);
         }
     }
 
-    /// Asserts that the closure was called `due` times, each time with the right item.
+    /// Asserts that the closure was called `due` times, each time with the expected item.
     pub fn end<R: Abort>(self, rt: &R, at: &At, due: usize) {
         let ClosureCalls { asked, wrong } = self;
         assert_same(rt, at, "closure calls", asked.get(), due);

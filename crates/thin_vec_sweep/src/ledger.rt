@@ -1,42 +1,42 @@
-//! The counts of a test: requests, blocks, items and clones, and how many cases and comparisons the
-//! test has made.
+//! The ledger of a test. It counts allocation requests, allocated blocks, items and clones, and
+//! also the test cases and the comparisons of the test.
 use std::alloc::Global;
 use std::cell::Cell;
 use std::process::Abort;
 use thin_testing::Refusing;
 
-/// How many cases, refusals and comparisons a test has made.
+/// The numbers of test cases, of refused allocation requests, and of comparisons in a test.
 #[derive(Debug, Drop)]
 pub struct Counts {
-    /// How many cases were run to their end.
+    /// The number of test cases that have been completed.
     pub cases: Cell<u64>,
-    /// In how many of the cases a request was refused.
+    /// The number of completed test cases in which an allocation request was refused.
     pub refusals: Cell<u64>,
-    /// How many comparisons were made.
+    /// The number of comparisons that the test has made.
     pub comparisons: Cell<u64>,
 }
 
-/// The allocators of a test, and the counts of the test.
+/// The allocators and the counters of a test.
 pub struct Ledger {
-    /// The allocator of every list of the test, and of every item that owns a block.
+    /// The allocator of all lists under test, and of all items that own a block.
     pub alloc: Refusing<Global>,
-    /// The allocator for everything else in the test.
+    /// The allocator for values that are not under test.
     pub global: Global,
-    /// How many counted items have been made and not yet dropped.
+    /// The number of items of type `Counted` that have been made but not been dropped yet.
     pub standing: Cell<u64>,
-    /// How many clones of counted items were made since the last call of `begin`.
+    /// The number of clones of `Counted` items since the last call of `begin`.
     pub clones: Cell<u64>,
-    /// How often `next` of an iterator was called since the last call of `begin`.
+    /// The number of calls of `next` on a `Claims` iterator since the last call of `begin`.
     pub asked: Cell<u64>,
-    /// How often `size_hint` of an iterator was called since the last call of `begin`.
+    /// The number of calls of `size_hint` on a `Claims` iterator since the last call of `begin`.
     pub hinted: Cell<u64>,
-    /// How many cases, refusals and comparisons the test has made since it began.
+    /// The numbers of test cases, of refused requests, and of comparisons since the test began.
     pub counts: Counts,
 }
 
 impl Ledger {
-    /// Returns a ledger in which all counts are 0. The ledger is leaked, so that it lives until the
-    /// test ends.
+    /// Returns a ledger in which all counts are 0. The ledger is leaked, which gives it the
+    /// lifetime `'static`.
     pub fn new<R: Abort>(rt: &R, alloc: Global) -> &'static Ledger {
         let ledger = Ledger {
             alloc: Refusing::new(alloc, 0),
@@ -54,9 +54,9 @@ impl Ledger {
         Box::leak(Box::new(alloc, ledger).ok().expect(rt, "memory"))
     }
 
-    /// Resets the counts of requests, of clones and of calls of an iterator. From then on, the
-    /// allocator of the lists refuses the request with the number `refused`, or none if `refused`
-    /// is 0.
+    /// Resets the counts of requests, of clones, and of calls of `next` and `size_hint`. From now
+    /// on, the allocator `alloc` refuses the request with the number `refused`, or no request if
+    /// `refused` is 0.
     pub fn begin(&self, refused: u64) {
         self.alloc.refuse(refused);
         self.clones.set(0);
@@ -64,8 +64,8 @@ impl Ledger {
         self.hinted.set(0);
     }
 
-    /// Counts a case that has ended and that made `requests` requests. Also counts a refusal if
-    /// `refused` is the number of one of these requests.
+    /// Counts a completed test case. Also counts a refusal if the request with the number `refused`
+    /// is among the `requests` requests of the test case.
     pub fn count_case(&self, refused: u64, requests: u64) {
         count(&self.counts.cases);
         if 0 < refused && refused <= requests {
@@ -73,7 +73,7 @@ impl Ledger {
         }
     }
 
-    /// Returns how many cases, refusals and comparisons there were.
+    /// Returns the numbers of test cases, of refusals, and of comparisons so far.
     pub fn counted(&self) -> (u64, u64, u64) {
         let Counts {
             cases,

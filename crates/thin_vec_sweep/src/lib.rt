@@ -1,35 +1,40 @@
-//! Sweeps of the calls of a list, and random runs of commands. A sweep makes one call on many small
-//! lists, and compares the results with a reference: a `Vec` for the items, and a number for the
-//! capacity. A run carries out many commands on one list, and compares the results with a model,
-//! which is the specification written as a program (`runs.rt`).
+//! Tests of the methods of `ThinVec`: sweeps and runs. A sweep tests one call on many small lists,
+//! and compares the results with expected values: a `Vec` for the items, and a number for the
+//! capacity. A run executes many commands on one list, and compares the results with a model, which
+//! is a simple program that specifies the commands (`runs.rt`).
 //!
-//! A sweep makes its call on a list of each shape (`shapes.rt`), with each argument. It makes the
-//! call first with enough memory, and then once more for each request that the call made, with this
-//! request refused. After each call, it compares what the call returned, the items, the capacity,
-//! the numbers of requests and of clones, how many items are not dropped, and how many blocks are
-//! allocated. After the list is dropped, it compares the numbers of items and of blocks once more.
-//! With enough memory, a call may fail only because of a capacity overflow. The tests in
-//! `checks.rt` check that a sweep really does all this.
+//! A sweep makes its call on lists of many lengths and spare capacities (`shapes.rt`), with several
+//! arguments. For each list and argument, the sweep makes the call first with enough memory, and
+//! then once more for each allocation request of the call, with that request refused. After each
+//! call, the sweep compares the return value, the items, the capacity, the numbers of requests and
+//! of clones, the number of items that have not been dropped, and the number of allocated blocks.
+//! After the list is dropped, it compares the numbers of items and of blocks again. With enough
+//! memory, a call may fail only because of a capacity overflow. The tests in `checks.rt` check that
+//! a sweep really makes these comparisons.
 //!
-//! To add a call, add a struct with an impl of `Call` (`sweep.rt`) to a file of `calls/`, and a
-//! line to `calls.rt`. The method `arguments` returns how many arguments are tried on a list of a
-//! shape. The method `run` has five steps: (1) make the values that are passed to the call; (2) ask
-//! the case how the call must end: by `growth` if the list's capacity may change, by `fresh` if the
-//! call makes another list, and by `further_growth` and `granted` for each request if the call
-//! makes several (a call that takes no memory skips this step); (3) call `begin`, which resets the
-//! counts and makes the allocator refuse the request of the case; (4) test the preconditions of the
-//! call, and make the call; (5) call `assert_answer`, and make the same edit of `case.items`.
+//! To add a call, add a struct that implements `Call` (`sweep.rt`) to a file of `calls/`, and add a
+//! line to `calls.rt`. The method `arguments` returns the number of arguments that are tried on a
+//! list. The method `run` has five steps:
 //!
-//! A call that appends the items of a slice implements `AppendsSlice` (`calls/slices.rt`) in place
+//! 1. Make the values that are passed to the call.
+//! 2. Determine the expected outcome of the call. Use the method `growth` of the case if the call
+//!    may change the capacity of the list, and `fresh` if the call makes another list. If the call
+//!    may make several requests, use `further_growth` and `granted` for each request. Skip this
+//!    step if the call makes no request.
+//! 3. Call `begin`, which resets the counts and says which request the allocator refuses.
+//! 4. Test the preconditions of the call, and make the call.
+//! 5. Call `assert_answer`, and make the same edit of `case.items`.
+//!
+//! A call that appends the items of a slice implements `AppendsSlice` (`calls/slices.rt`) instead
 //! of `Call`, and a call that makes a second list implements `MakesSecond` (`calls/seconds.rt`).
-//! The results of closures are in `closures.rt`, and steps from both ends are in `walks.rt`. On
-//! lists and ranges of up to 6 items, all patterns of results and all sequences of steps are tried.
-//! An iterator that is passed to a call is a `Claims` (`claims.rt`), which counts the calls of its
-//! methods. A new call changes one line of the counts in `checks.rt`.
+//! The file `closures.rt` determines what closures return, and `walks.rt` determines in which order
+//! items are taken from the two ends of an iterator. On lists of at most 6 items, all possibilities
+//! are tried. An iterator that is passed to a call is a `Claims` (`claims.rt`), which counts the
+//! calls of its methods. For a new call, one line of the expected counts in `checks.rt` changes.
 //!
 //! To add a growth rule, add an impl of `Ruled` (`thin_testing`) and a test. To add an item type,
-//! add an impl of `Sample` (`samples.rt`) and tests. A `Scope` (`sweep.rt`) names the shapes that a
-//! test sweeps. Each test makes so few calls that it ends within seconds.
+//! add an impl of `Sample` (`samples.rt`) and tests. A `Scope` (`sweep.rt`) says which lists a test
+//! uses. Each test makes so few calls that it finishes within seconds.
 #![tactic(auto)]
 
 #[cfg(test)]

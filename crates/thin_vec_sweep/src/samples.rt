@@ -1,5 +1,5 @@
-//! The item types of the swept lists: types of 0 to 512 bytes, a type whose values are counted, and
-//! lists.
+//! The types of the items in the lists under test: types of 0 to 512 bytes, a type whose values are
+//! counted, and a list type.
 ghost use Rattle.std.proofs.Common.{rules};
 ghost use Rattle.std.specs.Cmp.Rules.{comparing};
 ghost use Rattle.std.specs.Prelude.{◌==◌};
@@ -10,27 +10,29 @@ use std::process::Abort;
 use thin_testing::Refusing;
 use thin_vec::ThinVec;
 
-/// A type of items that are made from numbers. The number can be read from an item if the type has
-/// enough different values.
+/// A type whose values are made from numbers. If the type has enough values, the number can be
+/// recovered from the value.
 pub trait Sample: Clone + Drop + PartialEq {
     /// Whether the ledger counts the items and their clones.
     const IS_COUNTED: bool;
 
-    /// Whether each item owns a block of the ledger's allocator. If so, each clone makes a request.
+    /// Whether each item owns a block that the ledger's allocator has allocated. If so, cloning an
+    /// item makes one allocation request.
     const OWNS_BLOCK: bool;
 
-    /// How many bytes an item takes.
+    /// The size of an item in bytes.
     const SIZE: usize;
 
-    /// The greatest capacity that a block can have, worked out by hand. The size of a block is 16
-    /// bytes plus the size of its items, rounded up to the alignment of the block, and must be at
-    /// most `isize::MAX`. The alignment of a block is that of an item, but at least 8.
+    /// The greatest possible capacity of a list of such items, computed by hand. A block consists
+    /// of 16 bytes and the items. Its size is rounded up to its alignment, and must be at most
+    /// `isize::MAX`. The alignment of a block is the alignment of an item, but at least 8.
     const LIMIT: usize;
 
     /// Makes an item from `number`.
     fn nth<R: Abort>(rt: &R, ledger: &'static Ledger, number: u64) -> Self;
 
-    /// Returns the number from which the item was made, or what the type keeps of this number.
+    /// Returns the number from which the item was made. If the type has too few values for all
+    /// numbers, returns only what the item preserves of this number.
     fn kept_number(&self) -> u64;
 
     /// Returns what `kept_number` must return for the item that is made from `number`.
@@ -88,7 +90,7 @@ impl Sample for i32 {
 
     const LIMIT: usize = 2_305_843_009_213_693_946;
 
-    // Makes a negative item from an odd number.
+    // Makes a negative item if `number` is odd, and a positive item if `number` is even.
     fn nth<R: Abort>(_rt: &R, _ledger: &'static Ledger, number: u64) -> i32 {
         let magnitude = (number % 2_147_483_647) as i32;
         if number % 2 == 0 {
@@ -167,7 +169,7 @@ impl Sample for [u64; 64] {
         words
     }
 
-    // Returns the first word if the last word is equal to it, and `u64::MAX` otherwise.
+    // Returns the first of the 64 integers if it equals the last one, and `u64::MAX` otherwise.
     fn kept_number(&self) -> u64 {
         if self[0] == self[63] {
             self[0]
@@ -181,14 +183,15 @@ impl Sample for [u64; 64] {
     }
 }
 
-/// An item whose drops and clones the ledger counts.
+/// An item that the ledger counts until it is dropped. The ledger also counts the clones of such
+/// items.
 pub struct Counted {
     ledger: &'static Ledger,
     number: u64,
 }
 
 impl Counted {
-    /// Makes an item. The ledger counts it until it is dropped.
+    /// Makes an item from `number`. The ledger counts this item until it is dropped.
     pub fn new(ledger: &'static Ledger, number: u64) -> Counted {
         count(&ledger.standing);
         Counted { ledger, number }
@@ -241,7 +244,7 @@ impl Sample for Counted {
     }
 }
 
-/// A list that is used as an item. Cloning it makes a request to the ledger's allocator.
+/// A list that is the item of another list. Cloning such an item makes one allocation request.
 pub type Inner = ThinVec<u64, &'static Refusing<Global>>;
 
 impl Sample for Inner {

@@ -1,28 +1,28 @@
-//! The shapes of the swept lists. A shape is a length and a number of empty slots.
+//! The shapes of the lists under test. A shape consists of a length and a number of empty slots.
 
-/// How many items a list has, and how many empty slots.
+/// The shape of a list: the number of its items, and the number of its empty slots (the spare
+/// capacity).
 #[derive(Debug, Clone, Copy)]
 pub struct Shape {
     pub length: usize,
     pub spare: usize,
 }
 
-/// How many shapes there are, not counting the two longest.
+/// The number of list shapes that the tests use, without the two longest shapes.
 pub const SHAPES: usize = 110;
 
-/// How many shapes have at most 40 items. These shapes have the lowest numbers.
+/// The number of list shapes that have at most 40 items. Their numbers are `0..SHORT`.
 pub const SHORT: usize = 107;
 
-/// The number of the first of the two longest shapes, which have 100,000 items. Only some sweeps
-/// use these two shapes.
+/// The number of the first list shape that has 100,000 items. Only some tests use the two shapes of
+/// this length.
 pub const LONGEST: usize = SHAPES;
 
-/// How many shapes there are, counting the two longest.
+/// The number of all list shapes, including the two longest shapes.
 pub const ALL: usize = LONGEST + 2;
 
-// The numbers of items that are added to a list in different cases: `FEW` for lists of up to 4
-// items, `SOME` for up to 40 items, `MANY` for up to 10,000 items, and `MOST` for the longest
-// lists.
+// The numbers of items that a test adds to a list: `FEW` for lists of at most 4 items, `SOME` for
+// lists of 5 to 40 items, `MANY` for lists of 41 to 10,000 items, and `MOST` for longer lists.
 const FEW: [usize; 12] = [0, 1, 2, 3, 4, 5, 6, 7, 8, 9, 17, 100];
 
 const SOME: [usize; 4] = [0, 1, 9, 50];
@@ -31,14 +31,15 @@ const MANY: [usize; 2] = [1, 300];
 
 const MOST: [usize; 2] = [1, 100_000];
 
-/// For each k from 0 to 6: how many cases there are of a call on k items. On lists and ranges of at
-/// most 6 items, all of these cases are tried.
+/// For each number of items from 0 to 6, the number of test cases of a call on that many items. On
+/// a list of at most 6 items, all these test cases are run, either on the whole list or on each
+/// range.
 pub type Cases = [usize; 7];
 
-// How many ranges are tried on a list of more than 6 items.
+// The number of ranges that are tried on a list of more than 6 items.
 const RANGES: usize = 4;
 
-/// A range of a list, and the number of one of the cases that are tried on this range.
+/// A range of a list, and the number of a test case on this range.
 #[derive(Clone, Copy)]
 pub struct Ranged {
     pub start: usize,
@@ -47,16 +48,16 @@ pub struct Ranged {
 }
 
 impl Ranged {
-    /// Returns how many items there are in the range.
+    /// Returns the number of items in the range.
     pub fn width(self) -> usize {
         self.end.saturating_sub(self.start)
     }
 }
 
 impl Shape {
-    /// Returns the shape with the number `number`. The shapes are, in order: 0 to 4 items with 0 to
-    /// 4 empty slots, 0 to 40 items with 0 or 1 empty slots, three shapes of 2,000 to 10,000 items,
-    /// and 100,000 items with 1 or 0 empty slots.
+    /// Returns the shape with the number `number`. In order, the shapes have 0 to 4 items and 0 to
+    /// 4 empty slots; 0 to 40 items and 0 or 1 empty slots; 2,000 to 10,000 items (three shapes);
+    /// and 100,000 items (two shapes).
     pub fn nth(number: usize) -> Shape {
         if number < 25 {
             return Shape {
@@ -91,24 +92,25 @@ impl Shape {
         }
     }
 
-    // Returns whether there are more than 40 items.
+    // Returns whether the list has more than 40 items.
     fn is_long(self) -> bool {
         self.length > 40
     }
 
-    // Returns whether the list is so short that each index, and each number in `FEW`, is tried.
+    // Returns whether the list has at most 4 items. On such a list, the tests try each index and
+    // each number in `FEW`.
     fn is_small(self) -> bool {
         self.length < 5
     }
 
-    /// Returns how many cases there are at most for one argument: one with enough memory, and one
-    /// for each request that is refused. Only the first 49 requests are refused, and on a long list
-    /// only the first one.
+    /// Returns the maximum number of test cases for one argument: one with enough memory, and one
+    /// for each refused request. At most the first 49 requests are refused in turn. On a list of
+    /// more than 40 items, only the first request is refused.
     pub fn rounds(self) -> u64 {
         if self.is_long() { 2 } else { 50 }
     }
 
-    /// Returns how many of the indices from 0 to the length are tried.
+    /// Returns the number of indices, from 0 to the length, that a test tries.
     pub fn indices(self) -> usize {
         if self.is_small() {
             self.length.saturating_add(1)
@@ -117,7 +119,7 @@ impl Shape {
         }
     }
 
-    /// Returns the tried index with the number `number`.
+    /// Returns one of the indices that a test tries. `number` selects the index.
     pub fn index(self, number: usize) -> usize {
         if self.is_small() {
             return number;
@@ -130,20 +132,20 @@ impl Shape {
         }
     }
 
-    /// Returns the number of cases that are tried for a call on all items of the list. If the list
-    /// has at most 6 items, this number is taken from `cases`.
+    /// Returns the number of test cases of a call on the whole list. If the list has at most 6
+    /// items, `cases` contains this number.
     pub fn cases(self, cases: &Cases) -> usize {
         cases.get(self.length).copied().unwrap_or(self.some())
     }
 
-    // Returns how many cases are tried on a list of more than 6 items. This is 0 if there is spare
-    // room.
+    // Returns the number of test cases on a list of more than 6 items. It is 0 if the list has
+    // spare capacity.
     fn some(self) -> usize {
         self.alone(if self.is_long() { 2 } else { 20 })
     }
 
-    /// Returns the number of cases that are tried for a call on the items of a range. If the list
-    /// has at most 6 items, each case is tried on each range.
+    /// Returns the number of test cases of a call on a range of the list. If the list has at most 6
+    /// items, all cases are tried on all ranges.
     pub fn ranged_cases(self, cases: &Cases) -> usize {
         if self.length >= cases.len() {
             return self.some().saturating_mul(RANGES);
@@ -155,13 +157,13 @@ impl Shape {
         count
     }
 
-    // Returns how many ranges of `width` items the list has.
+    // Returns the number of ranges of `width` items in the list.
     fn ranges(self, width: usize) -> usize {
         self.length.saturating_add(1).saturating_sub(width)
     }
 
-    /// Returns the range and the case that `number` stands for. Each pair of a tried range and a
-    /// case on this range has a number.
+    /// Returns a range, and the number of a test case on this range. All such pairs are numbered
+    /// consecutively, and `number` selects one of them.
     pub fn ranged_case(self, cases: &Cases, number: usize) -> Ranged {
         if self.length >= cases.len() {
             return self.some_range(number % RANGES, number / RANGES);
@@ -182,8 +184,8 @@ impl Shape {
         self.some_range(0, number)
     }
 
-    // Returns the tried range with the number `range`, on a list of more than 6 items. `number` is
-    // the number of the case on this range.
+    // Returns one of the four ranges that are tried on a list of more than 6 items. `range` selects
+    // the range, and `number` is the number of a test case on this range.
     fn some_range(self, range: usize, number: usize) -> Ranged {
         let length = self.length;
         let (start, end) = match range {
@@ -195,13 +197,13 @@ impl Shape {
         Ranged { start, end, number }
     }
 
-    /// Returns `arguments` if there is no spare room, and 0 otherwise. This is for calls for which
-    /// the spare room does not matter.
+    /// Returns `arguments` if the list has no spare capacity, and 0 otherwise. This avoids
+    /// repeating a call whose result does not depend on the spare capacity.
     pub fn alone(self, arguments: usize) -> usize {
         if self.spare == 0 { arguments } else { 0 }
     }
 
-    /// Returns how many different numbers of added items are tried.
+    /// Returns how many different numbers of new items a test tries.
     pub fn counts(self) -> usize {
         if self.is_small() {
             12
@@ -212,7 +214,7 @@ impl Shape {
         }
     }
 
-    /// Returns the tried number of added items at the position `number`.
+    /// Returns one of the numbers of new items that a test tries. `number` selects one of them.
     pub fn count(self, number: usize) -> usize {
         let count = if self.is_small() {
             FEW.get(number)

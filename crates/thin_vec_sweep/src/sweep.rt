@@ -1,5 +1,5 @@
-//! How a call is swept: it is made on lists of each shape, with each argument, and with each
-//! request refused in turn.
+//! How a sweep tests a call. The call is made on many lists, with several arguments, and with each
+//! allocation request refused in turn.
 use crate::assertions::At;
 use crate::case::Case;
 use crate::ledger::Ledger;
@@ -9,32 +9,32 @@ use std::ops::Range;
 use std::process::Abort;
 use thin_testing::Ruled;
 
-/// The shapes of the lists that a test sweeps, and the counts of the test.
+/// The lists on which a test makes its calls, and the counters of the test.
 #[derive(Drop)]
 pub struct Scope {
-    /// The counts of the test.
+    /// The allocators and the counters of the test.
     pub ledger: &'static Ledger,
-    /// The numbers of the shapes that the lists have.
+    /// The shapes of the lists, as a range of shape numbers.
     pub shapes: Range<usize>,
 }
 
-/// A call that is swept, on lists of `T` under the growth rule `G`.
+/// A call that a sweep tests on lists of `T` with the growth rule `G`.
 pub trait Call<T: Sample, G: Ruled> {
     /// The name of the call in the message of a failed assertion.
     const NAME: &'static str;
 
-    /// Returns how many arguments are tried on a list of this shape.
+    /// Returns the number of arguments that are tried on a list of this shape.
     fn arguments(_shape: Shape) -> usize {
         1
     }
 
-    /// Makes the call on the list of the case, makes the same edit on the reference, and checks
-    /// what the call returned. The caller of `run` then compares the list with the reference.
+    /// Makes the call on the list of `case`, updates the expected values, and checks the return
+    /// value. The caller of `run` then compares the list with the expected values.
     fn run<R: Abort>(rt: &R, case: &mut Case<T, G>, argument: usize);
 }
 
-/// Sweeps the call `C` over the shapes of the scope. This function and `case` are never inlined.
-/// Otherwise, the sweeps of all calls for an item type would become one function, and compilation
+/// Tests the call `C` on lists of all shapes in `scope`. This function and `case` are never
+/// inlined. Otherwise, all sweeps for an item type would become one large function, and compilation
 /// would take far longer.
 #[inline(never)]
 pub fn sweep<C: Call<T, G>, T: Sample, G: Ruled, R: Abort>(rt: &R, scope: &Scope) {
@@ -46,8 +46,8 @@ pub fn sweep<C: Call<T, G>, T: Sample, G: Ruled, R: Abort>(rt: &R, scope: &Scope
     }
 }
 
-// Makes the call with enough memory. Then makes it again for each request that the call made, with
-// this request refused.
+// Makes the call once with enough memory. Then makes the call again for each of its allocation
+// requests, with that request refused. `shape.rounds()` limits the number of refused requests.
 fn each_refusal<C: Call<T, G>, T: Sample, G: Ruled, R: Abort>(
     rt: &R,
     ledger: &'static Ledger,
@@ -70,8 +70,8 @@ fn each_refusal<C: Call<T, G>, T: Sample, G: Ruled, R: Abort>(
     }
 }
 
-// Runs one case. Returns how many requests the call made, or 1 if the call was left out because it
-// would take too much memory.
+// Runs one test case. Returns the number of allocation requests of the call, or 1 if the call was
+// skipped because it would need too much memory.
 #[inline(never)]
 fn case<C: Call<T, G>, T: Sample, G: Ruled, R: Abort>(
     rt: &R,

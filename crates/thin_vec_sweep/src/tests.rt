@@ -1,4 +1,4 @@
-//! The sweeps of all item types, divided into tests that each end within seconds.
+//! The tests of all calls for all item types. Each test finishes within seconds.
 ghost use Rattle.std.specs.Mem.{type_size};
 ghost use Rattle.std.specs.Prelude.{◌*◌, ◌<◌, ◌^◌};
 
@@ -16,8 +16,8 @@ use std::process::Abort;
 use thin_testing::{Fourfold, Ruled, Threefold};
 use thin_vec::{Doubling, PowerBytes};
 
-// Returns a scope of all shapes except the two longest. If each item owns a block, the scope has
-// only the shapes of at most 40 items.
+// Selects the lists to test: all list shapes except the two longest. If each item owns a block,
+// only lists of at most 40 items are selected.
 fn all<T: Sample, R: Abort>(rt: &R, alloc: Global) -> Scope {
     let shapes = if T::OWNS_BLOCK { SHORT } else { SHAPES };
     Scope {
@@ -26,7 +26,7 @@ fn all<T: Sample, R: Abort>(rt: &R, alloc: Global) -> Scope {
     }
 }
 
-// Returns a scope of the shapes of at most 40 items.
+// Selects the lists to test: all list shapes of at most 40 items.
 fn short<R: Abort>(rt: &R, alloc: Global) -> Scope {
     Scope {
         ledger: Ledger::new(rt, alloc),
@@ -34,7 +34,7 @@ fn short<R: Abort>(rt: &R, alloc: Global) -> Scope {
     }
 }
 
-// Returns a scope of only the two longest shapes, which have 100,000 items.
+// Selects the lists to test: only the longest lists, which have 100,000 items.
 fn longest<R: Abort>(rt: &R, alloc: Global) -> Scope {
     Scope {
         ledger: Ledger::new(rt, alloc),
@@ -42,22 +42,22 @@ fn longest<R: Abort>(rt: &R, alloc: Global) -> Scope {
     }
 }
 
-// Asserts that a sweep ran at least `cases` cases, and that a request was refused in at least
-// `refusals` of them.
+// Asserts that at least `cases` cases were run, and that an allocation request was refused in at
+// least `refusals` of them.
 fn assert_swept<R: Abort>(rt: &R, scope: &Scope, cases: u64, refusals: u64) {
     let counted = scope.ledger.counted();
     let is_swept = counted.0 >= cases && counted.1 >= refusals;
     assert!(rt; is_swept, "cases, refusals, comparisons: {counted:?}");
 }
 
-// Sweeps the calls that may grow a list of `T`, under the growth rule `G`.
+// Tests calls that may grow a list of `T`, with the growth rule `G`.
 fn growths<T: Sample, G: Ruled, R: Abort>(rt: &R, alloc: Global) {
     let scope = all::<T, R>(rt, alloc);
     every_growth::<T, G, R>(rt, &scope);
     assert_swept(rt, &scope, 30_000, 5_000);
 }
 
-// Sweeps the calls that edit a list of `T` without growing it, and the calls that filter it.
+// Tests calls that edit a list of `T` without growing it, such as `pop` and `retain`.
 fn edits<T: Sample, G: Ruled, R: Abort>(rt: &R, alloc: Global) {
     let scope = all::<T, R>(rt, alloc);
     every_edit::<T, G, R>(rt, &scope);
@@ -65,8 +65,7 @@ fn edits<T: Sample, G: Ruled, R: Abort>(rt: &R, alloc: Global) {
     assert_swept(rt, &scope, 20_000, 400);
 }
 
-// Sweeps the calls that read or make a list of `T`, and the conversions between such lists and
-// arrays.
+// Tests calls that read or make a list of `T`, and the conversions between arrays and lists.
 fn readings<T: Sample, R: Abort>(rt: &R, alloc: Global)
     requires small { 6 * type_size T.row < 2 ^ 63 }
 {
@@ -77,7 +76,7 @@ fn readings<T: Sample, R: Abort>(rt: &R, alloc: Global)
     assert_swept(rt, &scope, 10_000, 1_000);
 }
 
-// Sweeps the same calls as `readings`, and the calls that copy the items of a list.
+// Tests the same calls as `readings`, and also calls that copy items instead of cloning them.
 fn readings_and_copies<T: Sample + Copy, R: Abort>(rt: &R, alloc: Global)
     requires small { 6 * type_size T.row < 2 ^ 63 }
 {
@@ -85,21 +84,21 @@ fn readings_and_copies<T: Sample + Copy, R: Abort>(rt: &R, alloc: Global)
     every_copying::<T, R>(rt, &all::<T, R>(rt, alloc));
 }
 
-// Sweeps the calls that replace a range of a list of `T`.
+// Tests calls that replace a range of a list of `T`, and calls that append items to spare capacity.
 fn replacings<T: Sample, G: Ruled, R: Abort>(rt: &R, alloc: Global) {
     let scope = short(rt, alloc);
     every_replacing::<T, G, R>(rt, &scope);
     assert_swept(rt, &scope, 10_000, 2_000);
 }
 
-// Sweeps the calls that replace a range of a list by copies.
+// Tests `replace_range_from_copies` and `extend_from_copies_reserved`.
 fn replacings_by_copies<T: Sample + Copy, R: Abort>(rt: &R, alloc: Global) {
     let scope = short(rt, alloc);
     every_replacing_by_copies::<T, Doubling, R>(rt, &scope);
     assert_swept(rt, &scope, 3_000, 500);
 }
 
-// Returns the number of the first shape of a scope, and the number after its last shape.
+// Returns the start and the end of the range of shape numbers in `scope`.
 fn ends(scope: &Scope) -> (usize, usize) {
     (scope.shapes.start, scope.shapes.end)
 }

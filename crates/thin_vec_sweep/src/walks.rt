@@ -1,27 +1,29 @@
-//! Walks: sequences of steps from both ends of an iterator, and the item that each step must yield.
+//! Walks over an iterator. A walk is a sequence of steps, each of which is a call of `next` or of
+//! `next_back`. This file also determines the item that each step must yield.
 use crate::shapes::Cases;
 
-/// For each k from 0 to 6: how many walks of at most k + 1 steps there are over k items.
+/// For each number of items `k` from 0 to 6, the number of walks of at most `k + 1` steps. Each
+/// step is from the front or from the back.
 pub const WALKS: Cases = [3, 7, 15, 31, 63, 127, 255];
 
-// The ends from which the steps over more than 6 items are taken, in four variants. Each bit stands
-// for one step: 1 is the back, and 0 is the front.
+// Four sequences of steps over more than 6 items. Each bit stands for one step: 1 is a step from
+// the back, and 0 is a step from the front.
 const ENDS: [u64; 4] = [0x5555_5555_5555_5555, u64::MAX, 0, 0xcccc_cccc_cccc_cccc];
 
-/// A sequence of steps. Each step is from the front or from the back.
+/// A sequence of steps. Each step takes an item from the front or from the back of an iterator.
 #[derive(Clone, Copy)]
 pub struct Walk {
-    /// How many steps there are.
+    /// The number of steps.
     pub steps: usize,
-    // The end from which each step is taken. Each bit stands for one step: 1 is the back, and 0 is
-    // the front.
+    // The direction of each step, as one bit: 1 is a step from the back, and 0 is a step from the
+    // front.
     ends: u64,
 }
 
 impl Walk {
-    /// Returns the walk with the number `number` over `count` items. Over at most 6 items, the
-    /// steps are the binary digits of `number + 1` after the first digit, so that each walk of up
-    /// to `count + 1` steps has a number.
+    /// Returns the walk with the number `number` over `count` items. If `count` is at most 6, the
+    /// steps are the binary digits of `number + 1` without the leading 1. Thus, each walk of at
+    /// most `count + 1` steps has a number.
     pub fn nth(count: usize, number: usize) -> Walk {
         if count >= WALKS.len() {
             return Walk {
@@ -39,7 +41,8 @@ impl Walk {
         }
     }
 
-    /// Returns a walk of `steps` steps that are all from the back, or all from the front.
+    /// Returns a walk of `steps` steps. All steps are from the back if `is_back` is true, and from
+    /// the front otherwise.
     pub fn one_way(steps: usize, is_back: bool) -> Walk {
         Walk {
             steps,
@@ -54,7 +57,7 @@ impl Walk {
 }
 
 /// Returns one of the five numbers of steps that are tried over `count` items, if `count` is
-/// greater than 6. `number`, from 0 to 4, tells which one.
+/// greater than 6. `number`, from 0 to 4, selects one of them.
 pub fn some_steps(count: usize, number: usize) -> usize {
     match number {
         0 => count / 2,
@@ -65,7 +68,7 @@ pub fn some_steps(count: usize, number: usize) -> usize {
     }
 }
 
-/// The range of the items that remain after steps from either end.
+/// The items that remain after some steps from the front and from the back, as a range of indices.
 #[derive(Drop)]
 pub struct Remaining {
     start: usize,
@@ -73,7 +76,7 @@ pub struct Remaining {
 }
 
 impl Remaining {
-    /// Returns the range of all `count` items.
+    /// Returns the range of all `count` items, before any step is taken.
     pub fn new(count: usize) -> Remaining {
         Remaining {
             start: 0,
@@ -81,8 +84,9 @@ impl Remaining {
         }
     }
 
-    /// Returns the number of the item that a step must yield, and removes the item from the range.
-    /// The step is from the back if `is_back` is true. `numbers` are the numbers of all items.
+    /// Removes the item that the next step must yield from the range, and returns the number of
+    /// this item. The step is from the back if `is_back` is true. `numbers` contains the numbers of
+    /// all items.
     pub fn take(&mut self, is_back: bool, numbers: &[u64]) -> Option<u64> {
         if self.start >= self.end {
             return None;

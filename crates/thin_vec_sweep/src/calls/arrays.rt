@@ -1,5 +1,5 @@
-//! Sweeps of the macro `thin_vec!` with a list of items, and of the conversions between lists and
-//! arrays.
+//! Tests of the macro `thin_vec!` with items that are written out, and of the conversions between
+//! lists and arrays.
 ghost use Rattle.std.specs.Mem.{type_size};
 ghost use Rattle.std.specs.Prelude.{◌*◌, ◌<◌, ◌^◌};
 
@@ -15,8 +15,8 @@ use std::process::Abort;
 use thin_testing::Refusing;
 use thin_vec::{Doubling, ThinVec, ThinVecError, thin_vec};
 
-/// Makes a list of one, two or three items by `thin_vec![alloc => x, y]` and by
-/// `thin_vec![in alloc; x, y]`. The number of items is the length of the shape.
+/// A test that makes a list of one, two or three items by `thin_vec![alloc => x, y]` or by
+/// `thin_vec![in alloc; x, y]`.
 pub struct Listed {}
 
 impl<T: Sample> Call<T, Doubling> for Listed {
@@ -47,8 +47,8 @@ impl<T: Sample> Call<T, Doubling> for Listed {
     }
 }
 
-// Returns a list of the first `count` of the items `x`, `y` and `z`, made by
-// `thin_vec![alloc => ..]`. `count` is 1, 2 or 3.
+// Calls `thin_vec![alloc => ..]` with the first `count` of the items `x`, `y` and `z`, and returns
+// the new list. `count` is 1, 2 or 3.
 fn written_out<T: Sample>(
     alloc: &'static Refusing<Global>,
     count: usize,
@@ -63,7 +63,8 @@ fn written_out<T: Sample>(
     }
 }
 
-// Returns the same list as `written_out`, but made by `thin_vec![in alloc; ..]`.
+// Calls `thin_vec![in alloc; ..]` with the first `count` of the items `x`, `y` and `z`, and returns
+// the new list. `count` is 1, 2 or 3.
 fn written_out_in<T: Sample>(
     alloc: &'static Refusing<Global>,
     count: usize,
@@ -78,7 +79,7 @@ fn written_out_in<T: Sample>(
     }
 }
 
-/// Sweeps `into_array` and `from_array`, with arrays of several lengths.
+/// Tests `into_array` and `from_array` with arrays of 0, 1, 2, 3 and 6 items.
 pub fn every_array<T: Sample, R: Abort>(rt: &R, scope: &Scope)
     requires small { 6 * type_size T.row < 2 ^ 63 }
 {
@@ -89,7 +90,7 @@ pub fn every_array<T: Sample, R: Abort>(rt: &R, scope: &Scope)
     arrays::<T, 6, R>(rt, scope.ledger);
 }
 
-// Sweeps `into_array` and `from_array` with arrays of N items, on each list of up to 6 items.
+// Tests `into_array` and `from_array` with arrays of `N` items, on lists of at most 6 items.
 fn arrays<T: Sample, const N: usize, R: Abort>(rt: &R, ledger: &'static Ledger)
     requires small { N * type_size T.row < 2 ^ 63 }
 {
@@ -110,8 +111,8 @@ fn arrays<T: Sample, const N: usize, R: Abort>(rt: &R, ledger: &'static Ledger)
     }
 }
 
-// Runs one case. If the list has N items, it must become an array, and the array must become a list
-// again. If the list has another length, `into_array` must return it unchanged.
+// Runs one test case. If the list has `N` items, it must become an array, and then a list again.
+// Otherwise, `into_array` must return the list unchanged.
 fn array<T: Sample, const N: usize, R: Abort>(rt: &R, ledger: &'static Ledger, at: At)
     requires small { N * type_size T.row < 2 ^ 63 }
 {
@@ -121,8 +122,8 @@ fn array<T: Sample, const N: usize, R: Abort>(rt: &R, ledger: &'static Ledger, a
     case.end(rt);
 }
 
-// Calls `into_array` on the list of the case, and `from_array` on the array that it becomes. Checks
-// what both calls return.
+// Calls `into_array` on the list under test. If the call returns an array, passes this array to
+// `from_array`. Checks the results of both calls.
 fn become_array<T: Sample, const N: usize, R: Abort>(rt: &R, case: &mut Case<T, Doubling>)
     requires small { N * type_size T.row < 2 ^ 63 }
 {
@@ -146,9 +147,9 @@ fn become_array<T: Sample, const N: usize, R: Abort>(rt: &R, case: &mut Case<T, 
     }
 }
 
-// Converts the list to an array of N items, and the array back to a list. Returns the list (or
-// `None` if the conversion back failed), whether the list became an array, and the result of the
-// conversion back.
+// Converts `list` to an array of `N` items, and the array back to a list. Returns the list, whether
+// the first conversion succeeded, and the result of the second conversion. If the second conversion
+// failed, `None` is returned instead of the list.
 fn there_and_back<T: Sample, A: Allocator, const N: usize, R: Abort>(
     rt: &R,
     at: &At,

@@ -1,5 +1,5 @@
-//! Sweeps of `resize` and `extend_from_within`, which clone items, and of `resize_with`, which
-//! calls a closure for each new item.
+//! Tests of `resize` and `extend_from_within`, which clone items, and of `resize_with`, which calls
+//! a closure for each new item.
 use crate::case::{Case, List, Verdict, numbers, source};
 use crate::closures::{ClosureCalls, number_at};
 use crate::samples::Sample;
@@ -9,11 +9,11 @@ use std::process::Abort;
 use thin_testing::Ruled;
 use thin_vec::ThinVecError;
 
-// The number from which the first new item is made.
+// Test items are made from numbers. This is the number of the first new item.
 const FRESH: u64 = 80_000;
 
-/// Calls `resize` with each tried index as the new length, and with the old length plus each tried
-/// number of new items.
+/// A test that calls `resize` with several new lengths. Some of them are at most the old length,
+/// and others are greater.
 pub struct Resize {}
 
 impl<T: Sample, G: Ruled> Call<T, G> for Resize {
@@ -37,9 +37,8 @@ impl<T: Sample, G: Ruled> Call<T, G> for Resize {
     }
 }
 
-// Returns the new length that `argument` stands for, and how many items the list gains. The first
-// arguments stand for the tried indices, with which the list gains no item. With each later
-// argument, the list gains one of the tried numbers of new items.
+// Returns the new length in the test case `argument`, and the number of items that are added. In
+// the first few test cases, the new length is at most the old length, so no item is added.
 fn length(shape: Shape, argument: usize) -> (usize, usize) {
     match argument.checked_sub(shape.indices()) {
         None => (shape.index(argument), 0),
@@ -50,8 +49,8 @@ fn length(shape: Shape, argument: usize) -> (usize, usize) {
     }
 }
 
-/// Calls `resize_with` with the same new lengths as `Resize`. The closure owns a vector; each call
-/// of the closure removes and returns the last item of this vector.
+/// A test that calls `resize_with` with the same new lengths as the test `Resize`. Each call of the
+/// closure removes the last item of a vector, and returns this item.
 pub struct ResizeWith {}
 
 impl<T: Sample, G: Ruled> Call<T, G> for ResizeWith {
@@ -79,8 +78,8 @@ impl<T: Sample, G: Ruled> Call<T, G> for ResizeWith {
     }
 }
 
-// Calls `resize_with`. The closure returns the items of `made`, the last one first, and counts its
-// calls in `closure_calls`.
+// Calls `resize_with`. The closure returns the items of `made` from last to first, and
+// `closure_calls` counts the calls of the closure.
 fn resize_with<T: Sample, G: Ruled, R: Abort>(
     rt: &R,
     list: &mut List<T, G>,
@@ -94,18 +93,20 @@ fn resize_with<T: Sample, G: Ruled, R: Abort>(
     })
 }
 
-// Appends the numbers of `more` new items to `case.items`, the last number first.
+// Appends `more` consecutive numbers to `case.items`, in descending order. The last of them is
+// `FRESH`.
 fn add_from_last<T: Sample, G: Ruled, R: Abort>(rt: &R, case: &mut Case<T, G>, more: usize) {
     let mut new = numbers(rt, case.ledger, FRESH, more);
     new.reverse();
     case.items.append(&mut new).expect(rt, "memory");
 }
 
-// How often each range of a list of at most 6 items is tried: once.
+// For each length of a range, from 0 to 6, the number of test cases on that range. Each range is
+// tried once.
 const EACH_RANGE: Cases = [1; 7];
 
-/// Calls `extend_from_within` with each range of a list of at most 6 items, and with four ranges of
-/// a longer list.
+/// A test that calls `extend_from_within` with each range of a list of at most 6 items, and with
+/// four ranges of a longer list.
 pub struct ExtendFromWithin {}
 
 impl<T: Sample, G: Ruled> Call<T, G> for ExtendFromWithin {

@@ -1,5 +1,5 @@
-//! Sweeps of the calls that compare, hash or print a list. Each result must be the same as for the
-//! slice of the items.
+//! Tests of comparing, hashing and printing lists. Each result must be the same as for the slice of
+//! the items.
 use crate::assertions::{At, assert_same};
 use crate::case::{Case, List, filled};
 use crate::samples::Sample;
@@ -12,8 +12,8 @@ use std::hash::{DefaultHasher, Hash, Hasher};
 use std::process::Abort;
 use thin_testing::Ruled;
 
-/// Compares the list of the case with a second list, which has the same items, a different last
-/// item, one item fewer, or one item more. Also hashes the list of the case.
+/// A test that compares a list with a second list, and hashes the first list. The second list has
+/// the same items, a different last item, one item fewer, or one item more.
 pub struct Compare {}
 
 impl<T: Sample + Ord + Hash + Debug, G: Ruled> Call<T, G> for Compare {
@@ -32,7 +32,8 @@ impl<T: Sample + Ord + Hash + Debug, G: Ruled> Call<T, G> for Compare {
     }
 }
 
-// Returns the list with which the list of the case is compared. `argument` tells how it differs.
+// Returns the second list, with which the list under test is compared. `argument` determines how
+// the two lists differ.
 fn other<T: Sample, G: Ruled, R: Abort>(rt: &R, case: &Case<T, G>, argument: usize) -> List<T, G> {
     let length = case.at.shape.length;
     let length = match argument {
@@ -49,8 +50,8 @@ fn other<T: Sample, G: Ruled, R: Abort>(rt: &R, case: &Case<T, G>, argument: usi
     other
 }
 
-// Asserts that `==`, `partial_cmp` and `cmp` have the same results for two lists as for their
-// slices.
+// Asserts that `==`, `partial_cmp` and `cmp` return the same results for two lists as for the
+// slices of their items.
 fn same_order<T: Sample + Ord, G: Ruled, R: Abort>(
     rt: &R,
     at: &At,
@@ -75,7 +76,7 @@ fn hash<H: Hash>(value: &H) -> u64 {
     hasher.finish()
 }
 
-/// Prints the list, and then the iterator that `into_iter` makes from it, by `{:?}` and `{:#?}`.
+/// A test that formats a list, and the iterator that `into_iter` returns, with `{:?}` and `{:#?}`.
 pub struct Print {}
 
 impl<T: Sample + Debug, G: Ruled> Call<T, G> for Print {
@@ -110,12 +111,14 @@ impl<T: Sample + Debug, G: Ruled> Call<T, G> for Print {
     }
 }
 
-// Returns the texts that an `IntoIter` over these items must print by `{:?}` and `{:#?}`.
+// Returns the expected text of an `IntoIter` over `items`, formatted with `{:?}` and then with
+// `{:#?}`.
 fn iter_text<D: Debug, R: Abort>(rt: &R, global: Global, items: &D) -> String {
     text(rt, global, &Told { items })
 }
 
-// A slice that is printed in the form in which an `IntoIter` over the same items must be printed.
+// A wrapper around a slice. Its `Debug` output is the expected `Debug` output of an `IntoIter` over
+// the same items.
 #[derive(Drop)]
 struct Told<'a, D> {
     items: &'a D,
@@ -127,7 +130,7 @@ impl<D: Debug> Debug for Told<'_, D> {
     }
 }
 
-// Returns the text of `value` by `{:?}`, a space, and the text of `value` by `{:#?}`.
+// Formats `value` with `{:?}` and with `{:#?}`, and returns both texts, separated by a space.
 fn text<D: Debug, R: Abort>(rt: &R, global: Global, value: &D) -> String {
     format!(in global; "{value:?} {value:#?}").expect(rt, "memory")
 }

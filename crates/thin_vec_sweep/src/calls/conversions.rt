@@ -1,4 +1,4 @@
-//! Sweeps of the calls that make a list, and of the calls that convert a list to another type.
+//! Tests of the calls that make a list, and of the calls that convert a list to another type.
 use crate::case::{Case, List, Verdict, numbers, put};
 use crate::samples::Sample;
 use crate::shapes::Shape;
@@ -10,10 +10,10 @@ use std::process::Abort;
 use thin_testing::{Refusing, Ruled};
 use thin_vec::{Doubling, Rejected, ThinVec, ThinVecError, thin_vec};
 
-// The number from which a new item is made.
+// Test items are made from numbers. This is the number of the new item.
 const FRESH: u64 = 70_000;
 
-// The type of the allocator of a case.
+// The allocator of the lists under test, which can refuse a request.
 type Lender = &'static Refusing<Global>;
 
 /// Calls `into_vec` and `into_boxed_slice`.
@@ -44,8 +44,8 @@ impl<T: Sample, G: Ruled> Call<T, G> for IntoOthers {
     }
 }
 
-// Converts the list to a `Vec`: by `into_vec` if `argument` is 0, and otherwise by
-// `into_boxed_slice`, followed by a conversion of the boxed slice to a `Vec`.
+// Converts `list` to a `Vec`. If `argument` is 0, calls `into_vec`. Otherwise, calls
+// `into_boxed_slice` and converts the boxed slice to a `Vec`.
 fn into_other<T: Sample, G: Ruled>(
     list: List<T, G>,
     alloc: Lender,
@@ -60,7 +60,8 @@ fn into_other<T: Sample, G: Ruled>(
     }
 }
 
-/// Calls `mem::try_take`, which leaves an empty list without a block, and makes no request.
+/// A test that calls `mem::try_take`. The call must leave an empty list of capacity 0, and must
+/// make no allocation request.
 pub struct TryTake {}
 
 impl<T: Sample, G: Ruled> Call<T, G> for TryTake {
@@ -78,8 +79,8 @@ impl<T: Sample, G: Ruled> Call<T, G> for TryTake {
     }
 }
 
-// Moves the items of the list of the case to a `Vec` on the same allocator, and reserves room for
-// `spare` more items in the `Vec`. The case then has an empty list.
+// Converts the list under test to a `Vec`, and reserves room for `spare` more items in the `Vec`.
+// Leaves an empty list in `case`.
 fn vec_of<T: Sample, R: Abort>(
     rt: &R,
     case: &mut Case<T, Doubling>,
@@ -91,8 +92,8 @@ fn vec_of<T: Sample, R: Abort>(
     items
 }
 
-/// Calls `from_vec` with a `Vec` whose spare room is at least that of the shape. Also calls
-/// `from_boxed_slice`.
+/// A test that calls `from_vec` with vectors of various lengths and spare capacities. For each
+/// length, the test also calls `from_boxed_slice`.
 pub struct FromOthers {}
 
 impl<T: Sample> Call<T, Doubling> for FromOthers {
@@ -121,8 +122,8 @@ impl<T: Sample> Call<T, Doubling> for FromOthers {
     }
 }
 
-// Converts a `Vec` to a list: by `from_vec` if `argument` is 0, and otherwise by
-// `from_boxed_slice`.
+// Converts `items` to a list. Calls `from_vec` if `argument` is 0, and `from_boxed_slice`
+// otherwise.
 fn from_other<T: Sample>(
     items: Vec<T, Lender>,
     alloc: Lender,
@@ -140,8 +141,8 @@ fn from_other<T: Sample>(
     }
 }
 
-/// Calls `from_str` on two texts. The number of letters in each text is the length of the shape.
-/// Each letter takes one byte in the first text, and two bytes in the second.
+/// A test that calls `from_str` with two texts. Both texts have the same number of letters, but
+/// each letter takes one byte in the first text, and two bytes in the second text.
 pub struct FromStr {}
 
 impl Call<u8, Doubling> for FromStr {
@@ -171,7 +172,7 @@ fn letters<R: Abort>(rt: &R, global: Global, letter: &str, count: usize) -> Stri
     text
 }
 
-// Returns each byte as a `u64`.
+// Converts each byte to a `u64`, and returns a vector of the results.
 fn numbers_of<R: Abort>(rt: &R, global: Global, bytes: &[u8]) -> Vec<u64, Global> {
     let mut numbers = Vec::new(global);
     for byte in bytes {
@@ -180,8 +181,8 @@ fn numbers_of<R: Abort>(rt: &R, global: Global, bytes: &[u8]) -> Vec<u64, Global
     numbers
 }
 
-/// Calls `with_capacity` with the length of the shape, with the greatest capacity that fits, with
-/// the next greater number, and with further great numbers up to `usize::MAX`.
+/// A test that calls `with_capacity` with an ordinary capacity, with the greatest possible
+/// capacity, and with other large numbers.
 pub struct WithCapacity {}
 
 impl<T: Sample> Call<T, Doubling> for WithCapacity {
@@ -215,8 +216,8 @@ impl<T: Sample> Call<T, Doubling> for WithCapacity {
     }
 }
 
-/// Calls `thin_vec![alloc => x; k]` and `thin_vec![in alloc; x; k]` with the length of the shape as
-/// k.
+/// A test that makes a list of `k` equal items by `thin_vec![alloc => x; k]` and by
+/// `thin_vec![in alloc; x; k]`, for several numbers `k`.
 pub struct Repeated {}
 
 impl<T: Sample> Call<T, Doubling> for Repeated {
@@ -243,15 +244,15 @@ impl<T: Sample> Call<T, Doubling> for Repeated {
             case.items.resize(count, FRESH).expect(rt, "memory");
         }
         if verdict == Verdict::NoClone {
-            // If a clone fails, the new list is dropped and its block is freed. The case keeps its
+            // If a clone fails, the new list is dropped. The test case then still contains its old,
             // empty list, whose capacity is 0.
             case.capacity = 0;
         }
     }
 }
 
-/// Calls `new`, `default_in`, `made_with`, `emptied`, `thin_vec![alloc =>]` and
-/// `thin_vec![in alloc]`.
+/// A test of six ways to make an empty list: `new`, `default_in`, `made_with`, `emptied`,
+/// `thin_vec![alloc =>]` and `thin_vec![in alloc]`.
 pub struct New {}
 
 impl<T: Sample> Call<T, Doubling> for New {
@@ -279,8 +280,8 @@ impl<T: Sample> Call<T, Doubling> for New {
     }
 }
 
-/// Checks the result of a call that makes a list. If the call succeeded, the new list becomes the
-/// list of the case.
+/// Checks the result of a call that makes a list. If the call succeeded, stores the new list in
+/// `case`.
 pub fn made<T: Sample, R: Abort>(
     rt: &R,
     case: &mut Case<T, Doubling>,

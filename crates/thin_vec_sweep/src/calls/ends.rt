@@ -1,6 +1,6 @@
-//! Sweeps of the calls that add or remove one item, and of the calls that remove all items from an
-//! index on: `push`, `push_mut`, `push_reserved`, `pop`, `insert`, `insert_mut`, `insert_reserved`,
-//! `remove`, `swap_remove`, `truncate`, `clear`.
+//! Tests of the calls that add or remove one item (`push`, `push_mut`, `push_reserved`, `pop`,
+//! `insert`, `insert_mut`, `insert_reserved`, `remove`, `swap_remove`), and of `truncate` and
+//! `clear`.
 use crate::case::{Case, Verdict, put};
 use crate::samples::Sample;
 use crate::shapes::Shape;
@@ -10,11 +10,11 @@ use std::process::Abort;
 use thin_testing::Ruled;
 use thin_vec::Rejected;
 
-// The number from which the new item is made.
+// Test items are made from numbers. This is the number of the new item.
 const FRESH: u64 = 70_000;
 
-// The number from which the item passed to `push_mut` or `insert_mut` is made. This item is then
-// swapped with the new item.
+// Test items are made from numbers. This is the number of the item that is passed to `push_mut` or
+// `insert_mut`. After the call, the test replaces this item by the item with the number `FRESH`.
 const PASSED: u64 = 71_000;
 
 /// Calls `push`.
@@ -34,7 +34,7 @@ impl<T: Sample, G: Ruled> Call<T, G> for Push {
     }
 }
 
-/// Calls `push_mut`, and swaps the pushed item with another one through the returned reference.
+/// A test that calls `push_mut`, and then replaces the pushed item through the returned reference.
 pub struct PushMut {}
 
 impl<T: Sample, G: Ruled> Call<T, G> for PushMut {
@@ -55,9 +55,9 @@ impl<T: Sample, G: Ruled> Call<T, G> for PushMut {
     }
 }
 
-// Checks a call that adds an item at `index` and returns a reference to it. If the call succeeded,
-// the added item was then swapped with the item in `hand`. If the call failed, it must have
-// returned the item.
+// Checks the result of `push_mut` or `insert_mut` at `index`. If the call succeeded, `hand` must be
+// the item that was passed to the call, because the test has swapped it with another item. If the
+// call failed, the call must have returned the passed item.
 fn lent<T: Sample, G: Ruled, R: Abort>(
     rt: &R,
     case: &mut Case<T, G>,
@@ -75,7 +75,7 @@ fn lent<T: Sample, G: Ruled, R: Abort>(
     }
 }
 
-/// Calls `push_reserved` if there is spare room.
+/// A test that calls `push_reserved` on lists that have spare capacity.
 pub struct PushReserved {}
 
 impl<T: Sample, G: Ruled> Call<T, G> for PushReserved {
@@ -95,7 +95,7 @@ impl<T: Sample, G: Ruled> Call<T, G> for PushReserved {
     }
 }
 
-/// Calls `insert` at each tried index.
+/// A test that calls `insert` at several indices.
 pub struct Insert {}
 
 impl<T: Sample, G: Ruled> Call<T, G> for Insert {
@@ -119,8 +119,8 @@ impl<T: Sample, G: Ruled> Call<T, G> for Insert {
     }
 }
 
-/// Calls `insert_mut` at each tried index, and swaps the inserted item with another one through the
-/// returned reference.
+/// A test that calls `insert_mut` at several indices, and then replaces the inserted item through
+/// the returned reference.
 pub struct InsertMut {}
 
 impl<T: Sample, G: Ruled> Call<T, G> for InsertMut {
@@ -148,7 +148,7 @@ impl<T: Sample, G: Ruled> Call<T, G> for InsertMut {
     }
 }
 
-/// Calls `insert_reserved` at each tried index if there is spare room.
+/// A test that calls `insert_reserved` at several indices of lists that have spare capacity.
 pub struct InsertReserved {}
 
 impl<T: Sample, G: Ruled> Call<T, G> for InsertReserved {
@@ -171,7 +171,7 @@ impl<T: Sample, G: Ruled> Call<T, G> for InsertReserved {
     }
 }
 
-/// Calls `pop`, which returns the last item, if there is one.
+/// A test that calls `pop`. The call must return the last item, if there is one.
 pub struct Pop {}
 
 impl<T: Sample, G: Ruled> Call<T, G> for Pop {
@@ -185,7 +185,7 @@ impl<T: Sample, G: Ruled> Call<T, G> for Pop {
     }
 }
 
-/// Calls `remove` at each tried index that has an item.
+/// A test that calls `remove` at several valid indices.
 pub struct Remove {}
 
 impl<T: Sample, G: Ruled> Call<T, G> for Remove {
@@ -208,7 +208,7 @@ impl<T: Sample, G: Ruled> Call<T, G> for Remove {
     }
 }
 
-/// Calls `swap_remove` at each tried index that has an item.
+/// A test that calls `swap_remove` at several valid indices.
 pub struct SwapRemove {}
 
 impl<T: Sample, G: Ruled> Call<T, G> for SwapRemove {
@@ -231,7 +231,8 @@ impl<T: Sample, G: Ruled> Call<T, G> for SwapRemove {
     }
 }
 
-/// Calls `truncate` with each tried index, with the length plus one, and with `usize::MAX`.
+/// A test that calls `truncate` with several numbers up to the length of the list, with the length
+/// plus one, and with `usize::MAX`.
 pub struct Truncate {}
 
 impl<T: Sample, G: Ruled> Call<T, G> for Truncate {
@@ -254,7 +255,7 @@ impl<T: Sample, G: Ruled> Call<T, G> for Truncate {
     }
 }
 
-/// Calls `clear`, which drops all items.
+/// A test that calls `clear`, which removes all items.
 pub struct Clear {}
 
 impl<T: Sample, G: Ruled> Call<T, G> for Clear {

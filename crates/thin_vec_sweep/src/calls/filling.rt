@@ -1,6 +1,6 @@
-//! Sweeps of the calls that move the items of an iterator into a list, such as `extend` and
-//! `from_iter`. The size hint of the iterator is too small, exact, too great, or greater than every
-//! capacity.
+//! Tests of the calls that fill a list from an iterator, such as `extend` and `from_iter`. The
+//! lower bound of the iterator's size hint is too small, exact, too large, or even greater than the
+//! greatest possible capacity.
 use crate::assertions::assert_same;
 use crate::case::{Case, Verdict, numbers, put, source};
 use crate::claims::Claims;
@@ -14,15 +14,15 @@ use std::process::Abort;
 use thin_testing::Ruled;
 use thin_vec::{Doubling, ThinVec};
 
-// The number from which the first new item is made. Each further new item is made from the next
-// lower number.
+// Test items are made from numbers. This is the number of the first item that the iterator yields.
+// Each further item is made from the next lower number.
 const FRESH: u64 = 800_000;
 
-// How many size hints are tried.
+// The number of size hints that are tried.
 const HINTS: usize = 10;
 
-// Returns the tried size hint with the number `number`. The iterator has `count` items, and the
-// list has `length` items.
+// Returns a lower bound for the size hint of an iterator over `count` items. `number` selects one
+// of several bounds, and `length` is the length of the list.
 fn hint<T: Sample>(number: usize, count: usize, length: usize) -> usize {
     match number {
         0 => 0,
@@ -38,26 +38,27 @@ fn hint<T: Sample>(number: usize, count: usize, length: usize) -> usize {
     }
 }
 
-/// How a call that fills a list from an iterator must end.
+/// The expected outcome of a call that fills a list from an iterator.
 #[derive(Drop)]
 pub struct Ending {
     pub verdict: Verdict,
-    /// How many items are moved into the list.
+    /// The number of items that are moved into the list.
     pub placed: usize,
-    /// How many items are taken from the iterator and held back in a vector, instead of being moved
-    /// into the list.
+    /// The number of items that are taken from the iterator but stored in a temporary vector, not
+    /// in the list.
     pub held: usize,
-    /// How many items are in hand, that is, taken from the iterator but stored nowhere: 0 or 1.
+    /// The number of items for which no room is found after they are taken from the iterator: 0 or
+    /// 1. Such an item is called an item in hand.
     pub in_hand: usize,
-    /// How often the iterator returns `None`: once or never.
+    /// The number of times the iterator returns `None`: 0 or 1.
     pub ends: usize,
-    /// How often `size_hint` is called.
+    /// The number of times `size_hint` is called.
     pub hints: u64,
 }
 
 impl Ending {
-    /// Returns the ending of a call that fails after it has moved `placed` items into the list.
-    /// `in_hand` items (0 or 1) are then in hand.
+    /// Returns the expected outcome of a call that fails after it has moved `placed` items into the
+    /// list. `in_hand` is 1 if the call has taken one more item from the iterator, and 0 otherwise.
     pub fn refused(verdict: Verdict, placed: usize, in_hand: usize) -> Ending {
         Ending {
             verdict,
@@ -69,8 +70,8 @@ impl Ending {
         }
     }
 
-    /// Returns the ending of a call that succeeds. It moves all items of the iterator, which are
-    /// `placed` items, into the list.
+    /// Returns the expected outcome of a call that succeeds and moves all `placed` items of the
+    /// iterator into the list.
     pub fn done(placed: usize) -> Ending {
         Ending {
             verdict: Verdict::Done,
@@ -82,7 +83,7 @@ impl Ending {
         }
     }
 
-    // Returns how many items are taken from the iterator.
+    // Returns the number of items that are taken from the iterator.
     fn drawn(&self) -> usize {
         self.placed
             .saturating_add(self.held)
@@ -90,9 +91,9 @@ impl Ending {
     }
 }
 
-/// Returns how a call that appends `count` items must end, and makes the same change to
-/// `case.items`. The call first grows the list to the capacity `hinted`, because of the size hint.
-/// Then it grows the list whenever there is no room for the next item.
+/// Returns the expected outcome of a call that appends `count` items from an iterator. Also appends
+/// the expected items to `case.items`. Because of the size hint, the call first grows the list to
+/// the capacity `hinted`. After this, it grows the list whenever the list is full.
 pub fn fill<T: Sample, G: Ruled, R: Abort>(
     rt: &R,
     case: &mut Case<T, G>,
@@ -116,8 +117,8 @@ pub fn fill<T: Sample, G: Ruled, R: Abort>(
     Ending::done(count)
 }
 
-/// Returns the numbers of the `count` items that the iterator yields after its first `before`
-/// items, in order.
+/// Returns the numbers of the items that the iterator yields at the positions
+/// `before..before + count`.
 pub fn coming<R: Abort>(
     rt: &R,
     ledger: &'static Ledger,
@@ -132,7 +133,7 @@ pub fn coming<R: Abort>(
     numbers
 }
 
-/// Asserts that the call called `next` and `size_hint` of the iterator as often as `ending` says.
+/// Asserts that `next` and `size_hint` of the iterator were called as many times as `ending` says.
 pub fn assert_iterator_calls<T: Sample, G: Ruled, R: Abort>(
     rt: &R,
     case: &Case<T, G>,
@@ -149,8 +150,8 @@ pub fn assert_iterator_calls<T: Sample, G: Ruled, R: Abort>(
     );
 }
 
-/// Asserts that a failed call returned the item in hand, if `ending` has one, and the iterator with
-/// all items that were not taken from it. The iterator had `count` items at first.
+/// Asserts that a failed call returned the item for which it found no room, if there is one, and
+/// the iterator with all its remaining items. The iterator had `count` items before the call.
 pub fn back<T: Sample, G: Ruled, R: Abort>(
     rt: &R,
     case: &Case<T, G>,
@@ -170,8 +171,8 @@ pub fn back<T: Sample, G: Ruled, R: Abort>(
     case.assert_items(rt, items.as_slice(), numbers.as_slice());
 }
 
-/// Returns an iterator over `count` items, which are made from `FRESH` and the next lower numbers.
-/// The lower bound of its size hint is `lower`.
+/// Returns an iterator over `count` items. They are made from `FRESH` and the next lower numbers,
+/// in this order. The lower bound of the iterator's size hint is `lower`.
 pub fn claims<T: Sample, G: Ruled, R: Abort>(
     rt: &R,
     case: &Case<T, G>,
@@ -182,8 +183,8 @@ pub fn claims<T: Sample, G: Ruled, R: Abort>(
     Claims::new(source(rt, case.ledger, last, count), lower, case.ledger)
 }
 
-/// Calls `extend` with each tried number of items and each tried size hint. A failed call must
-/// return all items that it did not append.
+/// A test that calls `extend` with iterators of several lengths and several size hints. A failed
+/// call must return all items that it did not append.
 pub struct Extend {}
 
 impl<T: Sample, G: Ruled> Call<T, G> for Extend {
@@ -210,8 +211,8 @@ impl<T: Sample, G: Ruled> Call<T, G> for Extend {
     }
 }
 
-/// Calls the method `extend` of the trait `Extend` of `std`. If it fails, it drops the items that
-/// it did not append.
+/// A test that calls `extend` of the trait `std::iter::Extend`. If this call fails, it must drop
+/// the items that it did not append.
 pub struct ExtendAsTrait {}
 
 impl<T: Sample, G: Ruled> Call<T, G> for ExtendAsTrait {
@@ -232,7 +233,8 @@ impl<T: Sample, G: Ruled> Call<T, G> for ExtendAsTrait {
     }
 }
 
-// Asserts that a call succeeded (`is_done`) if and only if `ending` says that it must succeed.
+// Asserts that the call succeeded if `ending` says so, and failed otherwise. `is_done` says whether
+// the call succeeded.
 fn done<T: Sample, G: Ruled, R: Abort>(rt: &R, case: &Case<T, G>, ending: &Ending, is_done: bool) {
     assert_same(
         rt,
@@ -243,8 +245,8 @@ fn done<T: Sample, G: Ruled, R: Abort>(rt: &R, case: &Case<T, G>, ending: &Endin
     );
 }
 
-// Returns the iterator whose items are appended to the list of the case, the number of these items,
-// and how the call must end. Returns `None` if the call would take too much memory.
+// Returns an iterator whose items are to be appended, the number of these items, and the expected
+// outcome of the call. Returns `None` if the call would need too much memory.
 fn extension<T: Sample, G: Ruled, R: Abort>(
     rt: &R,
     case: &mut Case<T, G>,
@@ -262,8 +264,7 @@ fn extension<T: Sample, G: Ruled, R: Abort>(
     Some((claims, count, ending))
 }
 
-/// Calls `from_iter` with each tried size hint. The number of items in the iterator is the length
-/// of the shape.
+/// A test that calls `from_iter` with iterators of several lengths and several size hints.
 pub struct FromIter {}
 
 impl<T: Sample> Call<T, Doubling> for FromIter {
@@ -295,8 +296,8 @@ impl<T: Sample> Call<T, Doubling> for FromIter {
     }
 }
 
-/// Calls the method `collect` of `std`, which calls `from_iter`. If it fails, it drops the items
-/// that it collected.
+/// A test that calls the method `collect` of `Iterator`, which calls `from_iter`. If `collect`
+/// fails, it must drop the items that it has collected.
 pub struct Collect {}
 
 impl<T: Sample> Call<T, Doubling> for Collect {
@@ -326,9 +327,8 @@ impl<T: Sample> Call<T, Doubling> for Collect {
     }
 }
 
-// Drops the list of the case. Returns an iterator whose number of items is the length of the shape,
-// and how a call must end that makes a list from this iterator. Returns `None` if the call would
-// take too much memory.
+// Drops the list under test. Returns an iterator, and the expected outcome of a call that makes a
+// list from this iterator. Returns `None` if the call would need too much memory.
 fn collection<T: Sample, R: Abort>(
     rt: &R,
     case: &mut Case<T, Doubling>,

@@ -1,5 +1,5 @@
-//! Sweeps of the calls that test items and remove some of them, such as `retain` and `dedup`. Each
-//! closure checks that it is called with the right items, in order.
+//! Tests of the calls that remove some of the items, such as `retain` and `dedup`. Each closure
+//! checks that it is called with the expected items, in order.
 use crate::case::{Case, put};
 use crate::closures::{ClosureCalls, PATTERNS, number_at, stays};
 use crate::samples::{Counted, Sample};
@@ -11,10 +11,10 @@ use std::mem;
 use std::process::Abort;
 use thin_testing::Ruled;
 
-// The number from which a new item is made.
+// Test items are made from numbers. This is the number of the new item.
 const FRESH: u64 = 70_000;
 
-/// Calls `retain`. The closure only reads the items.
+/// A test that calls `retain`. The closure only reads the items.
 pub struct Retain {}
 
 impl<T: Sample, G: Ruled> Call<T, G> for Retain {
@@ -38,8 +38,8 @@ impl<T: Sample, G: Ruled> Call<T, G> for Retain {
     }
 }
 
-// Returns the numbers of the items that stay in a list of `count` items, if the closure returns the
-// results of the pattern with the number `pattern`.
+// Returns the numbers of the items that remain in a list of `count` items after `retain`. `pattern`
+// determines which items the closure keeps.
 fn kept<R: Abort>(rt: &R, global: Global, count: usize, pattern: usize) -> Vec<u64, Global> {
     let mut left = Vec::new(global);
     for index in 0..count {
@@ -50,8 +50,8 @@ fn kept<R: Abort>(rt: &R, global: Global, count: usize, pattern: usize) -> Vec<u
     left
 }
 
-/// Calls `retain_mut`. The closure swaps each item into the place of the next one, and a new item
-/// into the place of the first one.
+/// A test that calls `retain_mut`. The closure replaces the first item by a new item, and each
+/// later item by the item before it.
 pub struct RetainMut {}
 
 impl<T: Sample, G: Ruled> Call<T, G> for RetainMut {
@@ -79,9 +79,9 @@ impl<T: Sample, G: Ruled> Call<T, G> for RetainMut {
     }
 }
 
-// Returns the numbers of the items that are left after a sweep of `retain_mut` on `count` items.
-// Its closure moves each item to the next place, and a new item to the first place. `pattern` tells
-// which places are kept.
+// Returns the numbers of the items that remain after the test `RetainMut` on `count` items. The
+// closure replaces the first item by a new item, and each later item by the item before it.
+// `pattern` determines which indices are kept.
 fn moved_up<R: Abort>(rt: &R, global: Global, count: usize, pattern: usize) -> Vec<u64, Global> {
     let mut left = Vec::new(global);
     let mut number = FRESH;
@@ -94,9 +94,9 @@ fn moved_up<R: Abort>(rt: &R, global: Global, count: usize, pattern: usize) -> V
     left
 }
 
-/// Calls `pop_if`. The closure owns a new item, and swaps it with the last item of the list. The
-/// closure then owns the old last item, which is dropped with the closure. The closure returns
-/// whether the new item is removed from the list.
+/// A test that calls `pop_if`. The closure owns a new item, and swaps it with the last item of the
+/// list. The old last item is then dropped together with the closure. The closure returns `true` in
+/// one case, and `false` in the other.
 pub struct PopIf {}
 
 impl<T: Sample, G: Ruled> Call<T, G> for PopIf {
@@ -125,9 +125,9 @@ impl<T: Sample, G: Ruled> Call<T, G> for PopIf {
     }
 }
 
-// Makes the change of `PopIf` to the numbers of the items: replaces the last number, if there is
-// one, by the number of the new item. If `goes` is true, removes the new number again and returns
-// it.
+// Updates `items`, the numbers of the expected items, for the test `PopIf`. Replaces the last
+// number, if there is one, by the number of the new item. If `goes` is true, removes and returns
+// the new number.
 fn popped<R: Abort>(rt: &R, items: &mut Vec<u64, Global>, goes: bool) -> Option<u64> {
     let _last = items.pop()?;
     if goes {
@@ -137,7 +137,7 @@ fn popped<R: Abort>(rt: &R, items: &mut Vec<u64, Global>, goes: bool) -> Option<
     None
 }
 
-/// Calls `dedup_by`. The closure swaps its two items.
+/// A test that calls `dedup_by`. The closure swaps its two items.
 pub struct DedupBy {}
 
 impl<T: Sample, G: Ruled> Call<T, G> for DedupBy {
@@ -168,9 +168,9 @@ impl<T: Sample, G: Ruled> Call<T, G> for DedupBy {
     }
 }
 
-// Returns the numbers of the items that are left after a sweep of `dedup_by` on `count` items. Its
-// closure swaps each later item with the item that was kept last. If the pattern keeps the place of
-// the later item, the item that was kept last is now in this place.
+// Returns the numbers of the items that remain after the test `DedupBy` on `count` items. The
+// closure swaps each item with the last item that was kept. Then `pattern` determines whether the
+// item at the later index is removed.
 fn exchanged<R: Abort>(rt: &R, global: Global, count: usize, pattern: usize) -> Vec<u64, Global> {
     let mut left = Vec::new(global);
     let mut last = number_at(0);
@@ -187,9 +187,9 @@ fn exchanged<R: Abort>(rt: &R, global: Global, count: usize, pattern: usize) -> 
     left
 }
 
-/// Calls `dedup_by_key`. For each later item, the closure is called twice. It returns the key 1 for
-/// the later item. For the item that was kept last, it returns 1 if the later item is to be
-/// removed, and 0 otherwise. The ledger counts the keys until they are dropped.
+/// A test that calls `dedup_by_key`, which compares the key of each item with the key of the last
+/// kept item. The first key is always 1. The second key is 1 if the item is to be removed, and 0
+/// otherwise. The test detects keys that are not dropped.
 pub struct DedupByKey {}
 
 impl<T: Sample, G: Ruled> Call<T, G> for DedupByKey {
@@ -225,8 +225,8 @@ impl<T: Sample, G: Ruled> Call<T, G> for DedupByKey {
     }
 }
 
-// Returns the numbers of the items that stay in a list of `count` items, if the first item always
-// stays, and `pattern` tells which later items stay.
+// Returns the numbers of the items that remain after the test `DedupByKey` on `count` items. The
+// first item always remains, and `pattern` determines which later items remain.
 fn first_kept<R: Abort>(rt: &R, global: Global, count: usize, pattern: usize) -> Vec<u64, Global> {
     let mut left = Vec::new(global);
     for index in 0..count {
@@ -237,8 +237,8 @@ fn first_kept<R: Abort>(rt: &R, global: Global, count: usize, pattern: usize) ->
     left
 }
 
-/// Calls `dedup` on a list in which each item that is to be removed was made equal to the item
-/// before it.
+/// A test that calls `dedup`. Before the call, each item that is to be removed is made equal to the
+/// item before it.
 pub struct Dedup {}
 
 impl<T: Sample + PartialEq, G: Ruled> Call<T, G> for Dedup {

@@ -1,4 +1,5 @@
-//! Sweeps of `into_iter`, with steps from both ends of the iterator, and of cloning the iterator.
+//! Tests of `into_iter`. They take items from both ends of the returned iterator, or clone the
+//! iterator.
 use crate::assertions::{At, assert_same, assert_same_item, assert_same_items};
 use crate::case::Case;
 use crate::samples::Sample;
@@ -11,11 +12,11 @@ use std::process::Abort;
 use thin_testing::Ruled;
 use thin_vec::Growth;
 
-// The number from which a new item is made.
+// Test items are made from numbers. This is the number of the new item.
 const FRESH: u64 = 70_000;
 
-// Returns how many different numbers of steps are tried. On a list of at most 4 items, each number
-// from 0 to the length plus 2 is tried.
+// Returns how many different numbers of steps are tried before the iterator is cloned. On a list of
+// at most 4 items, these numbers are `0..=length + 2`.
 fn steps(shape: Shape) -> usize {
     shape.indices().saturating_add(2)
 }
@@ -27,8 +28,9 @@ fn step(shape: Shape, number: usize) -> usize {
     }
 }
 
-/// Calls `into_iter`, takes some steps, and checks the items that remain. Then swaps the first of
-/// these items with a new item, takes one more step, and drops the rest.
+/// A test that calls `into_iter`, takes some items from both ends of the iterator, and checks the
+/// remaining items. The test then replaces the first remaining item, calls `next` once more, and
+/// drops the iterator.
 pub struct IntoIter {}
 
 impl<T: Sample, G: Ruled> Call<T, G> for IntoIter {
@@ -58,8 +60,8 @@ impl<T: Sample, G: Ruled> Call<T, G> for IntoIter {
     }
 }
 
-// Asserts that the items remaining in `rest` are made from `numbers`, and that `len` and
-// `size_hint` return how many items remain.
+// Asserts that `rest` still contains the items that are made from `numbers`, and that `len` and
+// `size_hint` return the number of these items.
 fn remains<T: Sample, A: Allocator, G: Growth, R: Abort>(
     rt: &R,
     at: &At,
@@ -72,8 +74,8 @@ fn remains<T: Sample, A: Allocator, G: Growth, R: Abort>(
     assert_same_items(rt, at, rest.as_slice(), numbers);
 }
 
-// Takes the steps of `walk`, and checks the item that each step yields. Returns the numbers of the
-// items that remain.
+// Calls `next` and `next_back` in the order that `walk` specifies, and checks each item that is
+// yielded. Returns the numbers of the items that remain.
 fn step_through<'a, T: Sample, A: Allocator, G: Growth, R: Abort>(
     rt: &R,
     at: &At,
@@ -94,8 +96,8 @@ fn step_through<'a, T: Sample, A: Allocator, G: Growth, R: Abort>(
     remaining.of(numbers)
 }
 
-/// Calls `into_iter`, takes some steps (all from the front, or all from the back), and clones the
-/// iterator.
+/// A test that calls `into_iter`, takes some items from one end of the iterator, and then clones
+/// the iterator.
 pub struct IntoIterClone {}
 
 impl<T: Sample, G: Ruled> Call<T, G> for IntoIterClone {

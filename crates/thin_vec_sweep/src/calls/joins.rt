@@ -1,4 +1,5 @@
-//! Sweeps of the calls on two lists: `append`, `append_reserved`, `split_off`.
+//! Tests of the calls that move items from one list to another: `append`, `append_reserved` and
+//! `split_off`.
 use crate::case::{Case, Verdict, filled};
 use crate::samples::Sample;
 use crate::shapes::Shape;
@@ -6,11 +7,11 @@ use crate::sweep::Call;
 use std::process::Abort;
 use thin_testing::Ruled;
 
-// The number from which the first item of the second list is made.
+// Test items are made from numbers. This is the number of the first item of the second list.
 const FRESH: u64 = 80_000;
 
-/// Calls `append` with second lists of each tried length. Each of these lists is tried without
-/// spare room, and with one empty slot.
+/// A test that calls `append` with second lists of several lengths. Each second list is tried
+/// without spare capacity, and with one empty slot.
 pub struct Append {}
 
 impl<T: Sample, G: Ruled> Call<T, G> for Append {
@@ -35,8 +36,8 @@ impl<T: Sample, G: Ruled> Call<T, G> for Append {
     }
 }
 
-/// Calls `append_reserved` with second lists of one item, of two items, and so on, up to the number
-/// of empty slots in the first list.
+/// A test that calls `append_reserved`. The length of the second list is at least 1, and at most
+/// the number of empty slots in the first list.
 pub struct AppendReserved {}
 
 impl<T: Sample, G: Ruled> Call<T, G> for AppendReserved {
@@ -60,7 +61,7 @@ impl<T: Sample, G: Ruled> Call<T, G> for AppendReserved {
     }
 }
 
-/// Calls `split_off` at each tried index.
+/// A test that calls `split_off` at several indices.
 pub struct SplitOff {}
 
 impl<T: Sample, G: Ruled> Call<T, G> for SplitOff {

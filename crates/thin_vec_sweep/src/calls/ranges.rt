@@ -1,5 +1,6 @@
-//! Sweeps of `drain` and `extract_if`, which remove items of a range, and of the function `bounds`.
-//! The iterators that `drain` and `extract_if` return are dropped after some steps.
+//! Tests of `drain` and `extract_if`, which remove items of a range, and of the function `bounds`.
+//! The iterators that `drain` and `extract_if` return are dropped after they have yielded some
+//! items.
 use crate::assertions::{At, assert_same, assert_same_item, assert_same_items};
 use crate::case::{Case, put};
 use crate::closures::{number_at, stays};
@@ -13,7 +14,8 @@ use std::process::Abort;
 use thin_testing::Ruled;
 use thin_vec::{Drain, Growth, ThinVec, bounds};
 
-/// Calls `drain` on each tried range, takes the steps of each tried walk, and drops the `Drain`.
+/// A test that calls `drain` on several ranges, takes some items from both ends of the `Drain`, and
+/// then drops the `Drain`.
 pub struct Drained {}
 
 impl<T: Sample, G: Ruled> Call<T, G> for Drained {
@@ -32,7 +34,7 @@ impl<T: Sample, G: Ruled> Call<T, G> for Drained {
     }
 }
 
-// Returns the numbers of the items outside the range, in a list of `length` items.
+// Returns the numbers of the items outside `range` in a list of `length` items.
 fn outside<R: Abort>(rt: &R, global: Global, range: Ranged, length: usize) -> Vec<u64, Global> {
     let mut left = Vec::new(global);
     for index in 0..length {
@@ -43,8 +45,8 @@ fn outside<R: Abort>(rt: &R, global: Global, range: Ranged, length: usize) -> Ve
     left
 }
 
-// Calls `drain` on the range, takes some steps, checks the items that remain, and drops the
-// `Drain`.
+// Calls `drain` on `range`, takes some items from the `Drain`, checks the remaining items, and
+// drops the `Drain`.
 fn drain<T: Sample, A: Allocator, G: Growth, R: Abort>(
     rt: &R,
     at: &At,
@@ -62,8 +64,8 @@ fn drain<T: Sample, A: Allocator, G: Growth, R: Abort>(
     remains(rt, at, &drain, numbers);
 }
 
-// Asserts that the items remaining in `drain` are made from `numbers`, and that `len` and
-// `size_hint` return how many items remain.
+// Asserts that `drain` still contains the items that are made from `numbers`, and that `len` and
+// `size_hint` return the number of these items.
 fn remains<T: Sample, A: Allocator, G: Growth, R: Abort>(
     rt: &R,
     at: &At,
@@ -76,8 +78,8 @@ fn remains<T: Sample, A: Allocator, G: Growth, R: Abort>(
     assert_same_items(rt, at, drain.as_slice(), numbers);
 }
 
-// Takes the steps of `walk`, and checks the item that each step yields. Returns the numbers of the
-// items that remain.
+// Calls `next` and `next_back` in the order that `walk` specifies, and checks each item that is
+// yielded. Returns the numbers of the items that remain.
 fn step_through<'a, T: Sample, A: Allocator, G: Growth, R: Abort>(
     rt: &R,
     at: &At,
@@ -98,12 +100,12 @@ fn step_through<'a, T: Sample, A: Allocator, G: Growth, R: Abort>(
     remaining.of(numbers)
 }
 
-// For each k from 0 to 6: the number of cases of `extract_if` on a range of k items. Each number of
-// calls of `next` from 0 to k + 1 is tried with each pattern of the closure's results.
+// For each length `k` of a range, from 0 to 6, the number of test cases of `extract_if`. The test
+// calls `next` up to `k + 1` times, and tries all `2^k` combinations of the closure's results.
 const EXTRACTIONS: Cases = [2, 6, 16, 40, 96, 224, 512];
 
-/// Calls `extract_if` on each tried range, with each tried pattern of the closure's results. The
-/// `ExtractIf` is dropped after each tried number of calls of `next`.
+/// A test that calls `extract_if` on several ranges, with several closures. The test calls `next` a
+/// certain number of times, and then drops the `ExtractIf`.
 pub struct Extracted {}
 
 impl<T: Sample, G: Ruled> Call<T, G> for Extracted {
@@ -123,23 +125,24 @@ impl<T: Sample, G: Ruled> Call<T, G> for Extracted {
     }
 }
 
-// One case of `extract_if`: the calls that are made, and the results that they must have.
+// One test case of `extract_if`: which calls are made, and what the expected results are.
 #[derive(Drop)]
 struct Extraction {
-    // How often `next` is called.
+    // The number of times `next` is called.
     calls: usize,
-    // The number of the pattern of the closure's results.
+    // The number that determines the results of the closure (its pattern).
     pattern: usize,
-    // How often the closure must be called.
+    // The number of times the closure must be called.
     asked: usize,
     // The numbers of the items that `next` must yield.
     given: Vec<u64, Global>,
-    // The numbers of the items that the list must have after the `ExtractIf` is dropped.
+    // The numbers of the items that the list must contain after the `ExtractIf` is dropped.
     left: Vec<u64, Global>,
 }
 
 impl Extraction {
-    // Returns the case of `extract_if` that `range` selects, on a list of `length` items.
+    // Returns the test case with the number `range.number`, for a range of a list of `length`
+    // items.
     fn new<R: Abort>(rt: &R, global: Global, length: usize, range: Ranged) -> Extraction {
         let width = range.width();
         let (calls, pattern) = calls_and_pattern(width, range.number);
@@ -169,8 +172,8 @@ impl Extraction {
     }
 }
 
-// Returns how many calls of `next` are made in the case `number` on a range of `width` items, and
-// the number of the pattern of the closure's results.
+// Returns two properties of the test case `number` on a range of `width` items: how many times
+// `next` is called, and which pattern of results the closure returns.
 fn calls_and_pattern(width: usize, number: usize) -> (usize, usize) {
     if width >= EXTRACTIONS.len() {
         return (some_steps(width, number % 5), number / 5);
@@ -182,8 +185,9 @@ fn calls_and_pattern(width: usize, number: usize) -> (usize, usize) {
     (number % calls, number / calls)
 }
 
-// Calls `extract_if`, calls `next` as often as `wanted` says, and checks each item that is yielded.
-// If the closure is called with an item out of turn, it keeps this item, whatever the pattern says.
+// Calls `extract_if`, and then calls `next` as many times as `wanted` says. Checks each item that
+// is yielded. The closure keeps an item that is passed to it out of order, whatever the pattern
+// says.
 fn extract<T: Sample, A: Allocator, G: Growth, R: Abort>(
     rt: &R,
     at: &At,
@@ -213,12 +217,13 @@ fn extract<T: Sample, A: Allocator, G: Growth, R: Abort>(
     assert_same(rt, at, "hint", extract.size_hint(), (0, Some(left)));
 }
 
-// How many bounds are tried: `Unbounded`, and each of 9 numbers both as `Included` and as
-// `Excluded`.
+// The number of bounds that are tried: `Unbounded`, and `Included(n)` and `Excluded(n)` for nine
+// numbers `n`.
 const BOUNDS: usize = 19;
 
-/// Calls `bounds` with each pair of tried bounds. The bounds are at the numbers from 0 to 4, at the
-/// length and one past it, and at the two greatest numbers.
+/// A test that calls `bounds` with all pairs of certain bounds. They are `Unbounded`, and inclusive
+/// and exclusive bounds at the numbers 0 to 4, at the length, at the length plus 1, and at the two
+/// greatest values of `usize`.
 pub struct Bounds {}
 
 impl<T: Sample, G: Ruled> Call<T, G> for Bounds {
@@ -241,7 +246,7 @@ impl<T: Sample, G: Ruled> Call<T, G> for Bounds {
     }
 }
 
-// Returns the tried bound with the number `number`, for a list of `length` items.
+// Returns one of the bounds that are tried on a list of `length` items. `number` selects the bound.
 fn bound(number: usize, length: usize) -> Bound<usize> {
     let place = match number / 2 {
         5 => length,
@@ -257,8 +262,8 @@ fn bound(number: usize, length: usize) -> Bound<usize> {
     }
 }
 
-// Returns the range that `bounds` must return for these two bounds. The additions may saturate,
-// because no list has `usize::MAX` items.
+// Returns the expected result of `bounds` for these two bounds and a list of `length` items. The
+// additions may saturate, because no list has `usize::MAX` items.
 fn between(start: Bound<usize>, end: Bound<usize>, length: usize) -> Option<(usize, usize)> {
     let first = match start {
         Bound::Included(place) => place,

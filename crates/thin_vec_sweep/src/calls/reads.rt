@@ -1,5 +1,5 @@
-//! Sweeps of the calls that read a list, or that write through a `&mut` to an item. None of them
-//! makes a request.
+//! Tests of the calls that read a list, or that write to items through a mutable reference. None of
+//! these calls makes an allocation request.
 use crate::assertions::assert_same;
 use crate::case::{Case, List};
 use crate::samples::Sample;
@@ -9,10 +9,10 @@ use std::mem;
 use std::process::Abort;
 use thin_testing::Ruled;
 
-// The number from which a new item is made.
+// Test items are made from numbers. This is the number of the new item.
 const FRESH: u64 = 70_000;
 
-/// Calls `len`, `is_empty`, `has_capacity` and `allocator`.
+/// A test that calls `len`, `is_empty`, `has_capacity` and `allocator`.
 pub struct Read {}
 
 impl<T: Sample, G: Ruled> Call<T, G> for Read {
@@ -30,7 +30,7 @@ impl<T: Sample, G: Ruled> Call<T, G> for Read {
     }
 }
 
-/// Reads the item at each tried index, by `list[index]`.
+/// A test that reads the items at several indices by `list[index]`.
 pub struct Index {}
 
 impl<T: Sample, G: Ruled> Call<T, G> for Index {
@@ -63,8 +63,8 @@ impl<T: Sample, G: Ruled> Call<T, G> for Iterate {
     }
 }
 
-// Returns the first index at which an iteration over the list yields a wrong item, or ends too
-// early or too late.
+// Iterates over `list`, and returns the first index at which the iteration does not yield the
+// expected item. Returns `None` if there is no such index.
 fn difference<T: Sample, G: Ruled>(list: &List<T, G>, numbers: &[u64]) -> Option<usize> {
     let mut index: usize = 0;
     for item in list {
@@ -82,7 +82,7 @@ fn difference<T: Sample, G: Ruled>(list: &List<T, G>, numbers: &[u64]) -> Option
     }
 }
 
-/// Calls `as_mut_slice`, and swaps one item of the slice with a new item.
+/// A test that calls `as_mut_slice`, and then replaces one item of the slice.
 pub struct AsMutSlice {}
 
 impl<T: Sample, G: Ruled> Call<T, G> for AsMutSlice {
@@ -106,7 +106,7 @@ impl<T: Sample, G: Ruled> Call<T, G> for AsMutSlice {
     }
 }
 
-/// Writes `list[index] = item`, which drops the old item.
+/// A test that assigns an item to `list[index]`, which drops the old item.
 pub struct IndexMut {}
 
 impl<T: Sample, G: Ruled> Call<T, G> for IndexMut {
@@ -129,8 +129,8 @@ impl<T: Sample, G: Ruled> Call<T, G> for IndexMut {
     }
 }
 
-/// Calls `get_mut` with each tried index (one of them is the length) and with `usize::MAX`. If the
-/// call returns an item, swaps it with a new item.
+/// A test that calls `get_mut` with several indices, some of which are out of bounds. If the call
+/// returns a reference, the test replaces the item.
 pub struct GetMut {}
 
 impl<T: Sample, G: Ruled> Call<T, G> for GetMut {
@@ -163,8 +163,8 @@ impl<T: Sample, G: Ruled> Call<T, G> for GetMut {
     }
 }
 
-/// Iterates over `&mut list`. Swaps each item into the place of the next one, and a new item into
-/// the first place.
+/// A test that iterates over `&mut list`. It replaces the first item by a new item, and each later
+/// item by the item before it.
 pub struct IterateMut {}
 
 impl<T: Sample, G: Ruled> Call<T, G> for IterateMut {

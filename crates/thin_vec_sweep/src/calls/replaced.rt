@@ -1,4 +1,5 @@
-//! Sweeps of `replace_range` and its two variants, which replace a range by other items.
+//! Tests of `replace_range`, `replace_range_from_copies` and `replace_range_from_list`, which
+//! replace the items of a range by other items.
 use crate::case::{Case, Verdict, filled, numbers, put, source};
 use crate::closures::number_at;
 use crate::samples::Sample;
@@ -7,18 +8,18 @@ use crate::sweep::Call;
 use std::process::Abort;
 use thin_testing::Ruled;
 
-// The number from which the first new item is made.
+// Test items are made from numbers. This is the number of the first new item.
 const FRESH: u64 = 80_000;
 
-// How many different numbers of new items are tried for each range.
+// Each range is replaced in this number of test cases, which differ in the number of new items.
 const COUNTS: usize = 7;
 
-// On lists of at most 6 items, each range is replaced by each tried number of new items.
+// For each length of a range, from 0 to 6, the number of test cases on that range.
 const EACH_COUNT: Cases = [COUNTS; 7];
 
-// Returns how many new items replace the range in a case. Seven numbers are tried, from 0 to the
-// length of the range plus 9. On a list of more than 40 items, only the two greatest of these
-// numbers are tried. Both make the list longer.
+// Returns the number of new items in the test case `range.number`. This number is at most the
+// length of the range plus 9. On a list of more than 40 items, only the cases 0 and 1 are run, in
+// which the list becomes longer.
 fn count_for(range: Ranged) -> usize {
     let width = range.width();
     match range.number % COUNTS {
@@ -32,7 +33,8 @@ fn count_for(range: Ranged) -> usize {
     }
 }
 
-// If the call succeeded, replaces the range in `case.items` by the `count` numbers from `FRESH` on.
+// If the call must succeed, replaces the range in `case.items` by `count` consecutive numbers,
+// beginning with `FRESH`.
 fn replaced<T: Sample, G: Ruled, R: Abort>(
     rt: &R,
     case: &mut Case<T, G>,
@@ -55,7 +57,7 @@ fn replaced<T: Sample, G: Ruled, R: Abort>(
     case.items = left;
 }
 
-/// Calls `replace_range`, which clones the new items.
+/// A test that calls `replace_range`, which clones the new items.
 pub struct ReplaceRange {}
 
 impl<T: Sample, G: Ruled> Call<T, G> for ReplaceRange {
@@ -83,7 +85,7 @@ impl<T: Sample, G: Ruled> Call<T, G> for ReplaceRange {
     }
 }
 
-/// Calls `replace_range_from_copies`, which copies the new items.
+/// A test that calls `replace_range_from_copies`, which copies the new items.
 pub struct ReplaceRangeFromCopies {}
 
 impl<T: Sample + Copy, G: Ruled> Call<T, G> for ReplaceRangeFromCopies {
@@ -111,8 +113,8 @@ impl<T: Sample + Copy, G: Ruled> Call<T, G> for ReplaceRangeFromCopies {
     }
 }
 
-/// Calls `replace_range_from_list`, which moves the items of another list into the range. The other
-/// list has no spare room before the call.
+/// A test that calls `replace_range_from_list`, which moves the items of another list into the
+/// range. The other list has no spare capacity before the call.
 pub struct ReplaceRangeFromList {}
 
 impl<T: Sample, G: Ruled> Call<T, G> for ReplaceRangeFromList {

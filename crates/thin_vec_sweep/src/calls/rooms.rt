@@ -1,4 +1,4 @@
-//! Sweeps of the calls that change only the capacity: `reserve`, `reserve_exact`, `shrink_to`,
+//! Tests of the calls that change only the capacity: `reserve`, `reserve_exact`, `shrink_to` and
 //! `shrink_to_fit`.
 use crate::case::Case;
 use crate::samples::Sample;
@@ -7,8 +7,8 @@ use crate::sweep::Call;
 use std::process::Abort;
 use thin_testing::Ruled;
 
-/// Calls `reserve` with each tried number of items, with numbers near the greatest capacity that
-/// fits, and with `usize::MAX`.
+/// A test that calls `reserve` with various numbers of items. Some of them are near the greatest
+/// possible capacity, and one is `usize::MAX`.
 pub struct Reserve {}
 
 impl<T: Sample, G: Ruled> Call<T, G> for Reserve {
@@ -31,7 +31,7 @@ impl<T: Sample, G: Ruled> Call<T, G> for Reserve {
     }
 }
 
-/// Calls `reserve_exact` with the same numbers as `Reserve`.
+/// A test that calls `reserve_exact` with the same numbers as the test `Reserve`.
 pub struct ReserveExact {}
 
 impl<T: Sample, G: Ruled> Call<T, G> for ReserveExact {
@@ -54,8 +54,8 @@ impl<T: Sample, G: Ruled> Call<T, G> for ReserveExact {
     }
 }
 
-/// Calls `shrink_to` with each tried index, with the length plus one, with the capacity, and with
-/// `usize::MAX`.
+/// A test that calls `shrink_to` with several numbers up to the length, with the length plus one,
+/// with the capacity, and with `usize::MAX`.
 pub struct ShrinkTo {}
 
 impl<T: Sample, G: Ruled> Call<T, G> for ShrinkTo {
@@ -96,12 +96,12 @@ impl<T: Sample, G: Ruled> Call<T, G> for ShrinkToFit {
     }
 }
 
-// How many great numbers of additional items are tried.
+// The number of very large values that are tried as the number of additional items.
 const GREAT: usize = 6;
 
-// Returns the number of additional items for which room is reserved. The last `GREAT` arguments
-// stand for great numbers: the first of these numbers makes the capacity the greatest that fits,
-// and the second makes the capacity too great by one.
+// Returns the number of additional items to reserve. The last `GREAT` arguments select very large
+// numbers. The first of these numbers leads to the greatest possible capacity. The second leads to
+// a capacity that is too great by one.
 fn additional<T: Sample>(shape: Shape, argument: usize) -> usize {
     let most = T::LIMIT.saturating_sub(shape.length);
     match argument.checked_sub(shape.counts()) {

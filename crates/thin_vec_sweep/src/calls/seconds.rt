@@ -1,5 +1,5 @@
-//! Sweeps of the calls that make a second list of the same items: `clone`, `clone_copies`,
-//! `from_slice`, `from_copies`.
+//! Tests of the calls that make a second list of the same items: `clone`, `clone_copies`,
+//! `from_slice` and `from_copies`.
 use crate::case::{Case, List};
 use crate::samples::Sample;
 use crate::sweep::Call;
@@ -9,7 +9,7 @@ use std::process::Abort;
 use thin_testing::{Refusing, Ruled};
 use thin_vec::{Doubling, ThinVec, ThinVecError};
 
-/// A call that makes a second list with the items of a first list. Both lists have items of type
+/// A call that makes a new list with the same items as a given list. Both lists have the item type
 /// `T` and the growth rule `G`.
 pub trait MakesSecond<T: Sample, G: Ruled> {
     /// The name of the call in the message of a failed assertion.
@@ -18,14 +18,16 @@ pub trait MakesSecond<T: Sample, G: Ruled> {
     /// Whether the call clones each item.
     const CLONES: bool = false;
 
-    /// Makes the call on `list`. If the call takes an allocator, passes `alloc` to it.
+    /// Makes a new list with the items of `list` by the call under test. If the call takes an
+    /// allocator, `alloc` is passed to it.
     fn second(
         list: &List<T, G>,
         alloc: &'static Refusing<Global>,
     ) -> Result<List<T, G>, ThinVecError>;
 }
 
-/// Makes the call `C`, and checks that the second list has the same items and no spare room.
+/// A test that makes the call `C`, and checks that the new list has the same items and no spare
+/// capacity.
 pub struct MakeSecond<C> {
     call: PhantomData<C>,
 }
@@ -42,7 +44,7 @@ impl<T: Sample, G: Ruled, C: MakesSecond<T, G>> Call<T, G> for MakeSecond<C> {
     }
 }
 
-/// Calls the list's own method `clone`, which takes an allocator.
+/// A call of `ThinVec::clone`, which takes an allocator.
 pub struct CloneOn {}
 
 impl<T: Sample, G: Ruled> MakesSecond<T, G> for CloneOn {
@@ -58,7 +60,7 @@ impl<T: Sample, G: Ruled> MakesSecond<T, G> for CloneOn {
     }
 }
 
-/// Calls `clone` of the trait `Clone` of `std`.
+/// A call of the method `clone` of the trait `Clone`.
 pub struct CloneAsTrait {}
 
 impl<T: Sample, G: Ruled> MakesSecond<T, G> for CloneAsTrait {
@@ -77,7 +79,7 @@ impl<T: Sample, G: Ruled> MakesSecond<T, G> for CloneAsTrait {
     }
 }
 
-/// Calls `clone_copies`, which takes an allocator, and copies the items as one run of bytes.
+/// A call of `clone_copies`, which takes an allocator and copies the items instead of cloning them.
 pub struct CloneCopies {}
 
 impl<T: Sample + Copy, G: Ruled> MakesSecond<T, G> for CloneCopies {
@@ -91,7 +93,7 @@ impl<T: Sample + Copy, G: Ruled> MakesSecond<T, G> for CloneCopies {
     }
 }
 
-/// Calls `from_slice`, which clones the items.
+/// A call of `from_slice`, which clones the items of a slice.
 pub struct FromSlice {}
 
 impl<T: Sample> MakesSecond<T, Doubling> for FromSlice {
@@ -107,7 +109,7 @@ impl<T: Sample> MakesSecond<T, Doubling> for FromSlice {
     }
 }
 
-/// Calls `from_copies`, which copies the items.
+/// A call of `from_copies`, which copies the items of a slice.
 pub struct FromCopies {}
 
 impl<T: Sample + Copy> MakesSecond<T, Doubling> for FromCopies {

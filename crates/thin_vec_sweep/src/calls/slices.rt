@@ -1,5 +1,4 @@
-//! Sweeps of the calls that append the items of a slice: as clones, as copies, to spare room, or as
-//! bytes that are written.
+//! Tests of the calls that append the items of a slice, such as `extend_from_slice` and `write`.
 use crate::assertions::{At, assert_same};
 use crate::case::{Case, List, source};
 use crate::samples::Sample;
@@ -11,10 +10,10 @@ use std::process::Abort;
 use thin_testing::Ruled;
 use thin_vec::ThinVecError;
 
-// The number from which the first new item is made.
+// Test items are made from numbers. This is the number of the first new item.
 const FRESH: u64 = 80_000;
 
-/// A call that appends the items of a slice to a list of `T` under the growth rule `G`.
+/// A call that appends the items of a slice to a list of `T` with the growth rule `G`.
 pub trait AppendsSlice<T: Sample, G: Ruled> {
     /// The name of the call in the message of a failed assertion.
     const NAME: &'static str;
@@ -22,7 +21,7 @@ pub trait AppendsSlice<T: Sample, G: Ruled> {
     /// Whether the call clones each item.
     const CLONES: bool = false;
 
-    /// Whether the call requires spare room for all items.
+    /// Whether the call requires that the list has enough spare capacity for all items.
     const IS_RESERVED: bool = false;
 
     /// Makes the call.
@@ -34,8 +33,8 @@ pub trait AppendsSlice<T: Sample, G: Ruled> {
     ) -> Result<(), ThinVecError>;
 }
 
-/// Makes the call `C` with slices of each tried length. If `C` requires spare room, the tried
-/// lengths are 1, 2, and so on, up to the number of empty slots.
+/// A test that makes the call `C` with slices of several lengths. If `C` requires spare capacity,
+/// the test uses each length from 1 to the number of empty slots.
 pub struct AppendSlice<C> {
     call: PhantomData<C>,
 }
@@ -67,7 +66,7 @@ impl<T: Sample, G: Ruled, C: AppendsSlice<T, G>> Call<T, G> for AppendSlice<C> {
     }
 }
 
-/// Calls `extend_from_slice`, which appends clones.
+/// A call of `extend_from_slice`, which appends clones of the items.
 pub struct ExtendFromSlice {}
 
 impl<T: Sample, G: Ruled> AppendsSlice<T, G> for ExtendFromSlice {
@@ -85,7 +84,7 @@ impl<T: Sample, G: Ruled> AppendsSlice<T, G> for ExtendFromSlice {
     }
 }
 
-/// Calls `extend_from_copies`, which appends copies.
+/// A call of `extend_from_copies`, which appends copies of the items.
 pub struct ExtendFromCopies {}
 
 impl<T: Sample + Copy, G: Ruled> AppendsSlice<T, G> for ExtendFromCopies {
@@ -101,7 +100,7 @@ impl<T: Sample + Copy, G: Ruled> AppendsSlice<T, G> for ExtendFromCopies {
     }
 }
 
-/// Calls `extend_from_slice_reserved`, which appends clones to spare room.
+/// A call of `extend_from_slice_reserved`, which clones the items into spare capacity.
 pub struct ExtendFromSliceReserved {}
 
 impl<T: Sample, G: Ruled> AppendsSlice<T, G> for ExtendFromSliceReserved {
@@ -125,7 +124,7 @@ impl<T: Sample, G: Ruled> AppendsSlice<T, G> for ExtendFromSliceReserved {
     }
 }
 
-/// Calls `extend_from_copies_reserved`, which appends copies to spare room.
+/// A call of `extend_from_copies_reserved`, which copies the items into spare capacity.
 pub struct ExtendFromCopiesReserved {}
 
 impl<T: Sample + Copy, G: Ruled> AppendsSlice<T, G> for ExtendFromCopiesReserved {
@@ -147,7 +146,7 @@ impl<T: Sample + Copy, G: Ruled> AppendsSlice<T, G> for ExtendFromCopiesReserved
     }
 }
 
-/// Calls `write`, which must append all bytes of the slice.
+/// A call of `write`, which must append all bytes of the slice.
 pub struct WriteSome {}
 
 impl<G: Ruled> AppendsSlice<u8, G> for WriteSome {
@@ -191,8 +190,8 @@ impl<G: Ruled> AppendsSlice<u8, G> for WriteAll {
 }
 
 // Asserts that the error of a failed write has the kind `OutOfMemory`, and returns the cause
-// `OutOfMemory`. An error with the cause `CapacityOverflow` has the same kind, so this function
-// cannot distinguish the two causes.
+// `OutOfMemory`. A capacity overflow leads to the same kind of error, so this function cannot
+// distinguish the two causes.
 fn cause<R: Abort>(rt: &R, at: &At, error: &Error) -> ThinVecError {
     let kind = error.kind() == ErrorKind::OutOfMemory;
     assert_same(rt, at, "the error's kind is OutOfMemory", kind, true);

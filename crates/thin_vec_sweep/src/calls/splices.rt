@@ -1,5 +1,6 @@
-//! Sweeps of `splice`, followed by some steps and by `finish`. The size hint of the iterator is too
-//! small, exact, too great, or greater than every capacity.
+//! Tests of `splice`. They take some items of the replaced range from the `Splice`, and then call
+//! `finish`, which moves the new items into the list. The lower bound of the iterator's size hint
+//! is too small, exact, or too large.
 ghost use Rattle.std.specs.Iterator.{IsFinite};
 ghost use Rattle.std.specs.Prelude.{◌≤◌, length};
 ghost use Rattle.thin_vec.specs.Edits.Splice.{SpliceKeeps};
@@ -18,27 +19,28 @@ use std::process::Abort;
 use thin_testing::Ruled;
 use thin_vec::{Growth, Splice, SpliceRefused, ThinVec};
 
-// How many size hints are tried.
+// The number of size hints that are tried.
 const HINTS: usize = 5;
 
-// How many fillings are tried on a list of at most 6 items. A filling is a number of new items,
-// from 0 to 5, together with a size hint.
+// On lists of at most 6 items, each size hint is combined with each number of new items from 0 to
+// 5. This is the number of combinations.
 const FILLS: usize = 30;
 
-// How many short walks over the range are tried with each filling: no step, one step from the
-// front, and one step from the back.
+// The number of short sequences of steps: no step, one step from the front, and one step from the
+// back. Each of these sequences is tried with each size hint and each number of new items.
 const SHORT_WALKS: usize = 3;
 
-// For each k from 0 to 6: the number of cases of `splice` on a range of k items. Each short walk is
-// tried with each filling, and each longer walk with one filling. On an empty range, only 3 cases
-// take a step.
+// For each length of a range, from 0 to 6, the number of test cases. Each sequence of at most one
+// step is combined with each size hint and each number of new items. Each longer sequence is tried
+// once. On an empty range, there are only 3 test cases with a step.
 const AFTER_STEPS: Cases = [33, 94, 102, 118, 150, 214, 342];
 
-// The number of cases of `splice` on a range if no steps are taken: one case for each filling.
+// For each length of a range, from 0 to 6, the number of test cases without steps: one for each
+// combination of a size hint and a number of new items.
 const AT_ONCE: Cases = [FILLS; 7];
 
-// Returns how many cases are tried on a range, for each length of the range. Spare room matters
-// only to `finish`, so no steps are taken on lists with spare room.
+// Returns the number of test cases for each length of a range. Spare capacity affects only
+// `finish`, so no steps are taken on lists with spare capacity.
 fn cases(shape: Shape) -> Cases {
     if shape.spare == 0 {
         AFTER_STEPS
@@ -47,23 +49,25 @@ fn cases(shape: Shape) -> Cases {
     }
 }
 
-// One case of `splice`: the range, the steps that are taken, and the iterator of new items.
+// One test case of `splice`: the replaced range, the steps before the call of `finish`, and the
+// properties of the iterator over the new items.
 #[derive(Drop)]
 struct Plan {
     range: Ranged,
-    // The numbers of the items of the range.
+    // The numbers from which the items in the range are made.
     numbers: Vec<u64, Global>,
     // The steps before `finish`.
     walk: Walk,
-    // How many new items the iterator has.
+    // The number of new items that the iterator yields.
     count: usize,
     // The lower bound of the iterator's size hint.
     hint: usize,
 }
 
 impl Plan {
-    // Returns the plan of the case with this argument. One of the tried size hints is exact when
-    // `finish` reads it, which is after the places of the range are filled.
+    // Returns the plan of the test case `argument`. When `finish` reads the size hint, some new
+    // items have already been moved into the range. One of the tried size hints is exact at that
+    // moment.
     fn new<T: Sample, G: Ruled, R: Abort>(rt: &R, case: &Case<T, G>, argument: usize) -> Plan {
         let shape = case.at.shape;
         let range = shape.ranged_case(&cases(shape), argument);
@@ -88,7 +92,8 @@ impl Plan {
     }
 }
 
-// Returns the number of the walk in the case `number` on a range of a list of at most 6 items.
+// Returns the number of the walk (the sequence of steps) in the test case `number`, on a list of at
+// most 6 items.
 fn few_steps(number: usize) -> usize {
     let crossed = SHORT_WALKS.saturating_mul(FILLS);
     match number.checked_sub(crossed) {
@@ -97,8 +102,8 @@ fn few_steps(number: usize) -> usize {
     }
 }
 
-// Returns how many new items are tried on a list of more than 6 items: more than twice the length
-// of the range, exactly this length, one less, or none.
+// Returns the number of new items on a list of more than 6 items. Depending on `number`, this is
+// more than twice the length of the range, exactly this length, one less, or 0.
 fn many(width: usize, number: usize) -> usize {
     match number {
         0 => width.saturating_mul(2).saturating_add(9),
@@ -108,8 +113,8 @@ fn many(width: usize, number: usize) -> usize {
     }
 }
 
-// Returns the tried size hint with the number `number`. When `finish` reads the size hint, the
-// iterator has not yet yielded `left` of its `all` items.
+// Returns a lower bound for the size hint of an iterator over `all` items. `number` selects one of
+// several bounds. When `finish` reads the size hint, `left` items remain.
 fn hint(number: usize, left: usize, all: usize) -> usize {
     match number {
         0 => 0,
@@ -120,8 +125,8 @@ fn hint(number: usize, left: usize, all: usize) -> usize {
     }
 }
 
-// Returns how `finish` must end, and makes the same change to `case.items`. If there are no items
-// after the range, `finish` does the same as `extend`.
+// Returns the expected outcome of `finish`, and updates the expected items in `case.items`. If
+// there are no items after the range, `finish` works like `extend`.
 fn finish<T: Sample, G: Ruled, R: Abort>(rt: &R, case: &mut Case<T, G>, plan: &Plan) -> Ending {
     let range = plan.range;
     let length = case.items.len();
@@ -140,7 +145,8 @@ fn finish<T: Sample, G: Ruled, R: Abort>(rt: &R, case: &mut Case<T, G>, plan: &P
     ending
 }
 
-// Returns how `finish` must end if there are items after the range. Leaves `case.items` unchanged.
+// Returns the expected outcome of `finish` if there are items after the range. Does not change
+// `case.items`.
 fn fill_between<T: Sample, G: Ruled>(case: &mut Case<T, G>, width: usize, plan: &Plan) -> Ending {
     let mut ending = Ending::done(plan.count);
     if plan.count < width {
@@ -172,9 +178,9 @@ fn fill_between<T: Sample, G: Ruled>(case: &mut Case<T, G>, width: usize, plan: 
     ending
 }
 
-// Returns how many of `count` items can be pushed to a new `Vec` before one of its requests is
-// refused. The first request is for 4 items, or for 8 if an item takes at most one byte. Each
-// further request doubles the capacity.
+// Returns how many of `count` items can be pushed to a new `Vec` before an allocation request of
+// the `Vec` is refused. The first request is for 4 items, or for 8 if an item takes at most one
+// byte. Each further request doubles the capacity.
 fn hold<T: Sample, G: Ruled>(case: &mut Case<T, G>, count: usize) -> usize {
     let first = if T::SIZE <= 1 { 8 } else { 4 };
     let mut room: usize = 0;
@@ -189,8 +195,8 @@ fn hold<T: Sample, G: Ruled>(case: &mut Case<T, G>, count: usize) -> usize {
     count
 }
 
-/// Calls `splice` on each tried range, takes some steps, and calls `finish`. Each tried number of
-/// new items is combined with each tried size hint.
+/// A test that calls `splice` on several ranges, takes some items from the `Splice`, and calls
+/// `finish`. Several numbers of new items are combined with several size hints.
 pub struct Spliced {}
 
 impl<T: Sample, G: Ruled> Call<T, G> for Spliced {
@@ -220,18 +226,19 @@ impl<T: Sample, G: Ruled> Call<T, G> for Spliced {
     }
 }
 
-// The result of the steps: which step yielded a wrong item, and how many items remain.
+// The result of the steps: the first step that yielded a wrong item, and the number of remaining
+// items.
 #[derive(Drop, Debug, PartialEq)]
 struct Walked {
     // The number of the first step that yielded a wrong item, or `None` if there is no such step.
     wrong: Option<usize>,
-    // How many items of the range remain: the results of `len` and of `size_hint`.
+    // The number of remaining items of the range, as returned by `len` and by `size_hint`.
     remaining: (usize, (usize, Option<usize>)),
 }
 
 impl Walked {
-    // Returns the result that the steps must have: no wrong item, and the right number of items
-    // that remain.
+    // Returns the expected result of the steps: no wrong item, and the right number of remaining
+    // items.
     fn due(plan: &Plan) -> Walked {
         let width = plan.numbers.len();
         let count = width.saturating_sub(plan.walk.steps);
@@ -242,7 +249,8 @@ impl Walked {
     }
 }
 
-// Calls `splice` on the range, takes the steps of the plan, and calls `finish`.
+// Calls `splice` on the range of `plan`, takes the steps of `plan` by `next` and `next_back`, and
+// calls `finish`.
 fn splice<T: Sample, A: Allocator, G: Growth, I: Iterator<Item = T>>(
     list: &mut ThinVec<T, A, G>,
     plan: &Plan,
@@ -259,7 +267,8 @@ fn splice<T: Sample, A: Allocator, G: Growth, I: Iterator<Item = T>>(
     (walked, splice.finish(alloc))
 }
 
-// Takes the steps of the plan. Returns which step yielded a wrong item, and how many items remain.
+// Calls `next` and `next_back` as `plan` says. Returns the first step that yielded a wrong item,
+// and the number of remaining items.
 fn walk<T: Sample, A: Allocator, G: Growth, I>(
     splice: &mut Splice<'_, I, T, A, G>,
     plan: &Plan,
@@ -286,8 +295,8 @@ fn walk<T: Sample, A: Allocator, G: Growth, I>(
     }
 }
 
-// Asserts that a failed `finish` returned the cause, the items held back, the item in hand, and the
-// rest of the iterator, which had `count` items at first.
+// Asserts that a failed `finish` returned the expected cause, and all new items that it did not
+// move into the list. The iterator had `count` items before the call.
 fn given_back<T: Sample, A: Allocator, G: Ruled, R: Abort>(
     rt: &R,
     case: &Case<T, G>,

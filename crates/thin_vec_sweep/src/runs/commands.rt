@@ -1,6 +1,6 @@
-//! Tests of the commands: that random runs get every possible reply to every command, that two runs
-//! have the results that were computed by hand, and that each kind of difference from the model is
-//! detected.
+//! Tests of the commands, each of which describes a call on a list. Random runs must produce every
+//! possible reply to every command, and two runs must have the results that were computed by hand.
+//! Another test checks that each kind of difference from the model is detected.
 use crate::runs::compared::both;
 use crate::runs::judges::{EACH_SECOND, Evens};
 use crate::runs::model::Model;
@@ -14,8 +14,8 @@ use thin_runner::judge::Judge;
 use thin_testing::{Refusing, Ruled};
 use thin_vec::{Doubling, Growth, PowerBytes, ThinVec, ThinVecError};
 
-// Every reply that a command can have. Each line names the command, the form of the reply, and the
-// cause of the failure, if any.
+// All possible replies to the commands. Each line names a command, the variant of its reply, and
+// the cause of the failure, if any.
 const REPLIES: &str = "\
     Push Done None\n\
     Push Returned Some(OutOfMemory)\n\
@@ -71,7 +71,7 @@ const REPLIES: &str = "\
     Splice Stopped Some(OutOfMemory)\n\
     Splice OutOfRange None\n";
 
-// The kind of a command, the form of its reply, and the cause of the failure, if any.
+// The kind of a command, the variant of its reply, and the cause of the failure, if any.
 type Replied = (Kind, Form, Option<ThinVecError>);
 
 fn has(replies: &[Replied], one: Replied) -> bool {
@@ -83,7 +83,7 @@ fn has(replies: &[Replied], one: Replied) -> bool {
     false
 }
 
-// Appends each reply in `done` to `replies`, unless `replies` already has it.
+// Appends each reply in `done` to `replies`, unless `replies` already contains it.
 fn put_new(replies: &mut Vec<Replied, Global>, done: &[Done]) -> Result<(), AllocError> {
     for (order, _, form, cause) in done {
         let one = (order.kind, *form, *cause);
@@ -94,7 +94,7 @@ fn put_new(replies: &mut Vec<Replied, Global>, done: &[Done]) -> Result<(), Allo
     Ok(())
 }
 
-// Asserts that `REPLIES` lists this reply of this command.
+// Asserts that `REPLIES` contains this pair of a command and a reply.
 fn assert_listed<R: Abort>(rt: &R, alloc: Global, replied: &Replied) {
     let (kind, form, cause) = replied;
     let line = format!(in alloc; "{kind:?} {form:?} {cause:?}\n").expect(rt, "memory");
@@ -118,7 +118,7 @@ fn random_runs_get_each_reply_of_each_command(rt: HostRuntime) {
     assert_eq!(rt; replies.len(), REPLIES.lines().count());
 }
 
-// Returns an order (a command as plain numbers) that has no steps.
+// Returns a command without steps, described by plain numbers (an `Order`).
 const fn plain(kind: Kind, at: usize, to: usize, count: usize, lower: usize, number: u64) -> Order {
     Order {
         kind,
@@ -131,8 +131,8 @@ const fn plain(kind: Kind, at: usize, to: usize, count: usize, lower: usize, num
     }
 }
 
-// Returns the orders (commands as plain numbers) of a run that was computed by hand with the judge
-// `Evens`.
+// Returns the commands of a run whose results were computed by hand. Each `Order` describes a
+// command by plain numbers.
 fn worked_orders() -> [Order; 6] {
     let walked = Order {
         steps: 1,
@@ -148,7 +148,7 @@ fn worked_orders() -> [Order; 6] {
     ]
 }
 
-// The items and the capacity of the list after each of the orders in `worked_orders`.
+// The expected items and the expected capacity after each command of `worked_orders`.
 const WORKED: [(&[u64], usize); 6] = [
     (&[1, 2, 3, 4, 5, 6], 6),
     (&[1, 9, 4, 5, 6], 6),
@@ -158,8 +158,9 @@ const WORKED: [(&[u64], usize); 6] = [
     (&[1, 9], 6),
 ];
 
-// Returns the orders of a run that was computed by hand under the growth rule `PowerBytes`. After
-// its header, a block of 32, 64 or 128 bytes has room for 4, 12 or 28 items of 4 bytes.
+// Returns the commands of a run whose results were computed by hand for the growth rule
+// `PowerBytes`. A block of 32, 64 or 128 bytes contains a header and has room for 4, 12 or 28 items
+// of 4 bytes.
 fn worked_powers() -> [Order; 9] {
     [
         plain(Kind::Push, 0, 0, 0, 0, 1),
@@ -186,7 +187,7 @@ const WORKED_POWERS: [(&[u32], usize); 9] = [
     (&[1, 7, 8, 9, 6], 20),
 ];
 
-// Returns whether the list has the items and the capacity in `worked`, which were computed by hand.
+// Returns whether the list has the items and the capacity that `worked` contains.
 fn is_worked<T: Eq, A: Allocator, G: Growth>(
     list: &ThinVec<T, A, G>,
     worked: &(&[T], usize),
@@ -195,8 +196,8 @@ fn is_worked<T: Eq, A: Allocator, G: Growth>(
     list.as_slice() == *items && list.capacity() == *capacity
 }
 
-// Runs the commands both by the runner and by the model. Asserts after each command that the two
-// agree, and that the list has the items and the capacity in `worked`.
+// Executes each command both on a `ThinVec` and on a model. After each command, asserts that the
+// two agree, and that the list has the items and the capacity that `worked` contains.
 fn assert_worked<'a, T: Numbered<Lender<'a>>, G: Ruled, J: Judge<T>, R: Abort>(
     rt: &R,
     alloc: Lender<'a>,
@@ -236,8 +237,8 @@ fn run_under_power_bytes_reaches_states_computed_by_hand(rt: HostRuntime) {
     );
 }
 
-// Runs a command of this kind on an empty list and on `model`. Returns the form of the reply, or
-// `Never` if the list and `model` differ in the reply or afterwards.
+// Executes a command of this kind on an empty list and on `model`. Returns the variant of the
+// reply, or `Never` if the list and `model` differ in the reply or after the command.
 fn form_against_model<'a, R: Abort>(
     rt: &R,
     alloc: Lender<'a>,
@@ -252,7 +253,7 @@ fn form_against_model<'a, R: Abort>(
     form
 }
 
-// Returns a model of a list of one item.
+// Returns a model of a list with one item.
 fn one_item<'a, R: Abort>(rt: &R, alloc: Lender<'a>) -> Model<u64, Lender<'a>, Doubling> {
     let mut model = Model::new(alloc);
     put(&mut model.items, 1).ok().expect(rt, "memory");

@@ -1,5 +1,5 @@
-//! Runs a command both by the runner and by the model, which is the specification written as a
-//! program, and compares the two.
+//! Executes a command both on a `ThinVec`, by the runner, and on a model, and compares the results.
+//! The model is a simple program that specifies the commands.
 use crate::runs::model::Model;
 use crate::runs::orders::{Order, command_of};
 use crate::runs::samples::{Lender, Numbered};
@@ -10,8 +10,8 @@ use thin_runner::runner::step;
 use thin_testing::Ruled;
 use thin_vec::{ThinVec, ThinVecError};
 
-// Returns whether the number of allocated blocks is the number of blocks that the list, the model
-// and their items own.
+// Returns whether the number of allocated blocks equals the number of blocks that the list, the
+// model and their items own.
 fn has_its_blocks<'a, T: Numbered<Lender<'a>>, G: Ruled>(
     alloc: Lender<'a>,
     list: &ThinVec<T, Lender<'a>, G>,
@@ -28,8 +28,9 @@ fn has_its_blocks<'a, T: Numbered<Lender<'a>>, G: Ruled>(
     blocks == alloc.blocks()
 }
 
-// Runs a command by the runner, while the allocator refuses the request with the number `nth`, or
-// none if `nth` is 0. Returns what the reply shows, and whether a request was refused.
+// Executes a command on a `ThinVec`, by the runner. The allocator refuses the request with the
+// number `nth`, or no request if `nth` is 0. Returns the parts of the reply, and whether a request
+// was refused.
 fn shown_by_runner<'a, T: Numbered<Lender<'a>>, G: Ruled, J: Judge<T>>(
     alloc: Lender<'a>,
     list: &mut ThinVec<T, Lender<'a>, G>,
@@ -45,9 +46,10 @@ fn shown_by_runner<'a, T: Numbered<Lender<'a>>, G: Ruled, J: Judge<T>>(
     Ok((show(alloc, reply)?, refused))
 }
 
-/// Runs a command both by the runner and by the model. The allocator refuses the request with the
-/// number `nth`, or none if `nth` is 0. Returns the form of the reply and the cause of a failure.
-/// If the runner and the model differ, the form is `Never`.
+/// Executes a command both by the runner and on the model. While the runner executes the command,
+/// the allocator refuses the request with the number `nth`, or no request if `nth` is 0. Returns
+/// the variant of the reply (`Never` if the runner and the model differ), and the cause if the
+/// command failed.
 pub fn both<'a, T: Numbered<Lender<'a>>, G: Ruled, J: Judge<T>>(
     alloc: Lender<'a>,
     list: &mut ThinVec<T, Lender<'a>, G>,

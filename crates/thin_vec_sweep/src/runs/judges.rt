@@ -1,25 +1,26 @@
-//! The judges of the runs. A judge decides which items a command picks, keeps or removes.
+//! The judges that the runs use. A judge replaces the closure of a call such as `retain`: it
+//! decides which items are kept or removed.
 ghost use Rattle.std.specs.Prelude.{◌≡◌, ◌==◌, ◌/◌, ◌%◌};
 
 use std::mem;
 use thin_runner::judge::Judge;
 
-/// A judge that answers by the binary digits of a number, from the last digit on. When it compares
-/// two items, it also swaps them.
+/// A judge whose decisions are the binary digits of a number, beginning with the last digit. When
+/// the judge compares two items, it also swaps them.
 #[derive(Clone, Copy)]
 pub struct Digits {
-    /// The digits that are not yet used.
+    /// The digits that have not been used yet.
     pub digits: u64,
 }
 
-/// A judge that picks every second item that it tests, beginning with the first. It picks no item
-/// after its 64th test.
+/// A judge that decides `true` for every second item, beginning with the first item. After 64
+/// items, it decides `false` for every item.
 pub const EACH_SECOND: Digits = Digits {
     digits: 0x5555_5555_5555_5555,
 };
 
 impl Digits {
-    // Removes the last digit, and returns it.
+    // Removes the last binary digit, and returns it.
     fn next_digit(&mut self) -> u64
         ensures value { result ≡ self.old.digits % 2 }
         ensures digits { self.new.digits ≡ self.old.digits / 2 }
@@ -67,8 +68,9 @@ impl<T> Judge<T> for Digits {
     }
 }
 
-/// A judge that picks the even numbers. It also writes to the items: `keep` and `key` halve the
-/// item, and `same` sets the item that was kept to 0.
+/// A judge that picks the even numbers, and considers two numbers equal if their halves, rounded
+/// down, are equal. The judge also changes items: `keep` and `key` halve the item, and `same` sets
+/// the kept item to 0.
 #[derive(Clone, Copy)]
 pub struct Evens;
 

@@ -1,5 +1,5 @@
-//! Long runs, and a run that fails. These runs are not compared with the model (the specification
-//! written as a program), which would be too slow for long runs.
+//! Long runs of commands, and a run that fails. These runs are not compared with the model, because
+//! the model would be too slow for long runs.
 use crate::runs::judges::EACH_SECOND;
 use crate::runs::samples::{Lender, put};
 use std::alloc::Global;
@@ -9,7 +9,7 @@ use thin_runner::runner::{run, step};
 use thin_testing::Refusing;
 use thin_vec::{ThinVec, ThinVecError, thin_vec};
 
-// Returns commands that push the numbers below 5,000, in order.
+// Returns 5,000 commands that push the numbers from 0 to 4,999, in order.
 fn pushes<R: Abort>(rt: &R, alloc: Global) -> Vec<Command<u32, Global>, Global> {
     let mut commands = Vec::new(alloc);
     for item in 0..5000 {
@@ -19,7 +19,7 @@ fn pushes<R: Abort>(rt: &R, alloc: Global) -> Vec<Command<u32, Global>, Global> 
     commands
 }
 
-// Returns how many of the replies are `Done`.
+// Returns the number of replies that are `Done`.
 fn count_done(replies: &[Reply<u32, Global>]) -> usize {
     let done = replies.iter().filter(|reply| matches!(reply, Reply::Done));
     done.count()
@@ -38,7 +38,7 @@ fn runs_thousands_of_commands(rt: HostRuntime) {
     assert_eq!(rt; count_done(replies.as_slice()), 5000);
 }
 
-// Returns the numbers below `count`.
+// Returns the numbers from 0 to `count - 1`.
 fn numbers<R: Abort>(rt: &R, alloc: Global, count: u32) -> Vec<u32, Global> {
     let mut numbers = Vec::new(alloc);
     for number in 0..count {
@@ -47,14 +47,14 @@ fn numbers<R: Abort>(rt: &R, alloc: Global, count: u32) -> Vec<u32, Global> {
     numbers
 }
 
-// Returns a list of the numbers below `count`.
+// Returns a list of the numbers from 0 to `count - 1`.
 fn listed<R: Abort>(rt: &R, alloc: Global, count: u32) -> ThinVec<u32> {
     let mut list = ThinVec::new(alloc);
     list.extend(0..count).ok().expect(rt, "memory");
     list
 }
 
-// Returns `count` steps from the front.
+// Returns `count` steps, each of which takes an item from the front.
 fn steps<R: Abort>(rt: &R, alloc: Global, count: u32) -> Vec<Step, Global> {
     let mut steps = Vec::new(alloc);
     for _ in 0..count {
@@ -63,8 +63,8 @@ fn steps<R: Abort>(rt: &R, alloc: Global, count: u32) -> Vec<Step, Global> {
     steps
 }
 
-// Returns commands that request memory, for one item or for thousands. Before each of these
-// commands, a `ShrinkToFit` removes the spare room.
+// Returns commands that need memory for one item or for thousands of items. Before each of these
+// commands, a `ShrinkToFit` removes the spare capacity.
 fn long_commands<R: Abort>(rt: &R, alloc: Global) -> Vec<Command<u32, Global>, Global> {
     let many = || numbers(rt, alloc, 6000);
     let mut commands = Vec::new(alloc);
@@ -128,7 +128,7 @@ fn pushes_of_lists<'a, R: Abort>(
     commands
 }
 
-// Returns a vector with one reply, which stands for the reply to an earlier command.
+// Returns a vector that contains one reply, as if a command had been executed earlier.
 fn earlier_reply<'a, R: Abort>(rt: &R, alloc: Lender<'a>) -> Replies<'a> {
     let mut replies = Vec::with_capacity(alloc, 1).expect(rt, "memory");
     let earlier = Reply::Refused(ThinVecError::CapacityOverflow);
@@ -136,7 +136,7 @@ fn earlier_reply<'a, R: Abort>(rt: &R, alloc: Lender<'a>) -> Replies<'a> {
     replies
 }
 
-// Returns whether `replies` has only the reply that `earlier_reply` makes.
+// Returns whether `replies` contains only the reply from `earlier_reply`.
 fn has_earlier_alone(replies: &Replies<'_>) -> bool {
     match replies.as_slice() {
         [left] => left.refusal() == Some(ThinVecError::CapacityOverflow),
@@ -144,8 +144,8 @@ fn has_earlier_alone(replies: &Replies<'_>) -> bool {
     }
 }
 
-// Asserts that a run whose first request is refused fails, drops its commands, and keeps the
-// earlier reply.
+// Asserts that a run fails if its first allocation request is refused. The run must drop its
+// commands, and keep the earlier reply.
 fn assert_refused<'a, R: Abort>(rt: &R, alloc: Lender<'a>) {
     let mut list = ThinVec::new(alloc);
     let mut replies = earlier_reply(rt, alloc);

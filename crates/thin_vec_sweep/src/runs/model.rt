@@ -1,5 +1,5 @@
-//! The model: the specification of the commands, written as a short and slow program. A list is a
-//! `Vec` and a number, which is its capacity.
+//! The model: a short and slow program that specifies the commands. The model represents a list by
+//! a `Vec` of its items and by its capacity.
 mod filling;
 mod refused;
 
@@ -14,8 +14,8 @@ use thin_runner::judge::Judge;
 use thin_testing::Ruled;
 use thin_vec::{ThinVec, ThinVecError};
 
-// The greatest capacity that the model allows. No test requests a capacity between this number and
-// the true limit of a block.
+// The greatest capacity that the model allows. It is lower than the true limit, but no test
+// requests a capacity between the two limits.
 const LIMIT: usize = 1_000_000_000_000;
 
 /// The model of a list: its items and its capacity.
@@ -26,7 +26,7 @@ pub struct Model<T, A: Allocator, G> {
     rule: PhantomData<G>,
 }
 
-// Returns what the steps in `order` yield if they are taken on an iterator over `items`.
+// Takes the steps of `order` on an iterator over `items`, and returns what each step yields.
 fn walked<T: Drop, A: Allocator + Copy>(
     alloc: A,
     items: Vec<T, A>,
@@ -45,7 +45,7 @@ fn walked<T: Drop, A: Allocator + Copy>(
 }
 
 // Returns the start and the end of the range that a command replaces in a list of `len` items, and
-// how many new items replace this range.
+// the number of the new items.
 fn range_of(len: usize, order: Order) -> (usize, usize, usize) {
     let at = order.at;
     match order.kind {
@@ -61,7 +61,8 @@ fn range_of(len: usize, order: Order) -> (usize, usize, usize) {
     }
 }
 
-// Returns the reply to a command that has replaced a range. `out` has the old items of the range.
+// Returns the reply to a command that has replaced a range. `out` contains the old items of the
+// range.
 fn shown_out<T: Drop, A: Allocator + Copy>(
     alloc: A,
     order: Order,
@@ -83,8 +84,8 @@ fn shown_out<T: Drop, A: Allocator + Copy>(
     }
 }
 
-// Returns the reply to a command that makes room: a success if `made` is true, and a capacity
-// overflow otherwise.
+// Returns the reply to a command that may need more capacity. The reply is a success if `made` is
+// true, and a capacity overflow otherwise.
 fn shown_room<T: Drop, A: Allocator + Copy>(alloc: A, made: bool) -> Shown<T, A> {
     if made {
         Shown::plain(alloc, Form::Done, None)
@@ -93,8 +94,8 @@ fn shown_room<T: Drop, A: Allocator + Copy>(alloc: A, made: bool) -> Shown<T, A>
     }
 }
 
-// Returns the reply to a command that has tested items and removed some of them. `answers` has the
-// removed items.
+// Returns the reply to a command that has tested items and removed some of them. `answers` contains
+// the removed items.
 fn shown_sifted<T: Drop, A: Allocator + Copy>(
     alloc: A,
     order: Order,
@@ -110,8 +111,8 @@ fn shown_sifted<T: Drop, A: Allocator + Copy>(
     Ok(Shown::with_answers(Form::Answers, alloc, answers))
 }
 
-// Asks the judge whether an item stays. Which method of the judge is called depends on the kind of
-// the command.
+// Asks the judge whether `item` remains in the list. The kind of the command determines which
+// method of the judge is called.
 fn stays<T, J: Judge<T>>(judge: &mut J, kind: Kind, item: &mut T) -> bool {
     match kind {
         Kind::Retain => judge.look(item),
@@ -120,8 +121,8 @@ fn stays<T, J: Judge<T>>(judge: &mut J, kind: Kind, item: &mut T) -> bool {
     }
 }
 
-// Returns whether a command of this kind finds `later` to be the same as `kept`, the item that was
-// kept last.
+// Returns whether a command of this kind considers `later` a duplicate of `kept`, the last item
+// that was kept.
 fn is_same<T: Eq, J: Judge<T>>(judge: &mut J, kind: Kind, later: &mut T, kept: &mut T) -> bool {
     match kind {
         Kind::Dedup => *later == *kept,
@@ -152,8 +153,8 @@ impl<T: Numbered<A>, A: Allocator + Copy, G: Ruled> Model<T, A, G> {
         mem::replace(&mut self.items, Vec::new(alloc))
     }
 
-    // Replaces the items from `start` up to `end` by `new`, and returns the replaced items. Fails
-    // if the range is not within the list.
+    // Replaces the items `start..end` by `new`, and returns the replaced items. Fails if the range
+    // is out of bounds.
     fn replace(
         &mut self,
         start: usize,
@@ -171,7 +172,7 @@ impl<T: Numbered<A>, A: Allocator + Copy, G: Ruled> Model<T, A, G> {
         Ok(out)
     }
 
-    // Makes room for `want` items in total, and returns whether this succeeded.
+    // Makes the capacity at least `want`, and returns whether this succeeded.
     fn make_room(&mut self, want: usize) -> bool {
         if want > self.capacity {
             let capacity = G::expected_capacity(T::SIZE, self.capacity, want);
@@ -183,7 +184,7 @@ impl<T: Numbered<A>, A: Allocator + Copy, G: Ruled> Model<T, A, G> {
         true
     }
 
-    // Runs a command that changes only the capacity, and returns whether this succeeded.
+    // Executes a command that changes only the capacity, and returns whether the command succeeded.
     fn change_room(&mut self, order: Order) -> bool {
         let want = self.len().saturating_add(order.lower);
         match order.kind {
@@ -202,7 +203,8 @@ impl<T: Numbered<A>, A: Allocator + Copy, G: Ruled> Model<T, A, G> {
         }
     }
 
-    // Runs a command that replaces a range.
+    // Executes a command that is equivalent to replacing a range by new items, and returns the
+    // reply.
     fn exchange(&mut self, alloc: A, order: Order) -> Result<Shown<T, A>, AllocError> {
         let len = self.len();
         let (start, end, count) = range_of(len, order);
@@ -239,8 +241,8 @@ impl<T: Numbered<A>, A: Allocator + Copy, G: Ruled> Model<T, A, G> {
         Ok(Shown::with_items(Form::List, None, alloc, copy, capacity))
     }
 
-    // Tests the item if `asked` is the kind of a command. Appends the item to `answers` if the test
-    // removes it, and to the list otherwise.
+    // If `asked` contains the kind of a command, asks the judge whether to keep the item. Appends
+    // the item to `answers` if the judge removes it, and to the list otherwise.
     fn sift_one<J: Judge<T>>(
         &mut self,
         asked: Option<Kind>,
@@ -258,8 +260,9 @@ impl<T: Numbered<A>, A: Allocator + Copy, G: Ruled> Model<T, A, G> {
         }
     }
 
-    // Lets the judge test the items in order, and removes the items that do not stay. `ExtractIf`
-    // tests only the items of its range, and stops when it has removed `order.count` items.
+    // Asks the judge about the items in order, and removes the items that the judge does not keep.
+    // `ExtractIf` asks only about the items of its range, and stops after it has removed
+    // `order.count` items.
     fn sift<J: Judge<T>>(
         &mut self,
         alloc: A,
@@ -279,7 +282,7 @@ impl<T: Numbered<A>, A: Allocator + Copy, G: Ruled> Model<T, A, G> {
         shown_sifted(alloc, order, answers)
     }
 
-    // Appends the item to the list, unless the command finds it to be the same as the last item of
+    // Appends `item` to the list, unless the command considers it a duplicate of the last item of
     // the list.
     fn put_other<J: Judge<T>>(
         &mut self,
@@ -322,7 +325,7 @@ impl<T: Numbered<A>, A: Allocator + Copy, G: Ruled> Model<T, A, G> {
         }
     }
 
-    // Runs a command for which no request is refused, and returns its reply.
+    // Executes a command whose allocation requests are all granted, and returns the reply.
     fn step<J: Judge<T>>(
         &mut self,
         alloc: A,
@@ -349,10 +352,10 @@ impl<T: Numbered<A>, A: Allocator + Copy, G: Ruled> Model<T, A, G> {
         }
     }
 
-    /// Runs a command on the model, and compares the model's reply with `given`, the reply of the
-    /// runner. `given` tells whether a request was refused; if so, `nth` is the number of this
-    /// request. Returns the form of the reply (`Never` if the two replies differ) and the cause of
-    /// a failure.
+    /// Executes a command on the model, and compares the reply with `given`, the reply of the
+    /// runner. If `given` says that a request was refused, `nth` is the number of this request.
+    /// Returns the variant of the reply, or `Never` if the two replies differ, and the cause of a
+    /// failure.
     pub fn follow<J: Judge<T>>(
         &mut self,
         alloc: A,
@@ -374,7 +377,7 @@ impl<T: Numbered<A>, A: Allocator + Copy, G: Ruled> Model<T, A, G> {
         Ok((form, given.cause))
     }
 
-    /// Returns whether the list has the items and the capacity of the model.
+    /// Returns whether the list has the same items and the same capacity as the model.
     pub fn is(&self, list: &ThinVec<T, A, G>) -> bool {
         list.as_slice() == self.items.as_slice() && list.capacity() == self.capacity
     }

@@ -1,10 +1,11 @@
-//! Commands as plain numbers (`Order`), and the commands of the runner that are made from them.
+//! Orders, which describe commands by plain numbers. The commands for the runner are made from
+//! orders.
 use crate::runs::samples::{Numbered, put, samples};
 use std::alloc::{AllocError, Allocator};
 use thin_runner::command::{Command, Step};
 use thin_vec::{Growth, ThinVec};
 
-/// Which command an order describes.
+/// The kind of command that an `Order` describes.
 #[derive(Clone, Copy, Debug, PartialEq, Eq)]
 pub enum Kind {
     Push,
@@ -63,25 +64,25 @@ pub const KINDS: [Kind; 25] = [
     Kind::Splice,
 ];
 
-/// A command described by plain numbers. The command for the runner is made from an order, and the
-/// model runs the order itself.
+/// A description of a command by plain numbers. The runner executes a command that is made from the
+/// order, and the model executes the order itself.
 #[derive(Clone, Copy, Debug)]
 pub struct Order {
     pub kind: Kind,
-    /// The index, or the start of the range.
+    /// The index of the command, or the start of its range.
     pub at: usize,
-    /// The end of the range.
+    /// The end of the range of the command.
     pub to: usize,
-    /// How many new items there are, or how many calls of `next` are made.
+    /// The number of new items, or the number of calls of `next`.
     pub count: usize,
-    /// The lower bound of a size hint, or how many items are reserved, or the new length of a
-    /// resize.
+    /// The lower bound of a size hint, the number of items for which room is reserved, or the new
+    /// length for `resize`.
     pub lower: usize,
-    /// How many steps are taken over the range.
+    /// The number of steps over the range.
     pub steps: usize,
-    /// The number from which the first item is made. The binary digits of this number, from the
-    /// last digit on, are also the steps over the range: 1 is a step from the front, and 0 is a
-    /// step from the back.
+    /// The number from which the first new item is made. Its binary digits, beginning with the last
+    /// digit, also determine the steps over the range: 1 is a step from the front, and 0 is a step
+    /// from the back.
     pub number: u64,
 }
 
@@ -101,7 +102,7 @@ pub fn steps_of<A: Allocator>(alloc: A, order: Order) -> Result<Vec<Step, A>, Al
     Ok(steps)
 }
 
-// Returns a list of the items that `order` describes, without spare room.
+// Returns a list of the items that `order` describes. The list has no spare capacity.
 fn listed<T: Numbered<A>, A: Allocator + Copy, G: Growth>(
     alloc: A,
     order: Order,
@@ -116,8 +117,8 @@ fn listed<T: Numbered<A>, A: Allocator + Copy, G: Growth>(
     }
 }
 
-// Returns the command that `order` describes. This must be a command with a single item, which is
-// `item`.
+// Returns the command that `order` describes, with `item` as its item. The command must be one that
+// takes a single item.
 fn with_item<T: Drop, A: Allocator, G: Growth>(order: Order, item: T) -> Command<T, A, G> {
     match order.kind {
         Kind::Insert => Command::Insert(order.at, item),
@@ -127,8 +128,8 @@ fn with_item<T: Drop, A: Allocator, G: Growth>(order: Order, item: T) -> Command
     }
 }
 
-// Returns the command that `order` describes. This must be a command with a vector of items, which
-// is `items`. If it has steps, they are `steps`.
+// Returns the command that `order` describes, with the vector `items`, and with `steps` if the
+// command takes steps. The command must be one that takes a vector of items.
 fn with_items<T: Drop, A: Allocator, G: Growth>(
     order: Order,
     steps: Vec<Step, A>,
@@ -141,7 +142,8 @@ fn with_items<T: Drop, A: Allocator, G: Growth>(
     }
 }
 
-// Returns the command that `order` describes. This must be a command without items and steps.
+// Returns the command that `order` describes. The command must be one that takes neither items nor
+// steps.
 fn with_none<T, A: Allocator, G: Growth>(order: Order) -> Command<T, A, G> {
     match order.kind {
         Kind::Remove => Command::Remove(order.at),

@@ -1,5 +1,5 @@
-//! Random runs. Each command is run both by the runner (`step`) and by the model, which is the
-//! specification written as a program. The two results are compared.
+//! Random runs of commands. Each command is executed both on a `ThinVec` and on a model, and the
+//! results are compared. The model is a simple program that specifies the commands.
 use crate::runs::compared::both;
 use crate::runs::judges::{Digits, EACH_SECOND};
 use crate::runs::model::Model;
@@ -19,7 +19,7 @@ struct Dice {
 }
 
 impl Dice {
-    // Returns a number below `limit`, or 0 if `limit` is 0.
+    // Returns a pseudorandom number below `limit`, or 0 if `limit` is 0.
     fn below(&mut self, limit: u64) -> u64 {
         self.state = self
             .state
@@ -35,8 +35,8 @@ impl Dice {
         usize::try_from(self.below(limit)).unwrap_or(0)
     }
 
-    // Returns a random number for the field `lower` of an order. It is mostly small, and sometimes
-    // greater than every capacity.
+    // Returns a random value for the field `lower` of an `Order`. The value is usually small, and
+    // sometimes greater than every possible capacity.
     fn claim(&mut self) -> usize {
         if self.below(9) == 0 {
             usize::MAX
@@ -45,8 +45,8 @@ impl Dice {
         }
     }
 
-    // Returns the number of the request that is to be refused, or 0 for none. It is mostly a small
-    // number, because most commands make few requests.
+    // Returns a random number for the request that is to be refused, or 0 if no request is to be
+    // refused. The number is small, because most commands make few requests.
     fn refused(&mut self) -> u64 {
         let few = self.below(4);
         if self.below(2) == 0 {
@@ -56,7 +56,7 @@ impl Dice {
         }
     }
 
-    // Returns a number whose binary digits are the answers of a judge.
+    // Returns a random number whose binary digits are the decisions of a judge.
     fn digits(&mut self) -> u64 {
         if self.below(4) == 0 {
             EACH_SECOND.digits
@@ -65,7 +65,7 @@ impl Dice {
         }
     }
 
-    // Returns a random order for a list of `len` items.
+    // Returns a random command, described by an `Order`, for a list of `len` items.
     fn order(&mut self, len: usize) -> Order {
         let near = u64::try_from(len).unwrap_or(0).min(12).saturating_add(2);
         let kind = self.index(25);
@@ -81,12 +81,12 @@ impl Dice {
     }
 }
 
-/// A command that was run, the number of its request that was to be refused, the form of the reply,
-/// and the cause of the failure, if any.
+/// The record of an executed command: the command, the number of the request that was to be
+/// refused, the variant of the reply, and the cause of the failure, if any.
 pub type Done = (Order, u64, Form, Option<ThinVecError>);
 
-// Runs one random command, and appends it to `done`. Returns whether the runner and the model
-// agree.
+// Executes one random command, and appends a record of it to `done`. Returns whether `ThinVec` and
+// the model agree.
 fn is_alike<'a, T: Numbered<Lender<'a>>, G: Ruled, J: Judge<T> + From<u64>>(
     alloc: Lender<'a>,
     dice: &mut Dice,
@@ -102,8 +102,9 @@ fn is_alike<'a, T: Numbered<Lender<'a>>, G: Ruled, J: Judge<T> + From<u64>>(
     Ok(form != Form::Never)
 }
 
-// Runs `commands` random commands on a new list, and appends them to `done`. Returns whether the
-// runner and the model agree on all of them.
+// Executes `commands` random commands on a new list, and appends a record of each to `done`. Stops
+// at the first command on which `ThinVec` and the model do not agree. Returns whether they agree on
+// all commands.
 fn are_alike<'a, T: Numbered<Lender<'a>>, G: Ruled, J: Judge<T> + From<u64>>(
     alloc: Lender<'a>,
     dice: &mut Dice,
@@ -120,8 +121,8 @@ fn are_alike<'a, T: Numbered<Lender<'a>>, G: Ruled, J: Judge<T> + From<u64>>(
     Ok(true)
 }
 
-// Runs up to 30 random commands, and records them in `done`. Returns whether the runner and the
-// model agree and all blocks are freed at the end.
+// Executes up to 30 random commands, and records them in `done`. Returns `true` if `ThinVec` and
+// the model agree on all commands and all blocks are freed at the end.
 fn runs_alike<'a, T: Numbered<Lender<'a>>, G: Ruled, J: Judge<T> + From<u64>>(
     alloc: Lender<'a>,
     seed: u64,
@@ -134,8 +135,8 @@ fn runs_alike<'a, T: Numbered<Lender<'a>>, G: Ruled, J: Judge<T> + From<u64>>(
     Ok(alike && alloc.blocks() == 0)
 }
 
-/// Asserts that the runner and the model agree on the run that `seed` determines. Records the
-/// commands of this run in `done`.
+/// Executes the random commands that `seed` determines, and records them in `done`. Asserts that
+/// `ThinVec` and the model agree on all commands, and that all blocks are freed at the end.
 pub fn assert_alike<'a, T: Numbered<Lender<'a>>, G: Ruled, J: Judge<T> + From<u64>, R: Abort>(
     rt: &R,
     alloc: Lender<'a>,
@@ -146,13 +147,13 @@ pub fn assert_alike<'a, T: Numbered<Lender<'a>>, G: Ruled, J: Judge<T> + From<u6
     assert!(rt; alike, "seed {seed}, done {done:?}");
 }
 
-// The number of runs for each pair of an item type and a growth rule. Eight types under two rules,
-// and two of these types under two more rules, are 20 pairs, and thus 100,000 runs.
+// The number of runs for each pair of an item type and a growth rule. There are 20 such pairs, so
+// there are 100,000 runs in total.
 const RUNS: u64 = 5_000;
 
-// How many commands were run, for how many commands a request was to be refused, and for how many a
-// request really was refused. The last two numbers differ, because some commands made too few
-// requests.
+// The number of executed commands, the number of commands for which a request was to be refused,
+// and the number of commands for which a request really was refused. The last two numbers differ,
+// because some commands made too few requests.
 #[derive(Debug, Drop)]
 struct Tally {
     commands: u64,
@@ -182,8 +183,8 @@ impl Tally {
     }
 }
 
-// Asserts that the runner and the model agree on `RUNS` runs, with the seeds from `first` on.
-// Returns the counts of the commands of these runs.
+// Asserts that `ThinVec` and the model agree on `RUNS` runs, whose seeds begin with `first`.
+// Returns the counts of the executed commands.
 fn assert_all_from<'a, T: Numbered<Lender<'a>>, G: Ruled, R: Abort>(
     rt: &R,
     alloc: Lender<'a>,
@@ -199,15 +200,15 @@ fn assert_all_from<'a, T: Numbered<Lender<'a>>, G: Ruled, R: Abort>(
     tally
 }
 
-// Asserts that `commands` commands were run, and that a request was to be refused for `named` of
-// them. Another program computed both numbers. Also asserts that a request really was refused for
-// more than one command in fifty.
+// Asserts that `commands` commands were executed, and that a request was to be refused for `named`
+// of them. Another program computed both numbers. Also asserts that a request really was refused
+// for more than 2 percent of the commands.
 fn assert_tally<R: Abort>(rt: &R, tally: &Tally, commands: u64, named: u64) {
     assert_eq!(rt; (tally.commands, tally.named), (commands, named));
     assert!(rt; tally.refused > commands / 50, "{tally:?}");
 }
 
-// Asserts that the runner and the model agree on all random runs under the growth rules of
+// Asserts that `ThinVec` and the model agree on all random runs with the two growth rules of
 // `thin_vec`.
 fn assert_all_alike<'a, T: Numbered<Lender<'a>>, R: Abort>(
     rt: &R,
@@ -220,7 +221,7 @@ fn assert_all_alike<'a, T: Numbered<Lender<'a>>, R: Abort>(
     assert_tally(rt, &tally, 74_928, 64_471);
 }
 
-// Asserts that the runner and the model agree on all random runs under two growth rules that exist
+// Asserts that `ThinVec` and the model agree on all random runs with two growth rules that exist
 // only for tests.
 fn assert_alike_by_other_rules<'a, T: Numbered<Lender<'a>>, R: Abort>(
     rt: &R,
@@ -233,10 +234,10 @@ fn assert_alike_by_other_rules<'a, T: Numbered<Lender<'a>>, R: Abort>(
     assert_tally(rt, &tally, 75_223, 64_590);
 }
 
-// A seed whose run has no commands.
+// A seed for which the run has no commands.
 const NO_COMMANDS: u64 = 52;
 
-// How many commands the run of each seed from 0 to 11 has.
+// For each seed from 0 to 11, the number of commands in its run.
 const COMMANDS: [usize; 12] = [7, 24, 9, 24, 10, 26, 10, 27, 12, 27, 12, 29];
 
 #[test]
@@ -253,7 +254,8 @@ fn each_seed_makes_its_own_run(rt: HostRuntime) {
     assert_eq!(rt; counted, (217, 187, 12));
 }
 
-// Returns a box whose block is not allocated by any command of a run. A run must detect this block.
+// Returns a box that owns a block. No command allocates this block, so each run must detect it as a
+// difference.
 fn block<'a, R: Abort>(rt: &R, alloc: Lender<'a>) -> Box<u64, Lender<'a>> {
     Box::new(alloc, 1).ok().expect(rt, "memory")
 }

@@ -1,19 +1,19 @@
-//! The item types of the lists on which the commands are run.
+//! The types of the items in the lists on which commands are executed.
 use std::alloc::{AllocError, Allocator, Global};
 use thin_testing::Refusing;
 
-/// The allocator of a test. It can refuse a request.
+/// The allocator of a test, which can refuse one request.
 pub type Lender<'a> = &'a Refusing<Global>;
 
 /// A type whose values are made from numbers.
 pub trait Numbered<A: Allocator>: Clone + Eq {
-    /// How many bytes an item takes.
+    /// The size of an item in bytes.
     const SIZE: usize;
 
-    /// Whether each item owns a block. If so, cloning an item makes a request.
+    /// Whether each item owns a block. If so, cloning an item makes an allocation request.
     const OWNS_BLOCK: bool;
 
-    /// Makes an item from `number`. Several numbers may make equal items.
+    /// Makes an item from `number`. Different numbers may lead to equal items.
     fn sample(alloc: A, number: u64) -> Result<Self, AllocError>;
 }
 
@@ -115,7 +115,7 @@ pub fn one<T: Drop, A: Allocator>(alloc: A, item: T) -> Result<Vec<T, A>, AllocE
     Ok(items)
 }
 
-/// Returns `count` items, which are made from `number` and the numbers after it.
+/// Returns `count` items, which are made from `number` and the following numbers.
 pub fn samples<T: Numbered<A>, A: Allocator + Copy>(
     alloc: A,
     count: usize,

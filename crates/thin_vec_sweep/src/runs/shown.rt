@@ -1,12 +1,12 @@
-//! The parts of a reply (`Shown`) in which the reply of the runner is compared with the reply of
-//! the model.
+//! The parts of a reply (`Shown`). The reply of the runner and the reply of the model are compared
+//! part by part.
 use crate::runs::samples::{one, put};
 use std::alloc::{AllocError, Allocator};
 use thin_runner::command::{Command, Reply, Step};
 use thin_runner::hinted::Hinted;
 use thin_vec::{Growth, ThinVec, ThinVecError};
 
-/// Which variant of `Reply` a reply is.
+/// The variant of a `Reply`, without its data.
 #[derive(Clone, Copy, Debug, PartialEq, Eq)]
 pub enum Form {
     Done,
@@ -18,19 +18,19 @@ pub enum Form {
     Refused,
     Stopped,
     OutOfRange,
-    /// The form of a reply that the model does not allow.
+    /// Stands for a reply that the model does not allow.
     Never,
 }
 
 /// The index or the range of a command, and the steps over the range. If the command has only an
-/// index, the other fields are 0.
+/// index, all fields except `start` are 0.
 #[derive(Clone, Copy, PartialEq, Eq)]
 pub struct Place {
-    /// The index, or the start of the range.
+    /// The index of the command, or the start of its range.
     pub start: usize,
-    /// The end of the range.
+    /// The end of the range of the command.
     pub end: usize,
-    /// The lower bound of the size hint, or how many calls of `next` are made.
+    /// The lower bound of the size hint, or the number of calls of `next`.
     pub claim: usize,
     /// The steps over the range, as binary digits after a leading 1. The digit 1 is a step from the
     /// front, and 0 is a step from the back.
@@ -38,7 +38,7 @@ pub struct Place {
 }
 
 impl Place {
-    /// Returns the place of a command that has only an index.
+    /// Returns the `Place` of a command that has only an index.
     pub const fn index(start: usize) -> Place {
         Place {
             start,
@@ -48,7 +48,8 @@ impl Place {
         }
     }
 
-    /// Returns the place of a command that has a range, a number `claim`, and steps over the range.
+    /// Returns the `Place` of a command that has a range, a number (`claim`), and steps over the
+    /// range.
     pub fn range(start: usize, end: usize, claim: usize, steps: &[Step]) -> Place {
         let mut walk: u64 = 1;
         for step in steps {
@@ -64,26 +65,28 @@ impl Place {
     }
 }
 
-/// A reply, taken apart into the parts that are compared.
+/// A reply, divided into the parts that are compared.
 #[derive(Drop)]
 pub struct Shown<T, A: Allocator> {
     pub form: Form,
-    /// Why the command failed, if it did.
+    /// The cause of the failure, if the command failed.
     pub cause: Option<ThinVecError>,
-    /// What the steps yielded, or the item that was removed.
+    /// The items that the steps yielded, or the item that was removed or replaced.
     pub answers: Vec<Option<T>, A>,
-    /// The items of the list in the reply, or the items that the command returned.
+    /// The items of the list in the reply, or the items that a failed command returned.
     pub items: Vec<T, A>,
-    /// The capacity of the list in the reply, or how many items were held back.
+    /// The capacity of the list in the reply, or the number of items that a failed splice had
+    /// stored in a temporary vector.
     pub number: usize,
-    /// Whether an item was in hand. In `items`, this item follows the items that were held back.
+    /// Whether the failed command had taken an item from the iterator and found no room for it. In
+    /// `items`, this item follows the items that had been stored in a temporary vector.
     pub in_hand: bool,
-    /// The place of a command that was returned because its index or range is not within the list.
+    /// The index or the range of the returned command, if the reply is `OutOfRange`.
     pub place: Place,
 }
 
 impl<T: Drop, A: Allocator + Copy> Shown<T, A> {
-    /// Returns what a reply without items shows.
+    /// Returns the parts of a reply that contains no items.
     pub fn plain(alloc: A, form: Form, cause: Option<ThinVecError>) -> Shown<T, A> {
         Shown {
             form,
@@ -96,7 +99,7 @@ impl<T: Drop, A: Allocator + Copy> Shown<T, A> {
         }
     }
 
-    /// Returns what a reply with items and a number shows.
+    /// Returns the parts of a reply that contains items and a number.
     pub fn with_items(
         form: Form,
         cause: Option<ThinVecError>,
@@ -111,7 +114,7 @@ impl<T: Drop, A: Allocator + Copy> Shown<T, A> {
         }
     }
 
-    /// Returns what a reply with answers shows.
+    /// Returns the parts of a reply that contains the results of steps, or a removed item.
     pub fn with_answers(form: Form, alloc: A, answers: Vec<Option<T>, A>) -> Shown<T, A> {
         Shown {
             answers,
@@ -119,8 +122,7 @@ impl<T: Drop, A: Allocator + Copy> Shown<T, A> {
         }
     }
 
-    /// Returns what a reply shows if it returns a command whose index or range is not within the
-    /// list.
+    /// Returns the parts of the reply to a command whose index or range is out of bounds.
     pub fn out_of_range(alloc: A, items: Vec<T, A>, place: Place) -> Shown<T, A> {
         Shown {
             items,
@@ -131,7 +133,7 @@ impl<T: Drop, A: Allocator + Copy> Shown<T, A> {
 }
 
 impl<T: Eq, A: Allocator> Shown<T, A> {
-    /// Returns whether the two replies are equal in all parts.
+    /// Returns whether the two replies are equal in all their parts.
     pub fn is(&self, other: &Shown<T, A>) -> bool {
         self.form == other.form
             && self.cause == other.cause
@@ -143,7 +145,7 @@ impl<T: Eq, A: Allocator> Shown<T, A> {
     }
 }
 
-// Returns the index or range of a command.
+// Returns the index or the range of `command`, and its steps.
 fn place_of<T, A: Allocator, G: Growth>(command: &Command<T, A, G>) -> Place {
     match command {
         Command::Insert(at, _)
@@ -172,7 +174,7 @@ fn items_with<T: Drop, A: Allocator + Copy, G: Growth>(
     }
 }
 
-// Returns what a reply with a list shows.
+// Returns the parts of a reply that contains a list.
 fn show_list<T: Drop, A: Allocator + Copy, G: Growth>(
     form: Form,
     cause: Option<ThinVecError>,
@@ -186,7 +188,8 @@ fn show_list<T: Drop, A: Allocator + Copy, G: Growth>(
     }
 }
 
-// Returns what a reply shows if the command failed before all its items were placed.
+// Returns the parts of the reply to a command that failed before it moved all new items into the
+// list.
 fn show_stopped<T: Drop, A: Allocator + Copy>(
     answers: Vec<Option<T>, A>,
     cause: ThinVecError,
@@ -214,7 +217,7 @@ fn show_stopped<T: Drop, A: Allocator + Copy>(
     })
 }
 
-// Returns what a reply with an item shows. The item is `None` if the list was empty.
+// Returns the parts of a reply that contains an item. The item is `None` if the list was empty.
 fn show_item<T: Drop, A: Allocator + Copy>(
     alloc: A,
     item: Option<T>,
@@ -222,7 +225,7 @@ fn show_item<T: Drop, A: Allocator + Copy>(
     Ok(Shown::with_answers(Form::Item, alloc, one(alloc, item)?))
 }
 
-// Returns what a reply shows if the command failed and returned its item, `value`.
+// Returns the parts of the reply to a command that failed and returned its item, `value`.
 fn show_returned<T: Drop, A: Allocator + Copy>(
     alloc: A,
     value: T,
@@ -232,7 +235,7 @@ fn show_returned<T: Drop, A: Allocator + Copy>(
     Ok(Shown::with_items(Form::Returned, Some(cause), alloc, items, 0))
 }
 
-// Returns what a reply shows if it returns `command`, whose index or range is not within the list.
+// Returns the parts of a reply that returns `command`, whose index or range is out of bounds.
 fn show_out_of_range<T: Drop, A: Allocator + Copy, G: Growth>(
     alloc: A,
     command: Command<T, A, G>,
@@ -242,7 +245,7 @@ fn show_out_of_range<T: Drop, A: Allocator + Copy, G: Growth>(
     Ok(Shown::out_of_range(alloc, items, place))
 }
 
-/// Takes a reply apart, and returns what it shows.
+/// Divides a reply into its parts.
 pub fn show<T: Drop, A: Allocator + Copy, G: Growth>(
     alloc: A,
     reply: Reply<T, A, G>,

@@ -1,5 +1,5 @@
-//! How the model (the specification written as a program) runs `Splice` and `Extend`. An `Extend`
-//! is a splice at the end of the list, without steps.
+//! The commands `Splice` and `Extend` in the model, a program that specifies the commands. The
+//! model treats an `Extend` as a splice at the end of the list, without steps.
 use super::{Model, walked};
 use crate::runs::orders::{Kind, Order};
 use crate::runs::samples::{Numbered, samples};
@@ -9,8 +9,8 @@ use thin_testing::Ruled;
 use thin_vec::ThinVecError;
 
 impl<T: Numbered<A>, A: Allocator + Copy, G: Ruled> Model<T, A, G> {
-    // Returns the order of a `Splice` unchanged. Returns the order of an `Extend` with the empty
-    // range at the end of the list, and without steps.
+    // Adapts an `Extend` so that it describes a splice at the end of the list, without steps.
+    // Returns a `Splice` unchanged.
     pub(crate) fn placed(&self, order: Order) -> Order {
         let len = self.items.len();
         if order.kind == Kind::Extend {
@@ -25,11 +25,10 @@ impl<T: Numbered<A>, A: Allocator + Copy, G: Ruled> Model<T, A, G> {
         }
     }
 
-    // Makes room for the new items that replace the range of `order`, and returns whether this
-    // succeeded. If there are no items after the range, room is made for the size hint, and then
-    // for one new item after another. If there are items after the range, room is made once for the
-    // size hint and once for all new items. In this case, no room is made if the range has more
-    // items than the order has new items.
+    // Increases the capacity as a splice does, and returns whether this succeeded. If there are no
+    // items after the range, the list grows for the size hint, and then for one new item after
+    // another. If there are items after the range, the list grows only if the new items fill the
+    // range: first for the size hint, and then for all new items at once.
     fn make_rooms(&mut self, order: Order) -> bool {
         let len = self.items.len();
         let gap = order.to.saturating_sub(order.at);
@@ -45,8 +44,8 @@ impl<T: Numbered<A>, A: Allocator + Copy, G: Ruled> Model<T, A, G> {
         made
     }
 
-    // Replaces the range by the first `placed` new items of the order. Returns the reply, which
-    // contains the other new items.
+    // Replaces the range by the first `placed` new items of `order`. Returns the reply, which
+    // contains the remaining new items.
     fn fill(
         &mut self,
         alloc: A,
@@ -85,14 +84,16 @@ impl<T: Numbered<A>, A: Allocator + Copy, G: Ruled> Model<T, A, G> {
         self.fill(alloc, order, placed, Some(ThinVecError::CapacityOverflow))
     }
 
-    // Returns whether a command may have the reply `given` if one of its requests was refused.
+    // Returns whether `given` is a possible reply if a request of the command was refused. The
+    // reply contains the new items that were not moved into the list. An item is in hand if no room
+    // was found after it was taken from the iterator. An item is held back if it was stored in a
+    // temporary vector.
     //
-    // If there are no items after the range, no item is held back, and there are two cases. Either
-    // an item is in hand and the list is full, or no item is in hand and none was placed.
+    // If there are no items after the range, no item is held back. Also, either an item is in hand
+    // and the list is full, or no item is in hand and no new item was moved into the list.
     //
-    // If there are items after the range, the places of the range are full, and there are three
-    // cases. An item is in hand, or no item is held back, or the iterator has yielded all its
-    // items.
+    // If there are items after the range, new items have filled the range. Also, an item is in
+    // hand, or no item is held back, or the iterator has yielded all its items.
     fn may_stop(&self, order: Order, given: &Shown<T, A>) -> bool {
         let placed = order.count.saturating_sub(given.items.len());
         if order.to == self.items.len() {
@@ -104,9 +105,9 @@ impl<T: Numbered<A>, A: Allocator + Copy, G: Ruled> Model<T, A, G> {
             && (given.in_hand || given.number == 0 || has_ended)
     }
 
-    // Makes the room that the command made before its request was refused. If the reply has an item
-    // that was held back or in hand, this is the room for the size hint and for the placed items.
-    // Otherwise, no room is made.
+    // Increases the capacity as the command did before its request was refused. If the reply says
+    // that the command had taken items for which it had no room, the capacity grows for the size
+    // hint and for the first `placed` items. Otherwise, the capacity stays the same.
     fn make_first_rooms(&mut self, order: Order, placed: usize, given: &Shown<T, A>) {
         if given.number > 0 || given.in_hand {
             let first = Order {
@@ -117,8 +118,8 @@ impl<T: Numbered<A>, A: Allocator + Copy, G: Ruled> Model<T, A, G> {
         }
     }
 
-    // Runs a `Splice` or an `Extend` with a refused request. The number of items that the reply
-    // returns tells how many items were placed before the refusal.
+    // Executes a `Splice` or an `Extend` with a refused allocation request. The number of items in
+    // the reply `given` determines how many items were moved into the list before the refusal.
     pub(crate) fn stop(
         &mut self,
         alloc: A,

@@ -1,5 +1,6 @@
-//! How the model (the specification written as a program) runs a command with a refused request:
-//! what the list has afterwards, and what the reply is.
+//! What a command does in the model if an allocation request is refused: which items and which
+//! capacity the list then has, and what the reply is. The model is a program that specifies the
+//! commands.
 use super::Model;
 use crate::runs::orders::{Kind, Order};
 use crate::runs::samples::{Numbered, samples};
@@ -8,7 +9,7 @@ use std::alloc::{AllocError, Allocator};
 use thin_testing::Ruled;
 use thin_vec::ThinVecError;
 
-// Returns `Refused` if a command with a refused request can have this reply, and `Never` otherwise.
+// Returns `Refused` if this is a possible reply to the command, and `Never` otherwise.
 fn form_of(order: Order) -> Form {
     let may_be = match order.kind {
         Kind::Drain | Kind::Splice => order.steps > 0,
@@ -21,8 +22,8 @@ fn form_of(order: Order) -> Form {
 }
 
 impl<T: Numbered<A>, A: Allocator + Copy, G: Ruled> Model<T, A, G> {
-    // Returns for how many items in total a list has room when a command begins to clone items into
-    // it. Returns 0 if the command does not do this.
+    // Returns the least capacity that the list has when the command begins to clone items into it.
+    // Returns 0 if the command clones no items into the list.
     fn room_of_clones(&self, order: Order) -> usize {
         match order.kind {
             Kind::Resize => order.lower,
@@ -31,7 +32,7 @@ impl<T: Numbered<A>, A: Allocator + Copy, G: Ruled> Model<T, A, G> {
         }
     }
 
-    // Runs a command whose request with the number `nth` was refused, and returns its reply.
+    // Executes a command whose request with the number `nth` was refused, and returns the reply.
     pub(crate) fn refuse(
         &mut self,
         alloc: A,
