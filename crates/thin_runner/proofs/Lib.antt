@@ -1,4 +1,4 @@
--- The lemmas about commands and runs.
+-- The lemmas about commands, and about runs, which are sequences of commands.
 pub mod HintedLemmas
 mod CommandLemmas
 pub mod RunLemmas
