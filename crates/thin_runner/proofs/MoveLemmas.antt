@@ -1,5 +1,5 @@
--- A command moves at most as many items as `may_move` states. A run, which is a sequence of
--- commands, moves at most as many items as `run_may_move` states.
+-- The number of items that a command moves is at most `may_move`. The number of items that a run (a
+-- sequence of commands) moves is at most `run_may_move`.
 use Rattle.std.proofs.Common.{Bool, true, false, ◌≡◌, ℕ, ◌+◌, ◌-◌, ◌==◌, ◌<◌, ◌≤◌, List, [], ◌∷◌, ◌++◌, Option, Some, None, length, arith, ap, refl, inl, inr}
 use Rattle.std.proofs.lemmas.List.{length-append, length-replicate}
 use Rattle.std.specs.Prelude.{◌*◌, ◌⊎◌, drop, take, HoldsAt, replicate, if◌then◌else◌}
