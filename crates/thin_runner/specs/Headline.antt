@@ -29,8 +29,8 @@ module _ {T A G J : Type 0} (here : Setting T A J) where
     -- In every case, even if calls failed, the final list (its items, capacity and cost) and the
     -- replies are a result that the definition `Runs` allows.
     pub allowed : Runs here old commands replies new
-    -- The items fit into the capacity of the list. An allocation of this capacity is not larger
-    -- than allocations may be.
+    -- The items fit into the capacity of the list. An allocation of this capacity does not exceed
+    -- the size limit for allocations.
     pub within : IsWithin here.R new
     -- If no command is `ReserveExact` or `ShrinkToFit`, then a cheap list is still cheap after the
     -- run. A list with a capacity `c` greater than 0 is cheap if growth has copied fewer than `c`
