@@ -32,9 +32,8 @@ module _ (write : ℕ → ℕ → ℕ) (row : Columns ℕ) (old : ℕ → ℕ) w
   pub none_written : IsWritten 0 old
   none_written = record { done = λ k less. absurd (omega arith); left = λ j none. refl }
 
-  -- If `now` has the numbers after the first `n` entries were written, and writing the next entry
-  -- changes no other number, then `next` has the numbers after the first `n + 1` entries were
-  -- written.
+  -- If `IsWritten n now` holds, and writing the next entry turns `now` into `next` without changing
+  -- another number, then `IsWritten (n + 1) next` holds.
   pub one_more : (n : ℕ) (now next : ℕ → ℕ) → n < length (columns.entries row) → IsWritten n now
       → next (column n) ≡ write (now (column n)) (number n)
       → ((j : ℕ) → j ≢ column n → next j ≡ now j) → IsWritten (n + 1) next

@@ -20,8 +20,9 @@ use Rattle.thin_runner.specs.declared.command.Reply.{Reply}
 use Rattle.thin_runner.specs.declared.command.Reply.TheVariants.{Done, Item, Returned, OutOfRange}
 use Rattle.thin_runner.proofs.PaidLemmas.{step-paid}
 
--- `IsAmortised m v` holds if the list `v` is cheap (`IsCheap`), its items fit into its capacity, it
--- has at most `m` items, and growing it has copied either no items or fewer than `2 * m` items.
+-- `IsAmortised m v` holds if the list `v` is cheap (`IsCheap`) and has at most `m` items, its items
+-- fit into its capacity, and growing the list has copied either no items or fewer than `2 * m`
+-- items.
 pub record IsAmortised {T A : Type 0} (m : ℕ) (v : Thin T A) : Type 0 where
   pub cheap : IsCheap v
   pub room : length v.items ≤ v.capacity
@@ -76,8 +77,8 @@ copied-kept m more (inl few) same = inl (omega (arith, few, same))
 copied-kept m more (inr none) same = inr (same ∙ none)
 
 module _ {T A G J : Type 0} (here : Setting T A J) (law : KeepsLaw here.rule) where
-  -- If `IsAmortised m` holds for a list, then `IsAmortised (m + 1)` holds for it after a successful
-  -- push. After a failed push or a pop, `IsAmortised m` still holds.
+  -- If `IsAmortised m` holds for a list, and then a push succeeds, `IsAmortised (m + 1)` holds
+  -- after the push. A failed push and a pop preserve `IsAmortised m`.
   step-amortised : (m : ℕ) (v w : Thin T A) (command : Command T A G) (reply : Reply T A G)
       → IsPushOrPop command → IsAmortised m v → Steps here v command reply w
       → IsAmortised (m + accepted (command ∷ []) (reply ∷ [])) w
@@ -120,7 +121,7 @@ module _ {T A G J : Type 0} (here : Setting T A J) (law : KeepsLaw here.rule) wh
   step-amortised m v w command reply only a s = absurd only
 
   -- `accepted` counts the successful pushes of a run. The count for a whole run is the sum of the
-  -- counts for its single commands.
+  -- counts for its individual commands.
   accepted-counted : (commands : List (Command T A G)) (replies : List (Reply T A G))
       → counted (λ c r. accepted (c ∷ []) (r ∷ [])) commands replies ≡ accepted commands replies
   accepted-counted (Push x ∷ commands) (Done ∷ replies) =
@@ -129,8 +130,8 @@ module _ {T A G J : Type 0} (here : Setting T A J) (law : KeepsLaw here.rule) wh
       omega (arith, accepted-counted commands replies)
   accepted-counted commands replies = refl
 
-  -- If `IsAmortised 0` holds for a list, then after a run of pushes and pops, `IsAmortised n` holds
-  -- for it, where `n` is the number of pushes that succeeded.
+  -- Suppose that `IsAmortised 0` holds for a list before a run of pushes and pops, and that `n` of
+  -- the pushes succeed. Then `IsAmortised n` holds for the list after the run.
   pub runs-amortised : (v w : Thin T A) (commands : List (Command T A G))
       (replies : List (Reply T A G)) → All IsPushOrPop commands → IsAmortised 0 v
       → Runs here v commands replies w → IsAmortised (0 + accepted commands replies) w

@@ -1,5 +1,5 @@
--- These lemmas help to prove that the methods of a list do what `specs/Steps` states about the
--- commands. They start from the contracts of the methods.
+-- Each command calls a method of a list. These lemmas help to prove, from the contract of the
+-- method, that the call changes the list as `specs/Steps` states.
 use Rattle.std.proofs.Common.{◌≡◌, ℕ, ◌<◌, ◌⊎◌, List, [], ◌∷◌, Some, refl, length, inl, inr, arith}
 use Rattle.std.specs.Borrow.{RattleType}
 use Rattle.std.specs.Prelude.{HoldsAt}
@@ -14,8 +14,8 @@ some-items [] none = absurd (none refl)
 some-items (x ∷ xs) none = omega arith
 
 module _ {T A : Type 0} where
-  -- `grown v c xs m` is the list `v` with the items `xs` and the capacity `c`. Its cost is the cost
-  -- of `v`, plus the cost of the change of capacity, plus `m` moves.
+  -- `grown v c xs m` is the list `v` with the items `xs` and the capacity `c`. The cost of this
+  -- list is the cost of `v`, plus the cost of the change of capacity, plus `m` moves.
   abbrev pub grown : Thin T A → ℕ → List T → ℕ → Thin T A
   grown v c xs m = record v { items = xs; capacity = c; cost = moving m (cost_at v c) }
 

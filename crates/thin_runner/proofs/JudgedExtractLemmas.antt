@@ -123,8 +123,8 @@ module _ {S T J : Type 0} (R : S → T → Bool → S → T → Type 0) (judge_o
         answered true by m = let wrong = m.0 in absurd (none-some (sym none ∙ wrong))
         answered false by m = by m.0 m.1
 
-    -- The results of a call of `next` and of `k` more calls, as `handed_out` computes them, are
-    -- `item`, followed by the results of the `k` calls.
+    -- `handed_out` computes the results of a call of `next` and of `k` more calls. The first result
+    -- is `item`, and the other results are the results of the `k` calls.
     pub handed-by : (s : S) (xs kept : List T) → ExtractsNext R s xs item t kept rest
         → handed_out (suc k) (left_at false (extracting ask (judge_of s) (suc k) xs))
         ≡ item ∷ handed_out k (left_at false (extracting ask (judge_of t) k rest))

@@ -1,5 +1,6 @@
--- Lemmas about closures that ask a judge and return its decision. If a method such as `retain`
--- calls such a closure, then the decisions of the judge determine the resulting list.
+-- A judge decides which items are kept. These lemmas are about closures that return the decisions
+-- of a judge. If a method such as `retain` calls such a closure, then the judge determines the
+-- resulting list.
 use Rattle.std.proofs.Common.{◌≡◌, ℕ, suc, ◌≤◌, ◌==◌, length, refl, arith, List, [], ◌∷◌, Bool, true, false, ap, subst, ◌∙◌}
 use denote.MutBor.{MutBor}
 use denote.Param.Members.{Mut}

@@ -40,15 +40,16 @@ module _ {T A : Type 0} (v w : Thin T A) where
   edited-moves : (xs : List T) (m : ℕ) → w ≡ edited v xs m → w.cost.moves ≤ v.cost.moves + m
   edited-moves xs m e = omega (arith, ap (λ z. z.cost.moves) e)
 
-  -- If `w` is `grown v w.capacity xs m`, then the cost of `w` counts at most `m` more moves than
-  -- the cost of `v`, because the change of capacity counts no moves.
+  -- If `w` is `grown v w.capacity xs m`, the list `v` with a new capacity, the items `xs` and `m`
+  -- more moves, then the cost of `w` counts at most `m` more moves than the cost of `v`. The change
+  -- of capacity counts no moves.
   grown-moves : (xs : List T) (m : ℕ) → w ≡ grown v w.capacity xs m
       → w.cost.moves ≤ v.cost.moves + m
   grown-moves xs m e = omega (arith, ap (λ z. z.cost.moves) e, cost_at-moves v w.capacity)
 
   module _ (rule : Rule) (R : RattleType) (a b : ℕ) where
-    -- If a splice placed at most `k` items, then it added at most `k` moves, plus 2 moves for each
-    -- item after the range.
+    -- If a splice placed at most `k` items, then it added at most `k` moves to the cost, plus 2
+    -- moves for each item after the range.
     spliced-moves : (placed : List T) (most k : ℕ) → Replaces rule R v a b placed most w
         → length placed ≤ k → w.cost.moves ≤ v.cost.moves + (2 * (length v.items - b) + k)
     spliced-moves placed most k f few =
@@ -62,8 +63,8 @@ module _ {T A : Type 0} (v w : Thin T A) where
           few,
         )
 
-    -- A failed splice adds at most one move for each item of its iterator, plus 2 moves for each
-    -- item after the range.
+    -- A failed splice adds to the cost at most one move for each item of its iterator, plus 2 moves
+    -- for each item after the range.
     stopped-moves : (xs held : List T) (lower : ℕ) (cause : ThinVecError) (in_hand : Option T)
         (rest : Hinted T A) → StopsBetween rule R v a b xs held lower cause in_hand rest w
         → w.cost.moves ≤ v.cost.moves + (2 * (length v.items - b) + length xs)

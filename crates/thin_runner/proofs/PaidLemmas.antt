@@ -1,6 +1,6 @@
--- A sequence of commands without `ReserveExact` and `ShrinkToFit` keeps a cheap list cheap
--- (`IsCheap`). The number of items that growth copies during these commands is at most the increase
--- of the capacity.
+-- A list is cheap (`IsCheap`) if growing it has cost little. A sequence of commands without
+-- `ReserveExact` and `ShrinkToFit` keeps a cheap list cheap. The number of items that growth copies
+-- during these commands is at most the increase of the capacity.
 use Rattle.std.proofs.Common.{◌≡◌, ℕ, suc, ◌+◌, ◌-◌, ◌^◌, ◌<◌, ◌≤◌, List, [], ◌∷◌, ◌++◌, Some, None, length, arith, ap, sym, subst, ◌∙◌, refl, inl, inr}
 use Rattle.std.proofs.lemmas.Bool.{cases_lt}
 use Rattle.std.proofs.lemmas.List.{length-append, length-set, length_push, length-drop, length-take}
@@ -30,7 +30,7 @@ use Rattle.thin_runner.specs.declared.command.Reply.{Reply}
 use Rattle.thin_runner.specs.declared.command.Reply.TheVariants.{Answers, Done, Item, List as Made, Other, Returned, Refused, Stopped, OutOfRange}
 
 -- If two costs count the same number of blocks and the same number of copied items, and the first
--- cost is cheap for the capacity `c`, then so is the second.
+-- cost is cheap for the capacity `c`, then the second cost is cheap for `c`, too.
 cheap-same : (c : ℕ) (k k' : Cost) → k'.blocks ≡ k.blocks → k'.grown ≡ k.grown
     → IsCheapAt c k → IsCheapAt c k'
 cheap-same c k k' blocks grown h = record {

@@ -19,7 +19,7 @@ module _ {A J : Type 0} (G : Type 0) (here : Setting ℕ A J) where
   pub eight-leave : fold (items_after here) [] eight ≡ 4 ∷ 3 ∷ 7 ∷ 7 ∷ []
   eight-leave = refl
 
-  -- If the eight commands run on the empty list, they get the replies that are listed here.
+  -- If the eight commands run on the empty list, `reply_to` computes the following replies.
   pub eight-reply : scan (items_after here) (reply_to here) [] eight
       ≡ says Done ∷ says Done ∷ says Done ∷ says Done ∷ says (Item (Some 1))
       ∷ says (OutOfRange (Set 9 5)) ∷ says (Item (Some 2)) ∷ says Done ∷ []

@@ -27,8 +27,8 @@ use Rattle.thin_runner.proofs.JudgedLemmas.{dedup-pairs}
 use Rattle.thin_runner.proofs.WalkLemmas.{last-of}
 use Rattle.thin_runner.proofs.WeakerClonesLemmas.{zip-weaker}
 
--- `Some x ≡ None` is false, so it implies every `B`. The proofs use this to rule out a reply that
--- has a cause of failure, because no call failed.
+-- `Some x ≡ None` is false, so it implies every `B`. If no call failed, then this lemma rules out
+-- every reply that contains a cause of failure.
 refused : {X B : Type 0} (x : X) → Some x ≡ None → B
 refused x e = cc
 
@@ -207,7 +207,7 @@ module _ {T A G J : Type 0} (here : Setting T A J) (equal : ClonesEqual here.clo
 
   -- Suppose that each clone equals its source, and that no call of the run fails. Then folding
   -- `items_after` over the commands computes the final items. Scanning the commands with `reply_to`
-  -- computes the replies, as `seen` shows them.
+  -- computes, for each reply, the part that `seen` shows.
   pub run-plain : (v w : Thin T A) (commands : List (Command T A G)) (replies : List (Reply T A G))
       → All IsGranted replies → Runs here v commands replies w
       → (w.items ≡ fold (items_after here) v.items commands)

@@ -86,8 +86,9 @@ module _ {T A : Type 0} (s : Hinted T A) (placed : List T)
   stopped-ended (inr ended) none some = ended.2.2.0.1
 
 module _ {T A : Type 0} (old : Thin T A) (a b : ℕ) where
-  -- During a splice that removes the items `a..b` of the list `old`, the allocation of the list is
-  -- the open block `block`. The allocator of the list is `alloc`.
+  -- A splice removes the items `a..b` of the list `old`. Meanwhile, the allocation of the list is
+  -- the open block `block`, which may have a gap between its items. The allocator of the list is
+  -- `alloc`.
   pub record IsOpened (block : Open T A) (alloc : A) : Type 0 where
     pub front : block.front ≡ take a old.items
     pub tail : block.tail ≡ drop b old.items
@@ -96,8 +97,8 @@ module _ {T A : Type 0} (old : Thin T A) (a b : ℕ) where
     pub cost : block.cost ≡ old.cost
 
   module _ (block : Open T A) (alloc : A) (is : IsOpened block alloc) where
-    -- If the range is removed from the open block, the resulting list is `cut old a b`, which is
-    -- `old` without the items `a..b`.
+    -- The open block without the items of its range, as a list, is `cut old a b`: the list `old`
+    -- without the items `a..b`.
     pub left-is : left_of block alloc ≡ cut old a b
     left-is = λ i. record {
       items = is.front i ++ is.tail i;
@@ -121,9 +122,9 @@ module _ {T A : Type 0} (old : Thin T A) (a b : ℕ) where
         subst (λ (v : Thin T A). CostsAdding v new (2 * (length old.items - b))) left-is
         (subst (λ (n : ℕ). CostsAdding (left_of block alloc) new (2 * n)) tail-count cost)
 
-    -- Suppose that `left`, the limit of the iterator, is `most`. If `IsExtended` holds for the list
-    -- of the open block and the limit `left`, then it holds for the list `cut old a b` and the
-    -- limit `most`.
+    -- The limit `left` says that the iterator can yield at most `most` items. If `IsExtended` holds
+    -- for the list of the open block and the limit `left`, then it also holds for the list
+    -- `cut old a b` and the limit `most`.
     pub ruled : (rule : Rule) (R : RattleType) (new : Thin T A) (most : ℕ) (left : Count)
         → left ≡ at_most most
         → IsExtended rule R (left_of block alloc) new.capacity (length new.items) left
@@ -165,8 +166,8 @@ module _ {T A : Type 0} (old : Thin T A) where
   pub cut-end : cut old (length old.items) (length old.items) ≡ old
   cut-end = λ i. record old { items = take-append-drop (length old.items) old.items i }
 
-  -- If the list `old` without the empty range at its end has room for `most` more items, then so
-  -- has `old`.
+  -- If the list `old` without the empty range at its end has room for `most` more items, then `old`
+  -- has room for them, too.
   room-end : (most : ℕ) → HasRoomFor (cut old (length old.items) (length old.items)) most
       → HasRoomFor old most
   room-end most = subst (λ (v : Thin T A). HasRoomFor v most) cut-end
@@ -181,8 +182,8 @@ module _ {T A : Type 0} (old : Thin T A) where
 -- Appending items to a list is the same as replacing the empty range at its end.
 module _ {T A : Type 0} (rule : Rule) (R : RattleType) (old new : Thin T A) where
   -- `IsFilled placed most` holds if an `extend` turned the list `old` into `new` by appending the
-  -- items `placed`, and its iterator could yield at most `most` items. The fields are clauses of
-  -- the contract of `extend`.
+  -- items `placed`. The iterator could yield at most `most` items. The fields are clauses of the
+  -- contract of `extend`.
   pub record IsFilled (placed : List T) (most : ℕ) : Type 0 where
     pub items : new.items ≡ old.items ++ placed
     pub capacity : IsLoose rule R old.capacity new.capacity

@@ -1,5 +1,5 @@
--- Lemmas about steps on a range, which are calls of `next` and `next_back`. They state the results
--- of the steps if the first step is a call of `next_back`.
+-- A step on a range is a call of `next` or `next_back`. These lemmas state the results of a
+-- sequence of steps that begins with `next_back`.
 use Rattle.std.proofs.Common.{◌≡◌, ◌-◌, List, [], ◌∷◌, ◌++◌, Option, None, Some, ap, arith, length, refl, subst, sym, take, ◌∙◌}
 use Rattle.std.proofs.Math.Seq.{take-append_seam}
 use Rattle.std.proofs.lemmas.List.{length_push}
@@ -16,8 +16,8 @@ module _ {T : Type 0} where
   last-of (y ∷ xs) x = last-of xs x
 
   -- Let `item` be the last item of the list `xs`, and let `ys` be the items before it. (If `xs` is
-  -- empty, let `item` be `None` and `ys` be empty.) Then the steps `Back ∷ steps` return `item` on
-  -- `xs`, followed by the results of `steps` on `ys`.
+  -- empty, let `item` be `None` and `ys` be empty.) Then the results of the steps `Back ∷ steps` on
+  -- `xs` are `item`, followed by the results of `steps` on `ys`.
   walked-last : (xs ys : List T) (item : Option T)
       → MatchOption item ((xs ≡ []) × (ys ≡ [])) (λ x. xs ≡ ys ++ x ∷ [])
       → (steps : List Step) → walked xs (Back ∷ steps) ≡ item ∷ walked ys steps

@@ -21,21 +21,21 @@ module _ {T A G J : Type 0} (here : Setting T A J) where
     pub replies : List (Reply T A G)
     pub appended : after ≡ before ++ replies
     -- If each clone equals its source, and no call failed, then the final items are the fold of
-    -- `items_after` over the commands. The replies, as `seen` shows them, are the scan of the
-    -- commands with `reply_to`. Both functions are defined on plain lists of items.
+    -- `items_after` over the commands. Scanning the commands with `reply_to` computes, for each
+    -- reply, the part that `seen` shows. Both functions are defined on plain lists of items.
     pub plain : ClonesEqual here.clones → All IsGranted replies
         → (new.items ≡ fold (items_after here) old.items commands)
         × (map seen replies ≡ scan (items_after here) (reply_to here) old.items commands)
-    -- In every case, even if calls failed, the final list (its items, capacity and cost) and the
-    -- replies are a result that the definition `Runs` allows.
+    -- In every case, even if calls failed, the definition `Runs` allows the final list (its items,
+    -- capacity and cost) and the replies.
     pub allowed : Runs here old commands replies new
     -- The items fit into the capacity of the list. An allocation of this capacity does not exceed
     -- the size limit for allocations.
     pub within : IsWithin here.R new
     -- If no command is `ReserveExact` or `ShrinkToFit`, then a cheap list is still cheap after the
-    -- run. A list with a capacity `c` greater than 0 is cheap if growth has copied fewer than `c`
-    -- items, and the number of its requests for memory is at most the number of binary digits of
-    -- `c`. Every new list is cheap.
+    -- run. A list with a capacity `c` greater than 0 is cheap under two conditions: growth has
+    -- copied fewer than `c` items, and the number of requests for memory is at most the number of
+    -- binary digits of `c`. Every new list is cheap.
     pub stays_cheap : All KeepsCheap commands → IsCheap old → IsCheap new
     -- If no command is `ReserveExact` or `ShrinkToFit`, then the number of items that growth copied
     -- during the run is at most the increase of the capacity. This holds even if the old list was

@@ -14,8 +14,8 @@ module _ {T A : Type 0} where
   abbrev pub hinted_claim : Hinted T A → ℕ
   hinted_claim h = h.lower
 
-  -- An upper limit on the number of items that the iterator may still yield, as contracts state it.
-  -- It is the number of items that are left, plus the claimed lower bound.
+  -- The limit that contracts use for the number of items that the iterator may still yield. It is
+  -- the number of items that are left, plus the claimed lower bound.
   abbrev pub hinted_count : Hinted T A → Count
   hinted_count h = at_most (hinted_claim h + length (hinted_items h))
 

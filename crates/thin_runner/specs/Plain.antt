@@ -72,7 +72,7 @@ module _ {T A G J : Type 0} (here : Setting T A J) where
       )
   granted xs (Splice a b steps ys lower) =
       (yields (walked (slice_range xs a b) steps.items), replace_range xs a b ys.items)
-  -- All other commands test the items, and remove the items that fail the test.
+  -- All other commands test the items and remove some of them.
   granted xs command = (says Done, left_at true (unwrap_or (answered here xs command) []))
 
   -- `plain_step xs command` describes a command that does not fail. If `xs` are the items before

@@ -78,9 +78,9 @@ pub enum Command<T, A: Allocator = Global, G: Growth = Doubling> {
     ExtractIf(usize, usize, usize),
     /// Calls `splice` on the range from the first index up to, but not including, the second. Then
     /// takes the steps in order, and calls `finish`. The new items are yielded by an iterator over
-    /// the second vector. The last number is the lower bound of its size hint. The reply is
-    /// `Answers`, `Stopped` if `finish` fails, or `Refused` if there is no memory for the results
-    /// of the steps.
+    /// the second vector. The last number is the lower bound of the size hint of this iterator. The
+    /// reply is `Answers`, `Stopped` if `finish` fails, or `Refused` if there is no memory for the
+    /// results of the steps.
     Splice(usize, usize, Vec<Step, A>, Vec<T, A>, usize),
 }
 

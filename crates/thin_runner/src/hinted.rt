@@ -11,8 +11,8 @@ use std::vec::IntoIter;
 /// hint is always the same.
 ///
 /// This lower bound may exceed the number of items that are left. The contract of `size_hint`
-/// requires that it does not exceed the ghost value `remaining`. So `remaining` is the number of
-/// items that are left, plus the lower bound.
+/// requires that the lower bound does not exceed the ghost value `remaining`. So `remaining` is the
+/// number of items that are left, plus the lower bound.
 #[derive(Drop)]
 pub struct Hinted<T, A: Allocator = Global> {
     items: IntoIter<T, A>,

@@ -1,4 +1,4 @@
-//! The trait `Judge`. Commands call its methods where a method of a list takes a closure.
+//! The trait `Judge`. Commands such as `Retain` call the methods of a judge instead of a closure.
 ghost use Rattle.std.specs.Prelude.{◌≡◌};
 
 /// Decides about items. Commands use a judge in place of the closures that methods such as `retain`

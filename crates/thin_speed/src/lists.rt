@@ -13,7 +13,7 @@ use std::io::Write;
 pub use thin::Thin;
 
 /// A kind of list: either `ThinVec`, or the `Vec` of Rattle's library. The associated types are the
-/// list types for various types of items. `Cells` is a type of tables.
+/// list types for various types of items. `Cells` is the type of a table.
 pub trait Family {
     type Numbers: Numbers;
 
@@ -158,7 +158,8 @@ pub trait Table: Drop {
     /// Makes a table without entries. It has at least `rows` rows.
     fn with_rows(alloc: Global, rows: usize) -> Result<Self, AllocError>;
 
-    /// Writes `value` at row `row` and column `column`. A `Rows` without this row does not change.
+    /// Writes `value` at row `row` and column `column`. Does nothing if the table is a `Rows`
+    /// without this row.
     fn set(&mut self, row: usize, column: usize, value: u64) -> Result<(), AllocError>;
 
     /// Returns the value at row `row` and column `column`, or 0 if there is no entry.

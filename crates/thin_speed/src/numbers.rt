@@ -149,7 +149,7 @@ impl Source<u64> for InTurn {
     }
 }
 
-/// Makes each item from its index. Two bits of the index (with the values 1 and 4) are inverted.
+/// Makes each item from its index. The item at the index `i` is `i ^ 5`.
 pub struct Turned;
 
 impl Source<u64> for Turned {

@@ -1,6 +1,6 @@
 -- Definitions about commands that test the items of a list and remove some of them. The test of an
--- item results in a verdict. A verdict says whether the item is kept, and contains the item after
--- the test. (std: `Vec::retain_mut`, `Vec::dedup_by`, `Vec::extract_if`)
+-- item results in a verdict. A verdict says whether the item is kept, and contains the item as it
+-- is after the test. (std: `Vec::retain_mut`, `Vec::dedup_by`, `Vec::extract_if`)
 use Rattle.std.specs.Prelude.{ℕ, zero, suc, ◌==◌, List, [], ◌∷◌, ◌++◌, Bool, None, Option, Some, drop, false, if◌then◌else◌, not, take, true}
 use Rattle.thin_vec.specs.Edits.Retain.{Verdicts, flags_of, left_at, moved_down, stay}
 use Rattle.thin_vec.specs.ThinVec.{Thin}
@@ -55,7 +55,7 @@ module _ {T : Type 0} where
   abbrev pub around : List T → ℕ → ℕ → Verdicts T → Verdicts T
   around xs a b verdicts = stay (take a xs) ++ (verdicts ++ stay (drop b xs))
 
-  -- `sifted old verdicts` is the list `old` with only the items that `verdicts` keep, in the form
+  -- `sifted old verdicts` is the list `old` with only the items that `verdicts` keep, as they are
   -- after the test. Each kept item that changes its place counts one move.
   abbrev pub sifted : {A : Type 0} → Thin T A → Verdicts T → Thin T A
   sifted old verdicts = edited old (left_at true verdicts) (moved_down (flags_of verdicts))

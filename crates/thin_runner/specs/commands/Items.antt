@@ -19,8 +19,8 @@ module _ {T A : Type 0} where
   at_capacity old c = record old { capacity = c; cost = cost_at old c }
 
   -- A call failed because the list `old` has no room for `k` more items. The list did not change.
-  -- The cause is `CapacityOverflow` if and only if `named`, the capacity that the call needed, is
-  -- `None`.
+  -- `named` is the capacity that the call needed, or `None` if this capacity is too large. The
+  -- cause is `CapacityOverflow` if and only if `named` is `None`.
   abbrev pub Refuses : Option ℕ → Thin T A → ℕ → ThinVecError → Thin T A → Type 0
   Refuses named old k cause new =
       ¬ (HasRoomFor old k) × ((named ≡ None) ↔ (cause ≡ CapacityOverflow)) × (new ≡ old)

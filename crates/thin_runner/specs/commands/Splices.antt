@@ -26,10 +26,10 @@ module _ {T A : Type 0} (old : Thin T A) (a b : ℕ) where
   HasPlacesFor most = (most ≤ b - a) ⊎ ((b ≡ length old.items) × HasRoomFor cut most)
 
 module _ {T A : Type 0} (rule : Rule) (R : RattleType) (old : Thin T A) (a b : ℕ) where
-  -- The items `placed` replaced the items `a..b` of the list `old`. An iterator that could yield at
-  -- most `most` items yielded them. Each placed item was moved once, and each item after the range
-  -- at most twice. The capacity did not change, or the growth rule chose it for at most the final
-  -- number of items, or for a size hint of at most `most` items.
+  -- The items `placed` were yielded by an iterator that could yield at most `most` items. They
+  -- replaced the items `a..b` of the list `old`. Each placed item was moved once, and each item
+  -- after the range at most twice. The capacity did not change, or the growth rule requires the new
+  -- capacity for at most the final number of items, or for a size hint of at most `most`.
   pub record Replaces (placed : List T) (most : ℕ) (new : Thin T A) : Type 0 where
     pub items : new.items ≡ (take a old.items ++ placed) ++ drop b old.items
     pub capacity : IsLoose rule R old.capacity new.capacity

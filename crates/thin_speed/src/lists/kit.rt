@@ -5,7 +5,7 @@ use crate::numbers::{Count, Outcome, Pick, Triple, Unhinted, Wide, mixed};
 use std::alloc::{AllocError, Global};
 use std::collections::BTreeMap;
 
-/// The kind of list whose list types are the `Vec` of Rattle's library.
+/// Selects the `Vec` of Rattle's library as the kind of list.
 pub struct Kit;
 
 impl Family for Kit {

@@ -6,7 +6,7 @@ use std::alloc::{AllocError, Global};
 use thin_rows::Rows;
 use thin_vec::ThinVec;
 
-/// The kind of list whose list types are `ThinVec`.
+/// Selects `ThinVec` as the kind of list.
 pub struct Thin;
 
 impl Family for Thin {

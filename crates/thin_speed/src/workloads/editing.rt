@@ -186,7 +186,7 @@ impl<L: Numbers> Work<L, u64> for SpliceMore {
     }
 }
 
-/// Replaces two items with four items, at index 5 and at index 6 in turn. Then pops two items.
+/// Replaces two items with four items, alternately at index 5 and at index 6. Then pops two items.
 pub struct ReplaceMore;
 
 impl<L: Numbers> Work<L, u64> for ReplaceMore {

@@ -62,7 +62,7 @@ pub fn get_all<C: Table>(alloc: Global, size: usize, times: usize) -> Outcome {
 }
 
 // Makes a table with an entry at each of the first `size` places, counted row by row. The entries
-// are written in a different order. This requires that `size` is not a multiple of 7919.
+// are written in a different order. If `size` is a multiple of 7919, some places get no entry.
 #[inline(never)]
 fn filled_table<C: Table>(alloc: Global, size: usize) -> Result<C, AllocError> {
     let mut table = C::with_rows(alloc, size / 30 + 1)?;
