@@ -53,8 +53,8 @@ no_sum f zero = refl
 no_sum f (suc n) = let rest = no_sum f n in omega arith
 
 module _ (f : ℕ → ℕ) where
-  -- `term entries j` is the number of the entry in column `j`, times `f j`. It is 0 if no entry is
-  -- in column `j`.
+  -- `term entries j` is the number of the entry in column `j`, times the factor `f j` of this
+  -- column. It is 0 if no entry is in column `j`.
   abbrev term : List (ℕ × ℕ) → ℕ → ℕ
   term entries j = unwrap_or (find nat_cmp j entries) 0 * f j
 
@@ -67,8 +67,8 @@ module _ (f : ℕ → ℕ) where
       ∙ none_found x entries (both_hold _ _ below).1
 
   -- If the columns of the entries are strictly increasing and less than `n`, then two sums are
-  -- equal. The first sum adds, for each entry, its number times `f` of its column. The second sum
-  -- adds `term entries j` for all columns `j` less than `n`.
+  -- equal. The first sum adds, for each entry, its number times `f c`, where `c` is its column. The
+  -- second sum adds `term entries j` for all columns `j` less than `n`.
   entries_sum : (entries : List (ℕ × ℕ)) (n : ℕ) → T (is_sorted nat_cmp entries)
       → ((k : ℕ) → k < length entries → (slice_index_or entries k (0, 0)).0 < n)
       → sum_by (λ e. e.1 * f e.0) entries ≡ sum_below n (term entries)
@@ -97,9 +97,9 @@ module _ (f : ℕ → ℕ) where
           ∙ (let nothing : term entries e.0 ≡ 0 * f e.0 = ap (λ o. unwrap_or o 0 * f e.0) none in
           omega (arith, nothing))
 
--- If all entries of `row` are in columns less than `n`, then two sums are equal. Both sums add the
--- number in a column, times `f` of the column. The first sum is over the columns that have an
--- entry, and the second sum is over all columns less than `n`.
+-- If all entries of `row` are in columns less than `n`, then two sums are equal. Both sums add, for
+-- each column `j`, the number in the column times `f j`. The first sum is over the columns that
+-- have an entry, and the second sum is over all columns less than `n`.
 pub row_sum : (f : ℕ → ℕ) (row : Columns ℕ) (n : ℕ) (entries : List (ℕ × ℕ))
     → entries ≡ columns.entries row
     → ((k : ℕ) → k < length entries → (slice_index_or entries k (0, 0)).0 < n)

@@ -61,9 +61,9 @@ module _ (write : ℕ → ℕ → ℕ) (row : Columns ℕ) (old : ℕ → ℕ) w
       → IsWritten (n + 1) next
   next_written entries is = rw is one_more
 
-  -- After all entries of the row were written, `now j` is `write (old j) v`, where `v` is the
-  -- number of the row at column `j`. If the row has no entry there, `v` is 0. For this case, the
-  -- lemma requires that `write (old j) 0` is `old j`.
+  -- After all entries of the row were written, the number at column `j` is `write (old j) v`. Here,
+  -- `v` is the number of the row at column `j`, or 0 if the row has no entry there. The lemma
+  -- requires that `write (old j) 0` is `old j`.
   pub all_written : (n : ℕ) (now : ℕ → ℕ) → n ≡ length (columns.entries row) → IsWritten n now
       → (j : ℕ) → write (old j) 0 ≡ old j
       → now j ≡ write (old j) (unwrap_or (columns.get row j) 0)

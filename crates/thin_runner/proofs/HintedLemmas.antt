@@ -1,5 +1,5 @@
--- These lemmas state which items calls of `next` on the iterator `Hinted` yield, and how the calls
--- change the iterator.
+-- These lemmas state what calls of `next` on the iterator `Hinted` yield, and how the calls change
+-- the iterator.
 use Rattle.std.proofs.Common.{◌≡◌, List, [], ◌∷◌, ◌++◌, ap, sym, ◌∙◌}
 use Rattle.std.proofs.lemmas.List.{append-nil}
 use Rattle.std.specs.Iterator.{Drains, Yields}

@@ -60,8 +60,8 @@ module _ {T : Type 0} where
   few-goes (Some x) = refl
 
   -- The verdicts `a` are followed by the verdicts `b`. If `a` removes no item, then the number of
-  -- moves is the number for `a` plus the number for `b`. If `a` removes an item, then it is the
-  -- number for `a` plus one move for each item that `b` keeps.
+  -- moves is the number for `a` plus the number for `b`. If `a` removes an item, then the number of
+  -- moves is the number for `a` plus one for each item that `b` keeps.
   pub moves-append : (a b : Verdicts T) → moved_down (flags_of (a ++ b))
       ≡ moved_down (flags_of a) + (if length (left_at false a) == 0 then moved_down
       (flags_of b) else trues (flags_of b))

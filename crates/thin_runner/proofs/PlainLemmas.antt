@@ -32,8 +32,8 @@ use Rattle.thin_runner.proofs.WeakerClonesLemmas.{zip-weaker}
 refused : {X B : Type 0} (x : X) → Some x ≡ None → B
 refused x e = cc
 
--- The Boolean `nat_le a b && nat_le b n` is true if and only if the range `a..b` is in bounds for
--- `n` items.
+-- The Boolean test `nat_le a b && nat_le b n` is true if and only if the range `a..b` is in bounds
+-- for `n` items.
 range-decides : (a b n : ℕ) → Decides (nat_le a b && nat_le b n) ((a ≤ b) × (b ≤ n))
 range-decides a b n = (
   (λ e. let both = and_parts (nat_le a b) (nat_le b n) e in

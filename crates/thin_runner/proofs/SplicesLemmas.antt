@@ -69,8 +69,8 @@ module _ {T A : Type 0} (s : Hinted T A) (placed : List T)
       ∙ (ap (λ (l : List T). (placed ++ held) ++ l) (ended.2.2.0.0 ∙ sym left)
       ∙ append_assoc placed held (option_to_list in_hand ++ hinted_items rest))
 
-  -- If `finish` failed, then the size hint of the iterator `rest` has the same lower bound as the
-  -- size hint of `s`.
+  -- If `finish` failed, then the size hint of `rest`, the rest of the iterator, has the same lower
+  -- bound as the size hint of the iterator `s` before the call.
   pub stopped-claim : Broke → hinted_claim error.rest ≡ hinted_claim s
   stopped-claim (inl gave) =
       yields-claim s error.rest ((placed ++ error.held.items) ++ option_to_list error.in_hand)

@@ -77,10 +77,10 @@ pub enum Command<T, A: Allocator = Global, G: Growth = Doubling> {
     /// the results of these calls.
     ExtractIf(usize, usize, usize),
     /// Calls `splice` on the range from the first index up to, but not including, the second. Then
-    /// takes the steps in order, and calls `finish`. The new items are yielded by an iterator over
-    /// the second vector. The last number is the lower bound of the size hint of this iterator. The
-    /// reply is `Answers`, `Stopped` if `finish` fails, or `Refused` if there is no memory for the
-    /// results of the steps.
+    /// takes the steps in order, and calls `finish`. The new items are the items of the second
+    /// vector. The last number is the lower bound of the size hint of their iterator. The reply is
+    /// `Answers`, `Stopped` if `finish` fails, or `Refused` if there is no memory for the results
+    /// of the steps.
     Splice(usize, usize, Vec<Step, A>, Vec<T, A>, usize),
 }
 

@@ -41,10 +41,7 @@ module _ {T A : Type 0} (rule : Rule) (R : RattleType) (old : Thin T A) (a b : �
     pub alloc : new.alloc ≡ old.alloc
 
   -- A splice or an `extend` failed after it had placed the items `placed` (perhaps none). All other
-  -- items of the iterator are in `held`, in `in_hand`, or in `rest`. If items follow the range,
-  -- then the placed items fill at least the places of the range. If no item follows the range, then
-  -- `held` is empty. In this case, the list is full if `in_hand` has an item, and nothing was
-  -- placed if it has none. If `held` has items but `in_hand` has none, then the iterator has ended.
+  -- items of the iterator are in `held`, in `in_hand`, or in `rest`.
   pub record StopsBetween (xs held : List T) (lower : ℕ) (cause : ThinVecError)
       (in_hand : Option T) (rest : Hinted T A) (new : Thin T A) : Type 0 where
     pub placed : List T
@@ -68,8 +65,13 @@ module _ {T A : Type 0} (rule : Rule) (R : RattleType) (old : Thin T A) (a b : �
     -- if and only if the growth rule has no capacity for one more item.
     pub by_push : b ≡ length old.items → IsSome in_hand
         → (cause ≡ CapacityOverflow) ↔ (capacity_for rule R new 1 ≡ None)
+    -- If `held` has items and `in_hand` is `None`, then the iterator has ended.
     pub ended : in_hand ≡ None → 0 < length held → into_iter_items rest.items ≡ []
+    -- If items follow the range, then the placed items fill at least the places of the range.
     pub range : b < length old.items → b - a ≤ length placed
+    -- If no item follows the range, then `held` is empty. If in this case `in_hand` has an item,
+    -- then the list is full.
     pub at_end : b ≡ length old.items → (held ≡ [])
         × (IsSome in_hand → length new.items ≡ new.capacity)
+    -- If no item follows the range, and `in_hand` is `None`, then no item was placed.
     pub unchanged : b ≡ length old.items → in_hand ≡ None → new ≡ cut old a b
