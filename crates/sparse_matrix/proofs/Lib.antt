@@ -1,6 +1,6 @@
--- The lemmas. `NumberLemmas` is about the numbers of a matrix after one number is written,
--- `WritesLemmas` about its numbers after all entries of a row are written, and `SumLemmas` about
--- sums over the columns of a row.
+-- The lemmas on which the proofs of this crate rest. `NumberLemmas` is about a matrix after one of
+-- its numbers was written. `WritesLemmas` is about a matrix after all entries of a row were written
+-- into it. `SumLemmas` is about sums over the columns of a row.
 mod NumberLemmas
 mod WritesLemmas
 mod SumLemmas

@@ -12,8 +12,8 @@ if_true x y e = ap (λ (b : Bool). if b then x else y) e
 if_false : {b : Bool} (x y : ℕ) → b ≡ false → (if b then x else y) ≡ y
 if_false x y e = ap (λ (b : Bool). if b then x else y) e
 
--- Let f and g be functions from a row and a column to a number. If `f i j` is v, and f and g are
--- equal at all other rows and columns, then `f k l` is `if k == i && l == j then v else g k l`.
+-- The functions `f` and `g` map a row and a column to a number. If `f i j ≡ v`, and `f` and `g`
+-- agree everywhere else, then `f k l` is `if k == i && l == j then v else g k l`.
 pub at_place : (f g : ℕ → ℕ → ℕ) (i j v : ℕ) → f i j ≡ v → ((k l : ℕ) → l ≢ j → f k l ≡ g k l)
     → ((k l : ℕ) → k ≢ i → f k l ≡ g k l)
     → (k l : ℕ) → f k l ≡ (if k == i && l == j then v else g k l)
@@ -28,8 +28,8 @@ at_place f g i j v here columns rows k l = elim (cases_eq k i) [
       ∙ sym (if_false v (g k l) (and_left (k == i) (l == j) (ne_eqb k i other)))
 ]
 
--- context: f and g are functions from a row and a column to a number, and they are equal except
--- that `f i j` is v
+-- In this module, the functions `f` and `g` map a row and a column to a number. At row `i` and
+-- column `j`, the value of `f` is `v`. Everywhere else, `f` and `g` agree.
 module _ (f g : ℕ → ℕ → ℕ) (i j v : ℕ)
     (told : (k l : ℕ) → f k l ≡ (if k == i && l == j then v else g k l)) where
   pub here : f i j ≡ v
@@ -43,8 +43,8 @@ module _ (f g : ℕ → ℕ → ℕ) (i j v : ℕ)
   other_rows k l other =
       told k l ∙ if_false v (g k l) (and_left (k == i) (l == j) (ne_eqb k i other))
 
--- Let f, g and h be functions from a row and a column to a number. If f equals h in row i, and
--- equals g in all other rows, then `f k l` is `if k == i then h k l else g k l`.
+-- The functions `f`, `g` and `h` map a row and a column to a number. If `f` agrees with `h` in row
+-- `i`, and with `g` in all other rows, then `f k l` is `if k == i then h k l else g k l`.
 pub at_row : (f g h : ℕ → ℕ → ℕ) (i : ℕ) → ((l : ℕ) → f i l ≡ h i l)
     → ((k l : ℕ) → k ≢ i → f k l ≡ g k l)
     → (k l : ℕ) → f k l ≡ (if k == i then h k l else g k l)
@@ -55,8 +55,8 @@ at_row f g h i here rows k l = elim (cases_eq k i) [
 ]
 
 module _ (t : Table ℕ) (i j : ℕ) where
-  -- if the table t has a row i, then writing v at row i and column j makes the number there v, and
-  -- changes no other number
+  -- If the table `t` has a row `i`, and `v` is written at row `i` and column `j`, then the number
+  -- there is `v`, and all other numbers are unchanged.
   pub number-with_value : (v : ℕ) → i < length t → (k l : ℕ)
       → number_at (with_value t i j v) k l ≡ (if k == i && l == j then v else number_at t k l)
   number-with_value v inside =
@@ -65,8 +65,8 @@ module _ (t : Table ℕ) (i j : ℕ) where
       (λ k l other. ap (λ o. unwrap_or o 0) (columns_unchanged t i j k l v other))
       (λ k l other. ap (λ o. unwrap_or o 0) (rows_unchanged t i j k l v other))
 
-  -- if v is 0, then removing the entry at row i and column j of the table t makes the number there
-  -- v, and changes no other number
+  -- If `v` is 0, and the entry at row `i` and column `j` of the table `t` is removed, then the
+  -- number there is `v`, and all other numbers are unchanged.
   pub number-without_value : (v : ℕ) → v ≡ 0 → (k l : ℕ)
       → number_at (without_value t i j) k l ≡ (if k == i && l == j then v else number_at t k l)
   number-without_value v zero =
@@ -75,13 +75,14 @@ module _ (t : Table ℕ) (i j : ℕ) where
       (λ k l other. ap (λ o. unwrap_or o 0) (columns_left t i j k l other))
       (λ k l other. ap (λ o. unwrap_or o 0) (rows_left t i j k l other))
 
--- if x and y are both less than n, then `if b then x else y` is less than n
+-- If `x < n` and `y < n`, then `(if b then x else y) < n`.
 either_below : (b : Bool) (x y n : ℕ) → x < n → y < n → (if b then x else y) < n
 either_below true x y n first second = first
 either_below false x y n first second = second
 
--- if v and all numbers of t are less than 2 ^ 64, and u has the same numbers as t except for v at
--- row i and column j, then all numbers of u are less than 2 ^ 64
+-- Suppose that the table `u` has the same numbers as the table `t`, except that its number at row
+-- `i` and column `j` is `v`. If `v` and all numbers of `t` are less than `2 ^ 64`, then so are all
+-- numbers of `u`.
 pub still_small : (t u : Table ℕ) (i j v : ℕ) → v < 2 ^ 64
     → ((k l : ℕ) → number_at t k l < 2 ^ 64)
     → ((k l : ℕ) → number_at u k l ≡ (if k == i && l == j then v else number_at t k l))
@@ -89,9 +90,9 @@ pub still_small : (t u : Table ℕ) (i j v : ℕ) → v < 2 ^ 64
 still_small t u i j v fits small told k l =
     rw (told k l) (either_below (k == i && l == j) v (number_at t k l) (2 ^ 64) fits (small k l))
 
--- A call that returns `result` changes the table t to u. On success, v is written at row i and
--- column j; on failure, nothing changes. If v and all numbers of t are less than 2 ^ 64, then all
--- numbers of u are less than 2 ^ 64.
+-- The table is `t` before a call and `u` after it. If the call succeeded, it wrote `v` at row `i`
+-- and column `j`. If the call failed, it changed nothing. If `v` and all numbers of `t` are less
+-- than `2 ^ 64`, then so are all numbers of `u`.
 pub small_if_written : {X E : Type 0} (result : Result X E) (t u : Table ℕ) (i j v : ℕ)
     → i < length t → v < 2 ^ 64 → ((k l : ℕ) → number_at t k l < 2 ^ 64)
     → OnOk result (u ≡ with_value t i j v) → OnErr result (u ≡ t)
@@ -100,6 +101,6 @@ small_if_written (Ok _) t u i j v inside fits small is same =
     rw is (still_small t _ i j v fits small (number-with_value t i j v inside))
 small_if_written (Err _) t u i j v inside fits small is same = rw same small
 
--- if the table t has no row i, then its number at row i and column j is 0
+-- If the table `t` has no row `i`, then its number at row `i` and column `j` is 0.
 pub no_row : (t : Table ℕ) (i j : ℕ) → length t ≤ i → number_at t i j ≡ 0
 no_row t i j past = ap (λ o. unwrap_or o 0) (outside t i j past)

@@ -1,5 +1,5 @@
--- Lemmas about sums over the columns of a row: a sum over the entries of a row equals the sum over
--- all its columns.
+-- A sum over the entries of a sparse row equals the sum over all columns, because a column without
+-- an entry adds 0.
 use Rattle.std.proofs.Common.{◌≡◌, ◌≢◌, ℕ, zero, suc, ◌+◌, ◌*◌, ◌<◌, Bool, true, false, cond, ◌&&◌, T, List, [], ◌∷◌, Some, None, inl, inr, Ordering, Less, Equal, Greater, is_eq, is_lt, length, map, sum, sum_by, nat_cmp, ap, arith, refl, sym, ◌∙◌}
 use Rattle.std.specs.Cmp.{nat_cmp_total, tied_itself}
 use Rattle.std.specs.FinMap as columns
@@ -23,7 +23,8 @@ is_less Less h = refl
 is_less Equal h = absurd h
 is_less Greater h = absurd h
 
--- if f and g are equal at each number less than n, their sums over these numbers are equal
+-- If `f j ≡ g j` for all `j` less than `n`, then the sums of `f` and of `g` over the numbers less
+-- than `n` are equal.
 same_sum : (f g : ℕ → ℕ) (n : ℕ) → ((j : ℕ) → j < n → f j ≡ g j) → sum_below n f ≡ sum_below n g
 same_sum f g zero same = refl
 same_sum f g (suc n) same =
@@ -31,8 +32,8 @@ same_sum f g (suc n) same =
     let last : f n ≡ g n = same n (omega arith) in
     λ i. rest i + last i
 
--- if c is less than n, f c is v + g c, and f and g are equal at all other numbers, then the sum of
--- f over the numbers less than n is v plus the sum of g over them
+-- If `c < n`, `f c ≡ v + g c`, and `f` and `g` agree at all other numbers, then
+-- `sum_below n f ≡ v + sum_below n g`. (`sum_below n f` is `f 0 + f 1 + .. + f (n - 1)`.)
 sum_differs : (f g : ℕ → ℕ) (c v n : ℕ) → c < n → f c ≡ v + g c → ((j : ℕ) → j ≢ c → f j ≡ g j)
     → sum_below n f ≡ v + sum_below n g
 sum_differs f g c v zero inside here others = absurd (omega arith)
@@ -52,8 +53,8 @@ no_sum f zero = refl
 no_sum f (suc n) = let rest = no_sum f n in omega arith
 
 module _ (f : ℕ → ℕ) where
-  -- the number of the entry in a column, times f of this column; or 0, if the list of entries has
-  -- no entry in this column
+  -- `term entries j` is the number of the entry in column `j`, times the factor `f j` of this
+  -- column. It is 0 if no entry is in column `j`.
   abbrev term : List (ℕ × ℕ) → ℕ → ℕ
   term entries j = unwrap_or (find nat_cmp j entries) 0 * f j
 
@@ -65,9 +66,9 @@ module _ (f : ℕ → ℕ) where
       (is_less (nat_cmp x e.0) (both_hold _ _ below).0)
       ∙ none_found x entries (both_hold _ _ below).1
 
-  -- If the columns of the entries are strictly increasing and less than n, two sums are equal: the
-  -- sum over all entries of the entry's number times f of its column, and the sum of `term entries`
-  -- over all columns less than n.
+  -- If the columns of the entries are strictly increasing and less than `n`, then two sums are
+  -- equal. The first sum adds, for each entry, its number times `f c`, where `c` is its column. The
+  -- second sum adds `term entries j` for all columns `j` less than `n`.
   entries_sum : (entries : List (ℕ × ℕ)) (n : ℕ) → T (is_sorted nat_cmp entries)
       → ((k : ℕ) → k < length entries → (slice_index_or entries k (0, 0)).0 < n)
       → sum_by (λ e. e.1 * f e.0) entries ≡ sum_below n (term entries)
@@ -96,9 +97,9 @@ module _ (f : ℕ → ℕ) where
           ∙ (let nothing : term entries e.0 ≡ 0 * f e.0 = ap (λ o. unwrap_or o 0 * f e.0) none in
           omega (arith, nothing))
 
--- Each number of a row is multiplied by f of its column, and the products are added. If the columns
--- of all entries of the row are less than n, the sum over the entries equals the sum over all
--- columns less than n.
+-- If all entries of `row` are in columns less than `n`, then two sums are equal. Both sums add, for
+-- each column `j`, the number in the column times `f j`. The first sum is over the columns that
+-- have an entry, and the second sum is over all columns less than `n`.
 pub row_sum : (f : ℕ → ℕ) (row : Columns ℕ) (n : ℕ) (entries : List (ℕ × ℕ))
     → entries ≡ columns.entries row
     → ((k : ℕ) → k < length entries → (slice_index_or entries k (0, 0)).0 < n)

@@ -1,5 +1,5 @@
--- Lemmas for the loops that write the entries of a row one after the other, each at a different
--- place.
+-- Lemmas about loops that write the entries of a row into a matrix. Each iteration writes one
+-- entry, and no two entries are written at the same place.
 use Rattle.std.proofs.Common.{◌≡◌, ◌≢◌, ℕ, ◌+◌, ◌<◌, ◌≤◌, List, Some, None, inl, inr, length, ap, arith, refl, subst, sym, ◌∙◌}
 use Rattle.std.specs.FinMap as columns
 use Rattle.std.specs.Option.{unwrap_or}
@@ -8,12 +8,13 @@ use Rattle.std.proofs.lemmas.Bool.{cases_eq, cases_lt}
 use Rattle.thin_rows.specs.Table.{Columns, Table, row_of, value_at}
 use Rattle.thin_rows.proofs.TableLemmas.{in_order, is_listed, listed}
 
--- `None` is never equal to `Some x`
+-- `None` never equals `Some x`, so a proof that they are equal proves every `P`.
 never : {P : Type 0} {x : ℕ} → None ≡ Some x → P
 never e = cc
 
--- context: `row` is a row, `old j` is the number at column j before the entries of the row are
--- written, and `write u v` is the number that results when v is written over u
+-- In this module, `row` is the row whose entries are written, and `old j` is the number at column
+-- `j` before any entry is written. If `v` is written over the number `u`, the result is
+-- `write u v`.
 module _ (write : ℕ → ℕ → ℕ) (row : Columns ℕ) (old : ℕ → ℕ) where
   abbrev column : ℕ → ℕ
   column k = (slice_index_or (columns.entries row) k (0, 0)).0
@@ -21,18 +22,18 @@ module _ (write : ℕ → ℕ → ℕ) (row : Columns ℕ) (old : ℕ → ℕ) w
   abbrev number : ℕ → ℕ
   number k = (slice_index_or (columns.entries row) k (0, 0)).1
 
-  -- `now` maps each column to its number after the first n entries of the row were written over the
-  -- old numbers
+  -- `IsWritten n now` holds if `now` maps each column to its number after the first `n` entries of
+  -- the row were written.
   pub record IsWritten (n : ℕ) (now : ℕ → ℕ) : Type 0 where
     pub done : (k : ℕ) → k < n → now (column k) ≡ write (old (column k)) (number k)
     pub left : (j : ℕ) → ((k : ℕ) → k < n → column k ≢ j) → now j ≡ old j
 
-  -- if no entry is written yet, the numbers are the old ones
+  -- Before any entry is written, all numbers are the old ones.
   pub none_written : IsWritten 0 old
   none_written = record { done = λ k less. absurd (omega arith); left = λ j none. refl }
 
-  -- if the first n entries are written, and writing the next entry changes no other number, then
-  -- the first n + 1 entries are written
+  -- If `IsWritten n now` holds, and writing the next entry turns `now` into `next` without changing
+  -- another number, then `IsWritten (n + 1) next` holds.
   pub one_more : (n : ℕ) (now next : ℕ → ℕ) → n < length (columns.entries row) → IsWritten n now
       → next (column n) ≡ write (now (column n)) (number n)
       → ((j : ℕ) → j ≢ column n → next j ≡ now j) → IsWritten (n + 1) next
@@ -50,7 +51,8 @@ module _ (write : ℕ → ℕ → ℕ) (row : Columns ℕ) (old : ℕ → ℕ) w
         ∙ h.left j (λ k less. none k (omega (arith, less)));
   }
 
-  -- the lemma `one_more`, stated for a list `entries` that equals the list of the row's entries
+  -- This is the lemma `one_more` for any list `entries` that equals the list of the entries of the
+  -- row.
   pub next_written : (entries : List (ℕ × ℕ)) → entries ≡ columns.entries row → (n : ℕ)
       (now next : ℕ → ℕ) → n < length entries → IsWritten n now
       → next (slice_index_or entries n (0, 0)).0
@@ -59,9 +61,9 @@ module _ (write : ℕ → ℕ → ℕ) (row : Columns ℕ) (old : ℕ → ℕ) w
       → IsWritten (n + 1) next
   next_written entries is = rw is one_more
 
-  -- Suppose that all entries of the row are written. If writing 0 over `old j` does not change it,
-  -- then the number at column j is the row's number at column j written over `old j`. (The row's
-  -- number at a column without an entry is 0.)
+  -- After all entries of the row were written, the number at column `j` is `write (old j) v`. Here,
+  -- `v` is the number of the row at column `j`, or 0 if the row has no entry there. The lemma
+  -- requires that `write (old j) 0` is `old j`.
   pub all_written : (n : ℕ) (now : ℕ → ℕ) → n ≡ length (columns.entries row) → IsWritten n now
       → (j : ℕ) → write (old j) 0 ≡ old j
       → now j ≡ write (old j) (unwrap_or (columns.get row j) 0)
@@ -78,7 +80,8 @@ module _ (write : ℕ → ℕ → ℕ) (row : Columns ℕ) (old : ℕ → ℕ) w
             ∙ listed row k (0, 0) (omega (arith, less, all))))) ∙ sym zero
       ] refl
 
--- if a table has no values at the columns from n on, the columns of its entries are less than n
+-- If the table `t` has no values at the columns from index `n` onward, then all its entries are in
+-- columns less than `n`.
 pub columns_below : (t : Table ℕ) (n : ℕ) → ((i j : ℕ) → n ≤ j → value_at t i j ≡ None) → (i : ℕ)
     (entries : List (ℕ × ℕ)) → entries ≡ columns.entries (row_of t i) → (k : ℕ)
     → k < length entries → (slice_index_or entries k (0, 0)).0 < n

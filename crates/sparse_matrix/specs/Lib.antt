@@ -1,2 +1,2 @@
--- The definitions that the contracts of matrices use.
+-- The definitions that the contracts of `Matrix` use.
 pub mod Numbers

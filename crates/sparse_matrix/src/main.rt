@@ -1,4 +1,5 @@
-//! Adds, transposes and multiplies sparse matrices, and prints the results.
+//! Transposes a sparse matrix, adds it to itself, multiplies it by a vector, and prints the
+//! results.
 #![tactic(auto)]
 
 mod matrix;

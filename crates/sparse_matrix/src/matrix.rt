@@ -94,7 +94,7 @@ impl<A: Allocator + Copy> Matrix<A> {
 }
 
 impl<A: Allocator> Matrix<A> {
-    /// Returns the number at a row and a column.
+    /// Returns the number at row `row` and column `column`.
     pub fn get(&self, row: usize, column: usize) -> u64
         requires row_in_bounds { row < length self.now.numbers }
         ensures value { result ≡ number_at self.now.numbers row column }
@@ -102,11 +102,11 @@ impl<A: Allocator> Matrix<A> {
         self.numbers.get(row, column).copied().unwrap_or(0)
     }
 
-    /// Writes `number` at a row and a column.
+    /// Writes `number` at row `row` and column `column`.
     ///
     /// # Errors
     ///
-    /// Fails if there is no memory for the number. Then the matrix does not change.
+    /// Fails if there is no memory for the number. In this case, the matrix does not change.
     #[tactic(auto, using(thin_rows::proofs::TableLemmas::values))]
     pub fn set(&mut self, row: usize, column: usize, number: u64) -> Result<(), ThinVecError>
         requires row_in_bounds { row < length self.old.numbers }
@@ -144,8 +144,9 @@ impl<A: Allocator> Matrix<A> {
         Ok(())
     }
 
-    // Writes the numbers in row `column` of `other` to column `column` of this matrix, where all
-    // numbers must be 0. If the call fails, some of the numbers may have been written.
+    // Writes the numbers in row `column` of `other` to column `column` of this matrix. Before the
+    // call, all numbers in this column must be 0. If the call fails, some of the numbers may have
+    // been written.
     fn set_column(&mut self, column: usize, other: &Matrix<A>) -> Result<(), ThinVecError>
         requires column_in_bounds { column < self.old.columns }
         requires row_in_bounds { column < length other.now.numbers }
@@ -165,7 +166,8 @@ impl<A: Allocator> Matrix<A> {
 }
 
 impl<A: Allocator> fmt::Debug for Matrix<A> {
-    // Prints the rows in order, each as a map from columns to the numbers that are not 0.
+    // Prints the rows in order. Each row is printed as a map from columns to the numbers that are
+    // not 0.
     fn fmt<W: fmt::Write>(&self, f: &mut fmt::Formatter<W>) -> fmt::Result {
         self.numbers.fmt(f)
     }

@@ -1,4 +1,5 @@
--- Bounds on the number of items that growth copies in a run of pushes and pops.
+-- Suppose that a new list is changed only by pushes and pops, and that `m` pushes succeed, where
+-- `m` is at least 1. Then growing the list copies fewer than `2 * m` items.
 use Rattle.std.proofs.Common.{◌≡◌, ℕ, zero, suc, ◌+◌, ◌*◌, ◌<◌, ◌≤◌, List, [], ◌∷◌, length, arith, ap, ◌∙◌, refl, subst, inl, inr}
 use Rattle.std.proofs.lemmas.Bool.{cases_lt}
 use Rattle.std.proofs.lemmas.List.{length-append, length_push}
@@ -19,8 +20,9 @@ use Rattle.thin_runner.specs.declared.command.Reply.{Reply}
 use Rattle.thin_runner.specs.declared.command.Reply.TheVariants.{Done, Item, Returned, OutOfRange}
 use Rattle.thin_runner.proofs.PaidLemmas.{step-paid}
 
--- The list v is amortised for m pushes if it is cheap, its items fit into its capacity, it has at
--- most m items, and growth has copied no item or fewer than 2m items.
+-- `IsAmortised m v` holds if the list `v` is cheap (`IsCheap`) and has at most `m` items, its items
+-- fit into its capacity, and growing the list has copied either no items or fewer than `2 * m`
+-- items.
 pub record IsAmortised {T A : Type 0} (m : ℕ) (v : Thin T A) : Type 0 where
   pub cheap : IsCheap v
   pub room : length v.items ≤ v.capacity
@@ -28,7 +30,7 @@ pub record IsAmortised {T A : Type 0} (m : ℕ) (v : Thin T A) : Type 0 where
   pub copied : (v.cost.grown < 2 * m) ⊎ (v.cost.grown ≡ 0)
 
 module _ {T A : Type 0} where
-  -- a new list is cheap
+  -- A new list is cheap: growing it has cost nothing so far.
   new-cheap : (v : Thin T A) → IsNew v v.alloc → IsCheap v
   new-cheap v new =
       let blocks : v.cost.blocks ≡ 0 = ap (λ c. c.blocks) new.cost in
@@ -39,7 +41,7 @@ module _ {T A : Type 0} where
         blocks = λ some. absurd (omega (arith, new.capacity, some));
       }
 
-  -- a new list is amortised for 0 pushes
+  -- `IsAmortised 0 v` holds for every new list `v`.
   pub new-amortised : (v : Thin T A) → IsNew v v.alloc → IsAmortised 0 v
   new-amortised v new = record {
     cheap = new-cheap v new;
@@ -48,8 +50,8 @@ module _ {T A : Type 0} where
     copied = inr (ap (λ c. c.grown) new.cost);
   }
 
-  -- if the list w is amortised for m pushes and m is not 0, then growth has copied fewer than 2m
-  -- items, as the field `amortised` of the main theorem states
+  -- If `IsAmortised m w` holds and `m` is not 0, then growing the list `w` has copied fewer than
+  -- `2 * m` items. The main theorem states this in its field `amortised`.
   pub copied-run : (w : Thin T A) (m : ℕ) → IsAmortised (0 + m) w → 0 < m → w.cost.grown < 2 * m
   copied-run w m a some = below a.copied
     where
@@ -60,23 +62,23 @@ module _ {T A : Type 0} where
   same-amortised : (m : ℕ) (v w : Thin T A) → IsAmortised m v → w ≡ v → IsAmortised (m + 0) w
   same-amortised m v w a same = let e : m + 0 ≡ m = omega arith in rw (same, e) a
 
--- if the cost k is cheap at the capacity c, and c is at most m, then the items copied so far and c
--- more items are fewer than 2 * (m + 1)
+-- If the cost `k` is cheap for the capacity `c` (`IsCheapAt`), and `c ≤ m`, then the number of
+-- items that growth has copied, plus `c`, is less than `2 * (m + 1)`.
 copied-growing : (c m : ℕ) (k : Cost) → IsCheapAt c k → c ≤ m → k.grown + c < 2 * (m + 1)
 copied-growing zero m k h few = let z = h.none refl in omega (arith, z.1)
 copied-growing (suc c) m k h few =
     let copied : k.grown < suc c = h.grown (omega arith) in omega (arith, copied, few)
 
--- if the number g of copied items is 0 or less than 2m, and g' equals g, then g' is 0 or less than
--- 2 * (m + `more`)
+-- If `g` is 0 or less than `2 * m`, and `g'` equals `g`, then `g'` is 0 or less than
+-- `2 * (m + more)`.
 copied-kept : (m more : ℕ) {g g' : ℕ} → (g < 2 * m) ⊎ (g ≡ 0) → g' ≡ g
     → (g' < 2 * (m + more)) ⊎ (g' ≡ 0)
 copied-kept m more (inl few) same = inl (omega (arith, few, same))
 copied-kept m more (inr none) same = inr (same ∙ none)
 
 module _ {T A G J : Type 0} (here : Setting T A J) (law : KeepsLaw here.rule) where
-  -- If a list is amortised for m pushes, then after a successful push it is amortised for m + 1
-  -- pushes. After a failed push or after a pop, it is amortised for m pushes.
+  -- If `IsAmortised m` holds for a list, and then a push succeeds, `IsAmortised (m + 1)` holds
+  -- after the push. A failed push and a pop preserve `IsAmortised m`.
   step-amortised : (m : ℕ) (v w : Thin T A) (command : Command T A G) (reply : Reply T A G)
       → IsPushOrPop command → IsAmortised m v → Steps here v command reply w
       → IsAmortised (m + accepted (command ∷ []) (reply ∷ [])) w
@@ -118,8 +120,8 @@ module _ {T A G J : Type 0} (here : Setting T A J) (law : KeepsLaw here.rule) wh
   step-amortised m v w Pop reply only a s = absurd s.1
   step-amortised m v w command reply only a s = absurd only
 
-  -- the number of successful pushes of a run (`accepted`) is the sum of `accepted` over its
-  -- commands, each taken alone
+  -- `accepted` counts the successful pushes of a run. The count for a whole run is the sum of the
+  -- counts for its individual commands.
   accepted-counted : (commands : List (Command T A G)) (replies : List (Reply T A G))
       → counted (λ c r. accepted (c ∷ []) (r ∷ [])) commands replies ≡ accepted commands replies
   accepted-counted (Push x ∷ commands) (Done ∷ replies) =
@@ -128,8 +130,8 @@ module _ {T A G J : Type 0} (here : Setting T A J) (law : KeepsLaw here.rule) wh
       omega (arith, accepted-counted commands replies)
   accepted-counted commands replies = refl
 
-  -- if a list is amortised for 0 pushes, then after a run of pushes and pops it is amortised for
-  -- the number of pushes that succeeded
+  -- Suppose that `IsAmortised 0` holds for a list before a run of pushes and pops, and that `n` of
+  -- the pushes succeed. Then `IsAmortised n` holds for the list after the run.
   pub runs-amortised : (v w : Thin T A) (commands : List (Command T A G))
       (replies : List (Reply T A G)) → All IsPushOrPop commands → IsAmortised 0 v
       → Runs here v commands replies w → IsAmortised (0 + accepted commands replies) w

@@ -1,4 +1,5 @@
--- Lemmas that derive the cases of `specs/Steps` from the contracts of the list's methods.
+-- Each command calls a method of a list. These lemmas help to prove, from the contract of the
+-- method, that the call changes the list as `specs/Steps` states.
 use Rattle.std.proofs.Common.{◌≡◌, ℕ, ◌<◌, ◌⊎◌, List, [], ◌∷◌, Some, refl, length, inl, inr, arith}
 use Rattle.std.specs.Borrow.{RattleType}
 use Rattle.std.specs.Prelude.{HoldsAt}
@@ -7,19 +8,20 @@ use Rattle.thin_vec.specs.Cost.{moving}
 use Rattle.thin_vec.specs.Growth.{Rule}
 use Rattle.thin_vec.specs.ThinVec.{Thin, capacity_for, cost_at}
 
--- if a list is not the empty list, its length is at least 1
+-- If a list is not empty, its length is at least 1.
 pub some-items : {X : Type 0} (xs : List X) → (xs ≡ [] → ⊥) → 0 < length xs
 some-items [] none = absurd (none refl)
 some-items (x ∷ xs) none = omega arith
 
 module _ {T A : Type 0} where
-  -- The list v with the items xs and the capacity c. Its cost is that of v, plus the cost of the
-  -- change of capacity, plus m moves.
+  -- `grown v c xs m` is the list `v` with the items `xs` and the capacity `c`. The cost of this
+  -- list is the cost of `v`, plus the cost of the change of capacity, plus `m` moves.
   abbrev pub grown : Thin T A → ℕ → List T → ℕ → Thin T A
   grown v c xs m = record v { items = xs; capacity = c; cost = moving m (cost_at v c) }
 
-  -- if w has the items xs and the allocator of v, and its cost is that of v at the capacity of w,
-  -- plus m moves, then w is `grown v w.capacity xs m`
+  -- Suppose that the list `w` has the items `xs` and the allocator of the list `v`. If the cost of
+  -- `w` is the cost of `v` after a change to the capacity of `w`, plus `m` moves, then `w` is
+  -- `grown v w.capacity xs m`.
   pub is-grown : (v w : Thin T A) (xs : List T) (m : ℕ) → w.items ≡ xs → w.cost
       ≡ moving m (cost_at v w.capacity) → w.alloc ≡ v.alloc → w ≡ grown v w.capacity xs m
   is-grown v w xs m items cost alloc = λ i. record {
@@ -30,10 +32,10 @@ module _ {T A : Type 0} where
   }
 
   module _ (rule : Rule) where
-    -- If a failed call that clones `sources` turned v into w and changed neither the items nor the
-    -- allocator, then either w is v, or it differs as follows. The capacity of w is the one that
-    -- the rule requires for k more items. A source could not be cloned, and each source before it
-    -- counts one move.
+    -- Suppose that a call that clones the items `sources` failed, and turned the list `v` into `w`
+    -- without changing the items or the allocator. Then either `w` is `v`, or two things hold. The
+    -- capacity of `w` is the one that the rule requires for `k` more items. A source could not be
+    -- cloned, and the cost of `w` counts one move for each source before it.
     pub refuses-clone : (R : RattleType) (k : ℕ) {infallible : T → Type 0} {sources : List T}
         {v w : Thin T A} → w.items ≡ v.items → w.alloc ≡ v.alloc
         → (w ≡ v) ⊎ (capacity_for rule R v k ≡ Some w.capacity)

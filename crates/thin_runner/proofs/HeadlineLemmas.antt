@@ -1,4 +1,4 @@
--- The proof of the main theorem, from the lemmas of the other files.
+-- Proves the main theorem (`Headline`) from the lemmas of the other files.
 use Rattle.std.proofs.Common.{◌≡◌, List, [], ◌++◌, ap, sym, subst, ◌∙◌}
 use Rattle.std.proofs.lemmas.List.{append-nil}
 use Rattle.thin_vec.specs.Growth.{KeepsLaw}
@@ -17,8 +17,8 @@ use Rattle.thin_runner.proofs.SlackLemmas.{runs-slack}
 
 module _ {T A G J : Type 0} (here : Setting T A J) (law : KeepsLaw here.rule) where
   module _ {old new : Thin T A} where
-    -- if all commands have run, and the list was within bounds (`IsWithin`) before and after the
-    -- run, then the main theorem holds for the run
+    -- If all commands have run, and the list was within its size limits (`IsWithin`) before and
+    -- after the run, then the main theorem holds for the run.
     pub headline : {commands left : List (Command T A G)} {before after : List (Reply T A G)}
         → IsWithin here.R old → IsWithin here.R new → left ≡ []
         → HasRun here old commands left before after new

@@ -1,4 +1,5 @@
--- What calls of `next` on a `Hinted` return, and how they change it.
+-- These lemmas state what calls of `next` on the iterator `Hinted` yield, and how the calls change
+-- the iterator.
 use Rattle.std.proofs.Common.{◌≡◌, List, [], ◌∷◌, ◌++◌, ap, sym, ◌∙◌}
 use Rattle.std.proofs.lemmas.List.{append-nil}
 use Rattle.std.specs.Iterator.{Drains, Yields}
@@ -6,20 +7,21 @@ use Rattle.thin_runner.specs.Hinted.{HintedSteps, hinted_claim, hinted_items}
 use Rattle.thin_runner.specs.declared.hinted.Hinted.{Hinted}
 
 module _ {T A : Type 0} where
-  -- if calls of `next` yielded the items xs, then the items left before the calls are xs, followed
-  -- by the items left after the calls
+  -- If calls of `next` yielded the items `xs` and turned the iterator `s` into `t`, then the items
+  -- left in `s` are `xs`, followed by the items left in `t`.
   pub yields-items : (s t : Hinted T A) (xs : List T) → Yields (HintedSteps {T = T} {A = A}) s xs t
       → hinted_items s ≡ xs ++ hinted_items t
   yields-items s t [] e = ap hinted_items e
   yields-items s t (x ∷ xs) e = e.1.0 ∙ ap (λ l. x ∷ l) (yields-items e.0 t xs e.2)
 
-  -- calls of `next` do not change the lower bound that a `Hinted` claims
+  -- Calls of `next` on a `Hinted` do not change the lower bound of its size hint.
   pub yields-claim : (s t : Hinted T A) (xs : List T) → Yields (HintedSteps {T = T} {A = A}) s xs t
       → hinted_claim t ≡ hinted_claim s
   yields-claim s t [] e = ap hinted_claim (sym e)
   yields-claim s t (x ∷ xs) e = yields-claim e.0 t xs e.2 ∙ e.1.1
 
-  -- if calls of `next` up to the first `None` yielded xs, then xs are all items that were left
+  -- If `next` is called until it returns `None`, and the calls yield the items `xs`, then `xs` are
+  -- all items that were left in the iterator.
   pub drains-items : (s : Hinted T A) (xs : List T) → Drains (HintedSteps {T = T} {A = A}) s xs
       → xs ≡ hinted_items s
   drains-items s xs d = sym (yields-items s d.1.0 xs d.1.1

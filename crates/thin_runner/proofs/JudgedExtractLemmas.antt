@@ -1,5 +1,5 @@
--- Lemmas about an `ExtractIf` whose closure returns what a judge decides: what its calls of `next`
--- return, and which list is left.
+-- Lemmas about an `ExtractIf` whose closure asks a judge which items to remove. They state what the
+-- calls of `next` return, and which items the list has afterwards.
 use Rattle.std.proofs.Common.{◌≡◌, ℕ, zero, suc, ◌+◌, ◌-◌, ◌≤◌, ◌==◌, Bool, true, false, List, [], ◌∷◌, ◌++◌, Option, None, Some, length, take, drop, refl, arith, ap, subst, sym, ◌∙◌, append_assoc}
 use Rattle.std.proofs.Math.Dec.{eqb-suc-zero}
 use Rattle.std.proofs.lemmas.List.{append-nil, length-append, length-drop, length-map, length-take}
@@ -16,14 +16,14 @@ use Rattle.thin_runner.specs.commands.Ranges.{walked}
 use Rattle.thin_runner.specs.declared.command.Step.TheVariants.{Front}
 
 module _ {T : Type 0} where
-  -- The verdict on the item that a call of `next` returned: the item is not kept. If the call
-  -- returned `None`, there is no verdict.
+  -- The verdicts on the item that a call of `next` returned. If the call returned an item, its
+  -- verdict says that the item is removed. If the call returned `None`, there is no verdict.
   abbrev pub goes : Option T → Verdicts T
   goes None = []
   goes (Some x) = (false, x) ∷ []
 
-  -- the results of k calls of `next` if the items to extract are xs: the items in order, and then
-  -- `None`
+  -- `handed_out k xs` lists the results of `k` calls of `next` if `xs` are the items to extract:
+  -- these items in order, and then `None`.
   abbrev pub handed_out : ℕ → List T → List (Option T)
   handed_out k xs = walked xs (replicate k Front)
 
@@ -59,9 +59,9 @@ module _ {T : Type 0} where
   few-goes None = refl
   few-goes (Some x) = refl
 
-  -- Let the verdicts a be followed by the verdicts b. If a removes no item, the moves for both are
-  -- the moves for a plus the moves for b. If a removes an item, they are the moves for a plus one
-  -- move for each item that b keeps.
+  -- The verdicts `a` are followed by the verdicts `b`. If `a` removes no item, then the number of
+  -- moves is the number for `a` plus the number for `b`. If `a` removes an item, then the number of
+  -- moves is the number for `a` plus one for each item that `b` keeps.
   pub moves-append : (a b : Verdicts T) → moved_down (flags_of (a ++ b))
       ≡ moved_down (flags_of a) + (if length (left_at false a) == 0 then moved_down
       (flags_of b) else trues (flags_of b))
@@ -79,11 +79,12 @@ module _ {S T J : Type 0} (R : S → T → Bool → S → T → Type 0) (judge_o
   none-left j zero = refl
   none-left j (suc k) = refl
 
-  -- let a call of `next` return `item`, and leave the items `rest` untested and the closure in the
-  -- state t, and let k be the number of calls that may follow
+  -- In this module, a call of `next` returns `item`. After the call, the items `rest` are untested,
+  -- the closure is in the state `t`, and up to `k` more calls follow.
   module _ (t : S) (k : ℕ) (item : Option T) (rest : List T) where
-    -- If a call of `next` keeps the items `kept`, then the verdicts of this call and k more calls
-    -- begin with those that keep `kept` and extract `item`. The verdicts of the k calls follow.
+    -- A call of `next` keeps the items `kept` and returns `item`. Then the verdicts of this call
+    -- and of `k` more calls begin with the verdicts that keep `kept`. The verdict on `item`
+    -- follows, and then the verdicts of the `k` calls.
     pub extracts-by : (s : S) (xs kept : List T) → ExtractsNext R s xs item t kept rest
         → extracting ask (judge_of s) (suc k) xs
         ≡ stay kept ++ (goes item ++ extracting ask (judge_of t) k rest)
@@ -109,7 +110,7 @@ module _ {S T J : Type 0} (R : S → T → Bool → S → T → Type 0) (judge_o
             ap (λ l. (true, e.2) ∷ l) (by m.0 m.1)
             ∙ sym (ap (λ l. stay l ++ (goes item ++ extracting ask (judge_of t) k rest)) m.2)
 
-    -- if a call of `next` returns `None`, no item is left to be tested
+    -- If a call of `next` returns `None`, then no untested item is left.
     rest-none : (s : S) (xs kept : List T) → ExtractsNext R s xs item t kept rest
         → item ≡ None → rest ≡ []
     rest-none s [] kept e none = e.3
@@ -122,8 +123,8 @@ module _ {S T J : Type 0} (R : S → T → Bool → S → T → Type 0) (judge_o
         answered true by m = let wrong = m.0 in absurd (none-some (sym none ∙ wrong))
         answered false by m = by m.0 m.1
 
-    -- the results that `handed_out` computes for a call of `next` and k more calls are `item`,
-    -- followed by the results that it computes for the k calls
+    -- `handed_out` computes the results of a call of `next` and of `k` more calls. The first result
+    -- is `item`, and the other results are the results of the `k` calls.
     pub handed-by : (s : S) (xs kept : List T) → ExtractsNext R s xs item t kept rest
         → handed_out (suc k) (left_at false (extracting ask (judge_of s) (suc k) xs))
         ≡ item ∷ handed_out k (left_at false (extracting ask (judge_of t) k rest))
@@ -143,8 +144,8 @@ module _ {S T J : Type 0} (R : S → T → Bool → S → T → Type 0) (judge_o
             ∙ ap (left_at false) (none-left (judge_of t) k) in
             subst (λ l. handed_out (suc k) l ≡ None ∷ handed_out k l) (sym empty) refl
 
--- adding m moves to a cost, and then k more moves if `gone` is not 0, gives the same cost as adding
--- all these moves at once
+-- Suppose that `m` moves are added to a cost, and then `k` more moves if `gone` is not 0. The
+-- result is the same as if all these moves were added at once.
 charged : (gone m k : ℕ) (c : Cost)
     → (if gone == 0 then moving m c else moving k (moving m c))
     ≡ moving (m + (if gone == 0 then 0 else k)) c
@@ -154,23 +155,23 @@ charged (suc gone) m k c =
     ≡ moving (m + (if t then 0 else k)) c)
     (sym (eqb-suc-zero gone)) (moving-more k m c)
 
--- the state of an extraction between two calls of `next`
+-- The state of an `extract_if` between two calls of `next`.
 pub record Stand (T : Type 0) : Type 0 where
-  -- the verdicts on the items that are not yet tested
+  -- The verdicts on the items that have not been tested yet.
   pub left : Verdicts T
-  -- the items at the front of the list: the items before the range, and then the items of the range
-  -- kept so far
+  -- The items before the range, followed by the items of the range that have been kept so far.
   pub front : List T
-  -- the number of items yielded so far
+  -- The number of items that have been yielded so far.
   pub out : ℕ
   -- the cost so far
   pub paid : Cost
 
--- let `asked` be the verdicts on all items of the range of an extraction, `start` the items before
--- the range, and `before` the cost before the first call of `next`
+-- In this module, an `extract_if` tests the items of a range of a list. `asked` are the verdicts on
+-- all items of the range, and `start` are the items before the range. `before` is the cost of the
+-- list before the first call of `next`.
 module _ {T : Type 0} (asked : Verdicts T) (start : List T) (before : Cost) where
-  -- `at` is the state of the extraction after some number of calls of `next`, which gave the
-  -- verdicts `done`
+  -- `IsExtracting at` holds if `at` is the state of the extraction after some number of calls of
+  -- `next`. The field `done` has the verdicts of these calls.
   pub record IsExtracting (at : Stand T) : Type 0 where
     pub done : Verdicts T
     pub split : asked ≡ done ++ at.left
@@ -178,8 +179,9 @@ module _ {T : Type 0} (asked : Verdicts T) (start : List T) (before : Cost) wher
     pub out : at.out ≡ length (left_at false done)
     pub paid : at.paid ≡ moving (moved_down (flags_of done)) before
 
-  -- Let the next verdicts, `now`, keep k items and remove no item before the last of these. Then
-  -- the cost after `now` is the cost so far, plus k moves if an item was extracted before `now`.
+  -- Suppose that the next verdicts, `now`, keep `k` items and then remove the others. If an item
+  -- was extracted before, then these verdicts add `k` moves to the cost. Otherwise, they add no
+  -- moves.
   paid-next : (at : Stand T) (h : IsExtracting at) (now : Verdicts T) (k : ℕ)
       → moved_down (flags_of now) ≡ 0 → trues (flags_of now) ≡ k
       → (if at.out == 0 then at.paid else moving k at.paid)
@@ -192,7 +194,7 @@ module _ {T : Type 0} (asked : Verdicts T) (start : List T) (before : Cost) wher
       before)
       ∙ ap (λ m. moving m before) (sym (moves-append h.done now))))
 
-  -- if `at` is the state before the first call of `next`, then `IsExtracting` holds for `at`
+  -- `IsExtracting` holds for the state before the first call of `next`.
   pub extracting-none : (at : Stand T) → at.left ≡ asked → at.front ≡ start → at.out ≡ 0
       → at.paid ≡ before → IsExtracting at
   extracting-none at all same none free =
@@ -205,8 +207,8 @@ module _ {T : Type 0} (asked : Verdicts T) (start : List T) (before : Cost) wher
       }
 
   module _ (at next : Stand T) where
-    -- if `IsExtracting` holds for the state `at`, and a call of `next` keeps the items `kept`,
-    -- returns `item` and leads to the state `next`, then `IsExtracting` holds for `next`
+    -- Suppose that `IsExtracting` holds for the state `at`. If a call of `next` keeps the items
+    -- `kept`, returns `item`, and ends in the state `next`, then `IsExtracting` holds for `next`.
     pub extracting-step : (kept : List T) (item : Option T) → IsExtracting at
         → at.left ≡ stay kept ++ (goes item ++ next.left) → next.front ≡ at.front ++ kept
         → next.out ≡ at.out + length (option_to_list item)
@@ -243,12 +245,13 @@ module _ {T : Type 0} (asked : Verdicts T) (start : List T) (before : Cost) wher
           paid = charge ∙ paid-next at h now (length kept) still moved;
         }
 
--- let w be the list v after an extraction from the items from index a up to b, and let `asked` be
--- the verdicts on these items
+-- In this module, an `extract_if` on the items `a..b` turned the list `v` into `w`, and `asked` are
+-- the verdicts on these items.
 module _ {T A : Type 0} (v w : Thin T A) (a b : ℕ) (asked : Verdicts T) where
-  -- The items of w are the items at the front, then `rest` (the items of the range that were not
-  -- tested), and then `tail` (the items after the range). If an item was extracted, each item of
-  -- `rest` and `tail` counts one move. The capacity and the allocator are those of v.
+  -- `IsLeft at rest tail` describes the list `w`. Its items are the items of `at.front`, then the
+  -- untested items `rest` of the range, and then the items `tail` after the range. If an item was
+  -- extracted, each item of `rest` and `tail` was moved once. The capacity and the allocator are
+  -- unchanged.
   pub record IsLeft (at : Stand T) (rest tail : List T) : Type 0 where
     pub items : w.items ≡ at.front ++ (rest ++ tail)
     pub cost : w.cost ≡ (if at.out == 0 then at.paid else moving (length rest
@@ -256,8 +259,8 @@ module _ {T A : Type 0} (v w : Thin T A) (a b : ℕ) (asked : Verdicts T) where
     pub capacity : w.capacity ≡ v.capacity
     pub alloc : w.alloc ≡ v.alloc
 
-  -- if the extraction from v has ended and left the list w, then w is v with only the items that
-  -- the verdicts keep (`sifted`)
+  -- After the extraction has ended, `w` is the list `v` with only the items that the verdicts keep
+  -- (`sifted`).
   pub extracting-ends : (at : Stand T) (rest tail : List T)
       → IsExtracting asked (take a v.items) v.cost at → at.left ≡ stay rest → tail ≡ drop b v.items
       → IsLeft at rest tail → w ≡ sifted v (around v.items a b asked)
@@ -297,7 +300,7 @@ module _ {T A : Type 0} (v w : Thin T A) (a b : ℕ) (asked : Verdicts T) where
         cost = paid i;
       }
 
--- an extraction does not increase the number of items
+-- The lemmas of this module show that an extraction does not increase the number of items.
 module _ {T J : Type 0} (ask : J → T → Bool × T × J) where
   stay-length : (xs : List T) → length (stay xs) ≡ length xs
   stay-length xs = length-map xs (λ (x : T). (true, x))
@@ -308,8 +311,8 @@ module _ {T J : Type 0} (ask : J → T → Bool × T × J) where
   extracting-length j (suc k) (x ∷ xs) =
       ap suc (extracting-length (ask j x).2 (if (ask j x).0 then k else suc k) xs)
 
-  -- if k calls of `next` extract items of xs from index a up to b, then the number of items that
-  -- are kept is at most the length of xs
+  -- If `k` calls of `next` extract items from the range `a..b` of the list `xs`, then the number of
+  -- items that are kept is at most `length xs`.
   pub few-extracted : (j : J) (k : ℕ) (xs : List T) (a b : ℕ) → a ≤ b → b ≤ length xs
       → length (left_at true (around xs a b (extracting ask j k (slice_range xs a b)))) ≤ length xs
   few-extracted j k xs a b order within =

@@ -1,5 +1,6 @@
--- Lemmas about closures that return what a judge decides, and about the lists that methods such as
--- `retain` leave if they call such a closure.
+-- A judge decides which items are kept. These lemmas are about closures that return the decisions
+-- of a judge. If a method such as `retain` calls such a closure, then the judge determines the
+-- resulting list.
 use Rattle.std.proofs.Common.{◌≡◌, ℕ, suc, ◌≤◌, ◌==◌, length, refl, arith, List, [], ◌∷◌, Bool, true, false, ap, subst, ◌∙◌}
 use denote.MutBor.{MutBor}
 use denote.Param.Members.{Mut}
@@ -14,16 +15,16 @@ use Rattle.thin_runner.specs.commands.Filters.{asked, asked_last, asked_pairs, s
 
 module _ {S T J : Type 0} (R : S → T → Bool → S → T → Type 0) (judge_of : S → J)
     (ask : J → T → Bool × T × J) where
-  -- the closure has a judge in its state, and each call of the closure returns what this judge
-  -- decides
+  -- `AsksJudge` holds if the closure has a judge in its state, and each call of the closure returns
+  -- the decision of this judge.
   abbrev pub AsksJudge : Type 0
   AsksJudge = (s : S) (x : T) (b : Bool) (u : S) (y : T) → R s x b u y
       → (b, y, judge_of u) ≡ ask (judge_of s) x
 
 module _ {S T J : Type 0} (R : S → T → Bool → S → T → Type 0) (judge_of : S → J)
     (ask : J → T → Bool × T × J) (told : AsksJudge R judge_of ask) where
-  -- if the closure was called for each item of xs, in order, then its verdicts are those of the
-  -- judge
+  -- If the closure was called for each item of `xs`, in order, then its verdicts are the verdicts
+  -- of the judge.
   pub asked-by : (s t : S) (xs : List T) (verdicts : Verdicts T) → Asked R s xs verdicts t
       → verdicts ≡ asked ask (judge_of s) xs
   asked-by s t [] verdicts a = a.0
@@ -31,8 +32,8 @@ module _ {S T J : Type 0} (R : S → T → Bool → S → T → Type 0) (judge_o
       a.6 ∙ (ap (λ l. (a.0, a.1) ∷ l) (asked-by a.2 t xs a.3 a.5)
       ∙ ap (λ l. (l.0, l.1) ∷ asked ask l.2 xs) (told s x a.0 a.2 a.1 a.4))
 
-  -- if `retain` or `retain_mut`, with a closure that asks the judge, turns v into w, then w is v
-  -- with only the items that the judge keeps (`sifted`)
+  -- If `retain` or `retain_mut` turned the list `v` into `w`, with a closure that asks the judge,
+  -- then `w` is `v` with only the items that the judge keeps (`sifted`).
   pub retained-by : {A : Type 0} (s : S) (v w : Thin T A) → IsRetained R s v w
       → w.capacity ≡ v.capacity → w.alloc ≡ v.alloc
       → w ≡ sifted v (asked ask (judge_of s) v.items)
@@ -42,20 +43,23 @@ module _ {S T J : Type 0} (R : S → T → Bool → S → T → Type 0) (judge_o
       let cost = r.1.cost ∙ ap (λ a. moving (moved_down (flags_of a)) v.cost) same in
       λ i. record { items = items i; capacity = capacity i; alloc = alloc i; cost = cost i }
 
--- the list that is left if each item is compared with the last item kept before it
+-- This module is about methods such as `dedup_by`, which compare each item with the last item kept
+-- before it.
 module _ {T : Type 0} where
-  -- The pair b has the first item, which is kept, and the verdicts on the later items. ys are all
-  -- items that are kept, and `flags` tell which of the later items are kept.
+  -- The pair `b` consists of the first item and the verdicts on the later items.
+  -- `Leaves flags ys b` holds if `flags` say which later items are kept, and `ys` are the kept
+  -- items: the first item, and then the later items that are kept.
   abbrev pub Leaves : List Bool → List T → T × Verdicts T → Type 0
   Leaves flags ys b = (flags ≡ flags_of b.1) × (ys ≡ b.0 ∷ left_at true b.1)
 
--- let a closure compare two items and return what the judge in its state decides
+-- In this module, a closure compares two items, and returns the decision of the judge in its state.
 module _ {S T J : Type 0} (R : S → T → T → Bool → S → T → T → Type 0) (judge_of : S → J)
     (same : J → T → T → Bool × T × T × J)
     (told : (s : S) (x k : T) (b : Bool) (u : S) (x' k' : T) → R s x k b u x' k'
     → (b, x', k', judge_of u) ≡ same (judge_of s) x k) where
-  -- if each item of xs was compared with the last item kept before it, starting with the kept item
-  -- k, then the flags and the kept items are as the judge decides
+  -- Suppose that each item of `xs` was compared with the last item kept before it, and the first
+  -- item of `xs` with `k`. Then `flags` and the kept items `ys` agree with the decisions of the
+  -- judge.
   pub asked-last-by : (s t : S) (k : T) (xs : List T) (flags : List Bool) (ys : List T)
       → AskedLast R s k xs flags ys t → Leaves flags ys (asked_last same (judge_of s) k xs)
   asked-last-by s t k [] flags ys a = (a.0, a.1)
@@ -75,8 +79,8 @@ module _ {S T J : Type 0} (R : S → T → T → Bool → S → T → T → Type
       answered by false m e = let h =
           by a.1 m.0 m.1 in (e ∙ ap (λ l. true ∷ l) h.0, m.2 ∙ ap (λ l. a.2 ∷ l) h.1)
 
-  -- if each item of xs except the first was compared with the last item kept before it, then the
-  -- kept items and the number of moves are as the judge decides
+  -- If each item of `xs` except the first was compared with the last item kept before it, then the
+  -- kept items `ys` and the number of moves agree with the decisions of the judge.
   pub asked-pairs-by : (s t : S) (xs : List T) (flags : List Bool) (ys : List T)
       → AskedPairs R s xs flags ys t
       → (moved_down flags ≡ moved_down (flags_of (asked_pairs same (judge_of s) xs)))
@@ -85,8 +89,8 @@ module _ {S T J : Type 0} (R : S → T → T → Bool → S → T → T → Type
   asked-pairs-by s t (x ∷ xs) flags ys a = let h = asked-last-by s t x xs flags ys a
       in (ap moved_down h.0, h.1)
 
-  -- if `dedup_by`, with a closure that asks the judge, turns v into w, then w is v with only the
-  -- items that the judge keeps (`sifted`)
+  -- If `dedup_by` turned the list `v` into `w`, with a closure that asks the judge, then `w` is `v`
+  -- with only the items that the judge keeps (`sifted`).
   pub deduped-by : {A : Type 0} (s : S) (v w : Thin T A) → IsDedupedBy R s v w
       → w.capacity ≡ v.capacity → w.alloc ≡ v.alloc
       → w ≡ sifted v (asked_pairs same (judge_of s) v.items)
@@ -95,14 +99,14 @@ module _ {S T J : Type 0} (R : S → T → T → Bool → S → T → T → Type
       let cost = r.1.cost ∙ ap (λ m. moving m v.cost) by.0 in
       λ i. record { items = by.1 i; capacity = capacity i; alloc = alloc i; cost = cost i }
 
--- let a closure return the key that the judge in its state computes for an item
+-- In this module, a closure returns the key that the judge in its state computes for an item.
 module _ {F T A J : Type 0} (g : Mut F (MutBor T × Unit {0}) (ℕ × (MutBor T × Unit {0})))
     (judge_of : F → J) (key : J → T → ℕ × T × J)
     (told : (f : F) (x : T) (k : ℕ) (f' : F) (x' : T) → CalledAtMut g f x k f' x'
     → (k, x', judge_of f') ≡ key (judge_of f) x) where
-  -- If `dedup_by_key`, with a closure that asks the judge, turns v into w, then w is v with only
-  -- the items that the judge keeps (`sifted`). Of two compared items, the key of the later one is
-  -- computed first.
+  -- If `dedup_by_key` turned the list `v` into `w`, with a closure that asks the judge, then `w` is
+  -- `v` with only the items that the judge keeps (`sifted`). Of two compared items, the key of the
+  -- later one is computed first.
   pub deduped-by-keys : (f : F) (v w : Thin T A)
       → IsDedupedBy (ComparesKeys g (λ a b. a == b)) f v w → w.capacity ≡ v.capacity
       → w.alloc ≡ v.alloc → w ≡ sifted v (asked_pairs (same_key key) (judge_of f) v.items)
@@ -116,50 +120,51 @@ module _ {F T A J : Type 0} (g : Mut F (MutBor T × Unit {0}) (ℕ × (MutBor T 
       ∙ ap (λ a. let l = key a.2 k in (a.0 == l.0, a.1, l.1, l.2)) first))
       f v w d capacity alloc
 
--- let `look` be a method of the judge that cannot write to the item
+-- In this module, `look` is a method of the judge that cannot write to the item.
 module _ {T J : Type 0} (look : J → T → Bool × J) where
-  -- what `look` decides, together with the unchanged item
+  -- `looks` returns the decision of `look`, the unchanged item, and the next state of the judge.
   abbrev pub looks : J → T → Bool × T × J
   looks j x = let a = look j x in (a.0, x, a.1)
 
-  -- if a call returned the decision of `look`, and the item did not change, then the decision, the
-  -- item and the new state are what `looks` returns
+  -- If a call returned the decision of `look` and did not change the item, then the decision, the
+  -- item, and the new state of the judge are the result of `looks`.
   pub looked : (j u : J) (x y : T) (b : Bool) → (b, u) ≡ look j x → y ≡ x → (b, y, u) ≡ looks j x
   looked j u x y b told same = ap (λ z. (b, z, u)) same ∙ ap (λ a. (a.0, x, a.1)) told
 
--- a filter does not increase the number of items
+-- The lemmas of this module help to show that a filter does not increase the number of items.
 module _ {T : Type 0} where
-  -- the number of kept items is at most the number of verdicts
+  -- The number of kept items is at most the number of verdicts.
   pub few-left : (verdicts : Verdicts T) → length (left_at true verdicts) ≤ length verdicts
   few-left [] = omega arith
   few-left ((true, x) ∷ verdicts) = omega (arith, few-left verdicts)
   few-left ((false, x) ∷ verdicts) = omega (arith, few-left verdicts)
 
-  -- the results a for the items after x, extended by the result for x, which was compared with the
-  -- kept item k: x is removed if b is true, and kept otherwise
+  -- Extends the results `a` for the items after `x` by the result for `x`. The item `x` was
+  -- compared with the kept item `k`. If `b` is true, `x` is removed. Otherwise, `x` is kept.
   abbrev next : Bool → T → T → T × Verdicts T → T × Verdicts T
   next b x k a = if b then (a.0, (false, x) ∷ a.1) else (k, (true, a.0) ∷ a.1)
 
-  -- comparing one more item adds one verdict
+  -- Each compared item adds one verdict to the results.
   one-answer : (b : Bool) (x k : T) (a : T × Verdicts T)
       → length (next b x k a).1 ≡ suc (length a.1)
   one-answer true x k a = refl
   one-answer false x k a = refl
 
 module _ {T J : Type 0} where
-  -- if each item of xs is tested, there is one verdict for each item
+  -- If each item of `xs` is tested, the number of verdicts is `length xs`.
   pub asked-length : (ask : J → T → Bool × T × J) (j : J) (xs : List T) → length (asked ask j xs)
       ≡ length xs
   asked-length ask j [] = refl
   asked-length ask j (x ∷ xs) = ap suc (asked-length ask (ask j x).2 xs)
 
-  -- if each item of xs is tested, the number of kept items is at most the number of items of xs
+  -- If each item of `xs` is tested, the number of kept items is at most `length xs`.
   pub few-asked : (ask : J → T → Bool × T × J) (j : J) (xs : List T)
       → length (left_at true (asked ask j xs)) ≤ length xs
   few-asked ask j xs = omega (arith, few-left (asked ask j xs), asked-length ask j xs)
 
-  -- If each item of xs is compared with the last item kept before it, there is one verdict for each
-  -- item. `pairs-length` states the same for lists whose first item is kept without a comparison.
+  -- If each item of `xs` is compared with the last item kept before it, the number of verdicts is
+  -- `length xs`. The lemma `pairs-length` states the same for a list whose first item is kept
+  -- without a comparison.
   last-length : (same : J → T → T → Bool × T × T × J) (j : J) (k : T) (xs : List T)
       → length (asked_last same j k xs).1 ≡ length xs
   last-length same j k [] = refl
@@ -173,21 +178,23 @@ module _ {T J : Type 0} where
   pairs-length same j [] = refl
   pairs-length same j (x ∷ xs) = ap suc (last-length same j x xs)
 
-  -- if each item of xs except the first is compared with the last item kept before it, the number
-  -- of kept items is at most the number of items of xs
+  -- If each item of `xs` except the first is compared with the last item kept before it, the number
+  -- of kept items is at most `length xs`.
   pub few-pairs : (same : J → T → T → Bool × T × T × J) (j : J) (xs : List T)
       → length (left_at true (asked_pairs same j xs)) ≤ length xs
   few-pairs same j xs = omega (arith, few-left (asked_pairs same j xs), pairs-length same j xs)
 
--- `dedup` with the stateless test E leaves the same items as a judge that decides by E
+-- The lemmas of this module show that `dedup` with the stateless test `E` keeps the same items as a
+-- judge that decides by `E`.
 module _ {T J : Type 0} (E : T → T → Bool) (j : J) where
-  -- the stateless test E in the form of a method of a judge: it returns what E returns, and changes
-  -- neither the items nor the state
+  -- The test `E` in the form of a method of a judge. It returns what `E` returns, and changes
+  -- neither the items nor the state of the judge.
   abbrev pub tells : J → T → T → Bool × T × T × J
   tells j later kept = (E later kept, later, kept, j)
 
-  -- If k is the item kept before xs, then `dedup_from` returns k and the items of xs that the test
-  -- E keeps. For each item of xs, `unlike_from` returns whether E keeps the item.
+  -- Suppose that `k` is the item kept before the items `xs`. Then `dedup_from` returns `k` and the
+  -- items of `xs` that the test `E` keeps. The flags of `unlike_from` say which items of `xs` the
+  -- test keeps.
   dedup-last : (k : T) (xs : List T) → Leaves (unlike_from E k xs) (dedup_from E k xs)
       (asked_last tells j k xs)
   dedup-last k [] = (refl, refl)
@@ -202,16 +209,16 @@ module _ {T J : Type 0} (E : T → T → Bool) (j : J) where
       told by true = let h = by k in (ap (λ l. false ∷ l) h.0, h.1)
       told by false = let h = by x in (ap (λ l. true ∷ l) h.0, ap (λ l. k ∷ l) h.1)
 
-  -- `dedup` returns the items of xs that the test E keeps, and the flags of `unlike` give the same
-  -- number of moves as the verdicts of E
+  -- `dedup` returns the items of `xs` that the test `E` keeps. The number of moves is the same,
+  -- whether it is computed from the flags of `unlike` or from the verdicts of the test.
   pub dedup-pairs : (xs : List T)
       → (moved_down (unlike E xs) ≡ moved_down (flags_of (asked_pairs tells j xs)))
       × (dedup E xs ≡ left_at true (asked_pairs tells j xs))
   dedup-pairs [] = (refl, refl)
   dedup-pairs (x ∷ xs) = let h = dedup-last x xs in (ap moved_down h.0, h.1)
 
-  -- if `dedup` with the test E turns v into w, then w is v with only the items that the test keeps
-  -- (`sifted`)
+  -- If `dedup` with the test `E` turned the list `v` into `w`, then `w` is `v` with only the items
+  -- that the test keeps (`sifted`).
   pub deduped-alike : {A : Type 0} (v w : Thin T A) → w.items ≡ dedup E v.items → w.cost
       ≡ moving (moved_down (unlike E v.items)) v.cost
       → w.capacity ≡ v.capacity → w.alloc ≡ v.alloc → w ≡ sifted v (asked_pairs tells j v.items)

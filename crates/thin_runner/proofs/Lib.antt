@@ -1,4 +1,4 @@
--- The lemmas about commands and runs.
+-- The lemmas about commands and about sequences of commands (runs).
 pub mod HintedLemmas
 mod CommandLemmas
 pub mod RunLemmas

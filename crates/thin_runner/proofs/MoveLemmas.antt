@@ -1,4 +1,5 @@
--- Bounds on the number of items that commands and runs move.
+-- The number of items that a command moves is at most `may_move`. The number of items that a run (a
+-- sequence of commands) moves is at most `run_may_move`.
 use Rattle.std.proofs.Common.{Bool, true, false, ◌≡◌, ℕ, ◌+◌, ◌-◌, ◌==◌, ◌<◌, ◌≤◌, List, [], ◌∷◌, ◌++◌, Option, Some, None, length, arith, ap, refl, inl, inr}
 use Rattle.std.proofs.lemmas.List.{length-append, length-replicate}
 use Rattle.std.specs.Prelude.{◌*◌, ◌⊎◌, drop, take, HoldsAt, replicate, if◌then◌else◌}
@@ -23,31 +24,32 @@ use Rattle.thin_runner.specs.declared.command.Command.TheVariants.{Push, Pop, In
 use Rattle.thin_runner.specs.declared.command.Reply.{Reply}
 use Rattle.thin_runner.specs.declared.command.Reply.TheVariants.{Answers, Done, Item, List as Made, Other, Returned, Refused, Stopped, OutOfRange}
 
--- a list of k - 1 copies of x has at most k items
+-- A list of `k - 1` copies of `x` has at most `k` items.
 few-repeats : {T : Type 0} (k : ℕ) (x : T) → length (replicate (k - 1) x) ≤ k
 few-repeats k x = omega (arith, length-replicate (k - 1) x)
 
 module _ {T A : Type 0} (v w : Thin T A) where
-  -- if w is the list u, and u counts the same number of moves as v, then w counts at most k more
-  -- moves than v
+  -- If the lists `w` and `u` are equal, and the costs of `u` and `v` count the same number of
+  -- moves, then the cost of `w` counts at most `k` more moves than the cost of `v`.
   same-moves : (u : Thin T A) (k : ℕ) → w ≡ u → u.cost.moves ≡ v.cost.moves
       → w.cost.moves ≤ v.cost.moves + k
   same-moves u k e same = omega (arith, ap (λ z. z.cost.moves) e, same)
 
-  -- if w is the list v with the items xs and m more moves (`edited`), then w counts at most m more
-  -- moves than v
+  -- If `w` is `edited v xs m`, the list `v` with the items `xs` and `m` more moves, then the cost
+  -- of `w` counts at most `m` more moves than the cost of `v`.
   edited-moves : (xs : List T) (m : ℕ) → w ≡ edited v xs m → w.cost.moves ≤ v.cost.moves + m
   edited-moves xs m e = omega (arith, ap (λ z. z.cost.moves) e)
 
-  -- if w is the list v after growth, with the items xs and m more moves (`grown`), then w counts at
-  -- most m more moves than v, since growth counts no moves
+  -- If `w` is `grown v w.capacity xs m`, the list `v` with a new capacity, the items `xs` and `m`
+  -- more moves, then the cost of `w` counts at most `m` more moves than the cost of `v`. The change
+  -- of capacity counts no moves.
   grown-moves : (xs : List T) (m : ℕ) → w ≡ grown v w.capacity xs m
       → w.cost.moves ≤ v.cost.moves + m
   grown-moves xs m e = omega (arith, ap (λ z. z.cost.moves) e, cost_at-moves v w.capacity)
 
   module _ (rule : Rule) (R : RattleType) (a b : ℕ) where
-    -- a splice that placed at most k items adds at most k moves, plus 2 for each item after the
-    -- range
+    -- If a splice placed at most `k` items, then it added at most `k` moves to the cost, plus 2
+    -- moves for each item after the range.
     spliced-moves : (placed : List T) (most k : ℕ) → Replaces rule R v a b placed most w
         → length placed ≤ k → w.cost.moves ≤ v.cost.moves + (2 * (length v.items - b) + k)
     spliced-moves placed most k f few =
@@ -61,8 +63,8 @@ module _ {T A : Type 0} (v w : Thin T A) where
           few,
         )
 
-    -- a failed splice adds at most one move for each item of its iterator, plus 2 for each item
-    -- after the range
+    -- A failed splice adds to the cost at most one move for each item of its iterator, plus 2 moves
+    -- for each item after the range.
     stopped-moves : (xs held : List T) (lower : ℕ) (cause : ThinVecError) (in_hand : Option T)
         (rest : Hinted T A) → StopsBetween rule R v a b xs held lower cause in_hand rest w
         → w.cost.moves ≤ v.cost.moves + (2 * (length v.items - b) + length xs)
@@ -71,7 +73,7 @@ module _ {T A : Type 0} (v w : Thin T A) where
         spliced-moves s.placed (lower + length xs) (length xs) s.filled
         (omega (arith, ap length s.all, length-append s.placed others))
 
--- a `shrink_to_fit` adds no move
+-- A call of `shrink_to_fit` adds no moves to the cost.
 shrunk-moves : {T A : Type 0} (v : Thin T A) → (cost_shrunk v).moves ≤ v.cost.moves
 shrunk-moves v = go (length v.items == v.capacity) (length v.items == 0)
   where
@@ -82,7 +84,7 @@ shrunk-moves v = go (length v.items == v.capacity) (length v.items == 0)
     go false false = omega arith
 
 module _ {T A J : Type 0} (here : Setting T A J) (v w : Thin T A) where
-  -- if a call that clones at most k sources fails, it adds at most k moves
+  -- If a call that clones at most `k` items fails, then it adds at most `k` moves to the cost.
   refused-moves : (k : ℕ) (sources : List T) (cause : ThinVecError) → length sources ≤ k
       → RefusesClone here v k sources cause w → w.cost.moves ≤ v.cost.moves + k
   refused-moves k sources cause few r = stopped r.2
@@ -94,7 +96,8 @@ module _ {T A J : Type 0} (here : Setting T A J) (v w : Thin T A) where
       stopped (inr s) = omega (arith, few, s.1, grown-moves v w v.items s.0 s.3.1)
 
 module _ {T A G J : Type 0} (here : Setting T A J) where
-  -- the number of moves that a command adds is at most `may_move` of the command and its reply
+  -- The number of moves that a command adds to the cost is at most `may_move`, the bound for this
+  -- command and its reply.
   pub step-moves : (v w : Thin T A) (command : Command T A G) (reply : Reply T A G)
       → Steps here v command reply w
       → w.cost.moves ≤ v.cost.moves + may_move here v.items command reply
@@ -156,8 +159,8 @@ module _ {T A G J : Type 0} (here : Setting T A J) where
   step-moves v w (Splice a b steps xs lower) (Refused cause) s = same-moves v w v 0 s.1.2 refl
   step-moves v w command reply s = absurd s.1
 
-  -- the number of moves that a run adds is at most the sum of the bounds for its commands
-  -- (`run_may_move`)
+  -- The number of moves that a run adds to the cost is at most `run_may_move`, the sum of the
+  -- bounds for its commands.
   pub runs-moves : (v w : Thin T A) (commands : List (Command T A G))
       (replies : List (Reply T A G)) (run : Runs here v commands replies w)
       → w.cost.moves ≤ v.cost.moves + run_may_move here v w commands replies run

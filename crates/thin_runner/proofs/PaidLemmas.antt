@@ -1,5 +1,6 @@
--- A run without `ReserveExact` and `ShrinkToFit` keeps a cheap list cheap. The number of items that
--- growth copies during the run is at most the increase of the capacity.
+-- A list is cheap (`IsCheap`) if growing it has cost little. A sequence of commands without
+-- `ReserveExact` and `ShrinkToFit` keeps a cheap list cheap. The number of items that growth copies
+-- during these commands is at most the increase of the capacity.
 use Rattle.std.proofs.Common.{◌≡◌, ℕ, suc, ◌+◌, ◌-◌, ◌^◌, ◌<◌, ◌≤◌, List, [], ◌∷◌, ◌++◌, Some, None, length, arith, ap, sym, subst, ◌∙◌, refl, inl, inr}
 use Rattle.std.proofs.lemmas.Bool.{cases_lt}
 use Rattle.std.proofs.lemmas.List.{length-append, length-set, length_push, length-drop, length-take}
@@ -28,8 +29,8 @@ use Rattle.thin_runner.specs.declared.command.Command.TheVariants.{Push, Pop, In
 use Rattle.thin_runner.specs.declared.command.Reply.{Reply}
 use Rattle.thin_runner.specs.declared.command.Reply.TheVariants.{Answers, Done, Item, List as Made, Other, Returned, Refused, Stopped, OutOfRange}
 
--- if two costs count the same number of blocks and of copied items, and one of them is cheap at the
--- capacity c, then the other is cheap at c too
+-- If two costs count the same number of blocks and the same number of copied items, and the first
+-- cost is cheap for the capacity `c`, then the second cost is cheap for `c`, too.
 cheap-same : (c : ℕ) (k k' : Cost) → k'.blocks ≡ k.blocks → k'.grown ≡ k.grown
     → IsCheapAt c k → IsCheapAt c k'
 cheap-same c k k' blocks grown h = record {
@@ -41,20 +42,20 @@ cheap-same c k k' blocks grown h = record {
       omega (arith, same, b);
 }
 
--- The change from v to w is paid for if three things hold. If v is cheap, then w is cheap. The
--- number of items that growth copied is at most the increase of the capacity. The items of w fit
--- into its capacity.
+-- `IsPaid v w` holds for a change of the list `v` to `w` if three conditions are satisfied. If `v`
+-- is cheap, then `w` is cheap. The number of items that growth copied is at most the increase of
+-- the capacity. The items of `w` fit into its capacity.
 pub record IsPaid {T A : Type 0} (v w : Thin T A) : Type 0 where
   pub cheap : IsCheap v → IsCheap w
   pub copied : w.cost.grown + v.capacity ≤ v.cost.grown + w.capacity
   pub room : length w.items ≤ w.capacity
 
 module _ {T A : Type 0} where
-  -- if the items of v fit into its capacity, then leaving v unchanged is paid for
+  -- If the items of `v` fit into its capacity, then `IsPaid v v` holds.
   pub none-paid : (v : Thin T A) → length v.items ≤ v.capacity → IsPaid v v
   none-paid v room = record { cheap = λ c. c; copied = omega arith; room = room }
 
-  -- if the changes from v to u and from u to w are paid for, so is the change from v to w
+  -- If `IsPaid v u` and `IsPaid u w` hold, then `IsPaid v w` holds.
   pub join-paid : {v u w : Thin T A} → IsPaid v u → IsPaid u w → IsPaid v w
   join-paid p q = record {
     cheap = λ c. q.cheap (p.cheap c);
@@ -63,12 +64,13 @@ module _ {T A : Type 0} where
   }
 
 module _ {T A : Type 0} (v w : Thin T A) (room : length v.items ≤ v.capacity) where
-  -- if w is v, the change from v to w is paid for
+  -- If `w` is `v`, then `IsPaid v w` holds.
   same-paid : w ≡ v → IsPaid v w
   same-paid e = subst (IsPaid v) (sym e) (none-paid v room)
 
-  -- if the list u, which equals w, has the capacity of v, counts the same blocks and copied items,
-  -- and has at most the number of items of v, then the change from v to w is paid for
+  -- Suppose that `w` equals a list `u` that has the capacity of `v` and at most `length v.items`
+  -- items. If the costs of `u` and `v` count the same blocks and the same copied items, then
+  -- `IsPaid v w` holds.
   kept-paid : (u : Thin T A) → w ≡ u → u.capacity ≡ v.capacity
       → u.cost.blocks ≡ v.cost.blocks → u.cost.grown ≡ v.cost.grown
       → length u.items ≤ length v.items → IsPaid v w
@@ -83,9 +85,9 @@ module _ {T A : Type 0} (v w : Thin T A) (room : length v.items ≤ v.capacity) 
 
 module _ {T A J : Type 0} (here : Setting T A J) (law : KeepsLaw here.rule) (v w : Thin T A)
     (room : length v.items ≤ v.capacity) where
-  -- if the capacity of w is the one that the growth rule requires for n more items, w counts the
-  -- blocks and copied items of this growth, and at most n items are added, then the change from v
-  -- to w is paid for
+  -- Suppose that the capacity of `w` is the one that the growth rule requires for `n` more items,
+  -- and that at most `n` items were added. If the cost of `w` counts the blocks and the copied
+  -- items of this growth, then `IsPaid v w` holds.
   ruled-paid : (u : Thin T A) (n : ℕ) → capacity_for here.rule here.R v n ≡ Some w.capacity
       → w ≡ u → u.cost.blocks ≡ (cost_at v w.capacity).blocks
       → u.cost.grown ≡ (cost_at v w.capacity).grown
@@ -108,8 +110,8 @@ module _ {T A J : Type 0} (here : Setting T A J) (law : KeepsLaw here.rule) (v w
         ];
       }
 
-  -- if a call that clones fails, either because there is no room for n more items or because a
-  -- clone fails, then the change from v to w is paid for
+  -- If a call that clones items fails and turns the list `v` into `w`, then `IsPaid v w` holds. The
+  -- call fails if there is no room for `n` more items, or if an item cannot be cloned.
   refused-paid : (n : ℕ) (sources : List T) (cause : ThinVecError)
       → RefusesClone here v n sources cause w → IsPaid v w
   refused-paid n sources cause r = stopped r.2
@@ -120,7 +122,7 @@ module _ {T A J : Type 0} (here : Setting T A J) (law : KeepsLaw here.rule) (v w
       stopped (inl e) = same-paid v w room e
       stopped (inr s) = ruled-paid _ n s.3.0 s.3.1 refl refl (omega arith)
 
--- bounds on the number of items after an edit
+-- The lemmas of this module bound the number of items after a change of a list.
 module _ {T : Type 0} where
   few-swap_remove : (xs : List T) (i : ℕ) (x : T) → length (swap_remove xs i x) ≤ length xs
   few-swap_remove xs i x =
@@ -164,8 +166,8 @@ module _ {T : Type 0} where
       omega (arith, ap length a.1, length-append xs a.0, count)
 
 module _ {T A G J : Type 0} (here : Setting T A J) (law : KeepsLaw here.rule) where
-  -- if the items of v fit into its capacity, and the command is neither `ReserveExact` nor
-  -- `ShrinkToFit`, then the change that the command makes from v to w is paid for (`IsPaid`)
+  -- Suppose that a command other than `ReserveExact` and `ShrinkToFit` turns the list `v` into `w`.
+  -- If the items of `v` fit into its capacity, then `IsPaid v w` holds.
   pub step-paid : (v w : Thin T A) (command : Command T A G) (reply : Reply T A G)
       → KeepsCheap command → length v.items ≤ v.capacity → Steps here v command reply w
       → IsPaid v w
@@ -246,8 +248,9 @@ module _ {T A G J : Type 0} (here : Setting T A J) (law : KeepsLaw here.rule) wh
   step-paid v w (Splice i j steps xs lower) (Refused cause) keeps room s = same-paid v w room s.1.2
   step-paid v w command reply keeps room s = absurd s.1
 
-  -- if the items of v fit into its capacity, and no command is `ReserveExact` or `ShrinkToFit`,
-  -- then the change that the run makes from v to w is paid for (`IsPaid`)
+  -- Suppose that a run turns the list `v` into `w`, and that no command of the run is
+  -- `ReserveExact` or `ShrinkToFit`. If the items of `v` fit into its capacity, then `IsPaid v w`
+  -- holds.
   pub runs-paid : (v w : Thin T A) (commands : List (Command T A G)) (replies : List (Reply T A G))
       → All KeepsCheap commands → length v.items ≤ v.capacity → Runs here v commands replies w
       → IsPaid v w

@@ -1,4 +1,5 @@
--- An example: what `items_after` and `reply_to` compute for eight commands on numbers.
+-- An example: the items and the replies that `items_after` and `reply_to` compute for eight
+-- commands on a list of numbers.
 use Rattle.std.proofs.Common.{◌≡◌, ℕ, List, [], ◌∷◌, Some, refl}
 use Rattle.std.specs.List.{fold, scan}
 use Rattle.thin_runner.specs.Setting.{Setting}
@@ -8,16 +9,17 @@ use Rattle.thin_runner.specs.declared.command.Command.TheVariants.{Push, Pop, In
 use Rattle.thin_runner.specs.declared.command.Reply.TheVariants.{Done, Item, OutOfRange}
 
 module _ {A J : Type 0} (G : Type 0) (here : Setting ℕ A J) where
-  -- eight commands, of which one, `Set 9 5`, is out of range
+  -- Eight commands. The index of `Set 9 5` is out of range, because the list has fewer than ten
+  -- items.
   abbrev eight : List (Command ℕ A G)
   eight =
       Push 1 ∷ Push 2 ∷ Push 3 ∷ Insert 0 4 ∷ SwapRemove 1 ∷ Set 9 5 ∷ Pop ∷ Resize 4 7 ∷ []
 
-  -- on the empty list, the eight commands leave the items 4, 3, 7, 7
+  -- If the eight commands run on the empty list, the resulting items are 4, 3, 7, 7.
   pub eight-leave : fold (items_after here) [] eight ≡ 4 ∷ 3 ∷ 7 ∷ 7 ∷ []
   eight-leave = refl
 
-  -- on the empty list, the eight commands get these replies
+  -- If the eight commands run on the empty list, `reply_to` computes the following replies.
   pub eight-reply : scan (items_after here) (reply_to here) [] eight
       ≡ says Done ∷ says Done ∷ says Done ∷ says Done ∷ says (Item (Some 1))
       ∷ says (OutOfRange (Set 9 5)) ∷ says (Item (Some 2)) ∷ says Done ∷ []

@@ -1,5 +1,5 @@
--- If no call of a run fails, and each clone equals its source, the items and the replies are those
--- that `items_after` and `reply_to` compute.
+-- Suppose that no call of a run fails, and that each clone equals its source. Then `items_after`
+-- computes the items after each command of the run, and `reply_to` computes the replies.
 use Rattle.std.proofs.Common.{◌≡◌, ℕ, ◌+◌, ◌-◌, ◌&&◌, ◌<◌, ◌≤◌, ◌↔◌, List, [], ◌∷◌, ◌++◌, All, Decides, IsSome, Option, Some, None, length, map, take, drop, true, arith, ap, nat_le, refl, slice_get, sym, take_all, ◌∙◌, inl, inr, append_assoc, length-append}
 use Rattle.std.proofs.lemmas.Bool.{and_from, and_parts, cases_lt, cond-false, cond-true, false_from_ne_true, false≢true, le-leb, leb-true, lt-ltb, ltb-true}
 use Rattle.std.proofs.lemmas.List.{append-nil, replicate-append-replicate}
@@ -27,12 +27,13 @@ use Rattle.thin_runner.proofs.JudgedLemmas.{dedup-pairs}
 use Rattle.thin_runner.proofs.WalkLemmas.{last-of}
 use Rattle.thin_runner.proofs.WeakerClonesLemmas.{zip-weaker}
 
--- `Some x ≡ None` is false, so it implies any B: a reply that has a cause of failure is not granted
+-- `Some x ≡ None` is false, so it implies every `B`. If no call failed, then this lemma rules out
+-- every reply that contains a cause of failure.
 refused : {X B : Type 0} (x : X) → Some x ≡ None → B
 refused x e = cc
 
--- the Boolean test of the range from a up to b is true if and only if the range is in bounds for n
--- items
+-- The Boolean test `nat_le a b && nat_le b n` is true if and only if the range `a..b` is in bounds
+-- for `n` items.
 range-decides : (a b n : ℕ) → Decides (nat_le a b && nat_le b n) ((a ≤ b) × (b ≤ n))
 range-decides a b n = (
   (λ e. let both = and_parts (nat_le a b) (nat_le b n) e in
@@ -41,7 +42,7 @@ range-decides a b n = (
 )
 
 module _ {T A G : Type 0} where
-  -- `in_range` is true if and only if the index or the range of the command is in bounds
+  -- `in_range` returns true if and only if `IsInRange` holds for the command and the items `xs`.
   in_range-decides : (xs : List T) (command : Command T A G)
       → Decides (in_range xs command) (IsInRange xs command)
   in_range-decides xs (Insert i v) = (leb-true i (length xs), le-leb i (length xs))
@@ -55,8 +56,8 @@ module _ {T A G : Type 0} where
   in_range-decides xs command = ((λ e. tt), (λ e. refl))
 
 module _ {T : Type 0} where
-  -- if a pop of xs returns o and leaves ys, then o is the last item of xs (`None` if xs is empty),
-  -- and ys are the items before it
+  -- If a `pop` turns the list `xs` into `ys` and returns `o`, then `o` is the last item of `xs`,
+  -- and `ys` are the items before it. (If `xs` is empty, `o` is `None`.)
   popped : (xs ys : List T) (o : Option T) → (IsSome o ↔ (0 < length xs))
       → xs ≡ ys ++ option_to_list o
       → (o ≡ slice_get xs (length xs - 1)) × (ys ≡ take (length xs - 1) xs)
@@ -71,22 +72,22 @@ module _ {T : Type 0} where
   popped [] ys None some e = (refl, sym (e ∙ append-nil ys))
   popped (x ∷ xs) ys None some e = absurd (false≢true (some.1 (omega arith)))
 
-  -- if each clone equals its source, and the items of ys are clones of the items of xs, in order,
-  -- then ys equals xs
+  -- Suppose that each clone equals its source. If the items of `ys` are clones of the items of
+  -- `xs`, in order, then `ys` equals `xs`.
   zip-equal : {clones : T → T → Type 0} → ClonesEqual clones → (xs ys : List T)
       → AllZip clones xs ys → ys ≡ xs
   zip-equal {clones} equal xs ys z =
       each_same xs ys (zip-weaker clones (λ x y. y ≡ x) equal xs ys z)
 
-  -- if each clone equals its source, and each item of ys is a clone of x, then each item of ys is
-  -- equal to x
+  -- Suppose that each clone equals its source. If each item of `ys` is a clone of `x`, then each
+  -- item of `ys` equals `x`.
   each-equal : {clones : T → T → Type 0} → ClonesEqual clones → (x : T) (ys : List T)
       → AllByRecursion (clones x) ys → ys ≡ replicate (length ys) x
   each-equal equal x [] e = refl
   each-equal equal x (y ∷ ys) e = λ i. equal x y e.0 i ∷ each-equal equal x ys e.1 i
 
-  -- if each clone equals its source, then a resize of xs to the length k leaves the first k items
-  -- of xs, followed by enough copies of x to reach the length k
+  -- If each clone equals its source, then resizing the list `xs` to the length `k` with the value
+  -- `x` results in `take k xs ++ replicate (k - length xs) x`.
   resized : (clones : T → T → Type 0) → ClonesEqual clones → (xs : List T) (k : ℕ) (x : T)
       (ys : List T) → IsResized clones xs k x ys → ys ≡ take k xs ++ replicate (k - length xs) x
   resized clones equal xs k x ys r = elim (cases_lt (length xs) k) [
@@ -107,14 +108,14 @@ module _ {T : Type 0} where
         r.shorter less ∙ sym (ap (λ n. take k xs ++ replicate n x) none ∙ append-nil (take k xs))
   ]
 
-  -- if ys replaces the empty range at the end of xs, the result is xs followed by ys
+  -- If the empty range at the end of the list `xs` is replaced by `ys`, the result is `xs ++ ys`.
   at-end : (xs ys : List T) → (take (length xs) xs ++ ys) ++ drop (length xs) xs ≡ xs ++ ys
   at-end xs ys =
       ap (λ (t : List T). (t ++ ys) ++ drop (length xs) xs) (take-length xs)
       ∙ (ap (λ (t : List T). (xs ++ ys) ++ t) (drop-length xs) ∙ append-nil (xs ++ ys))
 
-  -- if only the items of a range of xs are tested, then the items left are xs with the range
-  -- replaced by the items of the range that are kept
+  -- If only the items `a..b` of the list `xs` are tested, the result is `xs` with this range
+  -- replaced by the items of the range that are kept.
   left-around : (xs : List T) (a b : ℕ) (verdicts : Verdicts T)
       → left_at true (around xs a b verdicts) ≡ replace_range xs a b (left_at true verdicts)
   left-around xs a b verdicts =
@@ -126,8 +127,8 @@ module _ {T : Type 0} where
       ∙ ((λ i. before ++ (kept ++ left_at-stay after i)) ∙ sym (append_assoc before kept after)))
 
 module _ {T A G J : Type 0} (here : Setting T A J) (equal : ClonesEqual here.clones) where
-  -- if each clone equals its source, then `granted` computes the reply and the resulting items for
-  -- a command that is in range and does not fail
+  -- If each clone equals its source, then `granted` computes the reply and the resulting items of
+  -- every command that is in range and does not fail.
   does-granted : (v w : Thin T A) (command : Command T A G) (reply : Reply T A G)
       → IsGranted reply → Does here v command reply w
       → (seen reply, w.items) ≡ granted here v.items command
@@ -187,8 +188,8 @@ module _ {T A G J : Type 0} (here : Setting T A J) (equal : ClonesEqual here.clo
       λ j. (yields (d.0 j), d.1.items j)
   does-granted v w command reply ok d = absurd d
 
-  -- if each clone equals its source, then `plain_step` computes the reply and the resulting items
-  -- for a command that does not fail
+  -- If each clone equals its source, then `plain_step` computes the reply and the resulting items
+  -- of every command that does not fail.
   step-plain : (v w : Thin T A) (command : Command T A G) (reply : Reply T A G)
       → IsGranted reply → Steps here v command reply w
       → (seen reply, w.items) ≡ plain_step here v.items command
@@ -204,9 +205,9 @@ module _ {T A G J : Type 0} (here : Setting T A J) (equal : ClonesEqual here.clo
       ∙ sym (cond-true (in_range v.items command) (granted here v.items command)
       (says (OutOfRange command), v.items) inside)
 
-  -- If each clone equals its source, and no call of the run fails, then the items after the run are
-  -- the fold of `items_after` over the commands. The replies, as `seen` shows them, are the scan of
-  -- the commands with `reply_to`.
+  -- Suppose that each clone equals its source, and that no call of the run fails. Then folding
+  -- `items_after` over the commands computes the final items. Scanning the commands with `reply_to`
+  -- computes, for each reply, the part that `seen` shows.
   pub run-plain : (v w : Thin T A) (commands : List (Command T A G)) (replies : List (Reply T A G))
       → All IsGranted replies → Runs here v commands replies w
       → (w.items ≡ fold (items_after here) v.items commands)

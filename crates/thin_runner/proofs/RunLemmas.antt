@@ -1,5 +1,6 @@
--- Lemmas about runs: a run can be extended by a command, two runs can be joined, and a run
--- preserves each property that all its steps preserve.
+-- Lemmas about runs, which are sequences of commands with their replies. A run can be extended by a
+-- command, and two runs can be joined. A run preserves every property that each of its steps
+-- preserves.
 use Rattle.std.proofs.Common.{◌≡◌, ℕ, ◌+◌, List, [], ◌∷◌, ◌++◌, append_assoc, ap, arith, refl, subst, sym, ◌∙◌}
 use Rattle.std.proofs.lemmas.List.{append-nil}
 use Rattle.std.proofs.lemmas.List.Elements.{All-head, All-tail}
@@ -12,14 +13,14 @@ use Rattle.thin_runner.specs.declared.command.Command.{Command}
 use Rattle.thin_runner.specs.declared.command.Reply.{Reply}
 
 module _ {T A G : Type 0} (count : Command T A G → Reply T A G → ℕ) where
-  -- the sum of `count` over the commands of a run and their replies
+  -- The sum of `count command reply` over the commands of a run and their replies.
   abbrev pub counted : List (Command T A G) → List (Reply T A G) → ℕ
   counted (command ∷ commands) (reply ∷ replies) = count command reply + counted commands replies
   counted commands replies = 0
 
 module _ {T A G J : Type 0} (here : Setting T A J) where
-  -- The commands `commands`, except those in `left` at the end, have run and turned the list `old`
-  -- into `new`. Their replies were appended to `before`, which gave `after`.
+  -- All of `commands` have run, except the commands `left` at the end. They turned the list `old`
+  -- into `new`. Their replies were appended to the list `before`, and the result is `after`.
   pub record HasRun (old : Thin T A) (commands left : List (Command T A G))
       (before after : List (Reply T A G)) (new : Thin T A) : Type 0 where
     pub done : List (Command T A G)
@@ -28,8 +29,8 @@ module _ {T A G J : Type 0} (here : Setting T A J) where
     pub appended : after ≡ before ++ replies
     pub ran : Runs here old done replies new
 
-  -- if all commands are left, and no reply was appended, then `HasRun` holds for the unchanged
-  -- list: no command has run
+  -- `HasRun` holds before the first command runs: all commands are left, the list `old` is
+  -- unchanged, and no reply was appended.
   pub HasRun-none : (old : Thin T A) (commands left : List (Command T A G))
       (before after : List (Reply T A G)) → left ≡ commands → after ≡ before
       → HasRun old commands left before after old
@@ -41,7 +42,8 @@ module _ {T A G J : Type 0} (here : Setting T A J) where
     ran = refl;
   }
 
-  -- if a second run begins with the list that a first run leaves, both together are one run
+  -- If a second run begins with the list that results from a first run, then the two runs together
+  -- are one run.
   pub runs-append : (old mid new : Thin T A) (commands more : List (Command T A G))
       (replies further : List (Reply T A G)) → Runs here old commands replies mid
       → Runs here mid more further new → Runs here old (commands ++ more) (replies ++ further) new
@@ -53,11 +55,12 @@ module _ {T A G J : Type 0} (here : Setting T A J) where
   )
   runs-append old mid new commands more replies further first second = absurd first
 
-  -- let a command turn the list `mid` into `new`, and get the reply `reply`
+  -- In this module, a command turns the list `mid` into `new`, and gets the reply `reply`.
   module _ (mid new : Thin T A) (command : Command T A G) (reply : Reply T A G)
       (stepped : Steps here mid command reply new) where
-    -- If the command is the first of those that are left after a run to `mid`, and its reply is
-    -- appended to the replies, then `HasRun` holds with one more command and with the list `new`.
+    -- Suppose that `HasRun` holds for the list `mid`, and that `command` is the first command that
+    -- is left. After `command` has run and its reply was appended, `HasRun` holds for the list
+    -- `new`.
     pub HasRun-push : {old : Thin T A} {commands left left' : List (Command T A G)}
         {before after after' : List (Reply T A G)} → HasRun old commands left before after mid
         → left ≡ command ∷ left' → after' ≡ after ++ reply ∷ []
@@ -74,15 +77,15 @@ module _ {T A G J : Type 0} (here : Setting T A J) where
               (new, (stepped, refl));
         }
 
-  -- Let `Holds` be a property of a number and a list. Let each step whose command satisfies `Only`
-  -- preserve it, with the number increased by `count` of the command and its reply.
+  -- In this module, `Holds` is a property of a number and a list. Every command that satisfies
+  -- `Only` preserves this property, and increases the number by `count command reply`.
   module _ (Holds : ℕ → Thin T A → Type 0) (Only : Command T A G → Type 0)
       (count : Command T A G → Reply T A G → ℕ)
       (step : (n : ℕ) (v w : Thin T A) (command : Command T A G) (reply : Reply T A G)
       → Only command → Holds n v → Steps here v command reply w
       → Holds (n + count command reply) w) where
-    -- if all commands of a run satisfy `Only`, then the run preserves `Holds`, with the number n
-    -- increased by the sum of `count` over the run
+    -- If all commands of a run satisfy `Only`, then the run preserves `Holds`, and increases the
+    -- number `n` by the sum of `count` over its commands.
     pub runs-keep : (n : ℕ) (v w : Thin T A) (commands : List (Command T A G))
         (replies : List (Reply T A G)) → All Only commands → Holds n v
         → Runs here v commands replies w → Holds (n + counted count commands replies) w

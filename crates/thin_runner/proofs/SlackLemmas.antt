@@ -1,4 +1,6 @@
--- A bound on the capacity after a run of pushes and pops if the growth rule is `Doubling`.
+-- If the growth rule is `Doubling`, then the capacity after a sequence of pushes and pops is at
+-- most the largest of three numbers: 4, the capacity before the commands, and twice the greatest
+-- length of the list.
 use Rattle.std.proofs.Common.{◌≡◌, ℕ, ◌+◌, ◌*◌, ◌≤◌, max, List, [], ◌∷◌, Some, length, arith, ap, subst, inl, inr, All, ◌∙◌}
 use Rattle.std.proofs.lemmas.Bool.{cases_lt}
 use Rattle.std.proofs.lemmas.List.{length_push}
@@ -15,9 +17,9 @@ use Rattle.thin_runner.specs.declared.command.Command.TheVariants.{Push, Pop}
 use Rattle.thin_runner.specs.declared.command.Reply.{Reply}
 use Rattle.thin_runner.specs.declared.command.Reply.TheVariants.{Done, Item, Returned, OutOfRange}
 
--- Joins the bound for a first step and the bound for the later steps into a bound for both. The
--- capacities are `before`, `mid` (after the first step) and `after`. The lengths are `len` before
--- and `long` after the first step, and `rest` is the greatest length after it.
+-- Joins a bound for a first step and a bound for the later steps. The capacity is `before` at the
+-- start, `mid` after the first step, and `after` at the end. The length is `len` at the start and
+-- `long` after the first step. The number `rest` is the greatest length after the first step.
 slack-join : (before mid after len long rest : ℕ) → mid ≤ max before (max 4 (2 * long))
     → after ≤ max mid (max 4 (2 * rest)) → long ≤ rest
     → after ≤ max before (max 4 (2 * max len rest))
@@ -25,8 +27,8 @@ slack-join before mid after len long rest first later less = omega (arith, first
 
 module _ {T A G J : Type 0} (here : Setting T A J) (law : KeepsLaw here.rule)
     (doubles : here.rule ≡ doubling) where
-  -- under `Doubling`, the capacity after a push or a pop is at most the largest of 4, the capacity
-  -- before, and twice the new length
+  -- If the growth rule is `Doubling`, then the capacity after a push or a pop is at most the
+  -- largest of 4, the old capacity, and twice the new length.
   step-slack : (v w : Thin T A) (command : Command T A G) (reply : Reply T A G)
       → IsPushOrPop command → Steps here v command reply w
       → w.capacity ≤ max v.capacity (max 4 (2 * length w.items))
@@ -52,14 +54,14 @@ module _ {T A G J : Type 0} (here : Setting T A J) (law : KeepsLaw here.rule)
   step-slack v w Pop reply only s = absurd s.1
   step-slack v w command reply only s = absurd only
 
-  -- the length before a run is at most the greatest length during the run
+  -- The length before a run is at most `peak`, the greatest length during the run.
   peak-first : (v w : Thin T A) (commands : List (Command T A G)) (replies : List (Reply T A G))
       (run : Runs here v commands replies w) → length v.items ≤ peak here v w commands replies run
   peak-first v w (c ∷ commands) (r ∷ replies) run = omega arith
   peak-first v w commands replies run = omega arith
 
-  -- under `Doubling`, the capacity after a run of pushes and pops is at most the largest of 4, the
-  -- capacity before the run, and twice the greatest length during the run
+  -- If the growth rule is `Doubling`, then the capacity after a run of pushes and pops is at most
+  -- the largest of 4, the capacity before the run, and twice the greatest length during the run.
   pub runs-slack : (v w : Thin T A) (commands : List (Command T A G)) (replies : List (Reply T A G))
       → All IsPushOrPop commands → (run : Runs here v commands replies w)
       → w.capacity ≤ max v.capacity (max 4 (2 * peak here v w commands replies run))

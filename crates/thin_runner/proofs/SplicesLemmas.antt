@@ -1,5 +1,5 @@
--- Lemmas that derive the definitions of `specs/commands/Splices` from the contracts of `finish` and
--- `extend`.
+-- These lemmas derive the predicates of `specs/commands/Splices` from the contracts of the methods
+-- `finish` (of a `Splice`) and `extend`.
 use Rattle.std.proofs.Common.{◌≡◌, ℕ, ◌-◌, ◌*◌, ◌<◌, List, [], ◌∷◌, ◌++◌, None, Option, Some, ap, append_assoc, arith, drop, inl, inr, length, refl, subst, sym, take, ◌∙◌}
 use Rattle.std.proofs.lemmas.Bool.{false≢true}
 use Rattle.std.proofs.Math.Seq.{drop-length, take-length}
@@ -22,36 +22,37 @@ use Rattle.thin_runner.specs.commands.Splices.{HasPlacesFor, Replaces, StopsBetw
 use Rattle.thin_runner.specs.declared.hinted.Hinted.{Hinted}
 use Rattle.thin_runner.proofs.HintedLemmas.{yields-claim, yields-items}
 
--- `Some x` is not `None`
+-- An option of the form `Some x` is never `None`.
 some-none : {T : Type 0} {x : T} → Some x ≡ None → ⊥
 some-none e = cc
 
--- if o has a value, then `MatchOption o P (λ _. Q)` implies Q
+-- If the option `o` has a value, then `MatchOption o P (λ _. Q)` implies `Q`.
 pub at-some-in-hand : {X : Type 0} (P Q : Type 0) (o : Option X) → MatchOption o P (λ _. Q)
     → IsSome o → Q
 at-some-in-hand P Q (Some x) q some = q
 at-some-in-hand P Q None p some = absurd (false≢true some)
 
--- if o is `None`, then `MatchOption o P (λ _. Q)` implies P
+-- If the option `o` is `None`, then `MatchOption o P (λ _. Q)` implies `P`.
 pub at-no-in-hand : {X : Type 0} (P Q : Type 0) (o : Option X) → MatchOption o P (λ _. Q)
     → o ≡ None → P
 at-no-in-hand P Q (Some x) q none = absurd (some-none none)
 at-no-in-hand P Q None p none = p
 
--- a list of length 0 is the empty list
+-- A list of length 0 is the empty list.
 no-items : {T : Type 0} (xs : List T) → length xs ≡ 0 → xs ≡ []
 no-items [] none = refl
 no-items (x ∷ xs) none = absurd (omega (arith, none))
 
 module _ {T A : Type 0} (s : Hinted T A) (placed : List T)
     (error : SpliceRefused T (Hinted T A) A) where
-  -- `finish` placed the items `placed` of the `Hinted` s, and then failed with `error`
+  -- `Broke` holds if `finish` placed the items `placed` of the iterator `s`, and then failed with
+  -- `error`.
   abbrev pub Broke : Type 0
   Broke = Stopped (HintedSteps {T = T} {A = A}) (can_next-default (Hinted T A) T) hinted_count s
       placed error
 
-  -- if `finish` failed, then the items that it placed, the held items, the item in hand and the
-  -- items of `rest`, in this order, are all items of s
+  -- Suppose that `finish` failed. Then the items of the iterator `s` are, in this order: the placed
+  -- items, the items in `held`, the item in `in_hand` (if any), and the items of `rest`.
   pub stopped-items : Broke → hinted_items s ≡ placed
       ++ (error.held.items ++ (option_to_list error.in_hand ++ hinted_items error.rest))
   stopped-items (inl gave) =
@@ -68,7 +69,8 @@ module _ {T A : Type 0} (s : Hinted T A) (placed : List T)
       ∙ (ap (λ (l : List T). (placed ++ held) ++ l) (ended.2.2.0.0 ∙ sym left)
       ∙ append_assoc placed held (option_to_list in_hand ++ hinted_items rest))
 
-  -- after a failed `finish`, `rest` claims the same lower bound as s
+  -- If `finish` failed, then the size hint of `rest`, the rest of the iterator, has the same lower
+  -- bound as the size hint of the iterator `s` before the call.
   pub stopped-claim : Broke → hinted_claim error.rest ≡ hinted_claim s
   stopped-claim (inl gave) =
       yields-claim s error.rest ((placed ++ error.held.items) ++ option_to_list error.in_hand)
@@ -76,16 +78,17 @@ module _ {T A : Type 0} (s : Hinted T A) (placed : List T)
   stopped-claim (inr ended) =
       ended.2.2.1 ∙ yields-claim s ended.2.0 (placed ++ error.held.items) ended.2.1
 
-  -- if a failed `finish` holds items and has no item in hand, then the iterator has ended, so no
-  -- item is left in `rest`
+  -- If `finish` failed with items in `held` and no item in `in_hand`, then the iterator has ended:
+  -- `rest` has no items left.
   pub stopped-ended : Broke → error.in_hand ≡ None → 0 < length error.held.items
       → hinted_items error.rest ≡ []
   stopped-ended (inl gave) none some = absurd (omega (arith, ap length (gave.1 none), some))
   stopped-ended (inr ended) none some = ended.2.2.0.1
 
 module _ {T A : Type 0} (old : Thin T A) (a b : ℕ) where
-  -- `block` and `alloc` are the open block and the allocator of a splice that removes the items
-  -- from index a up to b of the list `old`
+  -- A splice removes the items `a..b` of the list `old`. Meanwhile, the allocation of the list is
+  -- the open block `block`, which may have a gap between its items. The allocator of the list is
+  -- `alloc`.
   pub record IsOpened (block : Open T A) (alloc : A) : Type 0 where
     pub front : block.front ≡ take a old.items
     pub tail : block.tail ≡ drop b old.items
@@ -94,7 +97,8 @@ module _ {T A : Type 0} (old : Thin T A) (a b : ℕ) where
     pub cost : block.cost ≡ old.cost
 
   module _ (block : Open T A) (alloc : A) (is : IsOpened block alloc) where
-    -- the open block without the items of its range, as a list, is `cut old a b`
+    -- The open block without the items of its range, as a list, is `cut old a b`: the list `old`
+    -- without the items `a..b`.
     pub left-is : left_of block alloc ≡ cut old a b
     left-is = λ i. record {
       items = is.front i ++ is.tail i;
@@ -118,8 +122,9 @@ module _ {T A : Type 0} (old : Thin T A) (a b : ℕ) where
         subst (λ (v : Thin T A). CostsAdding v new (2 * (length old.items - b))) left-is
         (subst (λ (n : ℕ). CostsAdding (left_of block alloc) new (2 * n)) tail-count cost)
 
-    -- Let `left`, the limit of the iterator, be `most`. If `IsExtended` holds for the list of the
-    -- open block and the limit `left`, then it holds for `cut old a b` and the limit `most`.
+    -- The limit `left` says that the iterator can yield at most `most` items. If `IsExtended` holds
+    -- for the list of the open block and the limit `left`, then it also holds for the list
+    -- `cut old a b` and the limit `most`.
     pub ruled : (rule : Rule) (R : RattleType) (new : Thin T A) (most : ℕ) (left : Count)
         → left ≡ at_most most
         → IsExtended rule R (left_of block alloc) new.capacity (length new.items) left
@@ -130,23 +135,24 @@ module _ {T A : Type 0} (old : Thin T A) (a b : ℕ) where
         subst (λ (n : Count). of (cut old a b) n) count
         (subst (λ (v : Thin T A). of v left) left-is is_ruled)
 
-    -- if `size` equals `most`, and `cut old a b` has room for `most` more items, then the list of
-    -- the open block has room for `size` more items
+    -- If `size` equals `most`, and the list `cut old a b` has room for `most` more items, then the
+    -- list of the open block has room for `size` more items.
     pub room-left : (most size : ℕ) → size ≡ most → HasRoomFor (cut old a b) most
         → HasRoomFor (left_of block alloc) size
     room-left most size count room =
         subst (λ (n : ℕ). HasRoomFor (left_of block alloc) n) (sym count)
         (subst (λ (v : Thin T A). HasRoomFor v most) (sym left-is) room)
 
--- what holds for a list holds for an equal list
+-- The lemmas of this module show that `Replaces` and `StopsBetween` also hold for an equal list.
 module _ {T A : Type 0} {rule : Rule} {R : RattleType} {old v w : Thin T A} {a b : ℕ} where
-  -- if `Replaces` holds for v, and v equals w, then `Replaces` holds for w
+  -- If `Replaces` holds for the list `v`, and `v` equals `w`, then `Replaces` holds for `w`.
   pub replaces-of : {placed : List T} {most : ℕ} → v ≡ w → Replaces rule R old a b placed most v
       → Replaces rule R old a b placed most w
   replaces-of {placed} {most} same =
       subst (λ (u : Thin T A). Replaces rule R old a b placed most u) same
 
-  -- if `StopsBetween` holds for v, and v equals w, then `StopsBetween` holds for w
+  -- If `StopsBetween` holds for the list `v`, and `v` equals `w`, then `StopsBetween` holds for
+  -- `w`.
   pub stops-of : {xs held : List T} {lower : ℕ} {cause : ThinVecError} {in_hand : Option T}
       {rest : Hinted T A} → v ≡ w
       → StopsBetween rule R old a b xs held lower cause in_hand rest v
@@ -154,29 +160,30 @@ module _ {T A : Type 0} {rule : Rule} {R : RattleType} {old v w : Thin T A} {a b
   stops-of {xs} {held} {lower} {cause} {in_hand} {rest} same =
       subst (λ (u : Thin T A). StopsBetween rule R old a b xs held lower cause in_hand rest u) same
 
--- let the range be the empty range at the end of the list `old`
+-- In this module, the range is the empty range at the end of the list `old`.
 module _ {T A : Type 0} (old : Thin T A) where
-  -- removing the empty range at the end does not change the list
+  -- Removing the empty range at the end does not change the list.
   pub cut-end : cut old (length old.items) (length old.items) ≡ old
   cut-end = λ i. record old { items = take-append-drop (length old.items) old.items i }
 
-  -- if the list `old` without the empty range at its end has room for `most` more items, then `old`
-  -- has room for `most` more items
+  -- If the list `old` without the empty range at its end has room for `most` more items, then `old`
+  -- has room for them, too.
   room-end : (most : ℕ) → HasRoomFor (cut old (length old.items) (length old.items)) most
       → HasRoomFor old most
   room-end most = subst (λ (v : Thin T A). HasRoomFor v most) cut-end
 
   -- If `HasPlacesFor` holds for the empty range at the end, then `most` is 0, or the list has room
-  -- for `most` more items. So P holds if each of these two cases implies P.
+  -- for `most` more items. So `P` holds if each of these two cases implies `P`.
   pub places-end : (P : Type 0) (most : ℕ) → (most ≡ 0 → P) → (HasRoomFor old most → P)
       → HasPlacesFor old (length old.items) (length old.items) most → P
   places-end P most none fits (inl few) = none (omega (arith, few))
   places-end P most none fits (inr room) = fits (room-end most room.1)
 
--- appending items to a list is replacing the empty range at its end
+-- Appending items to a list is the same as replacing the empty range at its end.
 module _ {T A : Type 0} (rule : Rule) (R : RattleType) (old new : Thin T A) where
-  -- The list `new` is `old` after an `extend` that appended the items `placed`, with an iterator
-  -- that could yield at most `most` items. The fields are clauses of the contract of `extend`.
+  -- `IsFilled placed most` holds if an `extend` turned the list `old` into `new` by appending the
+  -- items `placed`. The iterator could yield at most `most` items. The fields are clauses of the
+  -- contract of `extend`.
   pub record IsFilled (placed : List T) (most : ℕ) : Type 0 where
     pub items : new.items ≡ old.items ++ placed
     pub capacity : IsLoose rule R old.capacity new.capacity
@@ -187,8 +194,8 @@ module _ {T A : Type 0} (rule : Rule) (R : RattleType) (old new : Thin T A) wher
     pub cheap : IsCheap old → IsCheap new
     pub alloc : new.alloc ≡ old.alloc
 
-  -- if `extend` appended the items `placed`, then these items replace the empty range at the end of
-  -- the list (`Replaces`)
+  -- If `extend` appended the items `placed`, then `Replaces` holds: these items replace the empty
+  -- range at the end of the list.
   pub replaces-end : {placed : List T} {most : ℕ} → IsFilled placed most
       → Replaces rule R old (length old.items) (length old.items) placed most new
   replaces-end {placed} {most} f =

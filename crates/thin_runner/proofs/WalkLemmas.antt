@@ -1,4 +1,5 @@
--- What steps return if the first step takes an item from the back.
+-- A step on a range is a call of `next` or `next_back`. These lemmas state the results of a
+-- sequence of steps that begins with `next_back`.
 use Rattle.std.proofs.Common.{◌≡◌, ◌-◌, List, [], ◌∷◌, ◌++◌, Option, None, Some, ap, arith, length, refl, subst, sym, take, ◌∙◌}
 use Rattle.std.proofs.Math.Seq.{take-append_seam}
 use Rattle.std.proofs.lemmas.List.{length_push}
@@ -9,14 +10,14 @@ use Rattle.thin_runner.specs.declared.command.Step.{Step}
 use Rattle.thin_runner.specs.declared.command.Step.TheVariants.{Back}
 
 module _ {T : Type 0} where
-  -- the item of `xs ++ x ∷ []` at the index `length xs` is x
+  -- The item of `xs ++ x ∷ []` at the index `length xs` is `x`.
   pub last-of : (xs : List T) (x : T) → slice_get (xs ++ x ∷ []) (length xs) ≡ Some x
   last-of [] x = refl
   last-of (y ∷ xs) x = last-of xs x
 
-  -- Let `item` be the last item of xs and ys the items before it, or let `item` be `None` and both
-  -- lists be empty. Then a step from the back of xs, followed by `steps`, returns `item`, followed
-  -- by what `steps` return on ys.
+  -- Let `item` be the last item of the list `xs`, and let `ys` be the items before it. (If `xs` is
+  -- empty, let `item` be `None` and `ys` be empty.) Then the results of the steps `Back ∷ steps` on
+  -- `xs` are `item`, followed by the results of `steps` on `ys`.
   walked-last : (xs ys : List T) (item : Option T)
       → MatchOption item ((xs ≡ []) × (ys ≡ [])) (λ x. xs ≡ ys ++ x ∷ [])
       → (steps : List Step) → walked xs (Back ∷ steps) ≡ item ∷ walked ys steps
@@ -31,7 +32,7 @@ module _ {T : Type 0} where
       ∙ take-append_seam ys (x ∷ []) in
       λ i. last i ∷ walked (others i) steps
 
-  -- `walked-last` also holds for any step that equals `Back`
+  -- The lemma `walked-last` also holds for every `step` that equals `Back`.
   pub walked-back : (xs ys : List T) (item : Option T) (step : Step) → step ≡ Back
       → MatchOption item ((xs ≡ []) × (ys ≡ [])) (λ x. xs ≡ ys ++ x ∷ [])
       → (steps : List Step) → walked xs (step ∷ steps) ≡ item ∷ walked ys steps

@@ -1,5 +1,6 @@
--- If the clone relation of a setting is replaced by a weaker relation, each run is still a run. So
--- if each clone equals its source, the clone relation may be replaced by equality.
+-- The clone relation of a setting says which values may be clones of an item. Every run that the
+-- setting allows is still allowed if a weaker relation replaces the clone relation. So if each
+-- clone equals its source, equality may replace the clone relation.
 use Rattle.std.proofs.Common.{◌≡◌, ℕ, List, [], ◌∷◌}
 use Rattle.std.specs.List.{AllZip}
 use Rattle.thin_vec.specs.List.Clones.{ClonesEqual, IsResized}
@@ -14,15 +15,15 @@ use Rattle.thin_runner.specs.declared.command.Reply.TheVariants.{Done, List as M
 
 module _ {T : Type 0} (clones like : T → T → Type 0)
     (weaker : (x y : T) → clones x y → like x y) where
-  -- if the items of ys are clones of the items of xs, in order, then they are also clones by the
-  -- weaker relation `like`
+  -- If the items of `ys` are clones of the items of `xs`, in order, then they are also clones
+  -- according to the weaker relation `like`.
   pub zip-weaker : (xs ys : List T) → AllZip clones xs ys → AllZip like xs ys
   zip-weaker [] [] z = tt
   zip-weaker (x ∷ xs) (y ∷ ys) z = (weaker x y z.0, zip-weaker xs ys z.1)
   zip-weaker xs ys z = absurd z
 
-  -- if ys is the list xs resized with clones of x, then these clones are also clones by the weaker
-  -- relation `like`
+  -- If `ys` is the list `xs` resized with clones of `x`, then these are also clones according to
+  -- the weaker relation `like`.
   resized-weaker : (xs ys : List T) (n : ℕ) (x : T) → IsResized clones xs n x ys
       → IsResized like xs n x ys
   resized-weaker xs ys n x r = record {
@@ -33,7 +34,8 @@ module _ {T : Type 0} (clones like : T → T → Type 0)
 
 module _ {T A G J : Type 0} (here : Setting T A J) (like : T → T → Type 0)
     (weaker : (x y : T) → here.clones x y → like x y) where
-  -- each step is also a step of the setting whose clone relation is the weaker relation `like`
+  -- Every step that the setting allows is still allowed if the weaker relation `like` replaces the
+  -- clone relation.
   pub step-weaker : (old new : Thin T A) (command : Command T A G) (reply : Reply T A G)
       → Steps here old command reply new
       → Steps (record here { clones = like }) old command reply new
@@ -46,7 +48,8 @@ module _ {T A G J : Type 0} (here : Setting T A J) (like : T → T → Type 0)
       (s.0, (zip-weaker here.clones like weaker old.items copy.items s.1.0, s.1.1, s.1.2))
   step-weaker old new command reply s = s
 
-  -- each run is also a run of the setting whose clone relation is the weaker relation `like`
+  -- Every run that the setting allows is still allowed if the weaker relation `like` replaces the
+  -- clone relation.
   pub run-weaker : (old new : Thin T A) (commands : List (Command T A G))
       (replies : List (Reply T A G)) → Runs here old commands replies new
       → Runs (record here { clones = like }) old commands replies new
@@ -56,11 +59,10 @@ module _ {T A G J : Type 0} (here : Setting T A J) (like : T → T → Type 0)
       (run.0, (step-weaker old run.0 c r run.1.0, rest))
   run-weaker old new commands replies run = absurd run
 
--- if each clone equals its source, a run is also a run of the setting whose clone relation is
--- equality
+-- In this module, each clone equals its source.
 module _ {T A G J : Type 0} (here : Setting T A J) (equal : ClonesEqual here.clones) where
-  -- if equality replaces the clone relation, each run is still a run, with the same lists and
-  -- replies
+  -- Every run that the setting allows is still allowed, with the same lists and replies, if
+  -- equality replaces the clone relation.
   pub run-equal : (old new : Thin T A) (commands : List (Command T A G))
       (replies : List (Reply T A G)) → Runs here old commands replies new
       → Runs (record here { clones = λ x y. y ≡ x }) old commands replies new

@@ -1,5 +1,5 @@
--- The main theorem, `Headline`: what is known of a list after any sequence of commands, for every
--- item type, allocator, growth rule and judge.
+-- The main theorem, `Headline`, states what is known about a list after any sequence of commands.
+-- It holds for every item type, allocator, growth rule and judge.
 use Rattle.std.specs.Prelude.{◌≡◌, ◌+◌, ◌*◌, ◌<◌, ◌≤◌, List, ◌++◌, All, fold, map, max, scan}
 use Rattle.thin_vec.specs.Cheap.{IsCheap}
 use Rattle.thin_vec.specs.List.Clones.{ClonesEqual}
@@ -13,45 +13,46 @@ use Rattle.thin_runner.specs.declared.command.Command.{Command}
 use Rattle.thin_runner.specs.declared.command.Reply.{Reply}
 
 module _ {T A G J : Type 0} (here : Setting T A J) where
-  -- what the main theorem states about a run of `commands` that turned the list `old` into `new`,
-  -- and the replies `before` into `after`
+  -- The main theorem. A run of `commands` turned the list `old` into `new`, and appended its
+  -- replies to the list `before`, which became `after`.
   pub record Headline (old : Thin T A) (commands : List (Command T A G))
       (before after : List (Reply T A G)) (new : Thin T A) : Type 0 where
-    -- `replies` are the replies of the run, which were appended to `before`
+    -- The replies to the commands of the run. They were appended to the replies in `before`.
     pub replies : List (Reply T A G)
     pub appended : after ≡ before ++ replies
-    -- If each clone equals its source, and no call failed, then the items are the fold of
-    -- `items_after` over the commands. The replies, as `seen` shows them, are the scan of the
-    -- commands with `reply_to`. The functions `items_after` and `reply_to` compute with plain
-    -- sequences of items.
+    -- If each clone equals its source, and no call failed, then the final items are the fold of
+    -- `items_after` over the commands. Scanning the commands with `reply_to` computes, for each
+    -- reply, the part that `seen` shows. Both functions are defined on plain lists of items.
     pub plain : ClonesEqual here.clones → All IsGranted replies
         → (new.items ≡ fold (items_after here) old.items commands)
         × (map seen replies ≡ scan (items_after here) (reply_to here) old.items commands)
-    -- whether or not calls failed, the items, the capacity, the cost and the replies are among
-    -- those that the definition of a run, `Runs`, allows
+    -- In every case, even if calls failed, the definition `Runs` allows the final list (its items,
+    -- capacity and cost) and the replies.
     pub allowed : Runs here old commands replies new
-    -- the items fit into the capacity, and a block of that capacity is small enough to be allocated
+    -- The items fit into the capacity of the list. An allocation of this capacity does not exceed
+    -- the size limit for allocations.
     pub within : IsWithin here.R new
-    -- If no command is `ReserveExact` or `ShrinkToFit`, a cheap list stays cheap. A list of a
-    -- capacity c other than 0 is cheap if growth has copied fewer than c items, and the number of
-    -- blocks that were allocated is at most the number of binary digits of c. Every new list is
-    -- cheap.
+    -- If no command is `ReserveExact` or `ShrinkToFit`, then a cheap list is still cheap after the
+    -- run. A list with a capacity `c` greater than 0 is cheap under two conditions: growth has
+    -- copied fewer than `c` items, and the number of requests for memory is at most the number of
+    -- binary digits of `c`. Every new list is cheap.
     pub stays_cheap : All KeepsCheap commands → IsCheap old → IsCheap new
-    -- if no command is `ReserveExact` or `ShrinkToFit`, the number of items that growth copied
-    -- during the run is at most the increase of the capacity, even if the old list was not cheap
+    -- If no command is `ReserveExact` or `ShrinkToFit`, then the number of items that growth copied
+    -- during the run is at most the increase of the capacity. This holds even if the old list was
+    -- not cheap.
     pub copied : All KeepsCheap commands
         → new.cost.grown + old.capacity ≤ old.cost.grown + new.capacity
-    -- if the list was new, all commands are pushes and pops, and m pushes succeeded, where m is at
-    -- least 1, then growth has copied fewer than 2m items
+    -- Suppose that the list was new, that all commands are pushes and pops, and that `m` pushes
+    -- succeeded. If `m` is at least 1, then growth has copied fewer than `2 * m` items.
     pub amortised : All IsPushOrPop commands → IsNew old old.alloc
         → 0 < accepted commands replies → new.cost.grown < 2 * accepted commands replies
-    -- if the growth rule is `Doubling`, and all commands are pushes and pops, then the capacity is
-    -- at most the largest of 4, the capacity before the run, and twice the greatest length during
-    -- the run
+    -- If the growth rule is `Doubling`, and all commands are pushes and pops, then the capacity
+    -- after the run is at most the largest of 4, the capacity before the run, and twice the
+    -- greatest length during the run.
     pub slack : here.rule ≡ doubling → All IsPushOrPop commands
         → new.capacity
         ≤ max old.capacity (max 4 (2 * peak here old new commands replies allowed))
-    -- the number of items that the run moved, not counting copies by growth, is at most the sum of
-    -- the bounds (`may_move`) for the commands and their replies
+    -- The number of items that the run moved is at most the sum of the bounds `may_move` for its
+    -- commands. Items that growth copied are not counted.
     pub moves : new.cost.moves
         ≤ old.cost.moves + run_may_move here old new commands replies allowed

@@ -1,9 +1,10 @@
--- What a judge decides, as functions: one for each method of the trait `Judge`.
+-- `Judging` describes the decisions of a judge by functions, one for each method of the trait
+-- `Judge`.
 use Rattle.std.specs.Prelude.{ℕ, Bool}
 
--- Each function takes the judge's state and one or two items. It returns the decision (for `key`,
--- the key), the items as the judge leaves them, and the judge's next state. `look` returns no item,
--- because it cannot write to the item.
+-- Each function takes the state of the judge and one or two items. It returns the decision (or the
+-- key, in the case of `key`), the items after the call, and the next state of the judge. `look`
+-- returns no item, because it cannot write to its item.
 pub record Judging (T J : Type 0) : Type 0 where
   pub look : J → T → Bool × J
   pub keep : J → T → Bool × T × J

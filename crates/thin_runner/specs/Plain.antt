@@ -1,5 +1,5 @@
--- Functions on sequences that describe a run in which no call fails: they compute the items after
--- each command, and the reply to the command.
+-- These functions describe commands that do not fail. They are defined on plain lists of items, and
+-- compute the items after each command and the reply to it.
 use Rattle.std.specs.Prelude.{◌-◌, Bool, true, false, ◌&&◌, List, [], ◌∷◌, ◌++◌, Option, None, drop, if◌then◌else◌, insert, length, nat_le, nat_lt, remove, replicate, slice_get, slice_range, slice_set, take}
 use Rattle.std.specs.List.{dedup, remove_range, replace_range, swap_remove}
 use Rattle.std.specs.Option.{option_map_or, unwrap_or}
@@ -14,20 +14,20 @@ use Rattle.thin_runner.specs.declared.command.Reply.{Reply}
 use Rattle.thin_runner.specs.declared.command.Reply.TheVariants.{Answers, Done, Item, List as Made, Other, OutOfRange}
 use Rattle.thin_runner.specs.declared.command.Step.TheVariants.{Front}
 
--- the part of a reply that the main theorem determines: for the reply `Answers`, the items of its
--- vector; for any other reply, the whole reply
+-- The part of a reply that the main theorem determines. For the reply `Answers`, this part consists
+-- of the items of its vector. For any other reply, it is the whole reply.
 pub data Seen (T A G : Type 0) : Type 0 where
   says : Reply T A G → Seen T A G
   yields : List (Option T) → Seen T A G
 
 module _ {T A G : Type 0} where
-  -- the part of a reply that the main theorem determines
+  -- `seen reply` is the part of the reply that the main theorem determines.
   abbrev pub seen : Reply T A G → Seen T A G
   seen (Answers answers) = yields answers.items
   seen reply = says reply
 
-  -- true if the index or the range of the command is in bounds for the items xs, or if the command
-  -- has neither an index nor a range
+  -- `in_range xs command` is true if the index or the range of the command is in bounds for the
+  -- items `xs`. It is also true if the command has neither an index nor a range.
   abbrev pub in_range : List T → Command T A G → Bool
   in_range xs (Insert i v) = nat_le i (length xs)
   in_range xs (Remove i) = nat_lt i (length xs)
@@ -40,8 +40,8 @@ module _ {T A G : Type 0} where
   in_range xs command = true
 
 module _ {T A G J : Type 0} (here : Setting T A J) where
-  -- the reply to a command that is in range and does not fail, and the items that the command
-  -- leaves if xs are the items before it
+  -- `granted xs command` describes a command that is in range and does not fail. If `xs` are the
+  -- items before the command, the result is the reply and the items after the command.
   abbrev pub granted : List T → Command T A G → Seen T A G × List T
   granted xs (Push v) = (says Done, xs ++ v ∷ [])
   granted xs Pop = let last = length xs - 1 in (says (Item (slice_get xs last)), take last xs)
@@ -72,20 +72,22 @@ module _ {T A G J : Type 0} (here : Setting T A J) where
       )
   granted xs (Splice a b steps ys lower) =
       (yields (walked (slice_range xs a b) steps.items), replace_range xs a b ys.items)
-  -- all other commands filter the items
+  -- All other commands test the items and remove some of them.
   granted xs command = (says Done, left_at true (unwrap_or (answered here xs command) []))
 
-  -- The reply to a command that does not fail, and the items that the command leaves if xs are the
-  -- items before it. If the command is out of range, the reply returns the command, and the items
-  -- do not change.
+  -- `plain_step xs command` describes a command that does not fail. If `xs` are the items before
+  -- the command, the result is the reply and the items after the command. If the command is out of
+  -- range, the reply returns the command, and the items do not change.
   abbrev pub plain_step : List T → Command T A G → Seen T A G × List T
   plain_step xs command =
       if in_range xs command then granted xs command else (says (OutOfRange command), xs)
 
-  -- the reply to a command that does not fail
+  -- `reply_to xs command` is the reply to a command that does not fail, if `xs` are the items
+  -- before it.
   abbrev pub reply_to : List T → Command T A G → Seen T A G
   reply_to xs command = (plain_step xs command).0
 
-  -- the items after a command that does not fail
+  -- `items_after xs command` are the items after a command that does not fail, if `xs` are the
+  -- items before it.
   abbrev pub items_after : List T → Command T A G → List T
   items_after xs command = (plain_step xs command).1

@@ -1,5 +1,5 @@
--- What a sequence of commands may do to a list, which replies the commands get, and how many items
--- they may move.
+-- These definitions state how a sequence of commands may change a list, which replies the commands
+-- may get, and how many items they may move.
 use Rattle.std.specs.Prelude.{◌≡◌, ℕ, ◌+◌, ◌-◌, ◌*◌, ◌==◌, List, [], ◌∷◌, None, if◌then◌else◌, length, max, slice_range}
 use Rattle.std.specs.Option.{unwrap_or}
 use Rattle.thin_vec.specs.ThinVec.{Thin}
@@ -13,37 +13,40 @@ use Rattle.thin_runner.specs.declared.command.Reply.{Reply}
 use Rattle.thin_runner.specs.declared.command.Reply.TheVariants.{Answers, Done, Item, OutOfRange, Other, Refused}
 
 module _ {T A G : Type 0} where
-  -- the number of pushes that succeeded
+  -- `accepted commands replies` is the number of pushes that succeeded.
   abbrev pub accepted : List (Command T A G) → List (Reply T A G) → ℕ
   accepted (Push v ∷ commands) (Done ∷ replies) = 1 + accepted commands replies
   accepted (command ∷ commands) (reply ∷ replies) = accepted commands replies
   accepted commands replies = 0
 
-  -- the command is a push or a pop
+  -- `IsPushOrPop` holds if the command is a push or a pop.
   abbrev pub IsPushOrPop : Command T A G → Type 0
   IsPushOrPop (Push v) = Unit {0}
   IsPushOrPop Pop = Unit {0}
   IsPushOrPop command = ⊥
 
-  -- the command keeps a cheap list cheap: it is neither `ReserveExact` nor `ShrinkToFit`
+  -- `KeepsCheap` holds for the commands that keep a cheap list cheap. These are all commands except
+  -- `ReserveExact` and `ShrinkToFit`.
   abbrev pub KeepsCheap : Command T A G → Type 0
   KeepsCheap (ReserveExact k) = ⊥
   KeepsCheap ShrinkToFit = ⊥
   KeepsCheap command = Unit {0}
 
 module _ {T A G J : Type 0} (here : Setting T A J) where
-  -- The commands, one after another, may turn the list `old` into `new` and get the replies, one
-  -- for each command. `mid` is the list after the first command.
+  -- `Runs old commands replies new` holds if the commands, carried out in order, may turn the list
+  -- `old` into `new` and get these replies, one for each command. `mid` is the list after the first
+  -- command.
   abbrev pub Runs : Thin T A → List (Command T A G) → List (Reply T A G) → Thin T A → Type 0
   Runs old [] [] new = new ≡ old
   Runs old (command ∷ commands) (reply ∷ replies) new =
       (mid : Thin T A) × (Steps here old command reply mid × Runs mid commands replies new)
   Runs old commands replies new = ⊥
 
-  -- An upper bound on the number of items that a command moves in a list with the items xs if the
-  -- command gets this reply, not counting copies by growth. For a command that filters, the bound
-  -- is the number of kept items that change their place. A command that fails half way, or because
-  -- a clone fails, may move fewer items.
+  -- An upper bound on the number of items that the command moves. The items before the command are
+  -- `xs`, and the command gets the given reply. Copies by growth are not counted. For a command
+  -- that tests items and removes some of them, the bound is the number of kept items that change
+  -- their place. A command that fails after it has moved some items may move fewer items than the
+  -- bound.
   abbrev pub may_move : List T → Command T A G → Reply T A G → ℕ
   may_move xs command (OutOfRange back) = 0
   may_move xs (Push v) Done = 1
@@ -62,16 +65,16 @@ module _ {T A G J : Type 0} (here : Setting T A J) where
   may_move xs (Splice a b steps ys lower) reply = 2 * (length xs - b) + length ys.items
   may_move xs command reply = moved_down (flags_of (unwrap_or (answered here xs command) []))
 
-  -- the sum of `may_move` over the commands of a run, each with its reply and with the items that
-  -- the list has before the command
+  -- The sum of the bounds `may_move` for the commands of a run. The bound for a command depends on
+  -- its reply, and on the items that the list has before the command.
   abbrev pub run_may_move : (old new : Thin T A) (commands : List (Command T A G))
       (replies : List (Reply T A G)) → Runs old commands replies new → ℕ
   run_may_move old new (command ∷ commands) (reply ∷ replies) run =
       may_move old.items command reply + run_may_move run.0 new commands replies run.1.1
   run_may_move old new commands replies run = 0
 
-  -- the greatest length of the list during a run, including the lengths before the first command
-  -- and after the last one
+  -- The greatest length of the list during a run. The lengths before the first command and after
+  -- the last command are included.
   abbrev pub peak : (old new : Thin T A) (commands : List (Command T A G))
       (replies : List (Reply T A G)) → Runs old commands replies new → ℕ
   peak old new (command ∷ commands) (reply ∷ replies) run =

@@ -1,6 +1,6 @@
--- What each command may do to a list, and what its reply may be. The cases are in the order of the
--- commands; all commands that filter share one case. A result that no case describes is not
--- allowed. The difference of two numbers is 0 if it would be negative.
+-- `Steps` states how each command may change a list, and which replies it may get. A change or a
+-- reply that no case describes is not allowed. `Retain`, `Dedup` and similar commands share one
+-- case. The difference of two numbers is 0 if it would be negative.
 use Rattle.std.specs.Prelude.{◌≡◌, ◌+◌, ◌-◌, ◌==◌, ◌<◌, ◌≤◌, ◌↔◌, List, [], ◌∷◌, ◌++◌, IsSome, MatchOption, None, Some, drop, false, if◌then◌else◌, insert, length, remove, replicate, slice_get, slice_range, slice_set, take}
 use Rattle.std.specs.List.{AllZip, AppendsClones, remove_range, swap_remove}
 use Rattle.std.specs.Option.{option_to_list}
@@ -22,8 +22,8 @@ use Rattle.thin_runner.specs.declared.command.Reply.TheVariants.{Answers, Done, 
 use Rattle.thin_runner.specs.declared.command.Step.TheVariants.{Front}
 
 module _ {T A G : Type 0} where
-  -- the index or the range of the command is in bounds for the items xs, or the command has neither
-  -- an index nor a range
+  -- `IsInRange xs command` holds if the index or the range of the command is in bounds for the
+  -- items `xs`. It also holds if the command has neither an index nor a range.
   abbrev pub IsInRange : List T → Command T A G → Type 0
   IsInRange xs (Insert i v) = i ≤ length xs
   IsInRange xs (Remove i) = i < length xs
@@ -36,7 +36,8 @@ module _ {T A G : Type 0} where
   IsInRange xs command = Unit {0}
 
 module _ {T A G J : Type 0} (here : Setting T A J) where
-  -- a command that is in range may turn the list `old` into `new` and get this reply
+  -- `Does old command reply new` holds if a command that is in range may turn the list `old` into
+  -- `new` and get this reply.
   abbrev pub Does : Thin T A → Command T A G → Reply T A G → Thin T A → Type 0
   Does old (Push v) Done new = Grows here old 1 (old.items ++ v ∷ []) 1 new
   Does old (Push v) (Returned w cause) new =
@@ -76,7 +77,7 @@ module _ {T A G J : Type 0} (here : Setting T A J) where
       × Grows here old more new.items more new
   Does old (ExtendFromSlice xs) (Refused cause) new = let more = length xs.items in
       (0 < more) × RefusesClone here old more xs.items cause new
-  -- an `extend` is a splice of the empty range at the end of the list
+  -- An `extend` is a splice that replaces the empty range at the end of the list.
   Does old (Extend xs lower) Done new = let end = length old.items in
       Replaces here.rule here.R old end end xs.items (lower + length xs.items) new
   Does old (Extend xs lower) (Stopped answers cause held in_hand rest) new =
@@ -101,7 +102,7 @@ module _ {T A G J : Type 0} (here : Setting T A J) where
       × (new ≡ edited old (remove_range old.items a b) m)
   Does old (Drain a b steps) (Refused cause) new =
       (0 < length steps.items) × (cause ≡ OutOfMemory) × (new ≡ old)
-  -- an `extract_if` yields the extracted items in order, and then `None`
+  -- The calls of `next` on the `ExtractIf` return the extracted items in order, and then `None`.
   Does old (ExtractIf a b k) (Answers answers) new =
       let asked = extracting here.judging.take here.judge k (slice_range old.items a b) in
       (answers.items ≡ walked (left_at false asked) (replicate k Front))
@@ -115,14 +116,15 @@ module _ {T A G J : Type 0} (here : Setting T A J) where
       × StopsBetween here.rule here.R old a b xs.items held.items lower cause in_hand rest new
   Does old (Splice a b steps xs lower) (Refused cause) new =
       (0 < length steps.items) × (cause ≡ OutOfMemory) × (new ≡ old)
-  -- `Retain`, `RetainMut`, `Dedup`, `DedupBy` and `DedupByKey` leave the items that their verdicts
-  -- keep
+  -- After `Retain`, `RetainMut`, `Dedup`, `DedupBy` or `DedupByKey`, the list contains only the
+  -- items that were kept by the tests.
   Does old command Done new =
       MatchOption (answered here old.items command) ⊥ (λ verdicts. new ≡ sifted old verdicts)
   Does old command reply new = ⊥
 
-  -- The command may turn the list `old` into `new` and get this reply. If the command is out of
-  -- range, the reply returns the command, and the list does not change.
+  -- `Steps old command reply new` holds if the command may turn the list `old` into `new` and get
+  -- this reply. If the command is out of range, the reply returns the command, and the list does
+  -- not change.
   abbrev pub Steps : Thin T A → Command T A G → Reply T A G → Thin T A → Type 0
   Steps old command (OutOfRange back) new =
       (back ≡ command) × ¬ (IsInRange old.items command) × (new ≡ old)

@@ -1,4 +1,4 @@
--- Definitions of what the commands do, in a file for each kind of command.
+-- The definitions of what the commands may do. Each file is about one kind of command.
 pub mod Items
 pub mod Room
 pub mod Many

@@ -1,11 +1,11 @@
-//! The commands, each of which describes a call on a list, and the replies to them.
+//! The types of commands and of replies. A command describes a call on a list.
 ghost use Rattle.std.specs.Prelude.{◌≡◌};
 
 use crate::hinted::Hinted;
 use std::alloc::{Allocator, Global};
 use thin_vec::{Doubling, Growth, ThinVec, ThinVecError};
 
-/// A step of a `Drain` or a `Splice`: a call that yields an item from one end of the range.
+/// A step on a `Drain` or a `Splice`: a call that yields an item from one end of its range.
 #[derive(Clone, Copy, PartialEq, Eq)]
 pub enum Step {
     /// Calls `next`, which yields the first item that is left.
@@ -14,10 +14,11 @@ pub enum Step {
     Back,
 }
 
-/// A command: a call on a list, as a value.
+/// A call on a list, as a value.
 ///
-/// The comment of each command names the call and the replies to it. If the index or the range of a
-/// command is out of bounds, no call is made, and the reply is `OutOfRange`.
+/// The comment of each variant names the method that is called and the possible replies. If the
+/// index or the range of a command is out of bounds, no method is called, and the reply is
+/// `OutOfRange`.
 #[derive(Drop)]
 pub enum Command<T, A: Allocator = Global, G: Growth = Doubling> {
     /// Calls `push`. The reply is `Done`, or `Returned` on failure.
@@ -30,7 +31,8 @@ pub enum Command<T, A: Allocator = Global, G: Growth = Doubling> {
     Remove(usize),
     /// Calls `swap_remove`. The reply is `Item`.
     SwapRemove(usize),
-    /// Replaces the item at the index, through `IndexMut`. The reply is `Item`, with the old item.
+    /// Replaces the item at the index with the value, through `IndexMut`. The reply is `Item`, with
+    /// the old item.
     Set(usize, T),
     /// Calls `truncate`. The reply is `Done`.
     Truncate(usize),
@@ -46,8 +48,8 @@ pub enum Command<T, A: Allocator = Global, G: Growth = Doubling> {
     Resize(usize, T),
     /// Calls `extend_from_slice`. The reply is `Done`, or `Refused` on failure.
     ExtendFromSlice(Vec<T, A>),
-    /// Calls `extend` with an iterator that yields the items of the vector, and claims the number
-    /// as its lower bound. The reply is `Done`, or `Stopped` on failure.
+    /// Calls `extend` with an iterator over the items of the vector. The number is the lower bound
+    /// of the size hint of this iterator. The reply is `Done`, or `Stopped` on failure.
     Extend(Vec<T, A>, usize),
     /// Calls `append`. The reply is `Other`.
     Append(ThinVec<T, A, G>),
@@ -65,23 +67,24 @@ pub enum Command<T, A: Allocator = Global, G: Growth = Doubling> {
     DedupBy,
     /// Calls `dedup_by_key` with the method `key` of the judge. The reply is `Done`.
     DedupByKey,
-    /// Calls `drain` on the items from the first index up to, but not including, the second, takes
-    /// the steps in order, and drops the `Drain`. The reply is `Answers`, or `Refused` if there is
-    /// no memory for the answers.
+    /// Calls `drain` on the range from the first index up to, but not including, the second. Then
+    /// takes the steps in order, and drops the `Drain`. The reply is `Answers`, or `Refused` if
+    /// there is no memory for the results of the steps.
     Drain(usize, usize, Vec<Step, A>),
-    /// Calls `extract_if` on the items from the first index up to, but not including, the second,
-    /// with the method `take` of the judge. The third number is how often `next` is called before
+    /// Calls `extract_if` on the range from the first index up to, but not including, the second,
+    /// with the method `take` of the judge. The third number says how often `next` is called before
     /// the `ExtractIf` is dropped. The reply is `Answers`, or `Refused` if there is no memory for
-    /// the answers.
+    /// the results of these calls.
     ExtractIf(usize, usize, usize),
-    /// Calls `splice` on the items from the first index up to, but not including, the second, takes
-    /// the steps in order, and calls `finish`. The new items come from an iterator that yields the
-    /// items of the second vector, and claims the last number as its lower bound. The reply is
-    /// `Answers`, `Refused` if there is no memory for the answers, or `Stopped` if `finish` fails.
+    /// Calls `splice` on the range from the first index up to, but not including, the second. Then
+    /// takes the steps in order, and calls `finish`. The new items are the items of the second
+    /// vector. The last number is the lower bound of the size hint of their iterator. The reply is
+    /// `Answers`, `Stopped` if `finish` fails, or `Refused` if there is no memory for the results
+    /// of the steps.
     Splice(usize, usize, Vec<Step, A>, Vec<T, A>, usize),
 }
 
-/// The reply to a command. It owns what the call returned.
+/// The reply to a command. It owns the values that the call returned.
 #[derive(Drop)]
 pub enum Reply<T, A: Allocator = Global, G: Growth = Doubling> {
     /// The call succeeded, and it returned no value.
@@ -92,8 +95,8 @@ pub enum Reply<T, A: Allocator = Global, G: Growth = Doubling> {
     Answers(Vec<Option<T>, A>),
     /// The list that the call made.
     List(ThinVec<T, A, G>),
-    /// The list that was passed to `append`, and the cause if the call failed. If it succeeded,
-    /// this list is empty; if it failed, this list is unchanged.
+    /// The list that was passed to `append`, and the cause if `append` failed. After a success, the
+    /// list is empty. After a failure, it is unchanged.
     Other(ThinVec<T, A, G>, Option<ThinVecError>),
     /// The value that was passed to a call that failed, and the cause of the failure.
     Returned(T, ThinVecError),
@@ -101,17 +104,17 @@ pub enum Reply<T, A: Allocator = Global, G: Growth = Doubling> {
     Refused(ThinVecError),
     /// An `extend`, or the `finish` of a splice, failed.
     Stopped {
-        /// What the steps returned before `finish` was called. For an `extend`, the vector is
-        /// empty.
+        /// The results of the steps that were taken before `finish` was called. After an `extend`,
+        /// this vector is empty.
         answers: Vec<Option<T>, A>,
         /// The cause of the failure.
         cause: ThinVecError,
-        /// The items that were taken from the iterator but did not fit into the list. The item
+        /// The items that were taken from the iterator but did not fit into the list. The item in
         /// `in_hand` is not among them.
         held: Vec<T, A>,
         /// The last item that was taken from the iterator, if there was no room for it.
         in_hand: Option<T>,
-        /// The iterator, which yields the items that were not taken from it.
+        /// The iterator. It yields the items that have not been taken from it.
         rest: Hinted<T, A>,
     },
     /// The command itself. Its index or range is out of bounds, so no call was made.
@@ -121,8 +124,8 @@ pub enum Reply<T, A: Allocator = Global, G: Growth = Doubling> {
 impl<T, A: Allocator, G: Growth> Reply<T, A, G> {
     ghost use Rattle.thin_runner.specs.Replies.{refusal_of};
 
-    /// Returns the cause if the call failed. Returns `None` if the call succeeded, or if the
-    /// command was out of range, since no call was made then.
+    /// Returns the cause of the failure if the call failed, and `None` if the call succeeded. If
+    /// the command was out of range, no call was made, and the result is `None`, too.
     pub fn refusal(&self) -> Option<ThinVecError>
         ensures value { result ≡ refusal_of self.now }
     {

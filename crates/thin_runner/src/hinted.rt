@@ -1,4 +1,4 @@
-//! The iterator `Hinted`, which may claim more or fewer items than it has.
+//! The iterator `Hinted`. Its size hint may claim more or fewer items than it yields.
 ghost use Rattle.std.specs.Prelude.{◌≡◌, IfSome, None};
 ghost use Rattle.std.specs.Iterator.{UpTo};
 ghost use Rattle.std.specs.Iterator.Runs.{YieldsInOrder};
@@ -7,11 +7,12 @@ ghost use Rattle.std.specs.Iterator.SizeHint.{IsWithinCount};
 use std::alloc::{Allocator, Global};
 use std::vec::IntoIter;
 
-/// Yields its items in order, then `None` forever, and claims the same lower bound at every call.
+/// An iterator that yields its items in order, and then `None` forever. The lower bound of its size
+/// hint is always the same.
 ///
-/// The claim may exceed the number of items left. To satisfy the contract of `size_hint`, the ghost
-/// `remaining` states a limit that the claim cannot exceed: the number of items left plus the
-/// claim.
+/// This lower bound may exceed the number of items that are left. The contract of `size_hint`
+/// requires that the lower bound does not exceed the ghost value `remaining`. So `remaining` is the
+/// number of items that are left, plus the lower bound.
 #[derive(Drop)]
 pub struct Hinted<T, A: Allocator = Global> {
     items: IntoIter<T, A>,
@@ -21,8 +22,8 @@ pub struct Hinted<T, A: Allocator = Global> {
 impl<T, A: Allocator> Hinted<T, A> {
     ghost use Rattle.thin_runner.specs.Hinted.{HintedSteps, hinted_claim, hinted_items};
 
-    /// Makes an iterator that yields the items of `items` in order, and claims that at least
-    /// `lower` items are left, at each call. The iterator owns the items.
+    /// Makes an iterator that owns `items` and yields them in order. The lower bound of its size
+    /// hint is always `lower`.
     pub fn new(items: Vec<T, A>, lower: usize) -> Hinted<T, A>
         ensures items { hinted_items result ≡ items.items }
         ensures claim { hinted_claim result ≡ lower }

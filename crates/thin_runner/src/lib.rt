@@ -1,5 +1,5 @@
-//! Commands on a `ThinVec`, as values. The function `run` carries out a sequence of commands, and
-//! its contract is the main theorem.
+//! Represents calls on a `ThinVec` as values, which are called commands. The function `run` carries
+//! out a sequence of commands, and its contract is the main theorem about `ThinVec`.
 #![tactic(auto)]
 
 pub mod command;

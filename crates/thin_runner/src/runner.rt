@@ -11,7 +11,7 @@ use std::alloc::Allocator;
 use std::marker::PhantomData;
 use thin_vec::{Growth, ThinVec, ThinVecError};
 
-// Returns whether the index or the range of `command` is in bounds. Returns true for a command with
+// Returns whether the index or the range of `command` is in bounds. Returns true if `command` has
 // neither an index nor a range.
 fn is_in_range<T, A: Allocator, G: Growth>(
     list: &ThinVec<T, A, G>,
@@ -32,7 +32,8 @@ fn is_in_range<T, A: Allocator, G: Growth>(
     }
 }
 
-/// Carries out one command, and returns the reply, which owns what the call returned.
+/// Carries out one command, and returns the reply. The reply owns the values that the call
+/// returned.
 ///
 /// If the index or the range of the command is out of bounds, the list does not change, and the
 /// reply returns the command. The lists and vectors that the command makes use the allocator
@@ -86,16 +87,16 @@ pub fn step<T: Clone + Eq, A: Allocator + Copy, G: Growth, J: Judge<T>>(
     }
 }
 
-/// Carries out the commands in order, and appends one reply for each to `replies`.
+/// Carries out the commands in order, and appends the reply to each command to `replies`.
 ///
-/// It first reserves room for all the replies. The lists and vectors that the commands make use the
-/// allocator `alloc`. Each command that asks the judge begins with a copy of `judge`.
+/// The function first reserves room for all replies. The lists and vectors that the commands make
+/// use the allocator `alloc`. Each command that asks the judge begins with a copy of `judge`.
 ///
 /// # Errors
 ///
-/// Fails with `OutOfMemory` if it cannot reserve room for the replies. Then no command is carried
-/// out, and all commands are dropped. A command that fails does not make `run` fail: the cause is
-/// in the reply to that command.
+/// Fails with `OutOfMemory` if there is no memory for the replies. In this case, no command is
+/// carried out, and all commands are dropped. A command that fails does not make `run` fail: the
+/// cause is in the reply to that command.
 pub fn run<T: Clone + Eq, A: Allocator + Copy, G: Growth, J: Judge<T>>(
     alloc: A,
     list: &mut ThinVec<T, A, G>,
@@ -117,8 +118,8 @@ pub fn run<T: Clone + Eq, A: Allocator + Copy, G: Growth, J: Judge<T>>(
         × (vec_capacity replies.new ≡ vec_capacity replies.old)) }
     ensures cause { IfErr result (λ cause. cause ≡ ThinVecError.OutOfMemory) }
 {
-    // This call is only for the prover: its contract says that the old items are within the old
-    // capacity. The proof of the clause `ok` needs this, even if there is no command.
+    // Only the prover needs this call. Its contract says that the old items fit into the old
+    // capacity. The proof of the clause `ok` uses this fact, even if there are no commands.
     let _capacity = list.capacity();
     match replies.reserve(commands.len()) {
         Ok(()) => (),
@@ -131,8 +132,8 @@ pub fn run<T: Clone + Eq, A: Allocator + Copy, G: Growth, J: Judge<T>>(
             Err(_refused) => unreachable!(),
         }
     }
-    // This call is only for the prover: its contract says that the list is within bounds, as the
-    // field `within` of `Headline` states. The contract of `step` does not say it.
+    // Only the prover needs this call. Its contract implies the field `within` of `Headline`, which
+    // does not follow from the contract of `step`.
     let _end = list.capacity();
     Ok(())
 }

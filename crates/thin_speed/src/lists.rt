@@ -1,7 +1,8 @@
-//! The traits through which the workloads use a list.
+//! The traits through which the workloads use lists. A workload is a piece of work whose time is
+//! measured.
 //!
-//! A method calls the list's method of the same name, unless its comment says otherwise. A method
-//! that returns a `Result` fails if there is no room for the items.
+//! Unless its comment says otherwise, a method calls the method of the list with the same name. A
+//! method that returns a `Result` fails if there is no room for the items.
 mod kit;
 mod thin;
 
@@ -11,8 +12,8 @@ use std::alloc::{AllocError, Global};
 use std::io::Write;
 pub use thin::Thin;
 
-/// A kind of list: `ThinVec`, or the `Vec` of Rattle's library. It has one list type for each type
-/// of item.
+/// A kind of list: either `ThinVec`, or the `Vec` of Rattle's library. The associated types are the
+/// list types for various types of items. `Cells` is the type of a table.
 pub trait Family {
     type Numbers: Numbers;
 
@@ -38,8 +39,8 @@ pub trait Family {
 
     type Cells: Table;
 
-    /// Builds a tree of the depth `depth`, in which each node above the leaves has `width`
-    /// children. Returns the sum of the depths of its nodes, where the depth of a leaf is 0.
+    /// Builds a tree of depth `depth`. Each node that is not a leaf has `width` children. Returns
+    /// the sum of the depths of all nodes, where a leaf has the depth 0.
     ///
     /// # Errors
     ///
@@ -57,7 +58,7 @@ pub trait List<T: Drop>: Drop {
 
     fn pop(&mut self) -> Option<T>;
 
-    /// Inserts `value` at the front.
+    /// Inserts `value` before the first item.
     fn insert_first(&mut self, value: T) -> Result<(), AllocError>;
 
     fn clear(&mut self);
@@ -70,13 +71,14 @@ pub trait List<T: Drop>: Drop {
 
 /// A list of numbers.
 pub trait Numbers: List<u64> {
-    /// Removes and returns the item at `index`, if there is one.
+    /// Removes the item at `index` and returns it. Returns `None` if there is no such item.
     fn remove_at(&mut self, index: usize) -> Option<u64>;
 
-    /// Removes and returns the item in the middle, by `swap_remove`, if there is one.
+    /// Removes the item in the middle by `swap_remove`, and returns it. Returns `None` if the list
+    /// is empty.
     fn remove_middle(&mut self) -> Option<u64>;
 
-    /// Makes a list of the numbers below `end`, from an iterator.
+    /// Collects the numbers below `end` from an iterator into a new list.
     fn collected(alloc: Global, end: usize) -> Result<Self, AllocError>;
 
     /// Appends the numbers below `end`, by `extend` with an iterator whose size hint is exact.
@@ -86,11 +88,13 @@ pub trait Numbers: List<u64> {
     /// bound 0.
     fn extend_unhinted(&mut self, end: usize) -> Result<(), AllocError>;
 
-    /// Appends the even numbers among `items`, by `extend` with a filter.
+    /// Appends the even numbers in `items`, by `extend` with an iterator that skips the other
+    /// numbers.
     fn extend_filtered(&mut self, items: &[u64]) -> Result<(), AllocError>;
 
     /// Appends the first half of `items`, and then the second half, by two calls of `extend`. The
-    /// two iterators have the same type, so both calls run the same instance of `extend`.
+    /// two iterators have the same type, so both calls run the same instance of the generic method
+    /// `extend`.
     fn extend_twice(&mut self, items: &[u64]) -> Result<(), AllocError>;
 
     /// Appends copies of `items`.
@@ -103,16 +107,16 @@ pub trait Numbers: List<u64> {
     /// Makes a list of copies of the items.
     fn copy(&self, alloc: Global) -> Result<Self, AllocError>;
 
-    /// Splits the second half off by `split_off`, and appends it again.
+    /// Splits off the second half of the list by `split_off`, and appends it again.
     fn split_and_append(&mut self, alloc: Global) -> Result<(), AllocError>;
 
-    /// Drains the items from `start` up to, but not including, `end`, if this is a range of the
-    /// list. Returns `sum` after mixing each drained item into it.
+    /// Drains the items from `start` up to, but not including, `end`. Does nothing if this range is
+    /// out of bounds. Returns `sum` after each drained item was mixed into it.
     fn drain_range(&mut self, start: usize, end: usize, sum: u64) -> u64;
 
-    /// Replaces the items from `start` up to, but not including, `end` with `C::count()` numbers,
-    /// the first of which is `first`, by `splice`. Does nothing if this is not a range of the list.
-    /// The size hint of the iterator is exact.
+    /// Replaces the items from `start` up to, but not including, `end`, by a call of `splice`. The
+    /// new items are `C::count()` consecutive numbers, beginning with `first`. The size hint of
+    /// their iterator is exact. Does nothing if the range is out of bounds.
     fn splice_few<C: Count>(
         &mut self,
         alloc: Global,
@@ -122,8 +126,8 @@ pub trait Numbers: List<u64> {
     ) -> Result<(), AllocError>;
 
     /// Replaces the items from `start` up to, but not including, `end` with copies of `items`. Does
-    /// nothing if this is not a range of the list. This method is not inlined, so its code cannot
-    /// be specialised to the lengths that a caller passes.
+    /// nothing if this range is out of bounds. This method is not inlined, so that its code cannot
+    /// be specialized for the lengths that a caller passes.
     fn replace(&mut self, start: usize, end: usize, items: &[u64]) -> Result<(), AllocError>;
 
     /// Replaces the middle half of the list with the numbers below `end`, by `splice` with an
@@ -136,26 +140,28 @@ pub trait Numbers: List<u64> {
 
     fn dedup(&mut self);
 
-    /// Calls `dedup_by_key` with half of each number, rounded down, as its key.
+    /// Calls `dedup_by_key`. The key of a number is half of the number, rounded down.
     fn dedup_halves(&mut self);
 
-    /// Extracts the items that `P` picks, by `extract_if`. Returns `sum` after mixing each
-    /// extracted item into it.
+    /// Extracts the items that `P` picks, by `extract_if`. Returns `sum` after each extracted item
+    /// was mixed into it.
     fn extract<P: Pick>(&mut self, sum: u64) -> u64;
 
-    /// Consumes the list by `into_iter`, from the front. Returns `sum` after mixing each item into
-    /// it.
+    /// Consumes the list from the front by `into_iter`. Returns `sum` after each item was mixed
+    /// into it.
     fn walk(self, sum: u64) -> u64;
 }
 
-/// A sparse table of numbers, by row and column: `Rows` of `thin_rows`, or a `BTreeMap`.
+/// A sparse table of numbers, each of which has a row and a column. The table is a `Rows` of the
+/// crate `thin_rows`, or a `BTreeMap`.
 pub trait Table: Drop {
     /// Makes a table without entries. It has at least `rows` rows.
     fn with_rows(alloc: Global, rows: usize) -> Result<Self, AllocError>;
 
-    /// Writes `value` at a row and a column. Does nothing if the table has no such row.
+    /// Writes `value` at row `row` and column `column`. Does nothing if the table is a `Rows`
+    /// without this row.
     fn set(&mut self, row: usize, column: usize, value: u64) -> Result<(), AllocError>;
 
-    /// Returns the value at a row and a column, or 0 if there is no entry.
+    /// Returns the value at row `row` and column `column`, or 0 if there is no entry.
     fn get(&self, row: usize, column: usize) -> u64;
 }

@@ -1,5 +1,5 @@
-//! Reads lines that each name a workload, runs the workloads on lists, and prints the sum that each
-//! run computes.
+//! Reads lines that each name a workload. Runs each workload, and prints the sum that the workload
+//! computes.
 #![tactic(auto)]
 
 mod lists;
@@ -22,9 +22,9 @@ fn main(rt: HostRuntime) -> io::Result<()> {
     Ok(())
 }
 
-// Runs the workload that a line names. The line has four words: the list (`thin` or `kit`), the
-// name of the workload, the size (the number of items, or the depth of a tree), and how often the
-// work is repeated. Returns `None` if the line is not of this form.
+// Runs the workload that a line names. The line has four words: the kind of list (`thin` or `kit`),
+// the name of the workload, the size (the number of items, or the depth of a tree), and how often
+// the work is done. Returns `None` if the line is not of this form.
 fn asked(alloc: Global, line: &str) -> Option<Outcome> {
     let mut words = line.split_whitespace();
     let list = words.next()?;

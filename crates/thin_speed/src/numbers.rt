@@ -1,26 +1,27 @@
-//! The items that the workloads put into lists, and the sums that they compute from the items.
+//! The items that the workloads put into lists, and the sums that are computed from the items.
 ghost use Rattle.std.specs.Prelude.{◌-◌};
 ghost use Rattle.std.specs.Iterator.{at_most};
 
 use std::alloc::{AllocError, Global};
 
-/// The sum that a run of a workload computes, or the error of the call that failed. Equal sums show
-/// that two kinds of lists did the same work.
+/// The sum that a workload computes, or the error of the call that failed. If a workload computes
+/// equal sums with two kinds of lists, then it did the same work with both.
 pub type Outcome = Result<u64, AllocError>;
 
-/// Returns the sum `sum` with `number` mixed into it. The result depends on the order in which
-/// numbers are mixed in.
+/// Mixes `number` into the sum `sum`, and returns the new sum. The sum depends on the order in
+/// which numbers are mixed into it.
 pub fn mixed(sum: u64, number: u64) -> u64 {
     sum.wrapping_mul(31).wrapping_add(number)
 }
 
-/// An item of a list. It has a number, which is mixed into sums.
+/// An item of a list. A number can be computed from it and mixed into a sum.
 pub trait Item: Drop {
-    /// Returns a number that is computed from the item, to be mixed into sums.
+    /// Returns the number that is computed from the item.
     fn number(&self) -> u64;
 }
 
-/// Returns the length of `items`, plus the number of the item in the middle if there is one.
+/// Returns the length of `items`, plus the number of the item in the middle. If `items` is empty,
+/// returns 0.
 pub fn seen<T: Item>(items: &[T]) -> u64 {
     let middle = match items.get(items.len() / 2) {
         Some(item) => item.number(),
@@ -29,7 +30,7 @@ pub fn seen<T: Item>(items: &[T]) -> u64 {
     middle.wrapping_add(items.len() as u64)
 }
 
-/// The sixteen items that the workload `extend_sixteen` appends at a time.
+/// The sixteen items that each call in the workload `extend_sixteen` appends.
 pub const SIXTEEN: [u64; 16] = [7; 16];
 
 /// An item of 24 bytes.
@@ -100,9 +101,9 @@ impl Item for String {
     }
 }
 
-/// A way of making the items of a list.
+/// A way to make the items of a list.
 pub trait Source<T: Drop> {
-    /// Makes the item that has the index `number` in a list.
+    /// Makes the item at the index `number` of a list.
     ///
     /// # Errors
     ///
@@ -110,7 +111,7 @@ pub trait Source<T: Drop> {
     fn item(alloc: Global, number: usize) -> Result<T, AllocError>;
 }
 
-/// Makes the items 0, 1, 2 and so on, each cut to the width of the item type.
+/// Makes the items 0, 1, 2 and so on. Each number is truncated to the width of the item type.
 pub struct InTurn;
 
 impl Source<u8> for InTurn {
@@ -148,7 +149,7 @@ impl Source<u64> for InTurn {
     }
 }
 
-/// Makes each item from its index, with the bits of value 1 and 4 inverted.
+/// Makes each item from its index. The item at the index `i` is `i ^ 5`.
 pub struct Turned;
 
 impl Source<u64> for Turned {
@@ -193,7 +194,7 @@ impl Source<Wide> for Wides {
     }
 }
 
-/// Makes a new string for each item, always with the same text.
+/// Makes a new string for each item. All these strings have the same text.
 pub struct Words;
 
 impl Source<String> for Words {
@@ -236,7 +237,7 @@ impl Iterator for Unhinted {
     }
 }
 
-/// The four items that the workload `replace_more` inserts at a time.
+/// The four items that each call in the workload `replace_more` inserts.
 pub const FOUR: [u64; 4] = [7; 4];
 
 /// The number of items that the method `splice_few` inserts.
@@ -291,7 +292,7 @@ impl Pick for Even {
     }
 }
 
-/// Picks the numbers for which one bit of a hash is 0. Of the numbers 0, 1, 2 and so on, it picks
+/// Picks a number if the highest bit of its hash is 0. Of the numbers 0, 1, 2 and so on, it picks
 /// about half, in an irregular pattern.
 pub struct Random;
 
@@ -323,7 +324,8 @@ impl Pick for ThreeOfFour {
     }
 }
 
-/// Picks the numbers below a million. The lists of the workloads have no other numbers.
+/// Picks the numbers below a million. All numbers in the lists of the workloads are below a
+/// million, so every item is picked.
 pub struct All;
 
 impl Pick for All {
@@ -333,7 +335,8 @@ impl Pick for All {
     }
 }
 
-/// Picks the numbers above a million. The lists of the workloads have no such numbers.
+/// Picks the numbers above a million. All numbers in the lists of the workloads are below a
+/// million, so no item is picked.
 pub struct Nothing;
 
 impl Pick for Nothing {
@@ -344,7 +347,7 @@ impl Pick for Nothing {
 }
 
 /// Picks the numbers whose last four bits are not all 1. Of the numbers 0, 1, 2 and so on, it picks
-/// fifteen in a row, and then leaves one out.
+/// fifteen in a row, then skips one, and so on.
 pub struct InARun;
 
 impl Pick for InARun {

@@ -1,4 +1,4 @@
-//! The workloads. Each runs on any kind of list.
+//! The workloads. Each workload can run on any kind of list.
 mod editing;
 mod filtering;
 mod growing;
@@ -18,8 +18,9 @@ pub use crate::workloads::names::named;
 use crate::workloads::tables::run_tables;
 use std::alloc::Global;
 
-/// Runs `workload` on lists of the kind `F`. `size` is the number of items of a list, or the depth
-/// of a tree. `times` is how often the work is repeated. Returns the sum that the run computes.
+/// Runs `workload` on lists of the kind `F`, and returns the sum that the workload computes. `size`
+/// is the number of items of a list, or the depth of a tree. `times` says how often the work is
+/// done.
 ///
 /// # Errors
 ///

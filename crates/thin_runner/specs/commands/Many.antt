@@ -1,5 +1,5 @@
--- The result of a failed call that clones many items. (std: `Vec::resize`,
--- `Vec::extend_from_slice`)
+-- This definition states how a list may change if a call that clones many items fails. (std:
+-- `Vec::resize`, `Vec::extend_from_slice`)
 use Rattle.std.specs.Prelude.{◌≡◌, ◌⊎◌, ℕ, ◌<◌, ◌↔◌, List, All, HoldsAt, None, length}
 use Rattle.thin_vec.specs.ThinVec.{HasRoomFor, Thin, capacity_for}
 use Rattle.thin_vec.specs.declared.ThinVecError.{ThinVecError}
@@ -8,9 +8,10 @@ use Rattle.thin_runner.specs.Setting.{Setting}
 use Rattle.thin_runner.specs.commands.Items.{Grows}
 
 module _ {T A J : Type 0} (here : Setting T A J) where
-  -- A call that clones `sources` and needs room for k more items failed, and the items did not
-  -- change. Either nothing else changed, or there was room for k more items (perhaps after growth)
-  -- and the clone of the source at index `at` failed, after one move for each source before it.
+  -- A call that clones the items `sources` and needs room for `k` more items failed. The items of
+  -- the list did not change. Either nothing else changed, or there was room for `k` more items
+  -- (perhaps after growth), but the source at index `at` could not be cloned. In the second case,
+  -- each source before index `at` counts one move.
   abbrev pub RefusesClone : Thin T A → ℕ → List T → ThinVecError → Thin T A → Type 0
   RefusesClone old k sources cause new =
       ((capacity_for here.rule here.R old k ≡ None) ↔ (cause ≡ CapacityOverflow))

@@ -1,13 +1,13 @@
--- What the calls of `next` and `next_back` on a range of items return. (std: `Vec::drain`,
--- `DoubleEndedIterator`)
+-- This definition states what calls of `next` and `next_back` on a range of items return. (std:
+-- `Vec::drain`, `DoubleEndedIterator`)
 use Rattle.std.specs.Prelude.{◌-◌, List, [], ◌∷◌, Option, drop, length, slice_get, take}
 use Rattle.thin_runner.specs.declared.command.Step.{Step}
 use Rattle.thin_runner.specs.declared.command.Step.TheVariants.{Front, Back}
 
 module _ {T : Type 0} where
-  -- The results of the steps, in order, if xs are the items of the range. `Front` removes and
-  -- returns the first item that is left, and `Back` the last item that is left. Both return `None`
-  -- if no item is left.
+  -- `walked xs steps` lists the results of the steps, in order, if `xs` are the items of the range.
+  -- `Front` removes and returns the first item that is left, and `Back` the last one. Both return
+  -- `None` if no item is left.
   abbrev pub walked : List T → List Step → List (Option T)
   walked xs [] = []
   walked xs (Front ∷ steps) = slice_get xs 0 ∷ walked (drop 1 xs) steps

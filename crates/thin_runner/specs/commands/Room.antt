@@ -1,10 +1,12 @@
--- New lists without spare capacity. (std: `Vec::split_off`, `Clone`)
+-- This definition describes the new lists that `split_off` and `clone` make. The capacity of such a
+-- list equals its length. (std: `Vec::split_off`, `Clone`)
 use Rattle.std.specs.Prelude.{List, length}
 use Rattle.thin_vec.specs.Cost.{moving}
 use Rattle.thin_vec.specs.ThinVec.{Thin, cost_new}
 
 module _ {T A : Type 0} where
-  -- a new list with the items xs, the allocator a, and a capacity that is equal to its length
+  -- `made a xs` is a new list with the allocator `a` and the items `xs`. Its capacity equals its
+  -- length.
   abbrev pub made : A → List T → Thin T A
   made a xs = record {
     items = xs;

@@ -1,5 +1,5 @@
--- A splice: the items of a range are removed, and the items of an iterator take their places. (std:
--- `Vec::splice`, `Vec::extend`)
+-- These definitions describe a splice, which replaces the items of a range by the items of an
+-- iterator. (std: `Vec::splice`, `Vec::extend`)
 use Rattle.std.specs.Prelude.{◌≡◌, ◌↔◌, ◌⊎◌, ℕ, ◌+◌, ◌-◌, ◌*◌, ◌<◌, ◌≤◌, List, [], ◌++◌, IsSome, None, Option, drop, length, take}
 use Rattle.std.specs.Borrow.{RattleType}
 use Rattle.std.specs.Iterator.{at_most}
@@ -15,20 +15,21 @@ use Rattle.thin_vec.specs.declared.ThinVecError.TheVariants.{CapacityOverflow, O
 use Rattle.thin_runner.specs.declared.hinted.Hinted.{Hinted}
 
 module _ {T A : Type 0} (old : Thin T A) (a b : ℕ) where
-  -- the list `old` without the items from index a up to b, and with an unchanged cost
+  -- `cut` is the list `old` without the items `a..b`. Its cost is the cost of `old`.
   abbrev pub cut : Thin T A
   cut = record old { items = remove_range old.items a b }
 
-  -- Placing `most` items needs no new memory. Either the range has at least `most` items, or no
-  -- item follows the range and the list without the range has room for `most` items.
+  -- `HasPlacesFor most` holds if `most` items can be placed without new memory. Either the range
+  -- `a..b` has at least `most` items, or no item follows the range, and the list without the range
+  -- has room for `most` more items.
   abbrev pub HasPlacesFor : ℕ → Type 0
   HasPlacesFor most = (most ≤ b - a) ⊎ ((b ≡ length old.items) × HasRoomFor cut most)
 
 module _ {T A : Type 0} (rule : Rule) (R : RattleType) (old : Thin T A) (a b : ℕ) where
-  -- The items `placed` took the places of the items from index a up to b. They came from an
-  -- iterator that could yield at most `most` items. Each placed item was moved once, and each item
-  -- after the range at most twice. The capacity did not change, or it is one that the rule chooses,
-  -- either for at most the final number of items or for a hint of at most `most` items.
+  -- The items `placed` were yielded by an iterator that could yield at most `most` items. They
+  -- replaced the items `a..b` of the list `old`. Each placed item was moved once, and each item
+  -- after the range at most twice. The capacity did not change, or the growth rule requires the new
+  -- capacity for at most the final number of items, or for a size hint of at most `most`.
   pub record Replaces (placed : List T) (most : ℕ) (new : Thin T A) : Type 0 where
     pub items : new.items ≡ (take a old.items ++ placed) ++ drop b old.items
     pub capacity : IsLoose rule R old.capacity new.capacity
@@ -39,11 +40,8 @@ module _ {T A : Type 0} (rule : Rule) (R : RattleType) (old : Thin T A) (a b : �
     pub cheap : IsCheap old → IsCheap new
     pub alloc : new.alloc ≡ old.alloc
 
-  -- A splice or an `extend` failed after it had placed the items `placed` (perhaps none). No item
-  -- is lost: the other items of xs are in `held`, in `in_hand` and in `rest`. If items are held and
-  -- none is in hand, the iterator has ended. If items follow the range, all places of the range are
-  -- filled. If no item follows the range, no item is held. In that case, the list is full if an
-  -- item is in hand, and nothing was placed if none is in hand.
+  -- A splice or an `extend` failed after it had placed the items `placed` (perhaps none). All other
+  -- items of the iterator are in `held`, in `in_hand`, or in `rest`.
   pub record StopsBetween (xs held : List T) (lower : ℕ) (cause : ThinVecError)
       (in_hand : Option T) (rest : Hinted T A) (new : Thin T A) : Type 0 where
     pub placed : List T
@@ -51,22 +49,29 @@ module _ {T A : Type 0} (rule : Rule) (R : RattleType) (old : Thin T A) (a b : �
     pub claim : rest.lower ≡ lower
     pub filled : Replaces placed (lower + length xs) new
     pub no_room : ¬ (HasPlacesFor old a b (lower + length xs))
-    -- if no item is held and none is in hand, then the list has no room for a size hint that `rest`
-    -- may have, and growth for this hint failed with `cause`
+    -- If `held` is empty and `in_hand` is `None`, then the list has no room for a size hint that
+    -- `rest` may return, and growing the list for this size hint failed with `cause`.
     pub by_hint : held ≡ [] → in_hand ≡ None
         → FailsAtHint rule R new (at_most (rest.lower + length (into_iter_items rest.items))) cause
-    -- if items are held and none is in hand, the cause is an overflow if and only if the rule has
-    -- no capacity for the items of the list and the held items
+    -- If `held` has items and `in_hand` is `None`, then the cause is `CapacityOverflow` if and only
+    -- if the growth rule has no capacity for the items of the list together with the items in
+    -- `held`.
     pub by_held : 0 < length held → in_hand ≡ None
         → (cause ≡ CapacityOverflow) ↔ (capacity_for rule R new (length held) ≡ None)
-    -- if an item is in hand and items follow the range, there was no memory to hold the item
+    -- If `in_hand` has an item, and items follow the range, then the cause is `OutOfMemory`: there
+    -- was no memory to hold the item.
     pub by_in_hand : b < length old.items → IsSome in_hand → cause ≡ OutOfMemory
-    -- if an item is in hand and no item follows the range, the cause is an overflow if and only if
-    -- the rule has no capacity for one more item
+    -- If `in_hand` has an item, and no item follows the range, then the cause is `CapacityOverflow`
+    -- if and only if the growth rule has no capacity for one more item.
     pub by_push : b ≡ length old.items → IsSome in_hand
         → (cause ≡ CapacityOverflow) ↔ (capacity_for rule R new 1 ≡ None)
+    -- If `held` has items and `in_hand` is `None`, then the iterator has ended.
     pub ended : in_hand ≡ None → 0 < length held → into_iter_items rest.items ≡ []
+    -- If items follow the range, then the placed items fill at least the places of the range.
     pub range : b < length old.items → b - a ≤ length placed
+    -- If no item follows the range, then `held` is empty. If in this case `in_hand` has an item,
+    -- then the list is full.
     pub at_end : b ≡ length old.items → (held ≡ [])
         × (IsSome in_hand → length new.items ≡ new.capacity)
+    -- If no item follows the range, and `in_hand` is `None`, then no item was placed.
     pub unchanged : b ≡ length old.items → in_hand ≡ None → new ≡ cut old a b

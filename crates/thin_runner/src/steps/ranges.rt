@@ -13,8 +13,8 @@ use std::alloc::Allocator;
 use thin_vec::{Drain, Growth, ThinVec, ThinVecError};
 
 impl<T: Clone + Eq, A: Allocator + Copy, G: Growth, J: Judge<T>> Setting<T, A, G, J> {
-    // Drains the range. First reserves room for the results of the steps, which allocates nothing
-    // if there are no steps.
+    // Drains the range. Before that, room for the results of the steps is reserved. (If there are
+    // no steps, this allocates nothing.)
     pub(crate) fn drain(
         self,
         list: &mut ThinVec<T, A, G>,
@@ -39,8 +39,8 @@ impl<T: Clone + Eq, A: Allocator + Copy, G: Growth, J: Judge<T>> Setting<T, A, G
         Reply::Answers(answers)
     }
 
-    // Extracts items of the range. First reserves room for the results of the calls of `next`,
-    // which allocates nothing if `count` is 0.
+    // Extracts items of the range. Before that, room for the results of the calls of `next` is
+    // reserved. (If `count` is 0, this allocates nothing.)
     pub(crate) fn extract_if(
         self,
         list: &mut ThinVec<T, A, G>,
@@ -79,7 +79,7 @@ impl<T: Clone + Eq, A: Allocator + Copy, G: Growth, J: Judge<T>> Setting<T, A, G
     }
 }
 
-// Takes the steps on `drain`, and appends what they return to `answers`.
+// Takes the steps on `drain` in order, and appends their results to `answers`.
 fn walk<T: Drop, A: Allocator, G: Growth>(
     drain: &mut Drain<'_, T, A, G>,
     steps: Vec<Step, A>,
@@ -98,7 +98,7 @@ fn walk<T: Drop, A: Allocator, G: Growth>(
     }
 }
 
-// Takes one step on `drain`, and returns what it yields.
+// Takes one step on `drain`, and returns its result.
 fn take<T, A: Allocator, G: Growth>(drain: &mut Drain<'_, T, A, G>, step: Step) -> Option<T>
     ensures value { (steps : List Step) → walked (drain_rest drain.old) (step ∷ steps)
         ≡ result ∷ walked (drain_rest drain.new) steps }

@@ -1,5 +1,5 @@
-//! The commands that change the capacity alone: `Reserve`, `ReserveExact` and `ShrinkToFit`; and
-//! those that make a list without spare capacity: `SplitOff` and `Clone`.
+//! The commands `Reserve`, `ReserveExact` and `ShrinkToFit` change only the capacity. The commands
+//! `SplitOff` and `Clone` make a list without spare capacity.
 ghost use Rattle.std.specs.Prelude.{◌≤◌, length};
 ghost use Rattle.thin_runner.specs.Setting.{setting};
 ghost use Rattle.thin_runner.specs.Steps.{Steps};

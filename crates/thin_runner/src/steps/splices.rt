@@ -14,8 +14,8 @@ use std::alloc::Allocator;
 use thin_vec::{Growth, Splice, SpliceRefused, ThinVec, ThinVecError};
 
 impl<T: Clone + Eq, A: Allocator + Copy, G: Growth, J: Judge<T>> Setting<T, A, G, J> {
-    // Replaces the items of the range by `items`. First reserves room for the results of the steps,
-    // which allocates nothing if there are no steps.
+    // Replaces the items of the range with `items`. Before that, room for the results of the steps
+    // is reserved. (If there are no steps, this allocates nothing.)
     pub(crate) fn splice(
         self,
         list: &mut ThinVec<T, A, G>,
@@ -59,7 +59,7 @@ impl<T: Clone + Eq, A: Allocator + Copy, G: Growth, J: Judge<T>> Setting<T, A, G
     }
 }
 
-// Takes the steps on `splice`, and appends what they return to `answers`.
+// Takes the steps on `splice` in order, and appends their results to `answers`.
 fn walk<T: Drop, A: Allocator, G: Growth>(
     splice: &mut Splice<'_, Hinted<T, A>, T, A, G>,
     steps: Vec<Step, A>,
@@ -78,7 +78,7 @@ fn walk<T: Drop, A: Allocator, G: Growth>(
     }
 }
 
-// Takes one step on `splice`, and returns what it yields.
+// Takes one step on `splice`, and returns its result.
 fn take<T, A: Allocator, G: Growth>(
     splice: &mut Splice<'_, Hinted<T, A>, T, A, G>,
     step: Step,

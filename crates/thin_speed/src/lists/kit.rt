@@ -1,10 +1,11 @@
-//! Implements the traits of `lists` for the `Vec` of Rattle's library, which the input calls `kit`.
+//! Implements the traits of the module `lists` for the `Vec` of Rattle's library. In the input of
+//! this program, this kind of list is called `kit`.
 use crate::lists::{Family, List, Numbers, Table};
 use crate::numbers::{Count, Outcome, Pick, Triple, Unhinted, Wide, mixed};
 use std::alloc::{AllocError, Global};
 use std::collections::BTreeMap;
 
-/// The kind of list that is the `Vec` of Rattle's library.
+/// Selects the `Vec` of Rattle's library as the kind of list.
 pub struct Kit;
 
 impl Family for Kit {
@@ -265,7 +266,7 @@ struct Node {
     children: Vec<Node>,
 }
 
-// Builds a tree of the depth `depth`, in which each node above the leaves has `width` children.
+// Builds a tree of depth `depth`. Each node that is not a leaf has `width` children.
 fn build(alloc: Global, depth: usize, width: usize) -> Result<Node, AllocError> {
     let mut children = Vec::new(alloc);
     if depth > 0 {

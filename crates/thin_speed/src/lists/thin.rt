@@ -1,11 +1,12 @@
-//! Implements the traits of `lists` for `ThinVec`, which the input calls `thin`.
+//! Implements the traits of the module `lists` for `ThinVec`. In the input of this program, this
+//! kind of list is called `thin`.
 use crate::lists::{Family, List, Numbers, Table};
 use crate::numbers::{Count, Outcome, Pick, Triple, Unhinted, Wide, mixed};
 use std::alloc::{AllocError, Global};
 use thin_rows::Rows;
 use thin_vec::ThinVec;
 
-/// The kind of list that is `ThinVec`.
+/// Selects `ThinVec` as the kind of list.
 pub struct Thin;
 
 impl Family for Thin {
@@ -268,7 +269,7 @@ struct Node {
     children: ThinVec<Node>,
 }
 
-// Builds a tree of the depth `depth`, in which each node above the leaves has `width` children.
+// Builds a tree of depth `depth`. Each node that is not a leaf has `width` children.
 fn build(alloc: Global, depth: usize, width: usize) -> Result<Node, AllocError> {
     let mut children = ThinVec::new(alloc);
     if depth > 0 {

@@ -61,7 +61,7 @@ pub fn run_editing<F: Family>(
     }
 }
 
-/// Inserts a number at the front, and pops the last item.
+/// Inserts a number before the first item, and pops the last item.
 pub struct InsertFirst;
 
 impl<L: Numbers> Work<L, u64> for InsertFirst {
@@ -75,8 +75,8 @@ impl<L: Numbers> Work<L, u64> for InsertFirst {
     }
 }
 
-/// Removes the first item, or the item in the middle if `IN_MIDDLE` is true, and pushes it again,
-/// increased by 1.
+/// Removes the first item, or the item in the middle if `IN_MIDDLE` is true. Then pushes the
+/// removed number plus 1.
 pub struct Remove<const IN_MIDDLE: bool>;
 
 impl<L: Numbers, const IN_MIDDLE: bool> Work<L, u64> for Remove<IN_MIDDLE> {
@@ -94,8 +94,8 @@ impl<L: Numbers, const IN_MIDDLE: bool> Work<L, u64> for Remove<IN_MIDDLE> {
     }
 }
 
-/// Fills a list, and empties it by removing the item in the middle again and again, with
-/// `swap_remove`. Repeats this `times` times.
+/// Fills a list, and then empties it by calls of `swap_remove`, each of which removes the item in
+/// the middle. Does this `times` times.
 ///
 /// # Errors
 ///
@@ -115,7 +115,7 @@ pub fn swap_remove<L: Numbers>(alloc: Global, size: usize, times: usize) -> Outc
     Ok(sum)
 }
 
-/// Splits a list in the middle, and appends the second half again, `times` times.
+/// Splits off the second half of a list, and appends it again. Does this `times` times.
 ///
 /// # Errors
 ///
@@ -142,7 +142,7 @@ impl<L: Numbers> Work<L, u64> for Drain {
     }
 }
 
-/// Drains the items from `START` up to, but not including, `END`, and pushes the same number of
+/// Drains the items from `START` up to, but not including, `END`. Then pushes the same number of
 /// items.
 pub struct DrainFew<const START: usize, const END: usize>;
 
@@ -157,8 +157,8 @@ impl<L: Numbers, const START: usize, const END: usize> Work<L, u64> for DrainFew
     }
 }
 
-/// Replaces the two items from `START` up to, but not including, `END` with one item or with two.
-/// If it inserts only one item, it also pushes one.
+/// Replaces the two items from `START` up to, but not including, `END` with one or two items. If
+/// only one item is inserted, also pushes an item.
 pub struct SpliceFew<C, const START: usize, const END: usize> {
     count: PhantomData<C>,
 }
@@ -175,7 +175,7 @@ impl<L: Numbers, C: Count, const START: usize, const END: usize> Work<L, u64>
     }
 }
 
-/// Replaces the first item with three numbers, and pops two items.
+/// Replaces the first item with three numbers. Then pops two items.
 pub struct SpliceMore;
 
 impl<L: Numbers> Work<L, u64> for SpliceMore {
@@ -186,7 +186,7 @@ impl<L: Numbers> Work<L, u64> for SpliceMore {
     }
 }
 
-/// Replaces two items with four, starting at the indices 5 and 6 in turn, and pops two items.
+/// Replaces two items with four items, alternately at index 5 and at index 6. Then pops two items.
 pub struct ReplaceMore;
 
 impl<L: Numbers> Work<L, u64> for ReplaceMore {
@@ -198,7 +198,7 @@ impl<L: Numbers> Work<L, u64> for ReplaceMore {
     }
 }
 
-/// Shrinks the capacity to the length, pushes a number, for which the list has to grow, and pops
+/// Shrinks the capacity to the length. Then pushes a number, so that the list has to grow, and pops
 /// the number again.
 pub struct ShrinkPush;
 

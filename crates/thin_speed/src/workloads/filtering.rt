@@ -87,7 +87,7 @@ impl<L: List<T>, T: Item, P: Pick> Work<L, T> for Retain<P> {
     }
 }
 
-/// Removes the second item of each pair of equal neighbours, by `dedup`.
+/// Removes the second item of each pair of equal neighbors, by `dedup`.
 pub struct Dedup;
 
 impl<L: Numbers> Work<L, u64> for Dedup {
@@ -98,7 +98,8 @@ impl<L: Numbers> Work<L, u64> for Dedup {
     }
 }
 
-/// Removes every second item, by `dedup_by_key`: half of an item, rounded down, is its key.
+/// Removes every second item, by `dedup_by_key`. The key of an item is half of the item, rounded
+/// down.
 pub struct DedupByKey;
 
 impl<L: Numbers> Work<L, u64> for DedupByKey {

@@ -77,7 +77,7 @@ pub fn run_growing<F: Family>(
     }
 }
 
-/// Pushes `size` items onto a new list, `times` times.
+/// Makes a new list, and pushes `size` items onto it. Does this `times` times.
 ///
 /// # Errors
 ///
@@ -99,7 +99,8 @@ pub fn push<L: List<T>, T: Item, S: Source<T>>(
     Ok(sum)
 }
 
-/// Pushes `size` numbers onto a new list, and then pops all of them, `times` times.
+/// Makes a new list, pushes `size` numbers onto it, and then pops all of them. Does this `times`
+/// times.
 ///
 /// # Errors
 ///
@@ -155,7 +156,7 @@ impl<L: Numbers> Make<L> for ExtendUnhinted {
     }
 }
 
-/// Extends a new list by the items of a filter, which yields the even numbers of a slice.
+/// Extends a new list by the even numbers of a slice. The iterator skips the other numbers.
 pub struct ExtendFilter;
 
 impl<L: Numbers> Make<L> for ExtendFilter {
@@ -167,7 +168,7 @@ impl<L: Numbers> Make<L> for ExtendFilter {
     }
 }
 
-/// Makes a list with enough capacity, and extends it by the two halves of a slice, in two calls of
+/// Makes a list with enough capacity. Then extends it by the two halves of a slice, in two calls of
 /// `extend`.
 pub struct ExtendTwice;
 
@@ -202,7 +203,7 @@ impl<L: Numbers> Make<L> for ExtendSlice {
     }
 }
 
-/// Extends a new list by copies of sixteen items at a time.
+/// Extends a new list several times, each time by copies of sixteen items.
 pub struct ExtendSixteen;
 
 impl<L: Numbers> Make<L> for ExtendSixteen {
@@ -238,7 +239,7 @@ impl<L: Numbers> Make<L> for Copied {
     }
 }
 
-/// Writes five bytes to a new list, `size` times, and repeats this `times` times.
+/// Makes a new list, and writes five bytes to it in each of `size` calls. Does this `times` times.
 ///
 /// # Errors
 ///
@@ -258,7 +259,7 @@ pub fn write_five<L: List<u8> + Write>(alloc: Global, size: usize, times: usize)
     Ok(sum)
 }
 
-/// Fills a list, and consumes it from the front by `into_iter`, `times` times.
+/// Fills a list, and consumes it from the front by `into_iter`. Does this `times` times.
 ///
 /// # Errors
 ///

@@ -32,7 +32,7 @@ pub fn run_many<F: Family>(alloc: Global, workload: Many, size: usize, times: us
     }
 }
 
-/// Makes a list of `size` empty lists, and reads all of them, `times` times.
+/// Makes a list of `size` empty lists, and reads all of them. Does this `times` times.
 ///
 /// # Errors
 ///
@@ -50,8 +50,8 @@ pub fn empty_lists<L: List<N>, N: List<u64>>(alloc: Global, size: usize, times: 
     Ok(sum)
 }
 
-/// Makes a list of `size` lists, and reads all of them, `times` times. Every sixteenth of these
-/// lists has three items, and the others are empty.
+/// Makes a list of `size` lists, and reads all of them. Every sixteenth of these lists has three
+/// items, and the others are empty. Does this `times` times.
 ///
 /// # Errors
 ///
@@ -86,8 +86,8 @@ fn items_of<L: List<u64>>(lists: &[L]) -> u64 {
     sum
 }
 
-/// Makes a list of `size` styles, each a list of at most four rules, and counts the styles that are
-/// equal to the style before them. Repeats this `times` times.
+/// Makes a list of `size` styles, and counts the styles that equal the preceding style. A style is
+/// a list of at most four rules. Does this `times` times.
 ///
 /// # Errors
 ///
@@ -105,7 +105,7 @@ pub fn styles<L: List<S>, S: List<u32>>(alloc: Global, size: usize, times: usize
     Ok(sum)
 }
 
-// Makes a style with up to three rules. Every second style with three rules gets one more rule at
+// Makes a style with up to three rules. Every second style with three rules gets a fourth rule at
 // the front.
 fn style<S: List<u32>>(alloc: Global, number: usize) -> Result<S, AllocError> {
     let mut style = S::new(alloc);
@@ -118,7 +118,7 @@ fn style<S: List<u32>>(alloc: Global, number: usize) -> Result<S, AllocError> {
     Ok(style)
 }
 
-// Returns the number of styles that are equal to the style before them.
+// Returns the number of styles that equal the preceding style.
 fn repeated<S: List<u32>>(styles: &[S]) -> u64 {
     let mut same = 0u64;
     for at in 1..styles.len() {
@@ -129,8 +129,8 @@ fn repeated<S: List<u32>>(styles: &[S]) -> u64 {
     same
 }
 
-/// Pushes `size` steps, each a list of two bytes, and pops the last step after every fifth push.
-/// Repeats this `times` times.
+/// Pushes `size` steps onto a list, and pops the last step after every fifth push. A step is a list
+/// of two bytes. Does this `times` times.
 ///
 /// # Errors
 ///
@@ -156,8 +156,8 @@ pub fn undo<L: List<B>, B: List<u8>>(alloc: Global, size: usize, times: usize) -
     Ok(sum)
 }
 
-/// Builds a tree of the depth `depth`, in which each node above the leaves has `width` children,
-/// and visits all its nodes, `times` times.
+/// Builds a tree of depth `depth`, and visits all its nodes. Each node that is not a leaf has
+/// `width` children. Does this `times` times.
 ///
 /// # Errors
 ///

@@ -5,7 +5,7 @@ use crate::workloads::growing::Growing;
 use crate::workloads::many::Many;
 use crate::workloads::tables::Tables;
 
-/// A workload. Each variant is for the workloads that one file defines.
+/// A workload. Each variant contains the workloads that one file defines.
 #[derive(Clone, Copy)]
 pub enum Workload {
     Growing(Growing),
@@ -98,7 +98,7 @@ const WORKLOADS: [(&str, Workload); 65] = [
     ("table_get", Workload::Tables(Tables::TableGet)),
 ];
 
-/// Returns the workload with the name `name`, if there is one.
+/// Returns the workload with the name `name`, or `None` if there is no such workload.
 pub fn named(name: &str) -> Option<Workload> {
     for (known, workload) in &WORKLOADS {
         if *known == name {

@@ -5,10 +5,11 @@ use std::alloc::{AllocError, Global};
 
 /// The work that a workload does on a list again and again.
 pub trait Work<L, T> {
-    /// Does the work once. Returns `sum` after mixing the removed items into it.
+    /// Does the work once. Returns `sum`, into which some kinds of work mix the items that they
+    /// remove.
     ///
-    /// `refilled` passes the length of the list as `number`, and `repeated` passes how often the
-    /// work was done before.
+    /// The meaning of `number` depends on the caller. `refilled` passes the length of the list.
+    /// `repeated` passes how often the work was done before.
     ///
     /// # Errors
     ///
@@ -16,7 +17,7 @@ pub trait Work<L, T> {
     fn work(list: &mut L, alloc: Global, number: usize, sum: u64) -> Outcome;
 }
 
-/// Does no work: the workload only fills a list.
+/// Does no work, so that the workload only fills a list.
 pub struct Idle;
 
 impl<L, T> Work<L, T> for Idle {
@@ -26,7 +27,7 @@ impl<L, T> Work<L, T> for Idle {
     }
 }
 
-/// Clears a list, and pushes `size` items onto it. The list keeps its block if its capacity is
+/// Clears a list, and pushes `size` items onto it. The list keeps its allocation if its capacity is
 /// large enough.
 ///
 /// # Errors
@@ -45,7 +46,7 @@ pub fn refill<L: List<T>, T: Drop, S: Source<T>>(
     Ok(())
 }
 
-/// Makes a list, and then refills it and does the work `W` on it, `times` times.
+/// Makes a list. Then, `times` times, refills the list and does the work `W` on it.
 ///
 /// # Errors
 ///
@@ -80,7 +81,7 @@ pub fn filled<L: List<u64>>(alloc: Global, size: usize) -> Result<L, AllocError>
     Ok(list)
 }
 
-/// Fills a list once, and does the work `W` on it `times` times.
+/// Fills a list once, and then does the work `W` on it `times` times.
 ///
 /// # Errors
 ///
@@ -97,8 +98,8 @@ pub fn repeated<L: Numbers, W: Work<L, u64>>(alloc: Global, size: usize, times: 
 
 /// The way in which a workload makes a new list.
 pub trait Make<L> {
-    /// Makes a new list, either of the length `size` or from the items of `source`, whose length is
-    /// `size`.
+    /// Makes a new list. The list either has the length `size`, or is made from the items of
+    /// `source`. The length of `source` is `size`.
     ///
     /// # Errors
     ///
@@ -106,7 +107,7 @@ pub trait Make<L> {
     fn make(alloc: Global, size: usize, source: &L) -> Result<L, AllocError>;
 }
 
-/// Makes a new list by `M`, `times` times.
+/// Makes a new list in the way `M`. Does this `times` times.
 ///
 /// # Errors
 ///

@@ -27,7 +27,7 @@ pub fn run_tables<F: Family>(
     }
 }
 
-/// Makes a table with `size` entries, and reads one of them, `times` times.
+/// Makes a table with `size` entries, and reads one of the entries. Does this `times` times.
 ///
 /// # Errors
 ///
@@ -42,8 +42,8 @@ pub fn set_all<C: Table>(alloc: Global, size: usize, times: usize) -> Outcome {
     Ok(sum)
 }
 
-/// Makes a table with `size` entries, and then reads all entries `times` times. They are read in an
-/// order that is neither that of the rows nor that of the writes.
+/// Makes a table with `size` entries, and then reads all entries `times` times. The entries are
+/// read neither row by row nor in the order in which they were written.
 ///
 /// # Errors
 ///
@@ -61,8 +61,8 @@ pub fn get_all<C: Table>(alloc: Global, size: usize, times: usize) -> Outcome {
     Ok(sum)
 }
 
-// Makes a table with an entry at each of the first `size` places, counted row by row. This needs a
-// `size` that is not a multiple of 7919. The entries are not written in the order of the places.
+// Makes a table with an entry at each of the first `size` places, counted row by row. The entries
+// are written in a different order. If `size` is a multiple of 7919, some places get no entry.
 #[inline(never)]
 fn filled_table<C: Table>(alloc: Global, size: usize) -> Result<C, AllocError> {
     let mut table = C::with_rows(alloc, size / 30 + 1)?;

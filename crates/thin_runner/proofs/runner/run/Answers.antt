@@ -1,4 +1,5 @@
--- Each turn of the loop carries out one more command, and after the loop all commands have run.
+-- Each iteration of the loop in `run` carries out one command. So after the loop, all commands have
+-- run, and the main theorem holds.
 use Rattle.std.proofs.Common.{◌≡◌, ◌∷◌, [], ap, arith, length, rules}
 use Rattle.std.specs.Vec.Iter.{into_iter_items}
 use Rattle.std.proofs.lemmas.List.{nil_from_length}

@@ -1,5 +1,5 @@
--- There is room for the replies to the commands that are left, and the commands before those that
--- are left have run.
+-- The loop in `run` has carried out all commands that it has taken from the vector. The vector
+-- `replies` has room for the replies to the remaining commands.
 use Rattle.std.proofs.Common.{◌≤◌, ◌+◌, length, vec_len}
 use Rattle.std.specs.Vec.{vec_capacity}
 use Rattle.std.specs.Vec.Iter.{into_iter_items}

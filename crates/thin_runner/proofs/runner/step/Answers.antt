@@ -1,5 +1,6 @@
--- Each arm of the `match` calls a method of `Setting`. Rewriting with the equation for the matched
--- command turns the clause `allowed` of this method into the clause `allowed` of `step`.
+-- In `step`, each arm of the `match` calls the method of `Setting` for its command. The clause
+-- `allowed` of this method implies the clause `allowed` of `step`, because `command` equals the
+-- pattern of the arm.
 use Rattle.thin_runner.proofs.runner.step.Goals as goal
 
 pub returns-in-Push : goal.returns-in-Push

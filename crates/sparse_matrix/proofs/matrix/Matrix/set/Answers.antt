@@ -1,5 +1,5 @@
--- If `set` succeeds, the matrix has `number` at `row` and `column`, and its other numbers are
--- unchanged.
+-- If `set` succeeds, then the matrix contains `number` at `row` and `column`, and all its other
+-- numbers are unchanged.
 use Rattle.std.proofs.Common.{arith}
 use Rattle.sparse_matrix.proofs.NumberLemmas.{number-with_value, number-without_value, small_if_written, still_small}
 use Rattle.sparse_matrix.proofs.matrix.Matrix.set.Goals as goal

@@ -1,5 +1,5 @@
--- Each row that the loop in `sum` has computed is the sum of the same rows of both matrices. All
--- other rows of the result are zeros.
+-- Each row that the loop in `sum` has computed is the sum of the corresponding rows of the two
+-- matrices. All other rows of the result contain only zeros.
 use Rattle.std.proofs.Common.{◌≡◌, ℕ, ◌<◌, ◌≤◌, length}
 use Rattle.sparse_matrix.specs.Numbers.{added, number_at}
 use Rattle.sparse_matrix.proofs.matrix.Matrix.sum.Given as goal

@@ -1,5 +1,5 @@
--- Each column of the result that the loop has written is the row of this matrix with the same
--- index. All other columns of the result are zeros.
+-- Each column that the loop in `transposed` has written equals the row of `self` with the same
+-- index. All other columns of the result contain only zeros.
 use Rattle.std.proofs.Common.{◌≡◌, ℕ, ◌<◌, ◌≤◌, length}
 use Rattle.sparse_matrix.specs.Numbers.{number_at}
 use Rattle.sparse_matrix.proofs.matrix.Matrix.transposed.Given as goal

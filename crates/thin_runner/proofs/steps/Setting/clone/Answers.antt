@@ -1,4 +1,4 @@
--- The clone has the same length as the list, and its capacity is this length.
+-- A clone has the same length as the original list, and its capacity equals its length.
 use Rattle.std.proofs.Common.{arith, rules}
 use Rattle.std.proofs.lemmas.List.Elements.{length_all_zip}
 use Rattle.thin_runner.proofs.steps.Setting.clone.Goals as goal

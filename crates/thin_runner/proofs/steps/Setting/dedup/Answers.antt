@@ -1,4 +1,5 @@
--- `dedup` leaves the items that the stateless test `==` keeps.
+-- `dedup` compares items by `==`, which has no state. So the lemma `deduped-alike` determines the
+-- resulting list.
 use Rattle.std.proofs.Common.{rules}
 use Rattle.thin_runner.proofs.JudgedLemmas.{deduped-alike}
 use Rattle.thin_runner.proofs.steps.Setting.dedup.Goals as goal

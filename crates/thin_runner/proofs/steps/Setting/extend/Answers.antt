@@ -1,5 +1,5 @@
--- Together, the items placed, the item in hand and the items of `rest` are all items of the
--- iterator.
+-- No item of the iterator is lost: after a failed `extend`, each item is in the list, in `in_hand`,
+-- or in `rest`.
 use Rattle.std.proofs.Common.{rules, ◌≡◌, ◌++◌, ◌+◌, ap, arith, length, subst, sym, ◌∙◌, append_assoc}
 use Rattle.std.proofs.lemmas.Bool.{false≢true}
 use Rattle.std.specs.Iterator.{Count, at_most, size}

@@ -1,4 +1,5 @@
--- The slice has the items of the vector, so the failure clauses for the slice hold for the vector.
+-- The slice has the same items as the vector. So the clauses about a failed call hold for the
+-- vector, too.
 use Rattle.std.proofs.Common.{Err, ap, arith, length}
 use Rattle.thin_vec.specs.ThinVec.{HasRoomFor}
 use Rattle.thin_runner.proofs.CommandLemmas.{refuses-clone, some-items}

@@ -1,5 +1,5 @@
--- Each call of `next` asks the judge in the state of the closure. The items that were not tested
--- are kept when the `ExtractIf` is dropped.
+-- Each call of `next` asks the judge that is in the state of the closure. When the `ExtractIf` is
+-- dropped, the items that have not been tested are kept.
 use Rattle.std.proofs.Common.{ℕ, ◌≡◌, ◌+◌, ◌-◌, ◌++◌, ◌∷◌, [], false, suc, take, slice_range, ap, arith, refl, rules, sym, ◌∙◌, append_assoc}
 use Rattle.std.proofs.lemmas.List.{append-nil}
 use Rattle.thin_vec.specs.Edits.ExtractIf.{extract_callee, extract_rest, extract_tail}

@@ -1,5 +1,5 @@
--- The results of the calls of `next` made so far, followed by the results of the calls that are
--- left, are the results of all `count` calls.
+-- The results of all `count` calls of `next` are the results so far, followed by the results that
+-- the remaining calls will return.
 use Rattle.std.proofs.Common.{◌≡◌, ◌++◌, ◌≤◌, ◌+◌, ◌-◌, drop, take, false, slice_range, vec_len}
 use Rattle.std.specs.Vec.{vec_capacity}
 use Rattle.thin_vec.specs.Edits.ExtractIf.{extract_alloc, extract_callee, extract_capacity, extract_cost, extract_front, extract_gone, extract_lender, extract_rest, extract_tail}

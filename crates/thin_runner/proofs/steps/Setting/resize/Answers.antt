@@ -1,4 +1,5 @@
--- Whether `resize` succeeds or fails, its contract implies what `Steps` states for the command.
+-- The contract of `resize` implies what `Steps` states about the command `Resize`, both on success
+-- and on failure.
 use Rattle.std.proofs.Common.{rules}
 use Rattle.thin_runner.proofs.steps.Setting.resize.Goals as goal
 

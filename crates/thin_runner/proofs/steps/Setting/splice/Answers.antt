@@ -1,5 +1,5 @@
--- The items placed, the items held, the item in hand and the items of `rest` together are all items
--- of the iterator.
+-- No item of the iterator is lost: after a failed splice, each item is in the list, in `held`, in
+-- `in_hand`, or in `rest`.
 use Rattle.std.proofs.Common.{rules, inl, inr, ◌≡◌, ◌≤◌, ◌+◌, ◌-◌, ◌++◌, ◌∙◌, ap, arith, length, length-append, subst, sym}
 use Rattle.std.proofs.lemmas.Bool.{false≢true}
 use Rattle.std.specs.Iterator.{at_most, size}

@@ -1,4 +1,5 @@
--- Whether `split_off` succeeds or fails, its contract implies what `Steps` states for the command.
+-- The contract of `split_off` implies what `Steps` states about the command `SplitOff`, both on
+-- success and on failure.
 use Rattle.std.proofs.Common.{rules, arith}
 use Rattle.std.proofs.lemmas.Grind.{common_steps}
 use Rattle.thin_runner.proofs.steps.Setting.split_off.Goals as goal

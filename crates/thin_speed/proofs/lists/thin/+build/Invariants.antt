@@ -1,4 +1,5 @@
--- `build` calls itself with a smaller depth; inside its loop, the depth is greater than 0.
+-- The recursion of `build` terminates, because `build` calls itself only with a smaller depth.
+-- Inside the loop of `build`, the depth is greater than 0.
 use Rattle.std.proofs.Common.{◌<◌}
 use Rattle.thin_speed.proofs.lists.thin.+build.Given as goal
 
