@@ -8,8 +8,8 @@ use std::alloc::Allocator;
 use thin_vec::{Growth, Rejected, ThinVec};
 
 /// Returns `start + count`, the index after the `count` items that begin at `start`. The sum cannot
-/// overflow, because the precondition `within` limits the length to `isize::MAX`. Every method of
-/// `ThinVec` ensures this condition.
+/// overflow, because the precondition `within` limits the length to `isize::MAX`. The contracts of
+/// the methods of `ThinVec` ensure this limit.
 pub fn run_end<T, A: Allocator, G: Growth>(
     list: &ThinVec<T, A, G>,
     start: usize,
