@@ -1,5 +1,5 @@
--- This file proves that equal values may be substituted in a statement about the items of a list
--- after a splice.
+-- This file proves that a statement about the items of a list after a splice remains true if its
+-- values are replaced with equal values.
 use Rattle.std.proofs.Common.{Option, subst, ◌≡◌, List, ◌++◌}
 use Rattle.std.specs.Iterator.Runs.{WholeRun}
 use Rattle.std.specs.Prelude.{OnOk}

@@ -1,5 +1,5 @@
-//! The counter that a worked row uses. A worked row compares the results of calls with values that
-//! were worked out by hand.
+//! The counter that a worked row uses to count its comparisons. A worked row compares the results
+//! of calls with values that were worked out by hand.
 use std::alloc::Allocator;
 use thin_vec::{Growth, ThinVec};
 

@@ -1,5 +1,5 @@
 //! Example functions that carry out commands on a list. Their contracts say which items the list
-//! has afterwards. The contracts follow from the main theorem of `thin_runner`.
+//! has afterwards. The contracts follow from the main theorem of the crate `thin_runner`.
 ghost use Rattle.std.specs.Prelude.{◌≡◌, [], ◌∷◌, ◌++◌, All, OnOk, fold};
 ghost use Rattle.thin_vec.specs.List.Clones.{ClonesEqual};
 ghost use Rattle.thin_runner.specs.Plain.{items_after};
@@ -12,7 +12,7 @@ use thin_runner::judge::Judge;
 use thin_runner::runner::run;
 use thin_vec::{Growth, ThinVec, ThinVecError};
 
-/// Carries out four commands on `list`, which push 1, 2 and 3, and then pop one item. If the list
+/// Pushes 1, 2 and 3 to `list`, and then pops one item, by carrying out four commands. If the list
 /// is empty before the call, it contains 1 and 2 after the call.
 ///
 /// # Errors
@@ -37,9 +37,9 @@ pub fn one_and_two<A: Allocator + Copy, J: Judge<u64>>(
 ///
 /// # Errors
 ///
-/// If a call on the list fails, the commands after it are still carried out, and `carry_out` then
-/// returns the cause of the first failure. If there is no memory for the replies, `carry_out` fails
-/// and carries out no command.
+/// If a command fails, the later commands are still carried out, and `carry_out` returns the cause
+/// of the first failure. If there is no memory for the replies, `carry_out` fails and carries out
+/// no command.
 pub fn carry_out<T: Clone + Eq, A: Allocator + Copy, G: Growth, J: Judge<T>>(
     alloc: A,
     list: &mut ThinVec<T, A, G>,

@@ -75,8 +75,8 @@ pub trait Keeper<T>: Copy {
         ensures { keeps self.old item.old ≡ (result, (item.new, self.new)) };
 }
 
-/// Removes the items for which the keeper returns false. The keeper may write to the items that
-/// remain. It is a copy of `keeper`, so `keeper` itself does not change.
+/// Removes the items for which a copy of `keeper` returns false. The copy may write to the items.
+/// The value `keeper` itself does not change.
 pub fn keep_by<T: Copy, A: Allocator, G: Growth, J: Keeper<T>>(
     list: &mut ThinVec<T, A, G>,
     keeper: &J,

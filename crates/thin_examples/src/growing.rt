@@ -6,8 +6,8 @@ ghost use Rattle.thin_vec.specs.ThinVec.{HasRoomFor, IsCause, capacity_for};
 use std::alloc::{AllocError, Allocator};
 use thin_vec::{Growth, ThinVec, ThinVecError};
 
-/// Halves each number, rounds it down, and returns a list of the halves in the same order. Returns
-/// `None` if there is no memory for the list.
+/// Halves each number, rounds the result down, and returns a list of the results in the same order.
+/// Returns `None` if there is no memory for the list.
 pub fn halves<A: Allocator>(alloc: A, numbers: &[u32]) -> Option<ThinVec<u32, A>>
     ensures succeeds_empty { length numbers.now ≡ 0 → IsSome result }
     ensures items { IfSome result (λ list. list.items ≡ map (λ number. number / 2) numbers.now) }
@@ -85,12 +85,12 @@ pub fn joined<A: Allocator>(
     Ok(list)
 }
 
-/// Returns a copy of `list`, followed by the numbers of `more`. The copy uses the allocator
-/// `alloc`.
+/// Returns a list of the numbers of `list`, followed by the numbers of `more`. The new list uses
+/// the allocator `alloc`.
 ///
 /// # Errors
 ///
-/// Fails if there is no memory for the copy.
+/// Fails if there is no memory for the new list.
 pub fn continued<A: Allocator, G: Growth>(
     list: &ThinVec<u32, A, G>,
     alloc: A,
@@ -179,7 +179,7 @@ pub fn take_all<T, A: Allocator, G: Growth>(
     ensures succeeds { HasRoomFor list.old (length other.old.items) → IsOk result }
     ensures succeeds_empty { other.old.items ≡ [] → IsOk result }
 
-    // On failure, the error is the cause, and neither list changes.
+    // On failure, the call returns the cause, and neither list changes.
     ensures overflow { capacity_for G.rule T.row list.old (length other.old.items) ≡ None
         → IsErrOf result ThinVecError.CapacityOverflow }
     ensures cause { IfErr result

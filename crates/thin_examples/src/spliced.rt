@@ -8,8 +8,8 @@ use thin_vec::{Growth, SpliceRefused, ThinVec};
 
 /// Replaces the items at the indices `range.0..range.1` with the items that `iter` yields.
 ///
-/// The function is generic in the iterator. If the iterator of a splice borrows, as an iterator
-/// over a slice does, the splice is proved by a call of a generic function like this one.
+/// The function is generic in the iterator. To prove a splice with an iterator that borrows, such
+/// as an iterator over a slice, call a generic function like this one.
 ///
 /// # Errors
 ///

@@ -18,13 +18,13 @@ counted judge = record judge { offset = (judge.offset + judge.stride) % 2 ^ 64 }
 abbrev pub written : DivisorJudge → ℕ → ℕ
 written judge x = (x + judge.added) % 2 ^ 64
 
--- `chooses judge x` says whether the judge chooses the item `x`. The judge chooses `x` if its
--- divisor divides `number_for judge x`.
+-- `chooses judge x` is true if the divisor of the judge divides `number_for judge x`. In this case,
+-- the judge chooses the item `x`.
 abbrev pub chooses : DivisorJudge → ℕ → Bool
 chooses judge x = number_for judge x % judge.divisor == 0
 
 -- `judging` contains one function for each method of the trait `Judge`. Each function says what the
--- method returns for a `DivisorJudge`, and what it writes.
+-- method returns, and what the method writes to the items.
 abbrev pub judging : Judging ℕ DivisorJudge
 judging = record {
   look = λ judge x. (chooses judge x, counted judge);

@@ -10,8 +10,8 @@ use thin_runner::judge::Judge;
 /// decisions.
 ///
 /// The number that is divided is the item plus `stride` times the number of earlier decisions.
-/// After the decision, the judge adds `added` to the item if it may change the item. All sums are
-/// modulo 2^64.
+/// After the decision, the judge adds `added` to the item if the judge may change the item. All
+/// sums are modulo 2^64.
 #[derive(Clone, Copy)]
 pub struct DivisorJudge {
     divisor: u64,

@@ -8,9 +8,9 @@ use std::alloc::Global;
 /// A line of the input.
 #[derive(Drop)]
 pub enum Line {
-    /// The line `help`, which prints the forms that a line can have.
+    /// The line `help`. It makes the program print the forms that a line can have.
     Help,
-    /// The line `new`, which drops the list and makes a new one.
+    /// The line `new`. It makes the program drop the list and make a new list.
     New,
     /// Any other line. Such a line describes a command.
     Carry(Call),

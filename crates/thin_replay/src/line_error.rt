@@ -3,8 +3,8 @@
 use std::alloc::AllocError;
 use thiserror::Error;
 
-/// The reason why a line of the input is wrong. The words in capitals in the messages are the words
-/// in capitals in the forms that `help` prints.
+/// The reason why a line of the input is wrong. The messages contain words in capitals, such as
+/// `INDEX`, from the forms that `help` prints.
 #[derive(Debug, Drop, Error)]
 pub enum LineError {
     /// The first word is not the name of a command.
@@ -15,7 +15,7 @@ pub enum LineError {
     #[error("the form is `{0}`")]
     WrongForm(&'static str),
     /// A word that must be a number is not a number, or is greater than 2^64 - 1. The field is the
-    /// name of this word in the form of the line.
+    /// name of this word in the form of the line, such as `INDEX`.
     #[error("{0} is not a number from 0 to 18446744073709551615")]
     NotANumber(&'static str),
     /// The divisor of a judge is 0.

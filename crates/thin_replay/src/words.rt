@@ -8,15 +8,15 @@ use std::alloc::{AllocError, Global};
 use thin_runner::command::Step;
 use thin_vec::ThinVec;
 
-/// Parses a word as an item of the list, which is a number.
+/// Parses a word as an item of the list. All items are numbers.
 pub fn item_of(word: &str) -> Result<u64, LineError>
     ensures parses { ParsesUnsigned 64 10 word.now result }
 {
     number_of(word, "ITEM")
 }
 
-/// Parses a word as a number. If the word is not a number, the error says so, and calls the word
-/// `name`.
+/// Parses a word as a number. Fails if the word is not a number. The error calls the word by its
+/// name `name`, such as `ITEM`.
 pub fn number_of(word: &str, name: &'static str) -> Result<u64, LineError>
     ensures parses { ParsesUnsigned 64 10 word.now result }
 {
@@ -26,8 +26,8 @@ pub fn number_of(word: &str, name: &'static str) -> Result<u64, LineError>
     }
 }
 
-/// Parses a word as an index or a count. If the word is not a number, the error says so, and calls
-/// the word `name`.
+/// Parses a word as an index or a count. Fails if the word is not a number. The error calls the
+/// word by its name `name`, such as `INDEX`.
 pub fn count_of(word: &str, name: &'static str) -> Result<usize, LineError>
     ensures parses { ParsesUnsigned 64 10 word.now result }
 {

@@ -23,8 +23,8 @@ fn is_even(item: i32) -> bool {
     item.wrapping_rem(2) == 0
 }
 
-/// Checks that an `ExtractIf` extracts one item of a range, and changes no other item when it is
-/// dropped after that.
+/// Checks that an `ExtractIf` yields one item of a range, and that dropping the `ExtractIf`
+/// afterwards removes no other item.
 pub fn row_8<A: Allocator + Copy>(alloc: A) -> Outcome {
     let mut checks = Checks::new();
     let mut list = listed(alloc, [1, 2, 3, 4, 5, 6])?;
@@ -53,8 +53,8 @@ pub fn row_9<A: Allocator + Copy>(alloc: A) -> Outcome {
     Ok(checks)
 }
 
-/// Checks `bounds` for a list of five items. It returns the start and the end of the range that two
-/// `Bound`s describe, or `None` if this range is not in the list.
+/// Checks `bounds` for a list of five items. The function must return the start and the end of the
+/// range that two `Bound`s describe, or `None` if the list has no such range.
 pub fn row_18<A: Allocator + Copy>(_alloc: A) -> Outcome {
     let mut checks = Checks::new();
     for (start, end, wanted) in [

@@ -62,7 +62,7 @@ fn hash_of<A: Allocator>(list: &ThinVec<i32, A>) -> u64 {
     hasher.finish()
 }
 
-// Makes one list of the items `left` and one of the items `right`. Checks that comparing the two
+// Makes a list of the items `left` and a list of the items `right`. Checks that comparing the two
 // lists with `cmp` returns `order`.
 fn check_order<A: Allocator + Copy>(
     checks: &mut Checks,

@@ -8,8 +8,8 @@ use std::iter::{empty, once};
 use thin_runner::hinted::Hinted;
 use thin_vec::{SpliceRefused, ThinVec, ThinVecError};
 
-// Replaces two of five items with the three items of an iterator, and checks the list and its
-// capacity. The size hint of the iterator claims at least `claim` items.
+// Replaces two of five items with the three items of an iterator, and checks the items and the
+// capacity of the list. The size hint of the iterator claims at least `claim` items.
 fn check_claimed<A: Allocator + Copy>(
     checks: &mut Checks,
     alloc: A,

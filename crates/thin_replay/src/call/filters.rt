@@ -34,7 +34,7 @@ pub fn parse(words: &[&str]) -> Result<Option<Call>, LineError>
 }
 
 // Returns the command with the name `name` if a line with this command consists of the name and
-// three words that describe the judge. Otherwise, returns `None`.
+// three words that describe a judge, which decides about items. Otherwise, returns `None`.
 fn filter(name: &str) -> Option<Command<u64>>
     ensures filter { IfSome result (IsFilter name.now) }
 {

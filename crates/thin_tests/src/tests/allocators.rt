@@ -105,8 +105,8 @@ fn move_by_way(
 }
 
 // Moves a list of `items` to another allocator by each of the six functions that `move_by_way`
-// calls. Asserts after each move that nothing is allocated by the list's own allocator, and that
-// one block is allocated by the other allocator.
+// calls. Asserts after each move that the list's own allocator has no allocated block, and that the
+// other allocator has one allocated block.
 fn assert_each_way_moves_the_block(rt: &impl Abort, alloc: Global, items: &[i32]) {
     let own = refusing_nth(rt, alloc, 0);
     let other = refusing_nth(rt, alloc, 0);

@@ -57,8 +57,8 @@ fn dedup_by_key_drops_its_closure(rt: HostRuntime) {
 }
 
 // The closure of this test owns an `Rc`. The reference count of the `Rc` shows when the closure is
-// dropped. Here the closure cannot own a `Counted`, because a `Counted` borrows a cell, and the
-// borrow checker does not support a closure that borrows in this test.
+// dropped. The closure cannot own a `Counted`, because a `Counted` borrows a cell. The borrow
+// checker does not support a closure that borrows in this test.
 #[test]
 fn extract_if_drops_its_closure(rt: HostRuntime) {
     let kept = Rc::new(rt.alloc(), 2).ok().expect(&rt, "memory");

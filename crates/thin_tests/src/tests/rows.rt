@@ -8,10 +8,10 @@ use thin_examples::rows::{ROWS, row};
 use thin_testing::Refusing;
 use thin_vec::{ThinVec, thin_vec};
 
-// One line for each worked row: the number of the row, the number of values that the row compares,
-// and the number of requests for memory that it makes. These numbers were counted by hand. The
-// requests of row 35 are not counted, because `format!` of Rattle's library makes requests in this
-// row.
+// One line for each worked row: its number, the number of values that it compares, and the number
+// of its requests for memory. The numbers were counted by hand, so they expose a row that compares
+// too few values. For row 35, the number of requests is given as 0, because `format!` of Rattle's
+// library makes requests in this row.
 const COUNTS: &str = "\
     1: 5, 0\n\
     2: 12, 2\n\

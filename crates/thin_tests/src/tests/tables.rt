@@ -82,7 +82,7 @@ fn with_rows_returns_the_cause(rt: HostRuntime) {
     }
 }
 
-// Sets four values in row 0, which count their drops. The fourth value replaces the second value.
+// In row 0, sets four values that count their drops. The fourth value replaces the second value.
 fn set_counted<'a>(rt: &impl Abort, table: &mut Rows<Counted<'a>>, drops: &'a Cell<u32>) {
     for column in [3, 1, 2, 1] {
         assert_row(rt, table, 0);

@@ -7,7 +7,7 @@ ghost use Rattle.std.specs.Prelude.{◌≡◌, ◌*◌, ◌^◌, ◌<◌, [], �
 use std::alloc::Allocator;
 use thin_vec::{ThinVec, ThinVecError, thin_vec};
 
-/// Makes a list of three items of any type. No condition on the size of an item is needed.
+/// Makes a list of three items of any type. The function needs no condition on the size of an item.
 pub fn three<T: Drop, A: Allocator>(
     alloc: A,
     first: T,

@@ -1,4 +1,4 @@
--- If `all_granted` succeeds, then no reply reports a failed call. The reason is that its loop
+-- If `all_granted` succeeds, then no reply reports a failed call. The reason is that the function
 -- returns an error at the first reply that reports a failed call.
 use Rattle.std.proofs.Common.{◌≡◌, None, sym, ◌∙◌, ap, rules}
 use Rattle.std.proofs.lemmas.List.{get_or_default}

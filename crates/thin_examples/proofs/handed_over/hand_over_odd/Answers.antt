@@ -9,7 +9,7 @@ use Rattle.std.specs.Prelude.{filter, slice_range}
 use Rattle.thin_vec.proofs.EditLemmas.{extract_end, extract_start, extract_step, others}
 use Rattle.thin_examples.proofs.handed_over.hand_over_odd.Goals as goal
 
--- `odd number` is the result of the closure for `number`: whether `number` is odd.
+-- `odd number` is true if `number` is odd. The closure in `hand_over_odd` makes the same test.
 abbrev odd : ℕ → Bool
 odd number = number % 2 == 1
 

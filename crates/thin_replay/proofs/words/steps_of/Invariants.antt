@@ -1,5 +1,5 @@
--- This file contains the loop invariant of `steps_of`, which parses letters as steps, which are
--- calls of an iterator.
+-- This file contains the loop invariant of `steps_of`. This function parses each letter of a word
+-- as a step of an iterator.
 use Rattle.std.proofs.Common.{take}
 use Rattle.std.specs.List.{AllZip}
 use Rattle.thin_replay.specs.Words.{IsStep}
