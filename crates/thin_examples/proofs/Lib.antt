@@ -1,5 +1,6 @@
--- Lemmas, in one file for each subject: `retain` with a closure that keeps all items, splices,
--- syntax trees, keepers, and `dedup_by` with a closure that writes to the items.
+-- The modules contain lemmas about `retain` with a closure that keeps all items, about splices,
+-- about syntax trees, about `retain_mut`, and about `dedup_by` with a closure that changes the
+-- items.
 mod MovesLemmas
 mod SpliceLemmas
 mod TreeLemmas

@@ -1,4 +1,5 @@
--- Lemmas about `retain` with a closure that always returns true.
+-- If the closure of `retain` always returns true, then `retain` neither removes nor moves an item.
+-- The lemmas of this file prove this.
 use Rattle.std.proofs.Common.{◌≡◌, Bool, true, List, [], ◌∷◌, ap, sym, ◌∙◌}
 use Rattle.std.proofs.lemmas.List.{append-nil}
 use Rattle.thin_vec.proofs.RetainLemmas.{left_at-stay, moved_down-stay, moving-none}
@@ -8,22 +9,23 @@ use Rattle.thin_vec.specs.ThinVec.{Thin}
 
 module _ {S T : Type 0} (R : S → T → Bool → S → Type 0)
     (yes : (s : S) (x : T) (b : Bool) (t : S) → R s x b t → b ≡ true) where
-  -- if the closure always returns true, then its answers a about the items xs say that each item is
-  -- kept
+  -- If the closure always returns true, then the list `a` of its decisions about the items `xs`
+  -- says that each item is kept.
   all-stay : (s t : S) (xs : List T) (a : Verdicts T) → Asked (Looks R) s xs a t → a ≡ stay xs
   all-stay s t [] a h = h.0
   all-stay s t (x ∷ xs) a h =
       h.6
       ∙ (λ i. (yes s x h.0 h.2 h.4.0 i, h.4.1 i) ∷ all-stay h.2 t xs h.3 h.5 i)
 
-  -- if the closure always returns true, `retain` does not change the items
+  -- If the closure always returns true, then `retain` does not change the items.
   pub keeps-items : {A : Type 0} (s : S) (v w : Thin T A) → IsRetained (Looks R) s v w
       → w.items ≡ v.items
   keeps-items s v w r =
       r.1.items
       ∙ (ap (left_at true) (all-stay s r.0 v.items r.1.verdicts r.1.asked) ∙ left_at-stay v.items)
 
-  -- if the closure always returns true, `retain` does not change the cost: no item is moved
+  -- If the closure always returns true, then `retain` moves no item, so it does not change the
+  -- counters in `cost`.
   pub keeps-cost : {A : Type 0} (s : S) (v w : Thin T A) → IsRetained (Looks R) s v w
       → w.cost ≡ v.cost
   keeps-cost s v w r =

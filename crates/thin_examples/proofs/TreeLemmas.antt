@@ -1,10 +1,11 @@
--- A lemma about the number of nodes of a tree.
+-- This file proves how the number of nodes of a tree follows from the node counts of the children
+-- of its root.
 use Rattle.std.proofs.Common.{◌≡◌, ◌+◌, map, sum}
 use Rattle.thin_examples.specs.SyntaxTree.{children_of, count_step, node_count}
 use Rattle.thin_examples.specs.declared.syntax_tree.Node.{Node}
 use Rattle.thin_examples.specs.declared.syntax_tree.Node.TheFolds.{fold_out-Node}
 
--- the node count of a node is 1 plus the sum of the node counts of its children
+-- The node count of a node is 1 plus the sum of the node counts of its children.
 pub node_count_is : (node : Node) → node_count node ≡ 1 + sum
     (map node_count (children_of node).items)
 node_count_is = fold_out-Node _ count_step

@@ -1,7 +1,8 @@
--- The last decimal digit of a number, by which a `LastDigit` is compared.
+-- This file defines the last decimal digit of a number. Values of the type `LastDigit` are compared
+-- by this digit.
 use Rattle.std.specs.Prelude.{ℕ, ◌%◌}
 use Rattle.thin_examples.specs.declared.last_digits.LastDigit.{LastDigit}
 
--- the last decimal digit of the number
+-- `last_digit item` is the last decimal digit of the number in `item`.
 abbrev pub last_digit : LastDigit → ℕ
 last_digit item = item.number % 10

@@ -1,4 +1,5 @@
--- The definitions that the contracts use: of trees, last digits and the answers of keepers.
+-- The modules define what the contracts of this crate use. They are about syntax trees, last
+-- digits, and keepers, which decide for each item whether the item is kept.
 pub mod SyntaxTree
 pub mod LastDigits
 pub mod Keepers

@@ -1,9 +1,10 @@
-//! The counter of the comparisons that a worked row makes.
+//! The counter that a worked row uses to count its comparisons. A worked row compares the results
+//! of calls with values that were worked out by hand.
 use std::alloc::Allocator;
 use thin_vec::{Growth, ThinVec};
 
-/// Counts how many values a worked row has compared with values that were worked out by hand, and
-/// how many of them differ.
+/// Counts how many results were compared with expected values, and how many of these results were
+/// different from the expected values.
 #[derive(Clone, Copy)]
 pub struct Checks {
     compared: u32,
@@ -29,7 +30,7 @@ impl Checks {
         self.compared > 0 && self.wrong == 0
     }
 
-    /// Counts one comparison, whose result is `right`.
+    /// Counts one comparison. If `right` is false, also counts a difference.
     pub fn is(&mut self, right: bool) {
         self.compared = self.compared.saturating_add(1);
         if !right {
@@ -37,12 +38,13 @@ impl Checks {
         }
     }
 
-    /// Compares the value `found` with the expected value `wanted`.
+    /// Compares the value `found` with the expected value `wanted`, and counts this comparison.
     pub fn same<T: PartialEq + Drop>(&mut self, found: T, wanted: T) {
         self.is(found == wanted);
     }
 
-    /// Compares the items `found` with the expected items `wanted`, and the number of items too.
+    /// Compares the items of `found` with the expected items of `wanted`, one by one. Also compares
+    /// the lengths of the two slices.
     pub fn items<T: PartialEq>(&mut self, found: &[T], wanted: &[T]) {
         for (found, wanted) in found.iter().zip(wanted) {
             self.is(*found == *wanted);
@@ -50,7 +52,7 @@ impl Checks {
         self.is(found.len() == wanted.len());
     }
 
-    /// Compares the items, the length and the capacity of `list` with the expected ones.
+    /// Compares the items, the length and the capacity of `list` with the expected values.
     pub fn holds<T: PartialEq, A: Allocator, G: Growth>(
         &mut self,
         list: &ThinVec<T, A, G>,

@@ -1,5 +1,5 @@
-//! Callers that carry out commands on a list. By the main theorem of `thin_runner`, they promise
-//! which items the list has afterwards.
+//! Example functions that carry out commands on a list. Their contracts say which items the list
+//! has afterwards. The contracts follow from the main theorem of the crate `thin_runner`.
 ghost use Rattle.std.specs.Prelude.{◌≡◌, [], ◌∷◌, ◌++◌, All, OnOk, fold};
 ghost use Rattle.thin_vec.specs.List.Clones.{ClonesEqual};
 ghost use Rattle.thin_runner.specs.Plain.{items_after};
@@ -12,12 +12,12 @@ use thin_runner::judge::Judge;
 use thin_runner::runner::run;
 use thin_vec::{Growth, ThinVec, ThinVecError};
 
-/// Pushes 1, 2 and 3 and pops one item, by a run of commands. If the list is empty before the call,
-/// its items are 1 and 2 after the call.
+/// Pushes 1, 2 and 3 to `list`, and then pops one item, by carrying out four commands. If the list
+/// is empty before the call, it contains 1 and 2 after the call.
 ///
 /// # Errors
 ///
-/// Fails if there is no room for the commands or the replies, or if a call on the list fails.
+/// Fails if there is no memory for the commands or the replies, or if a call on the list fails.
 pub fn one_and_two<A: Allocator + Copy, J: Judge<u64>>(
     alloc: A,
     list: &mut ThinVec<u64, A>,
@@ -37,9 +37,9 @@ pub fn one_and_two<A: Allocator + Copy, J: Judge<u64>>(
 ///
 /// # Errors
 ///
-/// If calls on the list fail, `carry_out` fails with the cause of the first failed call. The
-/// commands after the failed call are carried out nevertheless. `carry_out` also fails if there is
-/// no room for the replies, and then no command is carried out.
+/// If a command fails, the later commands are still carried out, and `carry_out` returns the cause
+/// of the first failure. If there is no memory for the replies, `carry_out` fails and carries out
+/// no command.
 pub fn carry_out<T: Clone + Eq, A: Allocator + Copy, G: Growth, J: Judge<T>>(
     alloc: A,
     list: &mut ThinVec<T, A, G>,
@@ -58,7 +58,7 @@ pub fn carry_out<T: Clone + Eq, A: Allocator + Copy, G: Growth, J: Judge<T>>(
     }
 }
 
-// Fails if a reply reports a failed call, with the cause of the first failure.
+// Fails if a reply reports a failed call. The error is the cause of the first failure.
 fn all_granted<T, A: Allocator, G: Growth>(replies: &[Reply<T, A, G>]) -> Result<(), ThinVecError>
     ensures granted { OnOk result (All IsGranted replies.now) }
 {
@@ -70,7 +70,7 @@ fn all_granted<T, A: Allocator, G: Growth>(replies: &[Reply<T, A, G>]) -> Result
     Ok(())
 }
 
-// Appends `item` to `items`. Fails if there is no room for it.
+// Appends `item` to `items`. Fails if there is no memory for `item`.
 fn add<T: Drop, A: Allocator>(items: &mut Vec<T, A>, item: T) -> Result<(), ThinVecError>
     ensures items { OnOk result (items.new.items ≡ items.old.items ++ item ∷ []) }
 {

@@ -1,5 +1,5 @@
-//! Callers of `retain`, `retain_mut`, `dedup`, `dedup_by` and `dedup_by_key` that promise which
-//! items are left.
+//! Example functions that call `retain`, `retain_mut`, `dedup`, `dedup_by` or `dedup_by_key`. Their
+//! contracts say which items remain in the list.
 ghost use Rattle.std.specs.List.{dedup};
 ghost use Rattle.std.specs.List.Sorted.{IsSorted, IsStrictlyIncreasing};
 ghost use Rattle.std.specs.Ordering.{nat_cmp};
@@ -28,8 +28,8 @@ pub fn keep_distinct<A: Allocator, G: Growth>(list: &mut ThinVec<u32, A, G>)
     list.dedup();
 }
 
-/// Removes each number that agrees with the number kept before it in all digits except the last
-/// one, for example 17 after 12.
+/// Removes each number `later` with `later / 10 == kept / 10`, where `kept` is the last number that
+/// was kept before it. For example, 17 is removed after 12.
 pub fn keep_tens<A: Allocator, G: Growth>(list: &mut ThinVec<u32, A, G>)
     ensures items { list.new.items ≡ dedup (λ later kept. later / 10 == kept / 10) list.old.items }
     ensures capacity { list.new.capacity ≡ list.old.capacity }
@@ -37,7 +37,7 @@ pub fn keep_tens<A: Allocator, G: Growth>(list: &mut ThinVec<u32, A, G>)
     list.dedup_by_key(|number: &mut u32| *number / 10);
 }
 
-/// Removes each number that has the same last digit as the number kept before it.
+/// Removes each number that has the same last digit as the number that was kept before it.
 pub fn keep_last_digits<A: Allocator, G: Growth>(list: &mut ThinVec<u32, A, G>)
     ensures items { list.new.items ≡ dedup (λ later kept. later % 10 == kept % 10) list.old.items }
     ensures capacity { list.new.capacity ≡ list.old.capacity }
@@ -45,9 +45,9 @@ pub fn keep_last_digits<A: Allocator, G: Growth>(list: &mut ThinVec<u32, A, G>)
     list.dedup_by(|later: &mut u32, kept: &mut u32| *later % 10 == *kept % 10);
 }
 
-/// Halves each number, and removes each number whose half is equal to the half kept before it. The
-/// closure of `dedup_by` halves the later of two numbers, and then compares them. The first number
-/// is never the later one, so it is halved before the call of `dedup_by`.
+/// Halves each number, and then removes each half that equals the half that was kept before it. The
+/// closure of `dedup_by` halves the later of two numbers before it compares them. The first number
+/// of the list is never the later one, so it is halved before the call of `dedup_by`.
 pub fn halve_each<A: Allocator, G: Growth>(list: &mut ThinVec<u32, A, G>)
     ensures items { list.new.items
         ≡ dedup (λ later kept. later == kept) (map (λ number. number / 2) list.old.items) }
@@ -63,11 +63,11 @@ pub fn halve_each<A: Allocator, G: Growth>(list: &mut ThinVec<u32, A, G>)
     });
 }
 
-/// A keeper decides for each item of a list whether the item is kept. A keeper has a state, which
-/// each decision may change.
+/// A keeper decides for each item of a list whether the item is kept. Each decision may change the
+/// state of the keeper.
 pub trait Keeper<T>: Copy {
-    /// Maps a keeper and an item to the decision, the item as the keeper leaves it, and the keeper
-    /// with its next state.
+    /// Maps a keeper and an item to the decision, the value of the item after the decision, and the
+    /// keeper after the decision.
     ghost keeps: { Self → T → Bool × (T × Self) };
 
     /// Returns whether `item` is kept. The keeper may write to `item`.
@@ -75,8 +75,8 @@ pub trait Keeper<T>: Copy {
         ensures { keeps self.old item.old ≡ (result, (item.new, self.new)) };
 }
 
-/// Keeps the items for which a copy of `keeper` returns true, with the changes that the copy has
-/// made to these items.
+/// Removes the items for which a copy of `keeper` returns false. The copy may write to the items.
+/// The value `keeper` itself does not change.
 pub fn keep_by<T: Copy, A: Allocator, G: Growth, J: Keeper<T>>(
     list: &mut ThinVec<T, A, G>,
     keeper: &J,

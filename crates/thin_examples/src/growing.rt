@@ -1,13 +1,13 @@
-//! Callers that make a list, add items to a list, or change an item. Of their contracts, only that
-//! of `room_for_eight` needs a proof file.
+//! Example functions that make a list, add items to a list, or change an item. Only the contract of
+//! `room_for_eight` needs a hand-written proof.
 ghost use Rattle.std.specs.Prelude.{◌≡◌, ◌+◌, ◌/◌, ◌≤◌, ◌++◌, [], IfErr, IfOk, IfSome, IsErrOf, IsOk, IsSome, IsTrue, None, filter, length, map, nat_lt, OnErr, OnOk, ◌-◌, ◌<◌, replicate, slice_index, slice_set, take};
 ghost use Rattle.thin_vec.specs.ThinVec.{HasRoomFor, IsCause, capacity_for};
 
 use std::alloc::{AllocError, Allocator};
 use thin_vec::{Growth, ThinVec, ThinVecError};
 
-/// Returns a list of the halves of the numbers, rounded down, in order. Returns `None` if there is
-/// no room for the list.
+/// Halves each number, rounds the result down, and returns a list of the results in the same order.
+/// Returns `None` if there is no memory for the list.
 pub fn halves<A: Allocator>(alloc: A, numbers: &[u32]) -> Option<ThinVec<u32, A>>
     ensures succeeds_empty { length numbers.now ≡ 0 → IsSome result }
     ensures items { IfSome result (λ list. list.items ≡ map (λ number. number / 2) numbers.now) }
@@ -42,8 +42,8 @@ pub fn extend_below<A: Allocator, G: Growth>(
 ///
 /// # Errors
 ///
-/// Fails only if the allocator does. By the lemma `few_items`, a capacity of eight numbers cannot
-/// overflow.
+/// Fails only if the allocator fails. The lemma `few_items` shows that a capacity of eight numbers
+/// cannot overflow.
 pub fn room_for_eight<A: Allocator>(alloc: A) -> Result<ThinVec<u64, A>, ThinVecError>
     ensures capacity { IfOk result (λ list. list.capacity ≡ 8) }
     ensures cause { IfErr result (λ cause. cause ≡ ThinVecError.OutOfMemory) }
@@ -51,12 +51,12 @@ pub fn room_for_eight<A: Allocator>(alloc: A) -> Result<ThinVec<u64, A>, ThinVec
     ThinVec::with_capacity(alloc, 8)
 }
 
-/// Reserves room for eight more numbers in a list of fewer than a thousand.
+/// Reserves room for eight more numbers in a list of fewer than a thousand numbers.
 ///
 /// # Errors
 ///
-/// Fails only if the allocator does, and then nothing changes. By the lemma `few_more`, the
-/// capacity for so short a list cannot overflow.
+/// Fails only if the allocator fails. Then the list does not change. The lemma `few_more` shows
+/// that the capacity of such a short list cannot overflow.
 #[tactic(auto, using(thin_vec::proofs::FewLemmas::few_more))]
 pub fn reserve_eight<A: Allocator>(list: &mut ThinVec<u64, A>) -> Result<(), ThinVecError>
     requires few { length list.old.items < 1000 }
@@ -85,11 +85,12 @@ pub fn joined<A: Allocator>(
     Ok(list)
 }
 
-/// Makes a copy of `list` with the allocator `alloc`, and appends the numbers `more` to the copy.
+/// Returns a list of the numbers of `list`, followed by the numbers of `more`. The new list uses
+/// the allocator `alloc`.
 ///
 /// # Errors
 ///
-/// Fails if there is no room for the copy.
+/// Fails if there is no memory for the new list.
 pub fn continued<A: Allocator, G: Growth>(
     list: &ThinVec<u32, A, G>,
     alloc: A,
@@ -103,8 +104,9 @@ pub fn continued<A: Allocator, G: Growth>(
     Ok(copy)
 }
 
-/// Appends the numbers, and returns how many were appended: all of them, or those before the first
-/// one for which there was no room. The list keeps its old items.
+/// Appends the numbers in order, and returns how many of them were appended. If there is no room
+/// for one of the numbers, that number and the numbers after it are not appended. The list keeps
+/// its old items in every case.
 pub fn extend_by_number<A: Allocator, G: Growth>(
     list: &mut ThinVec<u32, A, G>,
     numbers: &[u32],
@@ -122,8 +124,8 @@ pub fn extend_by_number<A: Allocator, G: Growth>(
     }
 }
 
-/// Makes the text `len` bytes long: appends spaces to a shorter text, and removes the last bytes of
-/// a longer one.
+/// Makes the text `len` bytes long. Appends spaces to a shorter text, and removes bytes from the
+/// end of a longer text.
 ///
 /// # Errors
 ///
@@ -141,7 +143,7 @@ pub fn pad<A: Allocator, G: Growth>(
     Ok(())
 }
 
-/// Appends the bytes of `line`.
+/// Appends the bytes of `line` to `text`.
 ///
 /// # Errors
 ///
@@ -163,8 +165,8 @@ pub fn append_line<A: Allocator, G: Growth>(
 ///
 /// # Errors
 ///
-/// Fails with `CapacityOverflow` if the growth rule chooses no capacity for the items, and with
-/// `OutOfMemory` if the allocator fails. Then neither list changes.
+/// Fails with `CapacityOverflow` if the growth rule of `list` provides no capacity for so many
+/// items, and with `OutOfMemory` if the allocator fails. In both cases, neither list changes.
 pub fn take_all<T, A: Allocator, G: Growth>(
     list: &mut ThinVec<T, A, G>,
     other: &mut ThinVec<T, A, G>,
@@ -177,7 +179,7 @@ pub fn take_all<T, A: Allocator, G: Growth>(
     ensures succeeds { HasRoomFor list.old (length other.old.items) → IsOk result }
     ensures succeeds_empty { other.old.items ≡ [] → IsOk result }
 
-    // On failure: the cause, and that neither list changes.
+    // On failure, the call returns the cause, and neither list changes.
     ensures overflow { capacity_for G.rule T.row list.old (length other.old.items) ≡ None
         → IsErrOf result ThinVecError.CapacityOverflow }
     ensures cause { IfErr result
@@ -188,7 +190,8 @@ pub fn take_all<T, A: Allocator, G: Growth>(
     list.append(other)
 }
 
-/// Subtracts `less` from the first number, and returns the first number as it was before the call.
+/// Subtracts `less` from the first number of the list. Returns the value that this number had
+/// before the call.
 pub fn lower_first<A: Allocator, G: Growth>(list: &mut ThinVec<u32, A, G>, less: u32) -> u32
     requires some { 0 < length list.old.items }
     requires enough { less ≤ slice_index list.old.items 0 }

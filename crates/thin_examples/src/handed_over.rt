@@ -1,4 +1,5 @@
-//! Callers that append items to a list one by one, in a loop, after reserving room for them.
+//! Example functions that reserve room in a list, and then append items to the list one by one in a
+//! loop.
 ghost use Rattle.std.specs.Prelude.{◌≡◌, ◌-◌, ◌*◌, ◌%◌, ◌==◌, ◌≤◌, ◌++◌, IsOk, OnErr, OnOk, drop, filter, length, map, not, slice_range, take};
 ghost use Rattle.thin_vec.specs.ThinVec.{HasRoomFor};
 
@@ -34,7 +35,8 @@ pub fn hand_over<T: Drop, A: Allocator, G: Growth>(
     Ok(())
 }
 
-/// Does the same as `hand_over`, with explicit calls of `next`.
+/// Moves the items of `list` at the indices `start..end` to the end of `other`, like `hand_over`.
+/// The loop calls `next` explicitly.
 ///
 /// # Errors
 ///
@@ -89,8 +91,8 @@ pub fn hand_over_odd<A: Allocator, G: Growth>(
     Ok(())
 }
 
-/// Moves the odd numbers of `list` to the end of `odd`, and the others to the end of `even`. If the
-/// call fails, it drops `list`, and appends nothing.
+/// Moves the odd numbers of `list` to the end of `odd`, and the even numbers to the end of `even`.
+/// If the call fails, it drops all numbers of `list`, and appends none of them.
 ///
 /// # Errors
 ///
@@ -119,8 +121,8 @@ pub fn divide<A: Allocator, G: Growth>(
     Ok(())
 }
 
-/// Appends the doubles of `numbers` to `list`, in order. If the call fails, it appends nothing. It
-/// requests memory at most once.
+/// Doubles each number of `numbers`, and appends the results to `list`, in order. If the call
+/// fails, it appends nothing. The call requests memory at most once.
 ///
 /// # Errors
 ///

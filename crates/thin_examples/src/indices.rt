@@ -1,4 +1,5 @@
-//! Callers that add to indices, access items by index, and insert and remove an item.
+//! Example functions that compute with indices, access items by index, or insert and remove an
+//! item.
 ghost use Rattle.std.specs.List.{swap};
 ghost use Rattle.std.specs.Prelude.{◌≡◌, ◌+◌, ◌<◌, ◌≤◌, IfOk, length, replicate, slice_index};
 ghost use Rattle.thin_vec.specs.ThinVec.{IsWithin};
@@ -7,8 +8,8 @@ use std::alloc::Allocator;
 use thin_vec::{Growth, Rejected, ThinVec};
 
 /// Returns `start + count`, the index after the `count` items that begin at `start`. The sum cannot
-/// overflow, because the length is at most `isize::MAX`. This is the precondition `within`; every
-/// method of the list has a clause `within` that ensures it.
+/// overflow, because the precondition `within` limits the length to `isize::MAX`. The contracts of
+/// the methods of `ThinVec` ensure this limit.
 pub fn run_end<T, A: Allocator, G: Growth>(
     list: &ThinVec<T, A, G>,
     start: usize,
@@ -21,9 +22,8 @@ pub fn run_end<T, A: Allocator, G: Growth>(
     start + count
 }
 
-/// Returns the item at `index` and the item after it. The sum `index + 1` cannot overflow, because
-/// reading `list[index]` also ensures that the length is at most `isize::MAX` (the clause
-/// `within`).
+/// Returns the item at `index` and the next item. The sum `index + 1` cannot overflow, because the
+/// contract of `list[index]` ensures that the length is at most `isize::MAX`.
 pub fn neighbours<A: Allocator, G: Growth>(list: &ThinVec<u32, A, G>, index: usize) -> (u32, u32)
     requires in_bounds { index + 1 < length list.now.items }
     ensures first { result.0 ≡ slice_index list.now.items index }
@@ -56,8 +56,8 @@ pub fn set_to_zero<A: Allocator, G: Growth>(list: &mut ThinVec<u32, A, G>)
     list.as_mut_slice().fill(0);
 }
 
-/// Inserts `value` at `index`, removes it again, and returns it. By the lemma `undone`, the list
-/// then has the same items as before the call.
+/// Inserts `value` at `index`, then removes `value` again, and returns it. The lemma `undone` shows
+/// that the list has the same items after the call as before the call.
 ///
 /// # Errors
 ///

@@ -1,6 +1,6 @@
-//! Examples of callers, for you to copy, in one file for each subject; and the worked rows. A
-//! worked row is a function that compares the results of calls with values that were worked out by
-//! hand. The program `thin_bench` runs the worked rows.
+//! Example functions that use `ThinVec`, for you to copy. The crate also contains the worked rows,
+//! which the program `thin_bench` runs. A worked row is a function that compares the results of
+//! calls with values that were worked out by hand.
 #![tactic(auto)]
 
 pub mod checks;

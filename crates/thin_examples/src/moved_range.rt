@@ -1,4 +1,5 @@
-//! A caller that moves a range of one list to another, and promises the items of both lists.
+//! An example function that moves a range of items from one list to another. Its contract says
+//! which items both lists have afterwards.
 ghost use Rattle.std.specs.Prelude.{◌≡◌, ◌-◌, ◌≤◌, ◌++◌, IsOk, OnErr, OnOk, drop, length, slice_range, take};
 ghost use Rattle.thin_vec.specs.ThinVec.{HasRoomFor};
 
@@ -8,8 +9,8 @@ use thin_vec::{Growth, ThinVec};
 /// Moves the numbers of `list` at the indices `start..end` to the end of `other`. If the call
 /// fails, it moves no number.
 ///
-/// The function keeps the `Drain`, and passes only the slice of its numbers to `other`. If it
-/// passed the `Drain` itself, no contract would say which items `list` has afterwards.
+/// The function keeps the `Drain` itself, and passes only a slice of the numbers to `other`. If it
+/// passed on the `Drain`, no contract would say which items `list` has afterwards.
 ///
 /// # Errors
 ///

@@ -1,16 +1,16 @@
-//! Callers that promise how many items an edit moves.
+//! Example functions that edit a list. Their contracts say how many items are moved.
 ghost use Rattle.std.specs.Prelude.{◌≡◌, ◌+◌, ◌≤◌, [], ◌∷◌, ◌++◌, IfOk, OnOk, drop, insert, length, remove, take};
 
 use std::alloc::{AllocError, Allocator};
 use std::iter::once;
 use thin_vec::{Growth, ThinVec, thin_vec};
 
-/// Inserts `value` after the first of three items. This makes three moves: `value` and the two
+/// Inserts `value` after the first of three items. This moves three items: `value`, and the two
 /// items after it.
 ///
 /// # Errors
 ///
-/// Fails if there is no room for `value`, which is then dropped.
+/// Fails if there is no room for `value`. Then `value` is dropped.
 pub fn inserted_second<T: Drop, A: Allocator, G: Growth>(
     list: &mut ThinVec<T, A, G>,
     value: T,
@@ -32,8 +32,8 @@ pub fn removed_first<T, A: Allocator, G: Growth>(list: &mut ThinVec<T, A, G>) ->
     list.remove(0)
 }
 
-/// Drains four of six items, two of them by calls of `next` and `next_back`. This moves the last
-/// item, and no other.
+/// Drains the four middle items of a list of six items. Calls of `next` and `next_back` yield two
+/// of them, and the other two are dropped. Only the last item of the list is moved.
 pub fn drained_middle<T: Drop, A: Allocator, G: Growth>(list: &mut ThinVec<T, A, G>)
     requires six { length list.old.items ≡ 6 }
     ensures one_move { list.new.cost.moves ≡ list.old.cost.moves + 1 }
@@ -45,7 +45,7 @@ pub fn drained_middle<T: Drop, A: Allocator, G: Growth>(list: &mut ThinVec<T, A,
     drop(drain);
 }
 
-/// Drains the empty range at the end of six items. This moves no item.
+/// Drains the empty range at the end of a list of six items. No item is moved.
 pub fn drained_at_end<T: Drop, A: Allocator, G: Growth>(list: &mut ThinVec<T, A, G>)
     requires six { length list.old.items ≡ 6 }
     ensures items { list.new.items ≡ list.old.items }
@@ -54,7 +54,8 @@ pub fn drained_at_end<T: Drop, A: Allocator, G: Growth>(list: &mut ThinVec<T, A,
     drop(list.drain(6, 6));
 }
 
-/// Keeps all items, by `retain` with a closure that always returns true. This moves no item.
+/// Calls `retain` with a closure that always returns true. All items are kept, and no item is
+/// moved.
 pub fn kept_all<T: Drop, A: Allocator, G: Growth>(list: &mut ThinVec<T, A, G>)
     ensures items { list.new.items ≡ list.old.items }
     ensures no_move { list.new.cost ≡ list.old.cost }
@@ -62,8 +63,8 @@ pub fn kept_all<T: Drop, A: Allocator, G: Growth>(list: &mut ThinVec<T, A, G>)
     list.retain(|_item: &T| true);
 }
 
-/// Extracts the first even number among the items at indices 1 to 4, and tests no item after it.
-/// The list has six numbers, and the second is even, so the four items after it are moved.
+/// Extracts the first even number of the range `1..5`, and tests no number after it. The list
+/// contains the numbers 1 to 6, so the call extracts 2, and moves the four numbers after 2.
 pub fn extracted_first<A: Allocator, G: Growth>(list: &mut ThinVec<u32, A, G>) -> Option<u32>
     requires to_six { list.old.items ≡ 1 ∷ 2 ∷ 3 ∷ 4 ∷ 5 ∷ 6 ∷ [] }
     ensures value { result ≡ Some 2 }
@@ -95,8 +96,8 @@ pub fn spliced_middle<A: Allocator + Copy, G: Growth>(
     Ok(())
 }
 
-/// Makes a list and edits it: appends six items, replaces two of them with one, extracts two, and
-/// pops one. Two items are left, after at most 14 moves.
+/// Makes a list, appends six items, replaces two of them with one item, extracts two items, and
+/// pops one item. Two items remain. All of this makes at most 14 moves.
 ///
 /// # Errors
 ///
@@ -125,7 +126,7 @@ fn nine_for_two<A: Allocator>(list: &mut ThinVec<u32, A>, alloc: A) -> Result<()
     Ok(())
 }
 
-// Extracts 4 and 6. This moves the number 5, and no other.
+// Extracts 4 and 6 from the list. Only the number 5 is moved.
 fn even_out<A: Allocator>(list: &mut ThinVec<u32, A>)
     requires five { list.old.items ≡ 1 ∷ 9 ∷ 4 ∷ 5 ∷ 6 ∷ [] }
     ensures items { list.new.items ≡ 1 ∷ 9 ∷ 5 ∷ [] }

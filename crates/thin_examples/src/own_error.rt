@@ -1,4 +1,4 @@
-//! Callers that use `?` and return an error type of their own.
+//! Example functions that use `?` and return an error type of their own.
 ghost use Rattle.std.specs.Prelude.{◌≡◌, ◌↔◌, [], ◌∷◌, ◌++◌, ◌<◌, IsErrOf, IsOk, OnErr, OnOk, length};
 ghost use Rattle.thin_vec.specs.ThinVec.{HasRoomFor};
 
@@ -6,13 +6,13 @@ use std::alloc::Allocator;
 use thin_vec::{Growth, Rejected, ThinVec, ThinVecError};
 use thiserror::Error;
 
-/// Says why an order was not taken.
+/// The reason why an order was not accepted.
 #[derive(Debug, Drop, Error)]
 pub enum OrderError {
     /// The order is for zero pieces.
     #[error("an order for no piece")]
     NoPiece,
-    /// The list of orders has no room for the order, and cannot get more room.
+    /// The list of orders has no room for the order, and cannot grow.
     #[error("no room for the order: {0}")]
     NoRoom(#[from] ThinVecError),
 }
@@ -28,12 +28,12 @@ impl<S: Drop> From<Rejected<S>> for OrderError {
     }
 }
 
-/// Appends an order for `pieces` pieces.
+/// Appends an order for `pieces` pieces to `orders`.
 ///
 /// # Errors
 ///
-/// Returns `NoPiece` if `pieces` is 0, and `NoRoom` if there is no room for the order. Then the
-/// orders do not change.
+/// Returns `NoPiece` if `pieces` is 0, and `NoRoom` if there is no room for the order. In both
+/// cases, `orders` does not change.
 pub fn take_order<A: Allocator, G: Growth>(
     orders: &mut ThinVec<u32, A, G>,
     pieces: u32,
@@ -50,7 +50,7 @@ pub fn take_order<A: Allocator, G: Growth>(
     Ok(())
 }
 
-/// Moves all orders of `other` to the end of `orders`, or moves none.
+/// Moves all orders of `other` to the end of `orders`, or moves no order.
 ///
 /// # Errors
 ///

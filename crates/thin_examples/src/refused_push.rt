@@ -1,12 +1,12 @@
-//! A caller of `push` that returns the value if the push fails.
+//! An example function that calls `push`, and returns the value to its caller if the push fails.
 ghost use Rattle.std.specs.Prelude.{◌≡◌, [], ◌∷◌, ◌++◌, IfNone, IfSome, IsNone, OnSome};
 ghost use Rattle.thin_vec.specs.ThinVec.{HasRoomFor};
 
 use std::alloc::Allocator;
 use thin_vec::{Growth, ThinVec};
 
-/// Appends `value` and returns `None`. If the push fails, returns `value`, and the list does not
-/// change. So no value is lost.
+/// Appends `value` to the list and returns `None`. If there is no room for `value`, returns `value`
+/// instead, and the list does not change.
 pub fn push_or_return<T: Drop, A: Allocator, G: Growth>(
     list: &mut ThinVec<T, A, G>,
     value: T,

@@ -1,5 +1,5 @@
-//! Callers that replace a range of a list with other items. On failure, the list keeps its old
-//! items.
+//! Example functions that replace a range of a list with other items. If such a function fails, the
+//! list keeps its old items.
 ghost use Rattle.std.specs.List.{replace_range};
 ghost use Rattle.std.specs.Prelude.{◌≡◌, ◌-◌, ◌≤◌, [], IsOk, OnErr, OnOk, length};
 ghost use Rattle.thin_vec.specs.Edits.ReplaceRange.{ReplacesByClones};
@@ -45,8 +45,8 @@ pub fn shorten_to<A: Allocator, G: Growth>(
     text.replace_range_from_copies(start, end, word).unwrap()
 }
 
-/// Replaces the lines at the indices `start..end` with the lines of `newer`, which is empty
-/// afterwards. The replaced lines are dropped.
+/// Replaces the lines at the indices `start..end` with the lines of `newer`. The replaced lines are
+/// dropped, and `newer` is empty afterwards.
 ///
 /// # Errors
 ///
@@ -68,12 +68,13 @@ pub fn replace_lines<T: Drop, A: Allocator, G: Growth>(
     lines.replace_range_from_list(start, end, newer)
 }
 
-/// Inserts clones of `names` before the name at index `at`, or at the end if `at` is the length.
+/// Inserts clones of `names` at the index `at`. If `at` is the length of the list, the clones are
+/// appended.
 ///
 /// # Errors
 ///
-/// Fails if there is no room for the clones, or if a clone fails. Then the list keeps its old
-/// names, but its capacity may have grown.
+/// Fails if there is no room for the clones, or if a name cannot be cloned. Then the list keeps its
+/// old names, but its capacity may have grown.
 pub fn insert_names<T: Clone, A: Allocator, G: Growth>(
     list: &mut ThinVec<T, A, G>,
     at: usize,

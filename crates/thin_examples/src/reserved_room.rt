@@ -1,17 +1,19 @@
-//! A caller that reserves room for two items, so that the two pushes that follow cannot fail.
+//! An example function that reserves room for two items. After that, it pushes the two items by
+//! calls that cannot fail.
 ghost use Rattle.std.specs.Prelude.{◌≡◌, ◌++◌, [], ◌∷◌, IfErr, IsErrOf, IsOk, None, OnErr, OnOk};
 ghost use Rattle.thin_vec.specs.ThinVec.{HasRoomFor, IsCause, capacity_for};
 
 use std::alloc::Allocator;
 use thin_vec::{Growth, ThinVec, ThinVecError};
 
-/// Appends `first` and `second`, or neither. It requests memory at most once, because a push into
-/// reserved room requests none.
+/// Appends both `first` and `second`, or neither of them. Requests memory at most once, because a
+/// push into reserved room requests no memory.
 ///
 /// # Errors
 ///
-/// Fails with `CapacityOverflow` if the growth rule chooses no capacity for both items, and with
-/// `OutOfMemory` if the allocator fails. Then the list does not change, and both items are dropped.
+/// Fails with `CapacityOverflow` if the growth rule of the list provides no capacity for two more
+/// items, and with `OutOfMemory` if the allocator fails. In both cases, the list does not change,
+/// and both items are dropped.
 pub fn push_both<T: Drop, A: Allocator, G: Growth>(
     list: &mut ThinVec<T, A, G>,
     first: T,

@@ -1,11 +1,12 @@
-//! Callers that reserve room for several items, and then append them by calls that cannot fail.
+//! Example functions that reserve room for several items, and then append the items by calls that
+//! cannot fail.
 ghost use Rattle.std.specs.Prelude.{◌≡◌, ◌+◌, ◌<◌, ◌++◌, [], ◌∷◌, IsOk, OnErr, OnOk, length};
 ghost use Rattle.thin_vec.specs.ThinVec.{HasRoomFor};
 
 use std::alloc::Allocator;
 use thin_vec::{Growth, ThinVec, ThinVecError};
 
-/// Appends `line` and a newline, or appends nothing. It requests memory at most once.
+/// Appends `line` and a newline to the text, or appends nothing. Requests memory at most once.
 ///
 /// # Errors
 ///
@@ -25,7 +26,8 @@ pub fn append_line<A: Allocator, G: Growth>(
     Ok(())
 }
 
-/// Moves all items of `first`, and then all items of `second`, to the end of `list`, or moves none.
+/// Moves all items of `first`, and then all items of `second`, to the end of `list`, or moves no
+/// item.
 ///
 /// # Errors
 ///

@@ -1,4 +1,4 @@
-//! Callers that write to a part of a list through a method of slices.
+//! Example functions that overwrite a part of a list by methods of slices.
 ghost use Rattle.std.specs.Prelude.{◌≡◌, ◌-◌, ◌<◌, ◌≤◌, ◌++◌, drop, length, replicate, slice_set, take};
 
 use std::alloc::Allocator;
@@ -37,7 +37,7 @@ pub fn clear_range<A: Allocator, G: Growth>(list: &mut ThinVec<u32, A, G>, start
     list.as_mut_slice()[start..end].fill(0);
 }
 
-/// Overwrites the first `middle` numbers with 0, and the others with 1.
+/// Overwrites the first `middle` numbers with 0, and the other numbers with 1.
 pub fn mark_halves<A: Allocator, G: Growth>(list: &mut ThinVec<u32, A, G>, middle: usize)
     requires in_bounds { middle ≤ length list.old.items }
     ensures items { list.new.items

@@ -1,10 +1,11 @@
-//! A caller that writes to the items of a list through a slice.
+//! An example function that sorts the items of a list by a method of slices.
 ghost use Rattle.std.specs.Prelude.{◌≡◌, IsPermutation, IsSorted};
 
 use std::alloc::Allocator;
 use thin_vec::{Growth, ThinVec};
 
-/// Sorts the items in place, by the slice's method `sort_unstable`. The list keeps its block.
+/// Sorts the items in place, by the method `sort_unstable` of slices. The list keeps its
+/// allocation.
 pub fn sort<T: Ord, A: Allocator, G: Growth>(list: &mut ThinVec<T, A, G>)
     ensures sorted { IsSorted T.cmp list.new.items }
     ensures permutation { IsPermutation list.old.items list.new.items }

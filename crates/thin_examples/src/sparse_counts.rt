@@ -1,5 +1,5 @@
-//! Counts in a sparse table. A place without an entry has the count 0, and a row without entries
-//! owns no block.
+//! Example functions that store counts in a sparse table. If a row has no entry for a column, the
+//! count there is 0. A row without entries owns no allocation.
 ghost use Rattle.std.specs.FinMap as columns;
 ghost use Rattle.std.specs.Option.{unwrap_or};
 ghost use Rattle.std.specs.Prelude.{◌≡◌, ◌↔◌, ◌+◌, ◌-◌, ◌^◌, ◌<◌, ◌/◌, IfErr, IfOk, IfSome, IsNone, IsOk, IsSome, IsTrue, OnErr, OnOk, Some, length, min, replicate};
@@ -9,12 +9,12 @@ use std::alloc::{AllocError, Allocator, Global};
 use thin_rows::Rows;
 use thin_vec::ThinVecError;
 
-/// Makes a table with a row for each day of the week, and without counts.
+/// Makes a table of seven empty rows, one for each day of the week.
 ///
 /// # Errors
 ///
-/// Fails only if the allocator does. By the lemma `few_items`, a capacity of seven rows cannot
-/// overflow.
+/// Fails only if the allocator fails. The lemma `few_items` shows that a capacity of seven rows
+/// cannot overflow.
 pub fn for_a_week(alloc: Global) -> Result<Rows<u32>, ThinVecError>
     ensures table { IfOk result (λ counts. counts ≡ replicate 7 columns.empty) }
     ensures cause { IfErr result (λ cause. cause ≡ ThinVecError.OutOfMemory) }
@@ -46,8 +46,8 @@ pub fn add<A: Allocator>(
     Ok(())
 }
 
-/// Sets the count at `row` and `column`, and returns the count that is then read there. By the
-/// lemma `written`, both counts are equal.
+/// Sets the count at `row` and `column` to `count`, then reads the count again and returns it. The
+/// lemma `written` shows that the returned count is `count`.
 ///
 /// # Errors
 ///
@@ -76,7 +76,8 @@ pub fn take<A: Allocator>(counts: &mut Rows<u32, A>, row: usize, column: usize) 
     counts.remove(row, column).unwrap_or(0)
 }
 
-/// Halves the count at `row` and `column`, rounded down, if there is one. It requests no memory.
+/// Halves the count at `row` and `column`, and rounds the half down. If there is no count, nothing
+/// changes. The function requests no memory.
 pub fn halve<A: Allocator>(counts: &mut Rows<u32, A>, row: usize, column: usize)
     requires in_bounds { row < length counts.old }
     ensures none { IsNone (value_at counts.old row column) → counts.new ≡ counts.old }

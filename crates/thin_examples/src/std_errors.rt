@@ -1,5 +1,5 @@
-//! Callers that use std's traits and errors: `collect`, and `?` in functions that return
-//! `AllocError` or `io::Error`.
+//! Example functions that use traits and errors of std. They call `collect`, or use `?` to return
+//! an `AllocError` or an `io::Error`.
 ghost use Rattle.std.specs.Prelude.{◌≡◌, ◌+◌, ◌*◌, ◌++◌, [], ◌∷◌, IfErr, IfOk, IsOk, OnOk, length, map, take};
 ghost use Rattle.std.specs.IoError.{error_kind};
 ghost use Rattle.thin_vec.specs.ThinVec.{HasRoomFor};
@@ -9,7 +9,7 @@ use std::io;
 use std::io::ErrorKind;
 use thin_vec::{Growth, ThinVec};
 
-/// Collects the doubles of the numbers into a list with the allocator `alloc`.
+/// Doubles each number, and collects the results into a list with the allocator `alloc`.
 ///
 /// # Errors
 ///
@@ -23,12 +23,12 @@ pub fn doubled<A: Allocator>(alloc: A, numbers: &[u32]) -> Result<ThinVec<u64, A
         .collect(alloc)
 }
 
-/// Appends `line` and a newline.
+/// Appends `line` and a newline to `bytes`.
 ///
 /// # Errors
 ///
-/// Fails if there is no room for the bytes. Then the old bytes are kept, and `line` may have been
-/// appended without the newline.
+/// Fails if there is no room for the bytes. Then `bytes` keeps its old bytes, but `line` may have
+/// been appended without the newline.
 pub fn write_line<A: Allocator, G: Growth>(
     bytes: &mut ThinVec<u8, A, G>,
     line: &[u8],

@@ -1,5 +1,5 @@
-//! Callers of `thin_vec!` in the form of std's `vec!`, and of std's traits `Emptied` and
-//! `MadeWith`.
+//! Example functions that use `thin_vec!` with the syntax of std's `vec!`, or use std's traits
+//! `Emptied` and `MadeWith`.
 ghost use Rattle.std.specs.Prelude.{◌≡◌, [], ◌∷◌, IfOk, OnErr, OnOk, replicate};
 
 use std::alloc::{AllocError, Allocator};
@@ -12,7 +12,7 @@ use thin_vec::{Growth, ThinVec, ThinVecError, thin_vec};
 ///
 /// # Errors
 ///
-/// Fails if the allocator does.
+/// Fails if the allocator fails.
 pub fn one_two<A: Allocator>(alloc: A) -> Result<ThinVec<u32, A>, ThinVecError>
     ensures items { IfOk result (λ list. list.items ≡ 1 ∷ 2 ∷ []) }
     ensures capacity { IfOk result (λ list. list.capacity ≡ 2) }
@@ -24,14 +24,14 @@ pub fn one_two<A: Allocator>(alloc: A) -> Result<ThinVec<u32, A>, ThinVecError>
 ///
 /// # Errors
 ///
-/// Fails if the allocator does, or if the capacity would be too large.
+/// Fails if the allocator fails, or if the capacity would be too large.
 pub fn zeros<A: Allocator>(alloc: A, count: usize) -> Result<ThinVec<u32, A>, ThinVecError>
     ensures items { IfOk result (λ list. list.items ≡ replicate count 0) }
 {
     thin_vec![in alloc; 0; count]
 }
 
-/// Moves the list out of `list`, and leaves an empty list there.
+/// Replaces the list with an empty list, and returns the old list.
 ///
 /// # Errors
 ///
@@ -46,19 +46,20 @@ pub fn take_list<T, A: Allocator + Clone, G: Growth>(
     mem::try_take(list)
 }
 
-/// Makes an empty list by the trait `MadeWith`, which `or_default` of std's maps uses.
+/// Makes an empty list by the trait `MadeWith`. The method `or_default` of std's maps uses the same
+/// trait.
 pub fn made<A: Allocator, G: Growth>(alloc: A) -> ThinVec<u32, A, G>
     ensures items { result.items ≡ [] }
 {
     MadeWith::made_with(alloc)
 }
 
-/// Appends `number` to the list that `lists` has for `key`. If `lists` has no list for `key`, a new
+/// Appends `number` to the list that `lists` contains for `key`. If there is no such list, a new
 /// list is inserted first.
 ///
 /// # Errors
 ///
-/// Fails if the allocator does.
+/// Fails if the allocator fails.
 pub fn append_to(
     lists: &mut HashMap<u32, ThinVec<u32>>,
     key: u32,

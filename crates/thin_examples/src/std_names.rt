@@ -1,17 +1,17 @@
-//! Callers of methods that `ThinVec` has in common with std's `Vec`, and that the Rust crate
-//! thin-vec does not have.
+//! Example calls of methods that `ThinVec` has in common with std's `Vec`. The Rust crate thin-vec
+//! does not have these methods.
 ghost use Rattle.std.specs.Prelude.{◌≡◌, ◌-◌, ◌≤◌, [], ◌∷◌, ◌++◌, IfNone, IfSome, IsOk, OnErr, OnOk, insert, length, max, slice_range};
 ghost use Rattle.thin_vec.specs.ThinVec.{HasRoomFor};
 
 use std::alloc::Allocator;
 use thin_vec::{Growth, ThinVec, ThinVecError};
 
-/// Shrinks the capacity to `most`, or to the length if that is greater. If the capacity is not
-/// greater than that, nothing changes.
+/// Shrinks the capacity to `most`, but not below the length of the list. If the capacity is already
+/// small enough, nothing changes.
 ///
 /// # Errors
 ///
-/// Fails if the allocator does. Then nothing changes.
+/// Fails if the allocator fails. Then nothing changes.
 pub fn trim<T, A: Allocator, G: Growth>(
     list: &mut ThinVec<T, A, G>,
     most: usize,
@@ -33,8 +33,8 @@ pub fn pop_even<A: Allocator, G: Growth>(list: &mut ThinVec<u32, A, G>) -> Optio
     list.pop_if(|number: &mut u32| *number % 2 == 0)
 }
 
-/// Makes the list `len` numbers long: appends zeros to a shorter list, and removes the last numbers
-/// of a longer one.
+/// Makes the list `len` numbers long. Appends zeros to a shorter list, and removes numbers from the
+/// end of a longer list.
 ///
 /// # Errors
 ///
@@ -50,7 +50,7 @@ pub fn set_length<A: Allocator, G: Growth>(
     list.resize_with(len, || 0)
 }
 
-/// Appends copies of the numbers at the indices `start..end`.
+/// Appends copies of the list's own numbers at the indices `start..end`.
 ///
 /// # Errors
 ///

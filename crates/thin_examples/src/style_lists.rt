@@ -1,4 +1,4 @@
-//! Callers that compare and hash lists, by the items alone.
+//! Example functions that compare and hash lists. Only the items matter, and the capacities do not.
 ghost use Rattle.std.specs.Prelude.{◌≡◌, ◌↔◌, IsTrue, fold};
 ghost use Rattle.std.specs.Hash as fed;
 ghost use Rattle.std.specs.Hash.DefaultHasher as sip;
@@ -18,8 +18,8 @@ pub fn same_style<A: Allocator, G: Growth>(
     one == other
 }
 
-/// Returns the hash of a style, computed by std's `DefaultHasher`. It depends on the rules alone,
-/// so equal styles have equal hashes.
+/// Returns the hash of a style, computed by std's `DefaultHasher`. The hash depends on the rules
+/// alone, so equal styles have equal hashes.
 pub fn style_hash<A: Allocator, G: Growth>(style: &ThinVec<u32, A, G>) -> u64
     ensures value { result ≡ sip.finish
         (fold sip.write sip.initial (fed.slice fed.u32 style.now.items)) }

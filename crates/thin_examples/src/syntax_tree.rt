@@ -1,4 +1,4 @@
-//! A syntax tree. Its leaves own no block.
+//! An example of a syntax tree. A leaf has no allocation for its children.
 ghost use Rattle.std.specs.Prelude.{◌≡◌, ◌+◌, ◌-◌, ◌^◌, [], ◌∷◌, ◌++◌, IfErr, IsOk, OnErr, OnOk, min};
 ghost use Rattle.thin_vec.specs.ThinVec.{HasRoomFor, IsNew};
 ghost use Rattle.thin_examples.specs.SyntaxTree.{children_of, kind_of, node_count};
@@ -6,7 +6,7 @@ ghost use Rattle.thin_examples.specs.SyntaxTree.{children_of, kind_of, node_coun
 use std::alloc::Global;
 use thin_vec::{Rejected, ThinVec};
 
-/// A node of the kind `kind`, with its children in order.
+/// A node of a syntax tree: the kind of the node, and the list of its children in order.
 #[derive(Drop)]
 pub struct Node {
     pub kind: u32,
@@ -15,8 +15,8 @@ pub struct Node {
 
 #[tactic(auto, using(crate::proofs::TreeLemmas::node_count_is))]
 impl Node {
-    /// Makes a node without children. The list of the children owns no block, so no memory is
-    /// requested.
+    /// Makes a node without children. The empty list of the children has no allocation, so no
+    /// memory is requested.
     pub fn leaf(alloc: Global, kind: u32) -> Node
         ensures kind { kind_of result ≡ kind }
         ensures children { IsNew (children_of result) alloc }
@@ -28,7 +28,7 @@ impl Node {
         }
     }
 
-    /// Appends `child` to the children of this node, which then owns `child`.
+    /// Appends `child` to the children of this node. The node then owns `child`.
     ///
     /// # Errors
     ///
@@ -46,7 +46,8 @@ impl Node {
         self.children.push(child)
     }
 
-    /// Returns the number of nodes, this node and all below it, or `u64::MAX` if there are more.
+    /// Returns the number of nodes in the tree below this node, including this node. Returns
+    /// `u64::MAX` if there are more nodes than that.
     pub fn count(&self) -> u64
         ensures value { result ≡ min (node_count self.now) (2 ^ 64 - 1) }
     {

@@ -1,4 +1,5 @@
-//! Callers that consume a list to read or move its items, with a loop or without.
+//! Example functions that consume a list. They read its items, or move them into a `Vec`. Some
+//! functions use a loop, and others do not.
 ghost use Rattle.std.specs.Prelude.{◌≡◌, [], IfOk, IsOk, length, min, reverse};
 ghost use Rattle.std.specs.List.{fold};
 
@@ -16,7 +17,7 @@ pub fn count<T: Drop, A: Allocator, G: Growth>(list: ThinVec<T, A, G>) -> usize
     count
 }
 
-/// Returns the least item, or `start` if `start` is less.
+/// Returns the least of all items and `start`.
 pub fn least(list: ThinVec<u32, Global>, start: u32) -> u32
     ensures value { result ≡ fold min start list.items }
 {
@@ -31,30 +32,30 @@ pub fn least(list: ThinVec<u32, Global>, start: u32) -> u32
 ///
 /// # Errors
 ///
-/// Fails if the allocator does. Then the items are dropped.
+/// Fails if the allocator fails. Then the items are dropped.
 pub fn collected(list: ThinVec<u32, Global>, alloc: Global) -> Result<Vec<u32>, AllocError>
     ensures items { IfOk result (λ vec. vec.items ≡ list.items) }
 {
     list.into_iter().collect(alloc)
 }
 
-/// Moves the items of `list` into a `Vec`, last item first, by `collect`.
+/// Moves the items of `list` into a `Vec` in reverse order, by `rev` and `collect`.
 ///
 /// # Errors
 ///
-/// Fails if the allocator does. Then the items are dropped.
+/// Fails if the allocator fails. Then the items are dropped.
 pub fn reversed(list: ThinVec<u32, Global>, alloc: Global) -> Result<Vec<u32>, AllocError>
     ensures items { IfOk result (λ vec. vec.items ≡ reverse list.items) }
 {
     list.into_iter().rev().collect(alloc)
 }
 
-/// Moves the items of `list` into a `Vec` one by one, last item first. The list may have any
+/// Moves the items of `list` into a `Vec` one by one, in reverse order. The list may have any
 /// allocator and any growth rule.
 ///
 /// # Errors
 ///
-/// Fails if the allocator does. Then the items are dropped.
+/// Fails if the allocator fails. Then the items are dropped.
 pub fn reversed_singly<A: Allocator, G: Growth>(
     list: ThinVec<u32, A, G>,
     alloc: Global,
@@ -73,7 +74,7 @@ pub fn reversed_singly<A: Allocator, G: Growth>(
 ///
 /// # Errors
 ///
-/// Fails if the allocator does. Then the items are dropped.
+/// Fails if the allocator fails. Then the items are dropped.
 pub fn carried_over(list: ThinVec<u32, Global>, alloc: Global) -> Result<Vec<u32>, AllocError>
     ensures succeeds_empty { list.items ≡ [] → IsOk result }
     ensures items { IfOk result (λ vec. vec.items ≡ list.items) }

@@ -1,12 +1,12 @@
--- Lemmas about a list of words that is parsed one word at a time. The relation R relates a word to
--- the value that the word is parsed as.
+-- The lemmas of this file are about words that are parsed one by one. The relation `R` relates each
+-- word to the value that the word is parsed as.
 use Rattle.std.proofs.Common.{ℕ, ◌+◌, ◌<◌, ◌≤◌, List, [], ◌∷◌, ◌++◌, get_or, length, subst, take}
 use Rattle.std.proofs.lemmas.List.{take_all, take_more}
 use Rattle.std.specs.List.{AllZip}
 
 module _ {X Y : Type 0} (R : X → Y → Type 0) where
-  -- if R relates xs to ys item by item, and relates x to y, then R relates xs followed by x to ys
-  -- followed by y
+  -- If `R` relates the items of `xs` to the items of `ys` one by one, and relates `x` to `y`, then
+  -- `R` relates the items of `xs ++ x ∷ []` to the items of `ys ++ y ∷ []`.
   zip-push : (xs : List X) (ys : List Y) (x : X) (y : Y) → AllZip R xs ys → R x y
       → AllZip R (xs ++ x ∷ []) (ys ++ y ∷ [])
   zip-push [] [] x y all one = (one, tt)
@@ -14,15 +14,16 @@ module _ {X Y : Type 0} (R : X → Y → Type 0) where
   zip-push [] (b ∷ ys) x y all one = absurd all
   zip-push (a ∷ xs) [] x y all one = absurd all
 
-  -- if R relates the first i items of xs to ys, and relates the item of xs at index i to y, then R
-  -- relates the first i + 1 items of xs to ys followed by y
+  -- If `R` relates the first `i` items of `xs` to the items of `ys`, and relates the item of `xs`
+  -- at the index `i` to `y`, then `R` relates the first `i + 1` items of `xs` to the items of
+  -- `ys ++ y ∷ []`.
   pub zip-next : (xs : List X) (i : ℕ) (d : X) (ys : List Y) (y : Y) → i < length xs
       → AllZip R (take i xs) ys → R (get_or xs i d) y → AllZip R (take (i + 1) xs) (ys ++ y ∷ [])
   zip-next xs i d ys y within all one =
       rw (take_more xs i d within) (zip-push (take i xs) ys (get_or xs i d) y all one)
 
-  -- if n is at least the length of xs, and R relates the first n items of xs to ys, then R relates
-  -- xs to ys
+  -- If `n` is at least the length of `xs`, and `R` relates the items of `take n xs` to the items of
+  -- `ys`, then `R` relates the items of `xs` to the items of `ys`.
   pub zip-all : (xs : List X) (n : ℕ) (ys : List Y) → length xs ≤ n → AllZip R (take n xs) ys
       → AllZip R xs ys
   zip-all xs n ys past all = subst (λ l. AllZip R l ys) (take_all n xs past) all

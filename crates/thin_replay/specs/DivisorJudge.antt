@@ -1,26 +1,30 @@
--- What a `DivisorJudge` decides, and what it writes to the items.
+-- This file defines how a `DivisorJudge` decides about items, and what it writes to the items. A
+-- judge decides about items in place of the closures that methods such as `retain` take.
 use Rattle.std.specs.Prelude.{◌≡◌, ℕ, List, Bool, ◌+◌, ◌/◌, ◌%◌, ◌^◌, ◌==◌}
 use Rattle.thin_runner.specs.Judge.{Judging}
 use Rattle.thin_replay.specs.Words.{Spells}
 use Rattle.thin_replay.specs.declared.divisor_judge.DivisorJudge.{DivisorJudge}
 
--- the number that the judge divides in order to decide about the item x
+-- `number_for judge x` is the number that the judge divides by its divisor to decide about the item
+-- `x`.
 abbrev pub number_for : DivisorJudge → ℕ → ℕ
 number_for judge x = (x + judge.offset) % 2 ^ 64
 
--- the judge after one more decision
+-- `counted judge` is the judge after it has made one more decision.
 abbrev pub counted : DivisorJudge → DivisorJudge
 counted judge = record judge { offset = (judge.offset + judge.stride) % 2 ^ 64 }
 
--- the value of the item x after the judge has written to it
+-- `written judge x` is the value of the item `x` after the judge has written to it.
 abbrev pub written : DivisorJudge → ℕ → ℕ
 written judge x = (x + judge.added) % 2 ^ 64
 
--- whether the judge chooses the item x, that is, whether its divisor divides `number_for judge x`
+-- `chooses judge x` is true if the divisor of the judge divides `number_for judge x`. In this case,
+-- the judge chooses the item `x`.
 abbrev pub chooses : DivisorJudge → ℕ → Bool
 chooses judge x = number_for judge x % judge.divisor == 0
 
--- the decisions of a `DivisorJudge`, one function for each method of the trait `Judge`
+-- `judging` contains one function for each method of the trait `Judge`. Each function says what the
+-- method returns, and what the method writes to the items.
 abbrev pub judging : Judging ℕ DivisorJudge
 judging = record {
   look = λ judge x. (chooses judge x, counted judge);
@@ -35,8 +39,8 @@ judging = record {
   take = λ judge x. (chooses judge x, written judge x, counted judge);
 }
 
--- the three texts are the divisor, the stride and the addend of the judge in decimal, and the judge
--- has made no decision yet
+-- `SpellsJudge` holds if the three texts spell the divisor, the stride and the addend of `judge` as
+-- decimal numbers, and the judge has not made any decision yet.
 pub record SpellsJudge (divisor stride added : List ℕ) (judge : DivisorJudge) : Type 0 where
   pub divisor_is : Spells divisor judge.divisor
   pub stride_is : Spells stride judge.stride

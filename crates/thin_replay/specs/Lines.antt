@@ -1,4 +1,6 @@
--- The forms of the lines: which words describe which command and judge.
+-- This file defines which words of an input line describe a command, and which words describe the
+-- judge of the command. A judge decides about items in place of the closures that methods such as
+-- `retain` take.
 use Rattle.std.specs.Prelude.{◌≡◌, ℕ, ◌≤◌, List, codes, drop, length, ⊤}
 use Rattle.std.specs.Iterator.{DrainsIf}
 use Rattle.std.specs.Str.Iter.{split_whitespace_rest, split_whitespace_steps}
@@ -12,12 +14,14 @@ use Rattle.thin_replay.specs.declared.divisor_judge.DivisorJudge.{DivisorJudge}
 use Rattle.thin_replay.specs.declared.line.Line.{Line}
 use Rattle.thin_replay.specs.declared.line.Line.TheVariants.{Carry, Help, New}
 
--- there are at least `count` words, and the first word is `name`
+-- `BeginsForm words name count` holds if there are at least `count` words, and the first word is
+-- `name`.
 abbrev pub BeginsForm : Words → List ℕ → ℕ → Type 0
 BeginsForm words name count = (count ≤ length words) × (word words 0 ≡ name)
 
--- The words have the form of the command, and spell its numbers, items and steps. If the command
--- needs a judge, the words that describe the judge may be any words.
+-- `Says words command` holds if the words have the form of the command, and spell the numbers,
+-- items and steps of the command. If the command needs a judge to decide about items, any words may
+-- describe the judge.
 abbrev pub Says : {A G : Type 0} → Words → Command ℕ A G → Type 0
 Says words (Push item) = HasForm words (codes "push") 2 × Spells (word words 1) item
 Says words Pop = HasForm words (codes "pop") 1
@@ -59,8 +63,8 @@ Says words (Splice start end steps items lower) = BeginsForm words (codes "splic
     × (SpellsSteps (word words 3) steps.items
     × (Spells (word words 4) lower × SpellAll (drop 5 words) items.items))))
 
--- if the command needs a judge, the last three words spell the divisor, the stride and the addend
--- of this judge
+-- `SaysJudge words command judge` holds if the last three words spell the divisor, the stride and
+-- the addend of `judge`. It also holds if the command needs no judge to decide about items.
 abbrev pub SaysJudge : {A G : Type 0} → Words → Command ℕ A G → DivisorJudge → Type 0
 SaysJudge words Retain judge = SpellsJudge (word words 1) (word words 2) (word words 3) judge
 SaysJudge words RetainMut judge = SpellsJudge (word words 1) (word words 2) (word words 3) judge
@@ -70,7 +74,7 @@ SaysJudge words (ExtractIf start end calls) judge =
     SpellsJudge (word words 4) (word words 5) (word words 6) judge
 SaysJudge words command judge = Unit {0}
 
--- the command needs no judge
+-- `AsksNone command` holds if the command needs no judge to decide about items.
 abbrev pub AsksNone : {A G : Type 0} → Command ℕ A G → Type 0
 AsksNone Retain = ⊥
 AsksNone RetainMut = ⊥
@@ -79,12 +83,13 @@ AsksNone DedupByKey = ⊥
 AsksNone (ExtractIf start end calls) = ⊥
 AsksNone command = Unit {0}
 
--- the words have the form of the command, and the command needs no judge
+-- `SaysUnjudged words command` holds if the words describe the command, and the command needs no
+-- judge to decide about items.
 abbrev pub SaysUnjudged : {A G : Type 0} → Words → Command ℕ A G → Type 0
 SaysUnjudged words command = Says words command × AsksNone command
 
--- the command has the name `name`, and its line consists of this name and the three words that
--- describe its judge
+-- `IsFilter name command` holds if the command has the name `name`, and its line consists of this
+-- name and three words for the judge, which decides about items.
 abbrev pub IsFilter : {A G : Type 0} → List ℕ → Command ℕ A G → Type 0
 IsFilter name Retain = name ≡ codes "retain"
 IsFilter name RetainMut = name ≡ codes "retain_mut"
@@ -92,19 +97,19 @@ IsFilter name DedupBy = name ≡ codes "dedup_by"
 IsFilter name DedupByKey = name ≡ codes "dedup_by_key"
 IsFilter name command = ⊥
 
--- The words have the form of the command of the call. If this command needs a judge, the last three
--- words describe the judge of the call.
+-- `IsCall words call` holds if the words describe the command of `call`. If this command needs a
+-- judge to decide about items, the last three words must describe the judge of `call`.
 abbrev pub IsCall : Words → Call → Type 0
 IsCall words call = Says words call.command × SaysJudge words call.command call.judge
 
--- the words are `help` for the line `Help`, `new` for the line `New`, and for any other line the
--- words of its call
+-- `IsLine words line` holds if the words describe the line. The line `Help` is described by the
+-- word `help`, the line `New` by the word `new`, and any other line by the words of its call.
 abbrev pub IsLine : Words → Line → Type 0
 IsLine words Help = HasForm words (codes "help") 1
 IsLine words New = HasForm words (codes "new") 1
 IsLine words (Carry call) = IsCall words call
 
--- splitting the text at white space yields exactly these words
+-- `HasWords text words` holds if splitting the text at white space yields exactly these words.
 abbrev pub HasWords : List ℕ → Words → Type 0
 HasWords text words = (it : SplitWhitespace)
     × (split_whitespace_rest it ≡ text) × DrainsIf split_whitespace_steps ⊤ it words

@@ -1,4 +1,5 @@
--- What the words of a line mean: numbers, items, and the steps of an iterator.
+-- This file defines the meaning of the words of a line. Words stand for numbers, items, and the
+-- steps of an iterator.
 use Rattle.std.specs.Prelude.{◌≡◌, ℕ, ◌⊎◌, List, [], codes, length, slice_index_or}
 use Rattle.std.specs.Borrow.{Bor}
 use Rattle.std.specs.List.{AllZip}
@@ -6,33 +7,38 @@ use Rattle.std.specs.Str.Parse.{IsNumeral, digits_value, without_leading_plus}
 use Rattle.thin_runner.specs.declared.command.Step.{Step}
 use Rattle.thin_runner.specs.declared.command.Step.TheVariants.{Back, Front}
 
--- the words of a line, as the contents of a `&[&str]`
+-- `Words` is the type of the words of a line. A value of this type is the contents of a `&[&str]`.
 abbrev pub Words : Type 0
 Words = List (Bor (List ℕ))
 
--- the text of the word at index i, or the empty text if there is no word at index i
+-- `word words i` is the text of the word at the index `i`. It is the empty text if there is no such
+-- word.
 abbrev pub word : Words → ℕ → List ℕ
 word words i = (slice_index_or words i (record { ref_ptr = (0, 0); now = [] })).now
 
--- there are exactly `count` words, and the first word is `name`
+-- `HasForm words name count` holds if there are exactly `count` words, and the first word is
+-- `name`.
 abbrev pub HasForm : Words → List ℕ → ℕ → Type 0
 HasForm words name count = (length words ≡ count) × (word words 0 ≡ name)
 
--- the text is the number in decimal digits, with or without a leading plus sign
+-- `Spells text n` holds if the text is the number `n` in decimal digits. A leading plus sign is
+-- allowed.
 abbrev pub Spells : List ℕ → ℕ → Type 0
 Spells text n =
     IsNumeral 10 (without_leading_plus text) × (n ≡ digits_value 10 (without_leading_plus text))
 
--- there is exactly one word for each number, in the same order, and the word spells the number
+-- `SpellAll words ns` holds if there is exactly one word for each number in `ns`, in the same
+-- order, and each word spells its number.
 abbrev pub SpellAll : Words → List ℕ → Type 0
 SpellAll words ns = AllZip (λ w n. Spells w.now n) words ns
 
--- the letter stands for the step: `f` for `Front`, `b` for `Back`
+-- `IsStep letter step` holds if the letter stands for the step. The letter `f` stands for `Front`,
+-- and `b` stands for `Back`.
 abbrev pub IsStep : ℕ → Step → Type 0
 IsStep letter Front = letter ≡ 102
 IsStep letter Back = letter ≡ 98
 
--- either the text is `-` and there are no steps, or the text has one letter for each step, in the
--- same order, and the letter stands for the step
+-- `SpellsSteps text steps` holds if the text is `-` and there are no steps. It also holds if the
+-- text consists of one letter for each step, in the same order.
 abbrev pub SpellsSteps : List ℕ → List Step → Type 0
 SpellsSteps text steps = ((text ≡ codes "-") × (steps ≡ [])) ⊎ AllZip IsStep text steps

@@ -1,4 +1,5 @@
-//! The output of the program: the replies, the list, and the text of `help`.
+//! Functions that write the output of the program: the replies to commands, the list, and the text
+//! of `help`.
 
 use crate::forms::{FORMS, NOTES};
 use std::io::{self, Write};
@@ -6,8 +7,8 @@ use thin_runner::command::Reply;
 use thin_runner::hinted::Hinted;
 use thin_vec::{ThinVec, ThinVecError};
 
-/// Writes the text of `help`: the forms that a line can have, and then notes on the words in
-/// capitals.
+/// Writes the text of `help`: first the forms that a line can have, and then notes that explain the
+/// words in capitals.
 pub fn write_help(out: &mut impl Write) -> io::Result<()> {
     for form in &FORMS {
         writeln!(out, "{form}")?;
@@ -55,7 +56,8 @@ pub fn write_reply(out: &mut impl Write, reply: Reply<u64>) -> io::Result<()> {
     }
 }
 
-// Writes the list that was passed to `append`, after the cause of the failure if the call failed.
+// Writes the list that was passed to `append`. If the call failed, first writes the cause of the
+// failure.
 fn write_other(
     out: &mut impl Write,
     other: &ThinVec<u64>,
@@ -68,7 +70,7 @@ fn write_other(
     write!(out, "other {other:?}; capacity {capacity}")
 }
 
-// Writes the items that an iterator still yields.
+// Writes the remaining items of an iterator.
 fn write_rest(out: &mut impl Write, rest: Hinted<u64>) -> io::Result<()> {
     write!(out, "; rest")?;
     for item in rest {

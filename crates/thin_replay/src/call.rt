@@ -1,4 +1,4 @@
-//! The parser of the lines that describe commands.
+//! The parser for lines that describe a command.
 
 ghost use Rattle.std.specs.Prelude.{IfOk, IfSome};
 ghost use Rattle.thin_replay.specs.Lines.{SaysUnjudged};
@@ -14,7 +14,8 @@ use crate::line_error::LineError;
 use std::alloc::Global;
 use thin_runner::command::Command;
 
-/// A command, and the judge for it. If the command needs no judge, `judge` may have any value.
+/// A command and its judge, which decides about items in place of a closure. If the command needs
+/// no judge, `judge` may have any value.
 #[derive(Drop)]
 pub struct Call {
     pub command: Command<u64>,
@@ -25,9 +26,10 @@ impl Call {
     ghost use Rattle.std.specs.Prelude.{◌≡◌, IfOk, IfSome};
     ghost use Rattle.thin_replay.specs.Lines.{IsCall};
 
-    /// Parses the words of a line as a command and its judge. Returns `None` if the words do not
-    /// have the form of a command. Fails if they have such a form but one of the words cannot be
-    /// parsed, or if there is no memory for the command.
+    /// Parses the words of a line as a command, and as a judge if the command needs a judge to
+    /// decide about items. Returns `None` if the words do not have the form of a command. Fails if
+    /// the words have the form of a command but one of them cannot be parsed, or if there is no
+    /// memory for the command.
     pub fn parse(alloc: Global, words: &[&str]) -> Result<Option<Call>, LineError>
         ensures says { IfOk result (λ found. IfSome found (IsCall words.now)) }
     {
@@ -38,7 +40,7 @@ impl Call {
         Ok(command.map(Call::unjudged))
     }
 
-    // Returns the call of a command that needs no judge.
+    // Makes a `Call` from a command that needs no judge to decide about items.
     fn unjudged(command: Command<u64>) -> Call
         ensures command { result.command ≡ command }
     {
@@ -47,8 +49,8 @@ impl Call {
     }
 }
 
-// Parses the words of a line as a command that needs no judge. Returns `None` if the words do not
-// have the form of such a command.
+// Parses the words of a line as a command that needs no judge to decide about items. Returns `None`
+// if the words do not have the form of such a command.
 fn parse_command(alloc: Global, words: &[&str]) -> Result<Option<Command<u64>>, LineError>
     ensures says { IfOk result (λ found. IfSome found (SaysUnjudged words.now)) }
 {

@@ -1,14 +1,17 @@
-//! A judge that decides by the remainder or the quotient of a division.
+//! A judge that decides by the remainder or the quotient of a division. A judge decides about items
+//! in place of the closures that methods such as `retain` take.
 ghost use Rattle.std.specs.Prelude.{◌≡◌, ◌<◌};
 
 use crate::line_error::LineError;
 use crate::words::number_of;
 use thin_runner::judge::Judge;
 
-/// A judge that decides about an item by dividing a number by `divisor`, and counts its decisions.
+/// A judge that decides about an item by dividing a number by `divisor`. The judge also counts its
+/// decisions.
 ///
-/// The number is the item plus `stride` times the number of earlier decisions. After the decision,
-/// the judge adds `added` to the item, if it may write to the item. All sums are modulo 2^64.
+/// The number that is divided is the item plus `stride` times the number of earlier decisions.
+/// After the decision, the judge adds `added` to the item if the judge may change the item. All
+/// sums are modulo 2^64.
 #[derive(Clone, Copy)]
 pub struct DivisorJudge {
     divisor: u64,
@@ -22,7 +25,7 @@ impl DivisorJudge {
     ghost use Rattle.std.specs.Prelude.{IfOk};
     ghost use Rattle.thin_replay.specs.DivisorJudge.{SpellsJudge, chooses, counted, number_for, written};
 
-    /// Returns a placeholder for the judge of a command that needs no judge.
+    /// Returns a placeholder judge for a command that needs no judge.
     pub fn idle() -> DivisorJudge {
         DivisorJudge {
             divisor: 1,
@@ -51,7 +54,7 @@ impl DivisorJudge {
         })
     }
 
-    // Returns the number that is divided in order to decide about `item`, and counts the decision.
+    // Returns the number that the judge divides to decide about `item`. Also counts this decision.
     fn number(&mut self, item: u64) -> u64
         ensures value { result ≡ number_for self.old item }
         ensures counted { self.new ≡ counted self.old }
@@ -61,8 +64,8 @@ impl DivisorJudge {
         number
     }
 
-    // Returns whether `divisor` divides the number that `number` returns for `item`. This counts as
-    // one decision.
+    // Returns whether `divisor` divides the number that `number` returns for `item`. The call
+    // counts as one decision.
     fn divides(&mut self, item: u64) -> bool
         ensures value { result ≡ chooses self.old item }
         ensures counted { self.new ≡ counted self.old }

@@ -1,6 +1,6 @@
 //! The text that `help` prints.
 
-/// The forms that a line of the input can have. The first word of a form is the name of its
+/// The forms that a line of the input can have. The first word of each form is the name of the
 /// command.
 pub static FORMS: [&str; 27] = [
     "help",
@@ -32,7 +32,7 @@ pub static FORMS: [&str; 27] = [
     "splice START END STEPS HINT ITEM ..",
 ];
 
-/// Notes on the words in capitals that occur in the forms.
+/// Notes that explain the words in capitals in `FORMS`.
 pub static NOTES: [&str; 5] = [
     "All numbers are from 0 to 18446744073709551615.",
     "STEPS is `-`, or a word of the letters `f` (a call of `next`) and `b` (of `next_back`).",

@@ -1,4 +1,4 @@
-//! The lines of the input, and their parser.
+//! The type of an input line, and the parser for input lines.
 
 use crate::call::Call;
 use crate::forms::form_of;
@@ -8,11 +8,11 @@ use std::alloc::Global;
 /// A line of the input.
 #[derive(Drop)]
 pub enum Line {
-    /// The line `help`, which prints the forms that a line can have.
+    /// The line `help`. It makes the program print the forms that a line can have.
     Help,
-    /// The line `new`, which drops the list and makes a new one.
+    /// The line `new`. It makes the program drop the list and make a new list.
     New,
-    /// Any other line, which carries out a command.
+    /// Any other line. Such a line describes a command.
     Carry(Call),
 }
 
@@ -22,7 +22,7 @@ impl Line {
     ghost use Rattle.thin_replay.specs.Words.{Words};
 
     /// Parses a line. Fails if the line has none of the forms that `help` prints, if one of its
-    /// words cannot be parsed, or if there is no memory for what the line describes.
+    /// words cannot be parsed, or if there is no memory for the result.
     pub fn parse(alloc: Global, text: &str) -> Result<Line, LineError>
         ensures says { IfOk result (λ line. (words : Words) × HasWords text.now words
             × IsLine words line) }

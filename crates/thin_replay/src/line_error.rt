@@ -1,10 +1,10 @@
-//! The errors for wrong lines of the input.
+//! The errors that are reported for wrong lines of the input.
 
 use std::alloc::AllocError;
 use thiserror::Error;
 
-/// What is wrong with a line of the input. The words in capitals in the messages are those of the
-/// forms that `help` prints.
+/// The reason why a line of the input is wrong. The messages contain words in capitals, such as
+/// `INDEX`, from the forms that `help` prints.
 #[derive(Debug, Drop, Error)]
 pub enum LineError {
     /// The first word is not the name of a command.
@@ -14,17 +14,17 @@ pub enum LineError {
     /// field is the form that the line should have.
     #[error("the form is `{0}`")]
     WrongForm(&'static str),
-    /// A word that has to be a number is not one, or it is greater than 2^64 - 1. The field is the
-    /// name of this word in the form of the line.
+    /// A word that must be a number is not a number, or is greater than 2^64 - 1. The field is the
+    /// name of this word in the form of the line, such as `INDEX`.
     #[error("{0} is not a number from 0 to 18446744073709551615")]
     NotANumber(&'static str),
     /// The divisor of a judge is 0.
     #[error("DIVISOR is 0")]
     ZeroDivisor,
-    /// The word for the steps is not `-`, and has a letter other than `f` and `b`.
+    /// The word for the steps is not `-`, and contains a letter other than `f` and `b`.
     #[error("STEPS is neither `-` nor a word of the letters `f` and `b`")]
     BadSteps,
-    /// There is no memory for what the line describes.
+    /// There is no memory for the parsed line.
     #[error("out of memory")]
     Memory(#[from(alloc)] AllocError),
 }

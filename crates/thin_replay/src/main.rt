@@ -1,5 +1,5 @@
-//! Reads commands from standard input, one on each line, carries them out on a `ThinVec`, and
-//! prints the reply, the items and the capacity after each command.
+//! Reads commands from standard input, one on each line, and carries them out on a `ThinVec`. After
+//! each command, prints the reply, the items and the capacity.
 #![tactic(auto)]
 
 mod answer;
@@ -63,7 +63,7 @@ fn read_lines(alloc: Global, reader: impl BufRead + Drop) -> Result<Vec<Line>, R
     Ok(lines)
 }
 
-// Carries out the line, and prints the result.
+// Carries out one line of the input, and prints the result.
 fn answer_line(
     out: &mut impl Write,
     alloc: Global,

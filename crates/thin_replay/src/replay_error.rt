@@ -5,7 +5,7 @@ use std::io;
 use thin_vec::ThinVecError;
 use thiserror::Error;
 
-/// Why the program could not read, carry out or answer all lines of the input.
+/// The reason why the program could not read, carry out or answer all lines of the input.
 #[derive(Debug, Drop, Error)]
 pub enum ReplayError {
     /// A line of the input is wrong, so no command was carried out.
@@ -13,15 +13,15 @@ pub enum ReplayError {
     BadLine {
         /// The number of the line. The first line has the number 1.
         number: usize,
-        /// What is wrong with the line.
+        /// The reason why the line is wrong.
         cause: LineError,
     },
     /// Reading standard input or writing to standard output failed, or there was no memory for the
     /// lines.
     #[error("{0}")]
     Io(#[from] io::Error),
-    /// There was no memory for a vector that `run` takes: that of the commands, or that of the
-    /// replies.
+    /// There was no memory for a vector that the program passes to `run`: the vector of the
+    /// commands, or the vector of the replies.
     #[error("{0}")]
     Memory(#[from] ThinVecError),
 }

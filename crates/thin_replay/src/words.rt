@@ -8,14 +8,15 @@ use std::alloc::{AllocError, Global};
 use thin_runner::command::Step;
 use thin_vec::ThinVec;
 
-/// Parses a word as an item.
+/// Parses a word as an item of the list. All items are numbers.
 pub fn item_of(word: &str) -> Result<u64, LineError>
     ensures parses { ParsesUnsigned 64 10 word.now result }
 {
     number_of(word, "ITEM")
 }
 
-/// Parses a word as a number. On failure, the error says that `name` is not a number.
+/// Parses a word as a number. Fails if the word is not a number. The error calls the word by its
+/// name `name`, such as `ITEM`.
 pub fn number_of(word: &str, name: &'static str) -> Result<u64, LineError>
     ensures parses { ParsesUnsigned 64 10 word.now result }
 {
@@ -25,7 +26,8 @@ pub fn number_of(word: &str, name: &'static str) -> Result<u64, LineError>
     }
 }
 
-/// Parses a word as an index or a count. On failure, the error says that `name` is not a number.
+/// Parses a word as an index or a count. Fails if the word is not a number. The error calls the
+/// word by its name `name`, such as `INDEX`.
 pub fn count_of(word: &str, name: &'static str) -> Result<usize, LineError>
     ensures parses { ParsesUnsigned 64 10 word.now result }
 {
@@ -35,7 +37,7 @@ pub fn count_of(word: &str, name: &'static str) -> Result<usize, LineError>
     }
 }
 
-/// Parses each word as an item.
+/// Parses each word as an item, and returns the items in order.
 pub fn items_of(alloc: Global, words: &[&str]) -> Result<Vec<u64>, LineError>
     ensures items { IfOk result (λ items. SpellAll words.now items.items) }
 {
@@ -46,7 +48,7 @@ pub fn items_of(alloc: Global, words: &[&str]) -> Result<Vec<u64>, LineError>
     Ok(items)
 }
 
-/// Parses each word as an item, and returns the list of these items, in order.
+/// Parses each word as an item, and returns a list of the items in order.
 pub fn list_of(alloc: Global, words: &[&str]) -> Result<ThinVec<u64>, LineError>
     ensures items { IfOk result (λ list. SpellAll words.now list.items) }
 {
@@ -57,8 +59,8 @@ pub fn list_of(alloc: Global, words: &[&str]) -> Result<ThinVec<u64>, LineError>
     Ok(list)
 }
 
-/// Parses the word for the steps: no steps if the word is `-`, and otherwise one step for each
-/// letter.
+/// Parses a word as steps, which are calls of `next` or `next_back`. The word `-` stands for no
+/// steps. In any other word, each letter stands for one step.
 pub fn steps_of(alloc: Global, word: &str) -> Result<Vec<Step>, LineError>
     ensures steps { IfOk result (λ steps. SpellsSteps word.now steps.items) }
 {
@@ -73,7 +75,7 @@ pub fn steps_of(alloc: Global, word: &str) -> Result<Vec<Step>, LineError>
     Ok(steps)
 }
 
-// Parses a letter as a step.
+// Parses a letter as a step, which is a call of `next` or `next_back`.
 fn step_of(letter: u8) -> Result<Step, LineError>
     ensures step { IfOk result (IsStep letter) }
 {

@@ -1,2 +1,2 @@
--- The lemmas of this crate. They are about a splice that is undone by a second splice.
+-- The lemmas of this crate are about a splice that is undone by a second splice.
 mod SpliceLemmas

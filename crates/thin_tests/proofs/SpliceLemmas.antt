@@ -1,4 +1,5 @@
--- Lemmas about replacing a range of a list and then putting the old items of the range back.
+-- This file proves that a list has its old items again if a range is replaced and the old items of
+-- the range are then put back.
 use Rattle.std.proofs.Common.{◌≡◌, ℕ, ◌+◌, ◌≤◌, List, ◌++◌, ◌∙◌, ap, append_assoc, arith, drop, length, length-append, sym, take}
 use Rattle.std.proofs.lemmas.List.{drop_at, length-take-le, take_at}
 use Rattle.std.proofs.lemmas.List.Edits.{split_between}
@@ -7,8 +8,8 @@ use Rattle.std.specs.declared.result.Result.{Result}
 use Rattle.std.specs.declared.result.Result.TheVariants.{Ok, Err}
 
 module _ {T : Type 0} (old numbers : List T) (start stop : ℕ) where
-  -- A list `new` is made from a list `old` by replacing the items from `start` up to `stop` by
-  -- `numbers`. If the old items are then put back in place of `numbers`, the result is `old`.
+  -- Assume that `new` is the list `old`, except that the items `start..stop` have been replaced
+  -- with `numbers`. If `numbers` are then replaced with the old items again, the result is `old`.
   pub put_back : (new : List T) → start ≤ stop → stop ≤ length old
       → new ≡ (take start old ++ numbers) ++ drop stop old
       → (take start new ++ slice_range old start stop) ++ drop (start + length numbers) new ≡ old
@@ -28,7 +29,8 @@ module _ {T : Type 0} (old numbers : List T) (start stop : ℕ) where
       (λ i. (front i ++ gone) ++ back i)
       ∙ (append_assoc pre gone post ∙ sym (split_between old start stop order))
 
--- If P implies Q, and P holds whenever `r` is `Ok`, then Q holds whenever `r` is `Ok`.
+-- Assume that `P` implies `Q`. If `P` holds whenever `r` is `Ok`, then `Q` holds whenever `r` is
+-- `Ok`.
 pub on_ok : {X E P Q : Type 0} (r : Result X E) → (P → Q) → OnOk r P → OnOk r Q
 on_ok (Ok _) h p = h p
 on_ok (Err _) h p = p

@@ -1,5 +1,5 @@
-//! Tests of behaviour that no contract states. This module also has functions whose contracts show
-//! what a caller can conclude from the contracts of `ThinVec`.
+//! Tests of behavior that no contract states. This module also contains functions whose contracts
+//! show what a caller can conclude from the contracts of `ThinVec`.
 mod allocators;
 mod arguments;
 mod capacities;

@@ -1,16 +1,17 @@
-//! The worked rows of calls that add, move or remove many items at once.
+//! The worked rows that check calls that add, move or remove many items at once. A worked row
+//! compares the results of calls with values that were worked out by hand.
 use crate::checks::Checks;
 use crate::rows::{Outcome, listed};
 use std::alloc::Allocator;
 use thin_runner::hinted::Hinted;
 use thin_vec::{ExtendRefused, ThinVec, ThinVecError};
 
-/// Makes an iterator that yields `items`, and claims the lower bound `lower` at every call of
-/// `size_hint`.
+/// Makes an iterator that yields `items`. Its method `size_hint` always returns the lower bound
+/// `lower`, even if this bound is wrong.
 ///
 /// # Errors
 ///
-/// Fails with `OutOfMemory` if there is no room for the items.
+/// Fails with `OutOfMemory` if there is no memory for the items.
 pub fn claiming<A: Allocator, const N: usize>(
     alloc: A,
     items: [i32; N],
@@ -37,8 +38,8 @@ pub fn row_15<A: Allocator + Copy>(alloc: A) -> Outcome {
     Ok(checks)
 }
 
-/// Checks the items and the capacity after `extend` with an iterator of five items that claims the
-/// lower bound 0, 3, 5 or 9.
+/// Checks the items and the capacity of a list after `extend`. The iterator yields five items, and
+/// its `size_hint` returns the lower bound 0, 3, 5 or 9.
 pub fn row_24<A: Allocator + Copy>(alloc: A) -> Outcome {
     let mut checks = Checks::new();
     for (lower, capacity) in [(0, 8), (3, 8), (5, 5), (9, 9)] {
@@ -49,8 +50,8 @@ pub fn row_24<A: Allocator + Copy>(alloc: A) -> Outcome {
     Ok(checks)
 }
 
-// Checks the error of a failed `extend`: the cause is `CapacityOverflow`, `in_hand` is `None`, and
-// the iterator still yields all its items.
+// Checks the error of a failed `extend`. Its cause must be `CapacityOverflow`, its field `in_hand`
+// must be `None`, and its iterator must still yield all items.
 fn check_refused<A: Allocator>(checks: &mut Checks, refused: ExtendRefused<i32, Hinted<i32, A>>) {
     let ExtendRefused {
         cause,
@@ -64,8 +65,8 @@ fn check_refused<A: Allocator>(checks: &mut Checks, refused: ExtendRefused<i32, 
     );
 }
 
-/// Checks that `extend` fails and takes no item from the iterator if the size hint overflows the
-/// capacity.
+/// Checks that `extend` fails and takes no item from the iterator if the size hint of the iterator
+/// is too large for any capacity.
 pub fn row_25<A: Allocator + Copy>(alloc: A) -> Outcome {
     let mut checks = Checks::new();
     let mut list = listed(alloc, [1])?;
@@ -87,7 +88,7 @@ pub fn row_27<A: Allocator + Copy>(alloc: A) -> Outcome {
     Ok(checks)
 }
 
-/// Checks `resize` to a greater length and to a smaller one.
+/// Checks `resize` to a greater length and to a smaller length.
 pub fn row_28<A: Allocator + Copy>(alloc: A) -> Outcome {
     let mut checks = Checks::new();
     let mut words = listed(alloc, ["hello"])?;

@@ -1,4 +1,5 @@
-//! The worked row of commands, which `run` of `thin_runner` carries out.
+//! The worked row that checks `run` of the crate `thin_runner`, which carries out commands on a
+//! list. A worked row compares the results of calls with values that were worked out by hand.
 use crate::checks::Checks;
 use crate::rows::Outcome;
 use crate::rows::judges::Evens;
@@ -15,8 +16,8 @@ fn put<T: Drop, A: Allocator>(items: &mut Vec<T, A>, item: T) -> Result<(), Thin
     }
 }
 
-// Makes three commands: an insert past the end of the list, a push, and a drain of one item by two
-// steps, so that the second step yields nothing.
+// Makes three commands: an insert past the end of the list, a push, and a drain of one item. The
+// drain takes two steps, so the second step yields no item.
 fn past_the_end<A: Allocator + Copy>(alloc: A) -> Result<Vec<Command<i32, A>, A>, ThinVecError> {
     let mut steps = Vec::new(alloc);
     put(&mut steps, Step::Back)?;
@@ -43,8 +44,8 @@ fn check_replies<A: Allocator>(checks: &mut Checks, replies: &[Reply<i32, A>]) {
     }
 }
 
-/// Checks a run of three commands: an insert past the end, a push, and a drain that has one step
-/// more than it has items.
+/// Checks `run` with three commands: an insert past the end of the list, a push, and a drain of one
+/// item that takes two steps.
 pub fn row_41<A: Allocator + Copy>(alloc: A) -> Outcome {
     let mut checks = Checks::new();
     let mut list: ThinVec<i32, A> = ThinVec::new(alloc);

@@ -1,4 +1,5 @@
-//! The worked rows of `drain` and `extract_if`, of `bounds`, and of `{:?}`.
+//! The worked rows that check `drain`, `extract_if`, `bounds` and formatting with `{:?}`. A worked
+//! row compares the results of calls with values that were worked out by hand.
 use crate::checks::Checks;
 use crate::rows::{Outcome, listed};
 use std::alloc::Allocator;
@@ -22,7 +23,8 @@ fn is_even(item: i32) -> bool {
     item.wrapping_rem(2) == 0
 }
 
-/// Checks an `ExtractIf` of a range: the `ExtractIf` is dropped after it has yielded one item.
+/// Checks that an `ExtractIf` yields one item of a range, and that dropping the `ExtractIf`
+/// afterwards removes no other item.
 pub fn row_8<A: Allocator + Copy>(alloc: A) -> Outcome {
     let mut checks = Checks::new();
     let mut list = listed(alloc, [1, 2, 3, 4, 5, 6])?;
@@ -51,8 +53,8 @@ pub fn row_9<A: Allocator + Copy>(alloc: A) -> Outcome {
     Ok(checks)
 }
 
-/// Checks which pairs of `Bound`s are ranges of a list of five items, and which pair of indices
-/// `bounds` returns for each range.
+/// Checks `bounds` for a list of five items. The function must return the start and the end of the
+/// range that two `Bound`s describe, or `None` if the list has no such range.
 pub fn row_18<A: Allocator + Copy>(_alloc: A) -> Outcome {
     let mut checks = Checks::new();
     for (start, end, wanted) in [
@@ -69,7 +71,7 @@ pub fn row_18<A: Allocator + Copy>(_alloc: A) -> Outcome {
     Ok(checks)
 }
 
-/// Checks an `ExtractIf` whose `next` is called until it returns `None`.
+/// Checks an `ExtractIf` whose method `next` is called until `next` returns `None`.
 pub fn row_33<A: Allocator + Copy>(alloc: A) -> Outcome {
     let mut checks = Checks::new();
     let mut list = listed(alloc, [1, 2, 3, 4, 5, 6, 8, 9, 11, 13, 14, 15])?;

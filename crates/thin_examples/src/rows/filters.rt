@@ -1,10 +1,11 @@
-//! The worked rows of `retain_mut`, `dedup_by`, `dedup_by_key` and `dedup`.
+//! The worked rows that check `retain_mut`, `dedup_by`, `dedup_by_key` and `dedup`. A worked row
+//! compares the results of calls with values that were worked out by hand.
 use crate::checks::Checks;
 use crate::rows::{Outcome, listed};
 use std::alloc::Allocator;
 
 /// Checks that `dedup_by` compares each item with the last item that it kept, and not with the item
-/// before.
+/// directly before it.
 pub fn row_13<A: Allocator + Copy>(alloc: A) -> Outcome {
     let mut checks = Checks::new();
     let mut list = listed(alloc, [1i32, 2, 3, 5])?;
@@ -49,7 +50,7 @@ pub fn row_14<A: Allocator + Copy>(alloc: A) -> Outcome {
     Ok(checks)
 }
 
-/// Checks `dedup_by_key` and `dedup`, and one `pop` after each.
+/// Checks `dedup_by_key` and `dedup`, and a call of `pop` after each of them.
 pub fn row_34<A: Allocator + Copy>(alloc: A) -> Outcome {
     let mut checks = Checks::new();
     let mut tens = listed(alloc, [10, 20, 21, 30, 20])?;

@@ -1,5 +1,6 @@
-//! The worked rows of `thin_vec!`, and of iterating over, comparing, hashing, writing to and
-//! converting lists.
+//! The worked rows that check `thin_vec!`, and that iterate over, compare, hash, write to and
+//! convert lists. A worked row compares the results of calls with values that were worked out by
+//! hand.
 use crate::checks::Checks;
 use crate::rows::{Outcome, listed};
 use std::alloc::Allocator;
@@ -9,7 +10,8 @@ use std::io;
 use std::io::Write;
 use thin_vec::{ThinVec, ThinVecError, thin_vec};
 
-/// Checks `thin_vec!` with a repeated item, with items written out, and with no item.
+/// Checks `thin_vec!` with a repeated item, with items that are written one by one, and with no
+/// item.
 pub fn row_3<A: Allocator + Copy>(alloc: A) -> Outcome {
     let mut checks = Checks::new();
     let repeated = thin_vec![alloc => 7; 2]?;
@@ -22,8 +24,8 @@ pub fn row_3<A: Allocator + Copy>(alloc: A) -> Outcome {
     Ok(checks)
 }
 
-/// Checks that `into_array` returns the list if the array does not have the length of the list, and
-/// that the clone of an empty list has no block.
+/// Checks that `into_array` returns the list if the array and the list have different lengths. Also
+/// checks that the clone of an empty list has no allocation.
 pub fn row_20<A: Allocator + Copy>(alloc: A) -> Outcome {
     let mut checks = Checks::new();
     let digits = [0, 1, 2, 3, 4, 5, 6, 7, 8, 9];
@@ -41,7 +43,8 @@ pub fn row_20<A: Allocator + Copy>(alloc: A) -> Outcome {
     Ok(checks)
 }
 
-/// Checks `into_iter` from both ends, with a clone of the iterator in between.
+/// Checks that the iterator of `into_iter` yields items from both ends, and that a clone of the
+/// iterator contains the remaining items.
 pub fn row_29<A: Allocator + Copy>(alloc: A) -> Outcome {
     let mut checks = Checks::new();
     let mut items = listed(alloc, [1, 2, 3])?.into_iter();
@@ -59,7 +62,8 @@ fn hash_of<A: Allocator>(list: &ThinVec<i32, A>) -> u64 {
     hasher.finish()
 }
 
-// Checks that `cmp` of a list of the items `left` with a list of the items `right` returns `order`.
+// Makes a list of the items `left` and a list of the items `right`. Checks that comparing the two
+// lists with `cmp` returns `order`.
 fn check_order<A: Allocator + Copy>(
     checks: &mut Checks,
     alloc: A,
@@ -87,8 +91,8 @@ pub fn row_30<A: Allocator + Copy>(alloc: A) -> Outcome {
     Ok(checks)
 }
 
-// Writes bytes to the end of the list `bytes`, and checks the returned numbers of bytes and the
-// list.
+// Writes to the list `bytes` with `write_all` and `write`. Checks the items of the list and the
+// numbers that `write` returns.
 fn check_writes<A: Allocator>(checks: &mut Checks, bytes: &mut ThinVec<u8, A>) -> io::Result<()> {
     bytes.write_all(&[3, 4, 5])?;
     checks.holds(bytes, &[1, 2, 3, 4, 5], 5);
@@ -108,7 +112,7 @@ pub fn row_31<A: Allocator + Copy>(alloc: A) -> Outcome {
     }
 }
 
-/// Checks `into_vec`, and `from_str`, which makes a list of the bytes of a text.
+/// Checks that `into_vec` keeps the items, and that `from_str` makes a list of the bytes of a text.
 pub fn row_36<A: Allocator + Copy>(alloc: A) -> Outcome {
     let mut checks = Checks::new();
     let list = ThinVec::from_array(alloc, [1, 2, 3])?;

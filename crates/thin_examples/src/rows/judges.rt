@@ -1,11 +1,12 @@
-//! The judge that the worked row of commands passes to `run`.
+//! The judge that the worked row for commands passes to `run`. A judge decides about items in place
+//! of the closures that methods such as `retain` take.
 ghost use Rattle.std.specs.Ordering.{int_eq};
 ghost use Rattle.std.specs.Prelude.{int_rem, pos};
 
 use thin_runner::judge::Judge;
 
-/// A judge that picks the even numbers, and treats two numbers as the same if they are equal. It
-/// does not write to the numbers.
+/// A judge that chooses the even numbers, and treats two numbers as duplicates if they are equal.
+/// It does not change the numbers.
 #[derive(Clone, Copy)]
 pub struct Evens;
 

@@ -1,10 +1,11 @@
-//! The worked rows of calls on single items, of capacities, and of items of size zero.
+//! The worked rows that check calls on single items, capacities, and items of size zero. A worked
+//! row compares the results of calls with values that were worked out by hand.
 use crate::checks::Checks;
 use crate::rows::{Outcome, listed};
 use std::alloc::Allocator;
 use thin_vec::{ThinVec, ThinVecError};
 
-/// Checks that a new list has the capacity 0, and still has it after a `pop`.
+/// Checks that the capacity of a new list is 0, and is still 0 after a call of `pop`.
 pub fn row_1<A: Allocator + Copy>(alloc: A) -> Outcome {
     let mut checks = Checks::new();
     let mut list: ThinVec<i32, A> = ThinVec::new(alloc);
@@ -43,7 +44,7 @@ pub fn row_4<A: Allocator + Copy>(alloc: A) -> Outcome {
     Ok(checks)
 }
 
-// Inserts `value` at `index`, if `index` is at most the length.
+// Inserts `value` at `index` if `index` is at most the length of the list.
 fn insert<T: Drop, A: Allocator>(
     list: &mut ThinVec<T, A>,
     index: usize,
@@ -55,7 +56,7 @@ fn insert<T: Drop, A: Allocator>(
     Ok(())
 }
 
-/// Checks an `insert` in the middle, which grows the list, and an `insert` at the end.
+/// Checks an `insert` in the middle of a full list, and then an `insert` at the end.
 pub fn row_5<A: Allocator + Copy>(alloc: A) -> Outcome {
     let mut checks = Checks::new();
     let mut list = listed(alloc, [1, 2, 3])?;
@@ -65,7 +66,8 @@ pub fn row_5<A: Allocator + Copy>(alloc: A) -> Outcome {
     Ok(checks)
 }
 
-// Checks that `swap_remove` at `index` returns `word`, and that the list then has the words `left`.
+// Checks that `swap_remove` at `index` returns `word`, and that the list then contains the words
+// `left`.
 fn check_swapped<A: Allocator>(
     checks: &mut Checks,
     list: &mut ThinVec<&'static str, A>,
@@ -79,7 +81,7 @@ fn check_swapped<A: Allocator>(
     checks.holds(list, left, 4);
 }
 
-/// Checks `swap_remove` in the middle and at the front.
+/// Checks `swap_remove` in the middle of a list and at the front of a list.
 pub fn row_6<A: Allocator + Copy>(alloc: A) -> Outcome {
     let mut checks = Checks::new();
     let mut list = listed(alloc, ["foo", "bar", "baz", "qux"])?;
@@ -118,7 +120,7 @@ pub fn row_19<A: Allocator + Copy>(alloc: A) -> Outcome {
 }
 
 /// Checks that pushes into reserved room and `clear` do not change the capacity, and that
-/// `shrink_to_fit` reduces it to the length.
+/// `shrink_to_fit` reduces the capacity to the length.
 pub fn row_23<A: Allocator + Copy>(alloc: A) -> Outcome {
     let mut checks = Checks::new();
     let mut list = ThinVec::with_capacity(alloc, 10)?;

@@ -1,4 +1,5 @@
-//! The worked rows of `splice`, and the row of calls on an empty list.
+//! The worked rows that check `splice`, and the worked row that checks calls on an empty list. A
+//! worked row compares the results of calls with values that were worked out by hand.
 use crate::checks::Checks;
 use crate::rows::bulk::claiming;
 use crate::rows::{Outcome, listed};
@@ -7,8 +8,8 @@ use std::iter::{empty, once};
 use thin_runner::hinted::Hinted;
 use thin_vec::{SpliceRefused, ThinVec, ThinVecError};
 
-// Replaces two of five items with the three items of an iterator that claims to have `claim` items,
-// and checks the list and its capacity.
+// Replaces two of five items with the three items of an iterator, and checks the items and the
+// capacity of the list. The size hint of the iterator claims at least `claim` items.
 fn check_claimed<A: Allocator + Copy>(
     checks: &mut Checks,
     alloc: A,
@@ -22,8 +23,8 @@ fn check_claimed<A: Allocator + Copy>(
     Ok(())
 }
 
-/// Checks a `splice` with an iterator that claims too many items, and a `splice` with an iterator
-/// that claims the true number.
+/// Checks a `splice` with an iterator whose size hint is too large, and a `splice` with an iterator
+/// whose size hint is correct.
 pub fn row_10<A: Allocator + Copy>(alloc: A) -> Outcome {
     let mut checks = Checks::new();
     check_claimed(&mut checks, alloc, 1000, 1005)?;
@@ -31,8 +32,9 @@ pub fn row_10<A: Allocator + Copy>(alloc: A) -> Outcome {
     Ok(checks)
 }
 
-// Checks the error of a failed `finish`: the cause is `CapacityOverflow`, `held` and `in_hand` have
-// no item, and the iterator still yields the item that was not inserted.
+// Checks the error of a failed `finish`. Its cause must be `CapacityOverflow`, its fields `held`
+// and `in_hand` must contain no item, and its iterator must still yield the item that was not
+// inserted.
 fn check_refused<A: Allocator>(
     checks: &mut Checks,
     refused: SpliceRefused<i32, Hinted<i32, A>, A>,
@@ -49,8 +51,8 @@ fn check_refused<A: Allocator>(
     checks.items(&[rest.next(), rest.next()], &[Some(12), None]);
 }
 
-/// Checks `finish` of a splice whose iterator has a size hint that overflows the capacity: the call
-/// replaces the items of the range, inserts no further item, and fails.
+/// Checks `finish` of a splice whose iterator has a size hint that is too large for any capacity.
+/// The call replaces the items of the range, inserts no further item, and fails.
 pub fn row_11<A: Allocator + Copy>(alloc: A) -> Outcome {
     let mut checks = Checks::new();
     let mut list = listed(alloc, [1, 2, 3, 4, 5])?;
@@ -106,7 +108,7 @@ pub fn row_22<A: Allocator + Copy>(alloc: A) -> Outcome {
     Ok(checks)
 }
 
-// Checks a `splice` of a whole list with an empty iterator: the splice yields all items, and the
+// Checks a `splice` of a whole list with an empty iterator. The splice yields all items, and the
 // list is empty afterwards.
 fn check_emptied<A: Allocator + Copy>(checks: &mut Checks, alloc: A) -> Result<(), ThinVecError> {
     let mut list = listed(alloc, [1, 2, 3, 4, 5])?;
@@ -133,7 +135,8 @@ fn check_spliced<A: Allocator + Copy>(
     Ok(list)
 }
 
-// Checks a second `splice` of the list, which yields an item that the first `splice` inserted.
+// Checks a second `splice` of the same list. The second `splice` yields an item that the first one
+// inserted.
 fn check_spliced_again<A: Allocator + Copy>(
     checks: &mut Checks,
     alloc: A,

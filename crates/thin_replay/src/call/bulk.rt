@@ -1,4 +1,4 @@
-//! The parser of the commands that add several items.
+//! The parser for commands that add several items.
 ghost use Rattle.std.specs.Prelude.{IfOk, IfSome};
 ghost use Rattle.thin_replay.specs.Lines.{SaysUnjudged};
 

@@ -1,4 +1,5 @@
-//! The parser of the commands that need a judge.
+//! The parser for commands that need a judge. A judge decides about items in place of the closures
+//! that methods such as `retain` take.
 ghost use Rattle.std.specs.Prelude.{IfOk, IfSome};
 ghost use Rattle.thin_replay.specs.Lines.{IsCall, IsFilter};
 
@@ -8,8 +9,8 @@ use crate::line_error::LineError;
 use crate::words::count_of;
 use thin_runner::command::Command;
 
-/// Parses the words of a line as a command that needs a judge. Returns `None` if the words do not
-/// have the form of such a command.
+/// Parses the words of a line as a command with a judge, which decides about items in place of a
+/// closure. Returns `None` if the words do not have the form of such a command.
 pub fn parse(words: &[&str]) -> Result<Option<Call>, LineError>
     ensures says { IfOk result (λ found. IfSome found (IsCall words.now)) }
 {
@@ -32,8 +33,8 @@ pub fn parse(words: &[&str]) -> Result<Option<Call>, LineError>
     }
 }
 
-// Returns the command with the name `name`, if the line of this command consists of the name and
-// the three words that describe the judge. Otherwise, returns `None`.
+// Returns the command with the name `name` if a line with this command consists of the name and
+// three words that describe a judge, which decides about items. Otherwise, returns `None`.
 fn filter(name: &str) -> Option<Command<u64>>
     ensures filter { IfSome result (IsFilter name.now) }
 {

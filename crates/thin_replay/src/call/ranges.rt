@@ -1,4 +1,4 @@
-//! The parser of the commands that remove or replace a range, and `dedup`.
+//! The parser for `dedup`, and for commands that remove or replace a range.
 ghost use Rattle.std.specs.Prelude.{IfOk, IfSome};
 ghost use Rattle.thin_replay.specs.Lines.{SaysUnjudged};
 

@@ -1,4 +1,4 @@
-//! The parser of the commands that change the capacity, split the list or clone it.
+//! The parser for commands that change the capacity of the list, split the list, or clone the list.
 ghost use Rattle.std.specs.Prelude.{IfOk, IfSome};
 ghost use Rattle.thin_replay.specs.Lines.{SaysUnjudged};
 
@@ -6,8 +6,8 @@ use crate::line_error::LineError;
 use crate::words::count_of;
 use thin_runner::command::Command;
 
-/// Parses the words of a line as a command that changes the capacity, splits the list or clones it.
-/// Returns `None` if the words do not have the form of such a command.
+/// Parses the words of a line as a command that changes the capacity of the list, splits the list,
+/// or clones the list. Returns `None` if the words do not have the form of such a command.
 pub fn parse(words: &[&str]) -> Result<Option<Command<u64>>, LineError>
     ensures says { IfOk result (λ found. IfSome found (SaysUnjudged words.now)) }
 {

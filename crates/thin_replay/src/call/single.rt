@@ -1,4 +1,4 @@
-//! The parser of the commands that add, remove or replace one item, and of `truncate` and `clear`.
+//! The parser for commands that add, remove or replace one item, and for `truncate` and `clear`.
 ghost use Rattle.std.specs.Prelude.{IfOk, IfSome};
 ghost use Rattle.thin_replay.specs.Lines.{SaysUnjudged};
 

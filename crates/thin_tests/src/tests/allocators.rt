@@ -1,5 +1,5 @@
-//! Tests that a call with an allocator as an argument allocates its result there, and not on the
-//! allocator of the list, even if the list is empty.
+//! Tests calls that take an allocator as an argument. Such a call must allocate its result with
+//! this allocator, and not with the allocator of the list, even if the list is empty.
 use crate::tests::support::assertions::{assert_counts, assert_len, assert_same};
 use crate::tests::support::claims::Claims;
 use crate::tests::support::items::{list_of, refusing_nth};
@@ -16,14 +16,16 @@ fn push_one_more<A: Allocator>(rt: &impl Abort, mut vec: Vec<i32, A>, len: usize
     vec
 }
 
-// Moves the items of the list into a `Vec` on `alloc`, and pushes one more item.
+// Moves the items of the list into a `Vec` with the allocator `alloc`, and pushes one more item to
+// the `Vec`.
 fn move_into_vec<A: Allocator>(rt: &impl Abort, list: ThinVec<i32, A>, alloc: A) -> Vec<i32, A> {
     let len = list.len();
     let vec = list.into_vec(alloc).ok().expect(rt, "memory");
     push_one_more(rt, vec, len)
 }
 
-// Does the same as `move_into_vec`, but converts the list to a boxed slice first.
+// Converts the list to a boxed slice with the allocator `alloc`, converts the boxed slice to a
+// `Vec`, and pushes one more item to the `Vec`.
 fn move_into_boxed_slice<A: Allocator>(
     rt: &impl Abort,
     list: ThinVec<i32, A>,
@@ -34,8 +36,8 @@ fn move_into_boxed_slice<A: Allocator>(
     push_one_more(rt, boxed.into_vec(), len)
 }
 
-// Splits off the whole list as a second list on `alloc`, and then does the same as `move_into_vec`
-// with the second list.
+// Splits off all items as a second list with the allocator `alloc`. Then calls `move_into_vec` with
+// the second list.
 fn split_off_into_vec<A: Allocator + Copy>(
     rt: &impl Abort,
     mut list: ThinVec<i32, A>,
@@ -46,7 +48,7 @@ fn split_off_into_vec<A: Allocator + Copy>(
     move_into_vec(rt, tail, alloc)
 }
 
-// Clones the list on `alloc`, and then does the same as `move_into_vec` with the clone.
+// Clones the list with the allocator `alloc`. Then calls `move_into_vec` with the clone.
 fn clone_into_vec<A: Allocator + Copy>(
     rt: &impl Abort,
     list: ThinVec<i32, A>,
@@ -57,7 +59,7 @@ fn clone_into_vec<A: Allocator + Copy>(
     move_into_vec(rt, clone, alloc)
 }
 
-// Copies the list by `clone_copies` on `alloc`, and then does the same as `move_into_vec` with the
+// Copies the list by `clone_copies` with the allocator `alloc`. Then calls `move_into_vec` with the
 // copy.
 fn copy_into_vec<A: Allocator + Copy>(
     rt: &impl Abort,
@@ -69,8 +71,8 @@ fn copy_into_vec<A: Allocator + Copy>(
     move_into_vec(rt, copy, alloc)
 }
 
-// Converts the list to an iterator, clones the iterator on `alloc`, and extends a new list by this
-// clone. Then does the same as `move_into_vec` with the new list.
+// Converts the list to an iterator, clones the iterator with the allocator `alloc`, and extends a
+// new list by this clone. Then calls `move_into_vec` with the new list.
 fn clone_iter_into_vec<A: Allocator + Copy>(
     rt: &impl Abort,
     list: ThinVec<i32, A>,
@@ -84,8 +86,8 @@ fn clone_iter_into_vec<A: Allocator + Copy>(
     move_into_vec(rt, list, alloc)
 }
 
-// Moves the items of `list` into a `Vec` on `other`, in one of six ways. `way` is the number of the
-// way, from 0 to 5.
+// Moves the items of `list` into a `Vec` with the allocator `other`, by one of six functions. The
+// number `way`, from 0 to 5, selects the function.
 fn move_by_way(
     rt: &impl Abort,
     way: u32,
@@ -102,9 +104,9 @@ fn move_by_way(
     }
 }
 
-// Moves a list of `items` to another allocator in each of the six ways of `move_by_way`. Asserts
-// after each move that the list's own allocator has no block left, and that the other allocator has
-// one block.
+// Moves a list of `items` to another allocator by each of the six functions that `move_by_way`
+// calls. Asserts after each move that the list's own allocator has no allocated block, and that the
+// other allocator has one allocated block.
 fn assert_each_way_moves_the_block(rt: &impl Abort, alloc: Global, items: &[i32]) {
     let own = refusing_nth(rt, alloc, 0);
     let other = refusing_nth(rt, alloc, 0);

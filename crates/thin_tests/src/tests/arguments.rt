@@ -1,32 +1,33 @@
-//! Tests that `thin_vec!` evaluates its arguments once each, in the order in which they are
-//! written.
+//! Tests that `thin_vec!` evaluates each of its arguments exactly once, in the order in which the
+//! arguments are written.
 use crate::tests::support::assertions::{assert_list, assert_same};
 use std::alloc::Global;
 use std::cell::Cell;
 use std::process::Abort;
 use thin_vec::thin_vec;
 
-// Returns `value`, and appends `digit` to the decimal digits of the number in `order`.
+// Returns `value`. To record the call, appends `digit` to the decimal digits of the number in
+// `order`.
 fn note<V>(order: &Cell<u32>, digit: u32, value: V) -> V {
     order.set(order.get().wrapping_mul(10).wrapping_add(digit));
     value
 }
 
-// Tests the form that lists its items: `thin_vec![alloc => x, y]`.
+// Tests the form of `thin_vec!` that lists its items: `thin_vec![alloc => x, y]`.
 fn assert_order_with_listed_items(rt: &impl Abort, alloc: Global, order: &Cell<u32>) {
     let list = thin_vec![note(order, 1, alloc) => note(order, 2, 7), note(order, 3, 8),];
     assert_list(rt, &list.expect(rt, "memory"), &[7, 8], 2);
     assert_same(rt, order.take(), 123);
 }
 
-// Tests the form that repeats one item: `thin_vec![alloc => x; n]`.
+// Tests the form of `thin_vec!` that repeats one item: `thin_vec![alloc => x; n]`.
 fn assert_order_with_repeated_item(rt: &impl Abort, alloc: Global, order: &Cell<u32>) {
     let list = thin_vec![note(order, 1, alloc) => note(order, 2, 7); note(order, 3, 2)];
     assert_list(rt, &list.expect(rt, "memory"), &[7, 7], 4);
     assert_same(rt, order.take(), 123);
 }
 
-// Tests the form without items: `thin_vec![alloc =>]`.
+// Tests the form of `thin_vec!` without items: `thin_vec![alloc =>]`.
 fn assert_order_without_items(rt: &impl Abort, alloc: Global, order: &Cell<u32>) {
     let list = thin_vec![note(order, 1, alloc) =>];
     assert_list(rt, &list.expect(rt, "memory"), &[], 0);

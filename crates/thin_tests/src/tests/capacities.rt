@@ -1,4 +1,5 @@
-//! Tests the capacity that a list has after each call, against numbers that were computed by hand.
+//! Tests the capacity that a list has after each call. The expected capacities were computed by
+//! hand.
 use crate::tests::support::assertions::{assert_list, assert_same};
 use crate::tests::support::items::{push_all, refusing_nth};
 use std::alloc::Global;
@@ -38,7 +39,7 @@ fn assert_reserved(rt: &impl Abort, list: &mut ThinVec<i32>, additional: usize, 
     assert_same(rt, list.capacity(), capacity);
 }
 
-// Does the same as `assert_reserved`, but by `reserve_exact`.
+// Calls `reserve_exact` for `additional` items, and asserts that the capacity is then `capacity`.
 fn assert_reserved_exact(
     rt: &impl Abort,
     list: &mut ThinVec<i32>,
@@ -76,8 +77,8 @@ fn assert_overflows<T: Drop>(rt: &impl Abort, alloc: &'static Refusing<Global>, 
     assert_same(rt, (capacity, refused), (capacity, overflow));
 }
 
-// Capacities that are too large are refused with `CapacityOverflow`, and each overflow is detected
-// before any memory is requested.
+// If the capacity is too large, `with_capacity` fails with `CapacityOverflow` before it requests
+// any memory.
 #[test]
 fn with_capacity_detects_overflow_before_any_request(rt: HostRuntime) {
     let refusing = refusing_nth(&rt, rt.alloc(), 0);

@@ -1,4 +1,5 @@
-//! Tests of the calls that clone items, including when a clone fails.
+//! Tests of calls that clone items. Some of the tests check what happens if an item cannot be
+//! cloned.
 use crate::tests::support::assertions::{assert_len, assert_list, assert_same};
 use crate::tests::support::items::{boxes_of, push_all};
 use crate::tests::support::scarce::Scarce;
@@ -7,7 +8,8 @@ use std::cell::Cell;
 use std::process::Abort;
 use thin_vec::{ThinVec, ThinVecError, thin_vec};
 
-// Makes a list of `items` and its clone. Asserts that both have these items and no spare capacity.
+// Makes a list of `items`, and a clone of this list. Asserts that both lists contain `items` and
+// have no spare capacity.
 fn assert_cloned(rt: &impl Abort, alloc: Global, items: &[i32]) {
     let list = ThinVec::from_slice(alloc, items).expect(rt, "memory");
     assert_list(rt, &list, items, items.len());
@@ -41,7 +43,7 @@ fn clone_clones_boxed_items(rt: HostRuntime) {
     }
 }
 
-// Appends clones of `items`, and asserts that the call returns `answer`, and that the list then has
+// Appends clones of `items`. Asserts that the call returns `answer`, and that the list then has
 // `len` items and the capacity 4.
 fn assert_extended<'a>(
     rt: &impl Abort,
@@ -54,8 +56,9 @@ fn assert_extended<'a>(
     assert_same(rt, (list.len(), list.capacity()), (len, 4));
 }
 
-// Appends clones of three items to a list of one item, twice. The first time, only one clone
-// succeeds, so the call fails and drops this clone. The second time, all three clones succeed.
+// Tries twice to append clones of three items to a list of one item. The first time, only one item
+// can be cloned, so the call fails and drops the clone. The second time, all three items can be
+// cloned.
 fn assert_extended_at_second_try(
     rt: &impl Abort,
     alloc: Global,
@@ -80,8 +83,9 @@ fn row_37_extend_from_slice_drops_its_clones_if_one_fails(rt: HostRuntime) {
     assert_same(&rt, drops.get(), 8);
 }
 
-// Replaces the first of two items by clones of three items. The cell `granted` allows fewer than
-// three clones, so the call fails. Asserts that the call drops the clones that it made.
+// Tries to replace the first of two items with clones of three items. The cell `granted` allows
+// fewer than three clones, so the call fails. Asserts that the failed call drops the clones that it
+// has made.
 fn assert_replace_range_fails(
     rt: &impl Abort,
     alloc: Global,

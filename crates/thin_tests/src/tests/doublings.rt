@@ -1,5 +1,5 @@
-//! The capacity of a list after each of five pushes, and the cost of its blocks. All figures are
-//! proved, because contracts state them.
+//! Functions whose contracts state the capacity of a list after each of five pushes, and the cost
+//! of growing the list. So all these numbers are proved.
 ghost use Rattle.std.specs.Prelude.{◌≡◌, ◌+◌, ◌*◌, ◌<◌, [], ◌∷◌, IfOk, OnOk, length};
 ghost use Rattle.thin_vec.specs.ThinVec.{HasRoomFor};
 
@@ -7,8 +7,8 @@ use std::alloc::Allocator;
 use thin_vec::{ThinVec, ThinVecError};
 
 /// Pushes five items to a new list, and returns the list and the capacity after each push. The
-/// first push allocates a block of 4 slots. The fifth push copies the 4 items to a block of 8
-/// slots.
+/// first push allocates memory for 4 items. The fifth push copies these items to a new allocation
+/// for 8 items.
 pub fn five_pushes<A: Allocator>(alloc: A) -> Result<(ThinVec<u32, A>, [usize; 5]), ThinVecError>
     ensures capacities { IfOk result (λ made. made.1 ≡ 4 ∷ 4 ∷ 4 ∷ 4 ∷ 8 ∷ []) }
     ensures grown { IfOk result (λ made. made.0.cost.grown ≡ 4) }
@@ -28,7 +28,8 @@ pub fn five_pushes<A: Allocator>(alloc: A) -> Result<(ThinVec<u32, A>, [usize; 5
     Ok((list, [first, second, third, fourth, fifth]))
 }
 
-// Pushes to a full list, which doubles its capacity. If the capacity is 0, it becomes 4.
+// Pushes an item to a full list. This doubles the capacity of the list. If the capacity was 0, it
+// becomes 4.
 fn push_full<A: Allocator>(list: &mut ThinVec<u32, A>) -> Result<(), ThinVecError>
     requires full { length list.old.items ≡ list.old.capacity }
     requires few { list.old.capacity < 100 }
@@ -43,7 +44,8 @@ fn push_full<A: Allocator>(list: &mut ThinVec<u32, A>) -> Result<(), ThinVecErro
     Ok(())
 }
 
-// Pushes to a list with spare room, which changes neither the capacity nor the cost.
+// Pushes an item to a list with spare capacity. The push neither changes the capacity nor allocates
+// memory.
 fn push_spare<A: Allocator>(list: &mut ThinVec<u32, A>)
     requires room { HasRoomFor list.old 1 }
     ensures len { length list.new.items ≡ length list.old.items + 1 }

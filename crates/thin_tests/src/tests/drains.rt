@@ -1,5 +1,5 @@
-//! Functions whose contracts show what a caller of `drain` can conclude, and tests of which items a
-//! `Drain` yields and which items are left in the list.
+//! Functions whose contracts show what a caller of `drain` can conclude. The tests check which
+//! items a `Drain` yields, and which items remain in the list.
 ghost use Rattle.std.specs.Prelude.{◌≡◌, ◌+◌, ◌≤◌, ◌++◌, IfOk, IfSome, OnOk, drop, length, max, reverse, slice_range, take};
 ghost use Rattle.std.specs.List.{fold, remove_range};
 ghost use Rattle.thin_vec.specs.Edits.Drain.{drain_lender};
@@ -12,8 +12,8 @@ use std::ops::Bound;
 use std::process::Abort;
 use thin_vec::{Drain, Growth, ThinVec, ThinVecError, bounds};
 
-/// Removes the items from `start` up to `end` from the list, and returns the maximum of `least` and
-/// the removed items.
+/// Removes the items `start..end` from the list, and returns the maximum of `least` and the removed
+/// items.
 pub fn drain_greatest(list: &mut ThinVec<u32, Global>, start: usize, end: usize, least: u32) -> u32
     requires start_le_end { start ≤ end }
     requires in_bounds { end ≤ length list.old.items }
@@ -28,8 +28,8 @@ pub fn drain_greatest(list: &mut ThinVec<u32, Global>, start: usize, end: usize,
     greatest
 }
 
-/// Removes the items from `start` up to `end`, and returns the first of them, if any. The `Drain`
-/// is dropped after this one item; the items before and after the range stay in the list.
+/// Removes the items `start..end` from the list, and returns the first removed item, if there is
+/// one. The `Drain` is dropped after it has yielded this item.
 pub fn drain_first<T: Drop, A: Allocator, G: Growth>(
     list: &mut ThinVec<T, A, G>,
     start: usize,
@@ -44,9 +44,9 @@ pub fn drain_first<T: Drop, A: Allocator, G: Growth>(
     drain.next()
 }
 
-/// Moves the items from `start` up to `end` of `list` to the end of `other`, by one call of
-/// `extend`. This call takes the `Drain` by value, so no contract states which items `list`
-/// has afterwards: a test checks that.
+/// Moves the items `start..end` of `list` to the end of `other`, by one call of `extend`. This call
+/// takes the `Drain` by value, so no contract states which items `list` has afterwards. A test
+/// checks these items.
 pub fn extend_by_range(
     list: &mut ThinVec<u32, Global>,
     start: usize,
@@ -64,7 +64,7 @@ pub fn extend_by_range(
     }
 }
 
-/// Removes the items from `start` up to `end`, and returns them in a `Vec`.
+/// Removes the items `start..end` from the list, and returns the removed items in a `Vec`.
 pub fn drain_into_vec(
     list: &mut ThinVec<u32, Global>,
     start: usize,
@@ -78,7 +78,8 @@ pub fn drain_into_vec(
     list.drain(start, end).collect(alloc)
 }
 
-/// Removes the items from `start` up to `end`, and returns them in a `Vec`, in reverse order.
+/// Removes the items `start..end` from the list, and returns the removed items in a `Vec`, in
+/// reverse order.
 pub fn drain_reversed(
     list: &mut ThinVec<u32, Global>,
     start: usize,
@@ -93,8 +94,9 @@ pub fn drain_reversed(
     list.drain(start, end).rev().collect(alloc)
 }
 
-/// Drains the range with the bounds `start` and `end`. A bound can be included, excluded or
-/// missing, as in Rust's ranges. Returns `None` if the list has no such range.
+/// Drains the range with the bounds `start` and `end`. Returns `None` if the list has no such
+/// range. As in Rust's ranges, the range may include or exclude each bound, and each bound may be
+/// missing.
 pub fn drain_between<T: Drop, A: Allocator, G: Growth>(
     list: &mut ThinVec<T, A, G>,
     start: Bound<usize>,
@@ -106,8 +108,9 @@ pub fn drain_between<T: Drop, A: Allocator, G: Growth>(
     Some(list.drain(start, end))
 }
 
-// Drains the range, from the front or from the back. Asserts that the drain yields the items in
-// `wanted`, that the list then has the items in `left`, and that its capacity does not change.
+// Drains `range` from the front, or from the back if `is_reverse` is true. Asserts that the `Drain`
+// yields the items in `wanted`, that the list then contains the items in `left`, and that the
+// capacity of the list does not change.
 fn assert_drained<T: PartialEq + std::fmt::Debug + Drop, A: Allocator>(
     rt: &impl Abort,
     mut list: ThinVec<T, A>,
@@ -125,8 +128,8 @@ fn assert_drained<T: PartialEq + std::fmt::Debug + Drop, A: Allocator>(
     assert_same(rt, list.capacity(), capacity);
 }
 
-// Asserts that the drain yields the items in `wanted`, from the front or from the back, and then
-// `None` from both ends.
+// Asserts that the `Drain` yields the items in `wanted`, and then `None` at both ends. Takes the
+// items from the front, or from the back if `is_reverse` is true.
 fn assert_yields<T: PartialEq + std::fmt::Debug + Drop, A: Allocator>(
     rt: &impl Abort,
     drain: &mut Drain<'_, T, A>,
@@ -208,8 +211,8 @@ fn drain_yields_an_inclusive_range_of_the_first_item(rt: HostRuntime) {
     assert_drained(&rt, texts, first, false, &["0"], &["1"]);
 }
 
-// Drains a range of a list of six texts, from the index `first` up to and including `last`. Asserts
-// what the drain yields and what is left in the list.
+// Drains the texts at the indices `first..=last` from a list of six texts. Asserts that the `Drain`
+// yields `wanted`, and that the list then contains `left`.
 fn assert_texts_drained<R: Abort>(
     rt: &R,
     alloc: Global,
@@ -222,8 +225,8 @@ fn assert_texts_drained<R: Abort>(
     assert_drained(rt, texts, range, false, wanted, left);
 }
 
-// The first and the last index of a range, the texts that its drain yields, and the texts that are
-// left.
+// A test case for `drain`: the first and the last index of the range, the texts that the `Drain`
+// yields, and the texts that remain in the list.
 type Drained = (
     (usize, usize),
     &'static [&'static str],

@@ -1,5 +1,5 @@
-//! Tests that each item is dropped once, by the list or by the code that it was moved to, and that
-//! a list without items makes no request.
+//! Tests that each item is dropped exactly once, and that dropping an empty list makes no request
+//! to the allocator.
 use crate::tests::support::assertions::assert_same;
 use crate::tests::support::counted::{Counted, counted_list};
 use crate::tests::support::items::{push, refusing_nth};

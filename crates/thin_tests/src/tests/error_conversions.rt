@@ -1,5 +1,5 @@
-//! Tests that converting an error by `?` drops each value that the error holds, exactly once. There
-//! is one test for each error type to which `?` converts.
+//! Tests that converting an error by `?` drops each value in the error exactly once. There is one
+//! test for each error type that `?` can convert to.
 use crate::tests::support::assertions::assert_same;
 use crate::tests::support::counted::{Counted, counted_list};
 use std::alloc::{AllocError, Global};
@@ -14,8 +14,8 @@ fn convert<R, E: From<R>>(refused: R) -> Result<(), E> {
     Ok(())
 }
 
-// Converts `refused`, which holds `held` counted values, by `?`. Asserts that all of these values
-// are then dropped.
+// Converts the error `refused` by `?`. Asserts that the conversion drops all values in the error.
+// The number of these values is `held`.
 fn assert_conversion_drops<E: From<R> + Drop, R: Drop>(
     rt: &impl Abort,
     drops: &Cell<u32>,
@@ -29,8 +29,8 @@ fn assert_conversion_drops<E: From<R> + Drop, R: Drop>(
 
 const CAUSE: ThinVecError = ThinVecError::OutOfMemory;
 
-// Asserts that converting the error of a failed `push` or `extend` drops all values that the error
-// holds. One of them is the iterator in the error of `extend`, which counts its drop too.
+// Asserts that converting the error of a failed `push` or `extend` drops all values in the error.
+// In the error of `extend`, one of these values is the iterator.
 fn assert_push_and_extend_errors_dropped<'a, E>(rt: &impl Abort, drops: &'a Cell<u32>)
 where
     E: From<Rejected<Counted<'a>>> + From<ExtendRefused<Counted<'a>, Counted<'a>>> + Drop,
@@ -49,8 +49,8 @@ where
     assert_conversion_drops::<E, _>(rt, drops, extend, 2);
 }
 
-// Asserts that converting the error of a failed `from_iter` or `finish` drops all values that the
-// error holds.
+// Asserts that converting the error of a failed `from_iter` or `finish` drops all values in the
+// error.
 fn assert_from_iter_and_finish_errors_dropped<'a, E>(
     rt: &impl Abort,
     alloc: Global,

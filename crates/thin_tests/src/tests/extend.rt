@@ -1,5 +1,5 @@
-//! Tests of `extend` and `from_iter`: the cases in the tests of the Rust crate `thin-vec`, and what
-//! a failed call returns.
+//! Tests of `extend` and `from_iter`. They cover the same cases as the tests of the Rust crate
+//! `thin-vec`, and check what a failed call returns.
 use crate::tests::support::assertions::{assert_counts, assert_list, assert_same};
 use crate::tests::support::claims::Claims;
 use crate::tests::support::counted::Counted;
@@ -11,7 +11,7 @@ use std::ops::Range;
 use std::process::Abort;
 use thin_vec::{ExtendRefused, ThinVec, ThinVecError};
 
-// Extends a list by one item that counts its drop, and drops the list.
+// Extends a new list by one item that counts its drops, and then drops the list.
 fn extend_counted(rt: &impl Abort, alloc: Global, drops: &Cell<u32>) {
     let mut counted = ThinVec::new(alloc);
     counted
@@ -20,7 +20,7 @@ fn extend_counted(rt: &impl Abort, alloc: Global, drops: &Cell<u32>) {
         .expect(rt, "memory");
 }
 
-// Extends a list by two zero-sized items, and asserts its length and capacity.
+// Extends a new list by two zero-sized items, and asserts the length and the capacity of the list.
 fn extend_units(rt: &impl Abort, alloc: Global) {
     let mut units = ThinVec::new(alloc);
     units.extend((0..2).map(|_| ())).ok().expect(rt, "memory");
@@ -92,8 +92,8 @@ fn row_26_refused_extend_returns_the_item_in_hand(rt: HostRuntime) {
     );
 }
 
-// Extends a list of three items by `count` numbers, through an iterator whose size hint has the
-// lower bound 0.
+// Extends a list of three items by `count` numbers, and returns the list. The size hint of the
+// iterator has the lower bound 0.
 fn extended_without_hint(rt: &impl Abort, alloc: Global, count: i32) -> ThinVec<i32> {
     let mut list = list_of(rt, alloc, &[1, 2, 3]);
     let more = (0..count).filter(|_| true);

@@ -1,12 +1,11 @@
-//! A function whose contract shows what a caller can conclude about an `extract_if` that is dropped
-//! early.
+//! A function whose contract shows what a caller can conclude if an `ExtractIf` is dropped early.
 ghost use Rattle.std.specs.Prelude.{◌≡◌, ◌≤◌, length};
 
 use std::alloc::Allocator;
 use thin_vec::{Growth, ThinVec};
 
 #[tactic(auto, using(std::proofs::lemmas::List::Edits::split_between))]
-/// Starts an extraction, and drops it before any item is tested. The list is unchanged.
+/// Makes an `ExtractIf`, and drops it before any item is tested. The list does not change.
 pub fn extract_nothing<T: Drop, A: Allocator, G: Growth>(
     list: &mut ThinVec<T, A, G>,
     start: usize,

@@ -1,5 +1,5 @@
-//! Tests of `retain` and `dedup`, and of their variants: what no contract states, and the cases in
-//! the tests of the Rust crate `thin-vec`.
+//! Tests of `retain`, `dedup` and their variants. They check what no contract states, and cover the
+//! same cases as the tests of the Rust crate `thin-vec`.
 use crate::tests::support::assertions::{assert_items, assert_list, assert_same};
 use crate::tests::support::items::{boxes_of, list_of};
 use std::alloc::Global;
@@ -13,7 +13,7 @@ fn retain_keeps_the_items_tested_true(rt: HostRuntime) {
     assert_list(&rt, &list, &[2, 4], 4);
 }
 
-// After `retain_mut`, each item that stays has the value that the closure wrote to it.
+// After `retain_mut`, each remaining item has the value that the closure wrote to it.
 #[test]
 fn retain_mut_keeps_what_its_closure_writes(rt: HostRuntime) {
     let mut list = list_of(&rt, rt.alloc(), &[9, 9, 9, 9]);

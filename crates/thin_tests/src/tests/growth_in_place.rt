@@ -1,6 +1,6 @@
 //! Tests of lists that are long enough to grow and shrink in place, with items of 1, 2, 4, 8 or 16
-//! bytes. Each change of the capacity is tried twice: the first request is refused, the second one
-//! is granted.
+//! bytes. Most tests try each change of the capacity twice. The allocator refuses the first
+//! request, and grants the second one.
 use crate::tests::support::assertions::assert_same;
 use crate::tests::support::items::push;
 use std::alloc::{Allocator, Global};
@@ -9,12 +9,12 @@ use std::process::Abort;
 use thin_testing::{Refusing, Ruled};
 use thin_vec::{Doubling, Growth, PowerBytes, ThinVec, ThinVecError};
 
-// An item type whose values are made from numbers.
+// A type of items that can be made from a number.
 trait Numbered: Copy + PartialEq + Debug + Drop {
     fn numbered(number: usize) -> Self;
 }
 
-// The modulus is odd, so bytes in neighbouring words differ.
+// The modulus is odd, so neighboring 8-byte words contain different bytes.
 impl Numbered for u8 {
     fn numbered(number: usize) -> u8 {
         (number % 251) as u8
@@ -57,7 +57,8 @@ impl Numbered for u128 {
     }
 }
 
-// Asserts that the list has `len` items, each made from its index, and the capacity `capacity`.
+// Asserts that the list has `len` items and the capacity `capacity`, and that each item was made
+// from its index.
 fn assert_numbered<T: Numbered, A: Allocator, G: Growth>(
     rt: &impl Abort,
     list: &ThinVec<T, A, G>,
@@ -81,8 +82,8 @@ fn fill<T: Numbered, A: Allocator, G: Growth>(rt: &impl Abort, list: &mut ThinVe
     }
 }
 
-// Pushes to a full list of items of `size` bytes, twice. The first push is refused and leaves the
-// list unchanged. The second push makes the list grow as its growth rule says.
+// Tries twice to push an item of `size` bytes to a full list. The first push must fail and leave
+// the list unchanged. The second push must succeed, and must grow the list as the growth rule says.
 fn assert_grows<T: Numbered, B: Allocator, G: Ruled>(
     rt: &impl Abort,
     refusing: &Refusing<B>,
@@ -99,8 +100,8 @@ fn assert_grows<T: Numbered, B: Allocator, G: Ruled>(
     assert_same(rt, refusing.requests(), 2);
 }
 
-// Makes a list of at least 600 items by pushes, beginning at the capacity `first`. Checks each
-// growth by `assert_grows`.
+// Makes a list with the capacity `first`, and pushes items until the list has at least 600 items.
+// Checks each growth of the list by `assert_grows`.
 fn assert_pushes<T: Numbered, B: Allocator, G: Ruled>(
     rt: &impl Abort,
     refusing: &Refusing<B>,
@@ -119,7 +120,7 @@ fn assert_pushes<T: Numbered, B: Allocator, G: Ruled>(
     assert_same(rt, (list.len() >= 600, refusing.blocks()), (true, 1));
 }
 
-// Changes the capacity of the list to `capacity`, by one request.
+// Changes the capacity of the list to `capacity`, by one request to the allocator.
 fn make_capacity<T: Drop, A: Allocator, G: Growth>(
     list: &mut ThinVec<T, A, G>,
     capacity: usize,
@@ -132,7 +133,7 @@ fn make_capacity<T: Drop, A: Allocator, G: Growth>(
 }
 
 // Tries twice to change the capacity of the list to `capacity`. Asserts that the first request is
-// refused and leaves the list unchanged, and that the second one succeeds.
+// refused and leaves the list unchanged, and that the second request succeeds.
 fn assert_capacity_made<T: Numbered, B: Allocator>(
     rt: &impl Abort,
     refusing: &Refusing<B>,
@@ -149,9 +150,9 @@ fn assert_capacity_made<T: Numbered, B: Allocator>(
     assert_same(rt, refusing.requests(), 2);
 }
 
-// Makes a full list of `len` items, and grows its capacity by `more` twice. Then shrinks its
-// capacity by `more`, fills all its slots, truncates it to `len` items, and shrinks its capacity by
-// `more` again.
+// Makes a full list of `len` items, and increases its capacity by `more`, twice. Then reduces the
+// capacity by `more`, fills the list, truncates the list to `len` items, and reduces the capacity
+// by `more` again.
 fn assert_capacities<T: Numbered, B: Allocator>(
     rt: &impl Abort,
     refusing: &Refusing<B>,
@@ -173,11 +174,10 @@ fn assert_capacities<T: Numbered, B: Allocator>(
     assert_same(rt, refusing.blocks(), 1);
 }
 
-// Runs `assert_pushes` and `assert_capacities` for one type of item, of `size` bytes. The shortest
-// block that can stay in place has 32 words (256 bytes) of items, so the lists for
-// `assert_capacities` have about this many bytes. Their capacities are up to 18 items greater. If
-// an item is smaller than a word, some of these capacities fill a whole number of words, and others
-// do not.
+// Runs `assert_pushes` and `assert_capacities` for an item type of `size` bytes. A list can only
+// grow in place if its items take at least 256 bytes, so the items of the lists for
+// `assert_capacities` take about 256 bytes. If an item is smaller than 8 bytes, some of the tested
+// capacities fill a whole number of 8-byte words, and others do not.
 fn assert_type<T: Numbered>(rt: &impl Abort, alloc: Global, size: usize) {
     let refusing = Refusing::new(alloc, 0);
     for first in [0, 5, 261] {
@@ -219,8 +219,8 @@ fn a_list_of_pairs_of_words_grows_and_shrinks_in_place(rt: HostRuntime) {
     assert_type::<u128>(&rt, rt.alloc(), 16);
 }
 
-// Pushes 3,000 items. Before each growth, another list allocates the memory after the list's
-// block, so that the block cannot grow in place.
+// Pushes 3000 items to a list. Before each growth, another list allocates the memory right after
+// the allocation of this list. So the list cannot grow in place.
 fn assert_pushes_beside_neighbours<T: Numbered>(rt: &impl Abort, alloc: Global) {
     let mut neighbours = ThinVec::<ThinVec<u8>>::new(alloc);
     let mut list = ThinVec::<T>::new(alloc);

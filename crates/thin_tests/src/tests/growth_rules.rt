@@ -1,13 +1,13 @@
-//! Tests the capacities of lists under the growth rule `PowerBytes`, for some item types that the
-//! sweep does not use under this rule.
+//! Tests the capacities of lists with the growth rule `PowerBytes`, for some item types that the
+//! crate `thin_vec_sweep` does not test with this rule.
 use crate::tests::support::assertions::assert_same;
 use crate::tests::support::items::push;
 use std::alloc::Global;
 use std::process::Abort;
 use thin_vec::{PowerBytes, ThinVec};
 
-// Pushes items to a new list under the rule `PowerBytes`. Asserts after each push that the capacity
-// is the first number in `capacities` that is at least the length.
+// Pushes items to a new list with the growth rule `PowerBytes`. Asserts after each push that the
+// capacity is the first number in `capacities` that is at least the length of the list.
 fn assert_grows<T: Copy + Drop>(rt: &impl Abort, alloc: Global, item: T, capacities: &[usize]) {
     let mut list = ThinVec::<T, Global, PowerBytes>::ruled(alloc);
     for &capacity in capacities {

@@ -1,4 +1,4 @@
-//! Tests of `IntoIter`, the iterator that takes a list by value: which items remain after some
+//! Tests of `IntoIter`, the iterator that consumes a list. They check which items remain after some
 //! steps, and that the iterator ends.
 use crate::tests::support::assertions::{assert_items, assert_list, assert_same};
 use crate::tests::support::items::{list_of, refusing_nth};
@@ -36,7 +36,8 @@ fn into_iter_counts_its_items(rt: HostRuntime) {
     assert_same(&rt, items.count(), 3);
 }
 
-// Clones the iterator on `alloc`, and asserts that the clone has the items in `wanted`.
+// Clones the iterator with the allocator `alloc`, and asserts that the clone contains the items in
+// `wanted`.
 fn assert_cloned<A: Allocator>(
     rt: &impl Abort,
     items: &IntoIter<i32, A>,
@@ -47,8 +48,8 @@ fn assert_cloned<A: Allocator>(
     assert_items(rt, clone.as_slice(), wanted);
 }
 
-// Clones an iterator over 1, 2, 3 before and after its first step, and asserts the items of both
-// clones. Then moves the iterator to its end.
+// Clones an iterator over 1, 2 and 3 before and after its first step, and asserts the items of the
+// two clones. Then takes the remaining items out of the iterator.
 fn clone_between_steps<A: Allocator + Copy>(
     rt: &impl Abort,
     items: &mut IntoIter<i32, A>,
@@ -71,8 +72,8 @@ fn into_iter_clone_has_the_remaining_items(rt: HostRuntime) {
     assert_cloned(&rt, &items, refusing, &[]);
 }
 
-// Returns a list to which the items were moved twice by iterators: in order, and then in reverse
-// order.
+// Returns a list that contains `items` in order, followed by `items` in reverse order. The items
+// are moved into this list by two iterators of the type `IntoIter`.
 fn moved_twice<T: Copy + Drop>(rt: &impl Abort, alloc: Global, items: &[T]) -> ThinVec<T> {
     let mut moved = ThinVec::new(alloc);
     let list = list_of(rt, alloc, items);

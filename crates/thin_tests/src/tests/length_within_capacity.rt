@@ -1,12 +1,12 @@
 //! Functions that rely on two facts about every list: its length is at most its capacity, and its
-//! capacity is less than 2 ^ 63. The prover finds both facts by itself. None of the functions has a
-//! proof file, or calls `len` to make the prover see these facts.
+//! capacity is less than 2 ^ 63. The prover finds both facts by itself. So these functions need
+//! neither a hand-written proof nor a call of `len` that tells the prover these facts.
 ghost use Rattle.std.specs.Prelude.{◌≡◌, ◌+◌, ◌<◌, ◌≤◌, IsTrue, length, take};
 
 use std::alloc::Allocator;
 use thin_vec::{Growth, ThinVec};
 
-/// Replaces the last item by `value`, and returns whether there was a last item. It allocates no
+/// Replaces the last item with `value`, and returns whether there was a last item. Allocates no
 /// memory.
 pub fn replace_last<T: Drop, A: Allocator, G: Growth>(list: &mut ThinVec<T, A, G>, value: T) -> bool
     ensures succeeds { 0 < length list.old.items → IsTrue result }
@@ -18,8 +18,8 @@ pub fn replace_last<T: Drop, A: Allocator, G: Growth>(list: &mut ThinVec<T, A, G
     }
 }
 
-/// Replaces all items by `value`, and returns whether that succeeded. It allocates no memory if the
-/// list had an item.
+/// Replaces all items with the single item `value`, and returns whether this succeeded. Allocates
+/// no memory if the list was not empty.
 pub fn replace_all<T: Drop, A: Allocator, G: Growth>(list: &mut ThinVec<T, A, G>, value: T) -> bool
     ensures succeeds { 0 < length list.old.items → IsTrue result }
 {
@@ -27,8 +27,8 @@ pub fn replace_all<T: Drop, A: Allocator, G: Growth>(list: &mut ThinVec<T, A, G>
     list.push(value).is_ok()
 }
 
-/// Truncates the list to `at` items, and returns `at + count`. The list has at least that many
-/// items, so the sum does not overflow.
+/// Truncates the list to `at` items, and returns `at + count`. The list has at least `at + count`
+/// items before the call, so the sum does not overflow.
 pub fn truncate_and_add<T: Drop, A: Allocator, G: Growth>(
     list: &mut ThinVec<T, A, G>,
     at: usize,

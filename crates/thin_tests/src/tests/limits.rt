@@ -1,5 +1,5 @@
-//! Tests of the largest capacity of a block, for several primitive types, against numbers that were
-//! computed by hand.
+//! Tests of the largest possible capacities for items of several primitive types. The expected
+//! numbers were computed by hand.
 ghost use Rattle.std.specs.Prelude.{◌≡◌, IsTrue, IsFalse, ◌^◌, ◌-◌, ◌+◌};
 ghost use Rattle.thin_block.specs.Capacity.{items_offset, fits as fits_at};
 
@@ -39,8 +39,8 @@ fn next_capacity_follows_doubling(rt: HostRuntime) {
     );
 }
 
-// A block of 2 ^ 62 bytes has room for 2 ^ 62 - 16 items of one byte. For one item more,
-// `PowerBytes` has no capacity, but `Doubling` has one.
+// An allocation of 2 ^ 62 bytes has room for 2 ^ 62 - 16 items of one byte. For one more item, the
+// growth rule `PowerBytes` provides no capacity, but the growth rule `Doubling` does.
 #[test]
 fn power_bytes_has_no_capacity_past_2_to_62_bytes(rt: HostRuntime) {
     let last = (1 << 62) - 16;
@@ -67,8 +67,8 @@ fn errors_print_their_texts(rt: HostRuntime) {
     assert_same(&rt, cause, ThinVecError::OutOfMemory);
 }
 
-// The limits for alignments above 16 are proved, and not tested, because no type of Rattle has such
-// an alignment.
+// The limits for alignments above 16 are proved instead of tested, because no type of Rattle has
+// such an alignment.
 #[tactic(auto, unfolding(thin_block::specs::Capacity::fits))]
 fn states_limits_at_greater_alignments()
     ensures byte_items { items_offset 1 ≡ 16 }

@@ -1,4 +1,5 @@
-//! Uses each public name of the crate `thin_vec` once, and each trait that programs rely on.
+//! Tests that public names of the crate `thin_vec` exist, and that its types implement the traits
+//! that programs rely on.
 use crate::tests::support::assertions::assert_same;
 use std::alloc::{AllocError, Allocator, Global};
 use std::convert::AsSlice;
@@ -12,7 +13,8 @@ use thin_vec::{
     Doubling, ExtractIf, Growth, IntoIter, Rejected, ThinVec, ThinVecError, fits, thin_vec,
 };
 
-// Compiles only if the type `L`, a list of bytes, has the traits that its bounds name.
+// Compiles only if the type `L` implements the traits in its bounds. The test passes a list of
+// bytes.
 fn assert_list_traits<L>(_list: &L)
 where
     L: Clone + Eq + Ord + Hash + Debug + Drop,
@@ -20,21 +22,22 @@ where
     L: Index<usize, Output = u8> + IndexMut<usize> + IntoIterator<Item = u8> + Write,
 {}
 
-// Compiles only if the type `I`, an iterator over bytes, has the traits that its bounds name. The
-// tests pass an `IntoIter` and a `Drain`.
+// Compiles only if the type `I` implements the traits in its bounds. The test passes an `IntoIter`
+// and a `Drain` of bytes.
 fn assert_iterator_traits<I>(_items: &I)
 where
     I: DoubleEndedIterator + ExactSizeIterator + FusedIterator + Iterator<Item = u8> + Debug + Drop,
 {}
 
-// Compiles only if the type `E`, an error type, has the traits that its bounds name. The test
-// passes a `ThinVecError`.
+// Compiles only if the type `E` implements the traits in its bounds. The test passes a
+// `ThinVecError`.
 fn assert_error_traits<E>(_cause: &E)
 where
     E: Error + Copy + Eq + From<AllocError> + From<Rejected<u8>>,
 {}
 
-// A struct that derives `Clone`. Cloning its list clones the strings, which allocates memory.
+// A struct that derives `Clone`. Cloning a value of this type clones each string in the list, and
+// allocates memory for each clone.
 #[derive(Clone, Drop)]
 struct Names {
     all: ThinVec<String>,

@@ -1,4 +1,4 @@
-//! Tests which requests the allocator `Refusing` refuses, and what it counts.
+//! Tests which requests the allocator `Refusing` refuses, and what this allocator counts.
 use crate::tests::support::assertions::{assert_counts, assert_same};
 use crate::tests::support::items::refusing_nth;
 use std::alloc::{Allocator, Global};
@@ -16,13 +16,13 @@ fn assert_reserve<A: Allocator>(rt: &impl Abort, items: &mut Vec<u8, A>, granted
     assert_same(rt, items.reserve(1000).is_ok(), granted);
 }
 
-// Asserts that exactly `blocks` blocks are allocated and not yet freed.
+// Asserts that exactly `blocks` blocks are currently allocated.
 fn assert_blocks(rt: &impl Abort, refusing: &Refusing<Global>, blocks: u64) {
     assert_same(rt, refusing.blocks(), blocks);
 }
 
-// Pushes to a new `Vec`, twice. Asserts that the first push is refused and leaves one block
-// allocated, and that the second one allocates a second block.
+// Tries twice to push an item to a new `Vec`. Asserts that the first push fails, so only one block
+// is allocated. Asserts that the second push succeeds, and allocates a second block.
 fn assert_blocks_by_pushes(rt: &impl Abort, refusing: &Refusing<Global>) {
     let mut other = Vec::new(refusing);
     assert_push(rt, &mut other, 2, false);

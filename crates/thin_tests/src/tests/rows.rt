@@ -1,5 +1,6 @@
-//! Tests of the worked examples (rows): how many values each one compares, how many requests it
-//! makes, and that each comparison detects a wrong value.
+//! Tests of the worked rows. A worked row compares the results of calls with values that were
+//! worked out by hand. The tests check how many values each row compares, how many requests for
+//! memory it makes, and that each comparison detects a wrong value.
 use std::alloc::Global;
 use std::process::Abort;
 use thin_examples::checks::Checks;
@@ -7,10 +8,10 @@ use thin_examples::rows::{ROWS, row};
 use thin_testing::Refusing;
 use thin_vec::{ThinVec, thin_vec};
 
-// One line for each row: its number, how many values it compares, and how many requests it makes,
-// all counted by hand. A row that compares fewer values, or does the work of another row, has a
-// different line. Row 35 is shown with 0 requests: its requests are made by the `format!` of
-// Rattle's library, and are not counted here.
+// One line for each worked row: its number, the number of values that it compares, and the number
+// of its requests for memory. The numbers were counted by hand, so they expose a row that compares
+// too few values. For row 35, the number of requests is given as 0, because `format!` of Rattle's
+// library makes requests in this row.
 const COUNTS: &str = "\
     1: 5, 0\n\
     2: 12, 2\n\
@@ -48,8 +49,8 @@ const COUNTS: &str = "\
     40: 15, 2\n\
     41: 6, 5\n";
 
-// Runs the row `number`. Asserts that the row is ok, and that all its blocks are freed. Returns how
-// many values the row compares, and how many requests it makes.
+// Runs the worked row with the number `number`. Asserts that the row is ok, and that all memory is
+// freed. Returns how many values the row compares, and how many requests for memory it makes.
 fn run_and_count<R: Abort>(rt: &R, alloc: Global, number: u32) -> (u32, u64) {
     let refusing = Refusing::new(alloc, 0);
     let checks = row(&refusing, number).ok().expect(rt, "no refusal");
@@ -58,7 +59,7 @@ fn run_and_count<R: Abort>(rt: &R, alloc: Global, number: u32) -> (u32, u64) {
     (checks.compared(), requests)
 }
 
-// Appends the line of a row to `lines`.
+// Appends to `lines` the line for the row with the number `number`.
 fn append_counts<R: Abort>(rt: &R, alloc: Global, number: u32, lines: &mut String) {
     let (values, requests) = run_and_count(rt, alloc, number);
     let line = format!(in alloc; "{number}: {values}, {requests}\n").expect(rt, "memory");
@@ -79,7 +80,8 @@ fn assert_wrong(rt: &impl Abort, checks: Checks, values: u32) {
     assert!(rt; checks.compared() == values && !checks.is_ok());
 }
 
-// Returns the checks after the list 1, 2 was compared with `items` and `capacity`.
+// Compares a list of the numbers 1 and 2 with `items` and `capacity`. Returns the counter of these
+// comparisons.
 fn checks_of_holds(rt: &impl Abort, alloc: Global, items: &[u32], capacity: usize) -> Checks {
     let list = thin_vec![alloc => 1, 2].expect(rt, "memory");
     let mut checks = Checks::new();

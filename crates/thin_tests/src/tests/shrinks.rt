@@ -1,16 +1,17 @@
-//! Tests of `shrink_to_fit`, and of `has_capacity`, which tells whether a list has a block.
+//! Tests of `shrink_to_fit`, and of `has_capacity`, which returns whether a list has an allocation.
 use crate::tests::support::assertions::assert_same;
 use crate::tests::support::items::{push, push_all};
 use std::alloc::Global;
 use std::process::Abort;
 use thin_vec::ThinVec;
 
-// Asserts that `has_capacity` returns `owns_block`, which says whether the list has a block.
+// Asserts that `has_capacity` returns `owns_block`, which is true if the list should have an
+// allocation.
 fn assert_owns_block<T>(rt: &impl Abort, list: &ThinVec<T>, owns_block: bool) {
     assert_same(rt, list.has_capacity(), owns_block);
 }
 
-// `has_capacity` is true exactly while the list has a block.
+// `has_capacity` returns true if and only if the list has an allocation.
 #[test]
 fn has_capacity_tells_whether_a_list_owns_a_block(rt: HostRuntime) {
     let alloc = rt.alloc();
@@ -31,8 +32,8 @@ fn has_capacity_tells_whether_a_list_owns_a_block(rt: HostRuntime) {
     }
 }
 
-// `u128` has the largest alignment of all types of Rattle. A list of one `u128` keeps its item if
-// the capacity grows and shrinks again.
+// `u128` has the largest alignment of all types of Rattle. A list of one `u128` keeps its item when
+// the capacity grows and when the capacity shrinks again.
 #[test]
 fn reallocation_keeps_an_item_of_the_largest_alignment(rt: HostRuntime) {
     let mut list = ThinVec::new(rt.alloc());

@@ -1,5 +1,5 @@
-//! Functions whose contracts show what a caller of `splice` can conclude, and tests of what a
-//! failed `finish` leaves in the list and returns.
+//! Functions whose contracts show what a caller of `splice` can conclude. The tests check which
+//! items a list has after a failed call of `finish`, and what the failed call returns.
 ghost use Rattle.std.specs.Prelude.{◌≡◌, ◌≤◌, ◌++◌, OnOk, drop, length, take};
 
 use crate::tests::support::assertions::{assert_items, assert_len, assert_list, assert_same};
@@ -11,8 +11,8 @@ use std::process::Abort;
 use thin_examples::spliced::splice_by;
 use thin_vec::{Growth, SpliceRefused, ThinVec, ThinVecError};
 
-/// Replaces the items from `start` up to `end` by the numbers. On failure, the numbers that are not
-/// in the list are dropped.
+/// Replaces the items `start..end` of the list with `numbers`. If this fails, the numbers that were
+/// not inserted are dropped.
 pub fn replace<A: Allocator, G: Growth>(
     list: &mut ThinVec<u32, A, G>,
     start: usize,
@@ -31,8 +31,8 @@ pub fn replace<A: Allocator, G: Growth>(
     }
 }
 
-/// Replaces the items from `start` up to `end` by the numbers, and then puts the old items back. On
-/// success, the list has the same items as before.
+/// Replaces the items `start..end` of the list with `numbers`, and then puts the old items back. If
+/// the function succeeds, the list has the same items as before the call.
 pub fn replace_and_undo<A: Allocator + Copy, G: Growth>(
     list: &mut ThinVec<u32, A, G>,
     start: usize,
@@ -66,8 +66,8 @@ fn second_splice_undoes_the_first(rt: HostRuntime) {
     }
 }
 
-// Asserts what a failed `finish` returned: the cause, the items held back, the one item in hand,
-// and the items that the rest of the iterator yields.
+// Asserts that the error of a failed `finish` has the contents `wanted`: the cause, the items in
+// `held`, the item in `in_hand`, and the items that the iterator `rest` still yields.
 fn assert_refused<A: Allocator>(
     rt: &impl Abort,
     refused: SpliceRefused<i32, Claims<'_>, A>,
@@ -87,8 +87,9 @@ fn assert_refused<A: Allocator>(
     assert_same(rt, rest.next(), None);
 }
 
-// Replaces a range of a list by the items of `iter`. The call has to fail. Asserts which items and
-// which capacity the list then has (`left`), and what the failed call returns (`wanted`).
+// Tries to replace a range of a list with the items of `iter`, and asserts that this fails. Then
+// asserts that the list has the items and the capacity in `left`, and that the error has the
+// contents `wanted`.
 fn assert_range_refused<A: Allocator + Copy>(
     rt: &impl Abort,
     alloc: A,
@@ -121,8 +122,8 @@ fn row_12_refused_finish_returns_the_item_in_hand(rt: HostRuntime) {
 
 #[test]
 fn row_39_refused_finish_returns_the_held_items(rt: HostRuntime) {
-    // The first request is for the list's block, the second one for the vector of the items held
-    // back, and the third one for the growth of the list. The third one is refused.
+    // The first request allocates the list. The second request allocates a vector for the items
+    // that do not fit into the range. The third request, which should grow the list, is refused.
     let refusing = refusing_nth(&rt, rt.alloc(), 3);
     let iter = Claims::new(&[7, 8, 9], 0);
     let left = (&[1, 7, 3][..], 3);
@@ -130,8 +131,8 @@ fn row_39_refused_finish_returns_the_held_items(rt: HostRuntime) {
     assert_range_refused(&rt, refusing, &[1, 2, 3], (1, 2), iter, left, wanted);
 }
 
-// Replaces the second item by `count` numbers, through an iterator whose size hint has the lower
-// bound 0.
+// Replaces the second item of the list with `count` numbers. The size hint of the iterator has the
+// lower bound 0.
 fn splice_without_hint(rt: &impl Abort, list: &mut ThinVec<i32>, count: i32, alloc: Global)
     requires in_bounds { 2 ≤ length list.old.items }
 {

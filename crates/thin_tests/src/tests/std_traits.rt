@@ -15,7 +15,7 @@ fn iteration_by_value_makes_no_request(rt: HostRuntime) {
     assert_counts(&rt, refusing, 0, 0);
 }
 
-// Returns the length of `items` as a slice.
+// Converts `items` to a slice, and returns the length of this slice.
 fn len_as_slice<S: AsSlice<i32>>(items: &S) -> usize {
     items.as_slice().len()
 }

@@ -1,6 +1,6 @@
-//! Tests of the table of `thin_rows`. They check what no contract states: when memory is requested
-//! and freed, and how a table is printed. They also compare the results of many random calls with
-//! those of a `BTreeMap`.
+//! Tests of the sparse table in the crate `thin_rows`. They check what no contract states: when
+//! memory is requested and freed, and how a table is printed. They also make many random calls, and
+//! compare the results with the results of the same calls on a `BTreeMap`.
 ghost use Rattle.std.specs.Prelude.{◌<◌, length};
 
 use crate::tests::support::assertions::{assert_counts, assert_same};
@@ -14,15 +14,15 @@ use std::process::Abort;
 use thin_rows::{Rows, ThinVecError};
 use thin_testing::Refusing;
 
-// Asserts that the table has a row with the index `row`. The calls of a table require this.
+// Asserts that the table has a row with the index `row`. The methods of a table require this.
 fn assert_row<V, A: Allocator>(rt: &impl Abort, table: &Rows<V, A>, row: usize)
     ensures in_bounds { row < length table.now }
 {
     assert!(rt; row < table.rows());
 }
 
-// Asserts that the row has exactly `entries`, and that the row has a block if and only if it has an
-// entry.
+// Asserts that the row contains exactly `entries`. Also asserts that the row has an allocation if
+// and only if the row is not empty.
 fn assert_entries<A: Allocator>(
     rt: &impl Abort,
     table: &Rows<u32, A>,
@@ -34,7 +34,7 @@ fn assert_entries<A: Allocator>(
     assert_same(rt, table.owns_block(row), !entries.is_empty());
 }
 
-// Sets the value at `place`, and asserts that `old` was the value there.
+// Sets the value at `place`, which is a row and a column. Asserts that the old value was `old`.
 fn assert_set<A: Allocator>(
     rt: &impl Abort,
     table: &mut Rows<u32, A>,
@@ -47,7 +47,8 @@ fn assert_set<A: Allocator>(
     assert_same(rt, was.expect(rt, "memory"), old);
 }
 
-// Removes the value at `place`, and asserts that `old` was the value there.
+// Removes the value at `place`, which is a row and a column. Asserts that the removed value is
+// `old`.
 fn assert_removed<A: Allocator>(
     rt: &impl Abort,
     table: &mut Rows<u32, A>,
@@ -58,7 +59,7 @@ fn assert_removed<A: Allocator>(
     assert_same(rt, table.remove(place.0, place.1), old);
 }
 
-// Asserts that `value` is the value at `place`.
+// Asserts that `value` is the value at `place`, which is a row and a column.
 fn assert_value<A: Allocator>(
     rt: &impl Abort,
     table: &Rows<u32, A>,
@@ -81,7 +82,7 @@ fn with_rows_returns_the_cause(rt: HostRuntime) {
     }
 }
 
-// Sets four counted values in row 0. The fourth one replaces the second one.
+// In row 0, sets four values that count their drops. The fourth value replaces the second value.
 fn set_counted<'a>(rt: &impl Abort, table: &mut Rows<Counted<'a>>, drops: &'a Cell<u32>) {
     for column in [3, 1, 2, 1] {
         assert_row(rt, table, 0);
@@ -154,8 +155,8 @@ fn prints_a_row_of_many_entries(rt: HostRuntime) {
     );
 }
 
-// Sets entries in row 0 and in the last row, `columns` entries in each. Row 0 is filled from its
-// last column to its first, the last row from its first column to its last.
+// Sets `columns` entries in row 0, and `columns` entries in the last row. Fills row 0 from its last
+// column to its first, and fills the last row from its first column to its last.
 fn fill_columns<A: Allocator>(rt: &impl Abort, table: &mut Rows<u32, A>, columns: usize) {
     for column in 0..columns {
         assert_set(rt, table, (table.rows().saturating_sub(1), column), 7, None);
@@ -163,9 +164,9 @@ fn fill_columns<A: Allocator>(rt: &impl Abort, table: &mut Rows<u32, A>, columns
     }
 }
 
-// A table with two long rows has three blocks: its own, and one for each of the two rows. Each row
-// grows through all capacities from 4 to 4096, which are 11 requests. With the request for the
-// table's own block, that makes 23.
+// A table with two long rows has three allocations: one for the table itself, and one for each of
+// the two rows. Each row makes 11 requests, because its capacity doubles from 4 to 4096. With the
+// request for the table itself, this makes 23 requests.
 #[test]
 fn set_adds_thousands_of_columns_to_a_row(rt: HostRuntime) {
     let refusing = refusing_nth(&rt, rt.alloc(), 0);
@@ -239,14 +240,14 @@ fn replacing_entries_makes_no_request_in_a_row_of_any_length(rt: HostRuntime) {
     }
 }
 
-// Pseudorandom numbers that are the same in each run.
+// A generator of pseudorandom numbers. The numbers are the same in each run.
 #[derive(Drop)]
 struct Numbers {
     state: u64,
 }
 
 impl Numbers {
-    // Returns a number below `bound`, or 0 if `bound` is 0.
+    // Returns a pseudorandom number below `bound`, or 0 if `bound` is 0.
     fn below(&mut self, bound: usize) -> usize {
         self.state = self
             .state
@@ -258,8 +259,9 @@ impl Numbers {
 
 type Reference = BTreeMap<(usize, usize), u32>;
 
-// Makes one random call on the table and on the reference, and asserts that both return the same. A
-// failed call changes neither.
+// Makes the same random call on the table and on the reference, which is a `BTreeMap`. Asserts that
+// the two calls return the same result. If the call on the table fails, neither the table nor the
+// reference changes.
 fn call_both<A: Allocator>(
     rt: &impl Abort,
     table: &mut Rows<u32, A>,
@@ -313,8 +315,8 @@ fn set_both<A: Allocator>(
     }
 }
 
-// Asserts that the table and the reference have the same number of entries, and that each entry of
-// the table is in the reference.
+// Asserts that the table and the reference, which is a `BTreeMap`, have the same entries. Also
+// asserts that each row has an allocation if and only if the row is not empty.
 fn assert_both<A: Allocator>(rt: &impl Abort, table: &Rows<u32, A>, reference: &Reference) {
     assert_same(rt, table.len(), reference.len());
     for row in 0..table.rows() {
@@ -326,8 +328,8 @@ fn assert_both<A: Allocator>(rt: &impl Abort, table: &Rows<u32, A>, reference: &
     }
 }
 
-// Makes `calls` random calls on a table of `rows` rows and on a reference. Compares all entries of
-// both after every 64 calls, and at the end.
+// Makes `calls` random calls on a table of `rows` rows, and the same calls on a `BTreeMap`.
+// Compares all entries of the table and the `BTreeMap` after every 64 calls, and at the end.
 fn run_both(
     rt: &impl Abort,
     refusing: &Refusing<Global>,

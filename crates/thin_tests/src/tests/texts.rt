@@ -1,5 +1,5 @@
-//! Tests how lists, their iterators and the errors are printed: in one line, in several lines, and
-//! with a width.
+//! Tests how lists, iterators over lists, and errors are printed: on one line, on several lines,
+//! and with a width.
 use crate::tests::support::assertions::{assert_len, assert_same, assert_text};
 use crate::tests::support::items::list_of;
 use std::alloc::Global;
@@ -66,8 +66,8 @@ fn prints_a_drain_of_many_items(rt: HostRuntime) {
     assert_text(&rt, rt.alloc(), &drain, "Drain([2, 3, 4, 5, 6, 7])");
 }
 
-// Asserts that `{:?}`, `{:#?}` and `{:04?}` print the error with its name and its cause, and that
-// `{}` prints only its cause.
+// Asserts that `{:?}`, `{:#?}` and `{:04?}` print the name of the error and its cause, and that
+// `{}` prints only the cause.
 fn assert_prints_cause<E: Debug + Display>(
     rt: &impl Abort,
     alloc: Global,
@@ -90,7 +90,8 @@ fn assert_prints_cause<E: Debug + Display>(
     assert_same(rt, told.as_str(), wanted.as_str());
 }
 
-// Calls `assert_prints_cause` for an error of each type that holds values, with the cause `cause`.
+// Calls `assert_prints_cause` for one error of each error type that holds values. All these errors
+// have the cause `cause`.
 fn assert_all_print_cause(rt: &impl Abort, alloc: Global, cause: ThinVecError) {
     let (value, in_hand, rest) = (1, Some(1), 2);
     let rejected = Rejected { value, cause };

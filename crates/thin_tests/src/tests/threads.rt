@@ -1,5 +1,5 @@
-//! Passes lists, and values made from lists, to functions whose bounds are `Send` and `Sync`. No
-//! thread is started: the test is that these calls compile and are proved.
+//! Tests that lists, and values made from lists, can be passed to functions with the bounds `Send`
+//! and `Sync`. No thread is started, because the calls only have to compile and to be proved.
 ghost use Rattle.std.specs.Prelude.{◌≡◌};
 
 use crate::tests::support::assertions::assert_same;
@@ -8,28 +8,31 @@ use std::marker::{Send, Sync};
 use thin_rows::Rows;
 use thin_vec::{Growth, PowerBytes, ThinVec, thin_vec};
 
-// A node of a tree, which has a list of its children.
+// A node of a tree, with a list of the children of the node.
 #[derive(Drop)]
 struct Node {
     value: u8,
     children: ThinVec<Node>,
 }
 
-// Returns `value`. Its type has to be `Send`: values of the type can be moved to another thread.
+// Returns `value`. The type of `value` must be `Send`, which means that the value can be moved to
+// another thread.
 fn needs_send<X: Send>(value: X) -> X
     ensures value { result ≡ value }
 {
     value
 }
 
-// Returns `value`. Its type has to be `Sync`: several threads can have references to one value.
+// Returns `value`. The type `X` must be `Sync`, which means that several threads can have
+// references to the same value.
 fn needs_sync<X: Sync>(value: &X) -> &X
     ensures value { result.now ≡ value.now }
 {
     value
 }
 
-// Passes a list of any item type, allocator and growth rule to `needs_send`.
+// Passes a list to `needs_send`. The list may have any item type, allocator and growth rule that
+// are `Send`.
 fn send_list<T: Send, A: Allocator + Send, G: Growth + Send>(
     list: ThinVec<T, A, G>,
 ) -> ThinVec<T, A, G>
@@ -38,7 +41,8 @@ fn send_list<T: Send, A: Allocator + Send, G: Growth + Send>(
     needs_send(list)
 }
 
-// Passes a list of any item type, allocator and growth rule to `needs_sync`.
+// Passes a list to `needs_sync`. The list may have any item type, allocator and growth rule that
+// are `Sync`.
 fn share_list<T: Sync, A: Allocator + Sync, G: Growth + Sync>(
     list: &ThinVec<T, A, G>,
 ) -> &ThinVec<T, A, G>

@@ -1,4 +1,4 @@
-//! Runs each example function of `thin_examples` once.
+//! Runs example functions of the crate `thin_examples`, and checks their results.
 use crate::tests::support::assertions::{assert_items, assert_len, assert_same};
 use crate::tests::support::items::{list_of, push, refusing_nth};
 use std::alloc::Global;
@@ -35,7 +35,7 @@ fn a_leaf_owns_no_block(rt: HostRuntime) {
     }
 }
 
-// Returns a list of the numbers in `rules`, in order, with spare capacity.
+// Returns a list that contains the numbers in `rules` and has spare capacity.
 fn roomy(rt: &impl Abort, alloc: Global, rules: &[u32]) -> ThinVec<u32> {
     let mut style = ThinVec::with_capacity(alloc, 10).expect(rt, "memory");
     for rule in rules {

@@ -1,5 +1,5 @@
-//! A function whose contract states that a list is one word wide, and that a `Vec` is three words
-//! wide. The contract holds for every item type and every growth rule.
+//! A function whose contract states that a list takes 8 bytes, and that a `Vec` takes 24 bytes. The
+//! contract holds for every item type and every growth rule.
 ghost use Rattle.std.specs.Prelude.{◌≡◌};
 
 use std::alloc::{Allocator, Global};
@@ -7,8 +7,8 @@ use std::mem::size_of;
 use thin_block::Block;
 use thin_vec::{Growth, ThinVec};
 
-/// Returns the sizes in bytes of a block, of a list on the global allocator, and of a `Vec` on the
-/// global allocator.
+/// Returns the sizes in bytes of a `Block`, of a list with the global allocator, and of a `Vec`
+/// with the global allocator.
 pub fn widths<T, A: Allocator, G: Growth>() -> (usize, usize, usize)
     ensures block { result.0 ≡ 8 }
     ensures list { result.1 ≡ 8 }

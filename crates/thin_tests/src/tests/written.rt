@@ -1,13 +1,13 @@
-//! Two generic functions: `three` makes a list by `thin_vec!`, and `pair` takes the items out of a
-//! list. Their only bound on the item type is `T: Drop`. `three` needs no condition on the size of
-//! an item.
+//! Two functions that are generic in the item type. The function `three` makes a list by
+//! `thin_vec!`, and `pair` moves the items out of a list. The only bound on the item type is
+//! `T: Drop`.
 ghost use Rattle.std.specs.Mem.{type_size};
 ghost use Rattle.std.specs.Prelude.{◌≡◌, ◌*◌, ◌^◌, ◌<◌, [], ◌∷◌, IfOk, IfSome};
 
 use std::alloc::Allocator;
 use thin_vec::{ThinVec, ThinVecError, thin_vec};
 
-/// Makes a list of three items of any type.
+/// Makes a list of three items of any type. The function needs no condition on the size of an item.
 pub fn three<T: Drop, A: Allocator>(
     alloc: A,
     first: T,
@@ -21,7 +21,7 @@ pub fn three<T: Drop, A: Allocator>(
     thin_vec![alloc => first, second, third]
 }
 
-/// Returns the two items of a list of two, or `None` if the list has another length.
+/// Returns the two items of a list of two items, or `None` if the list has another length.
 pub fn pair<T: Drop, A: Allocator>(list: ThinVec<T, A>) -> Option<(T, T)>
     requires small { 2 * type_size T.row < 2 ^ 63 }
     ensures items { IfSome result (λ both. list.items ≡ both.0 ∷ both.1 ∷ []) }

@@ -1,5 +1,5 @@
--- `all_granted`: a reply without a cause of failure is granted, so if the loop runs to its end, all
--- replies are granted.
+-- If `all_granted` succeeds, then no reply reports a failed call. The reason is that the function
+-- returns an error at the first reply that reports a failed call.
 use Rattle.std.proofs.Common.{◌≡◌, None, sym, ◌∙◌, ap, rules}
 use Rattle.std.proofs.lemmas.List.{get_or_default}
 use Rattle.std.proofs.lemmas.List.Elements.{All-from_all_within, AllWithin-more, AllWithin-upto}

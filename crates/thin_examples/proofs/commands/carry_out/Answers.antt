@@ -1,5 +1,5 @@
--- `carry_out`: if the call succeeds, then all replies are granted. By the main theorem, the items
--- are then a fold over the commands.
+-- If `carry_out` succeeds, then no reply reports a failed call. So by the main theorem of the crate
+-- `thin_runner`, the items of the list after the call are a fold over the commands.
 use Rattle.std.proofs.Common.{◌≡◌, Result, Ok, Err, List, [], All, OnOk, subst, ◌∙◌, ap, ◌++◌, fold}
 use Rattle.thin_vec.specs.List.Clones.{ClonesEqual}
 use Rattle.thin_vec.specs.ThinVec.{Thin}
@@ -11,8 +11,8 @@ use Rattle.thin_runner.specs.declared.command.Command.{Command}
 use Rattle.thin_runner.specs.declared.command.Reply.{Reply}
 use Rattle.thin_examples.proofs.commands.carry_out.Goals as goal
 
--- if all replies are granted and every clone equals its item, then the items after a run are a fold
--- over the commands of the run
+-- If no reply to a run of commands reports a failed call, and every clone equals its original, then
+-- the items after the run are `fold (items_after here) old.items commands`.
 carried : {T A G J E : Type 0} (here : Setting T A J) (old new : Thin T A)
     (commands : List (Command T A G)) (before after seen : List (Reply T A G))
     (result : Result (Unit {0}) E) → ClonesEqual here.clones → before ≡ [] → seen ≡ after

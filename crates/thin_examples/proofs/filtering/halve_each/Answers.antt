@@ -1,5 +1,6 @@
--- `halve_each`: the closure of `dedup_by` halves the later number and compares the half with the
--- number kept before it. So the numbers left are `dedup` of the halves.
+-- The closure that `halve_each` passes to `dedup_by` halves the later of two numbers, and compares
+-- the half with the number that was kept before it. So the remaining numbers are the result of
+-- `dedup` on the halves.
 use Rattle.std.proofs.Common.{◌/◌, refl, rules}
 use Rattle.std.specs.Prelude.{◌==◌}
 use Rattle.thin_examples.proofs.DedupLemmas.{deduped_mapped}

@@ -1,5 +1,5 @@
--- `keep_by`: the closure returns what its keeper returns, so the items left are those that the
--- keeper keeps.
+-- The closure that `keep_by` passes to `retain_mut` returns what the keeper returns. So the
+-- remaining items are the items that the keeper keeps.
 use Rattle.std.proofs.Common.{rules}
 use Rattle.thin_examples.proofs.KeeperLemmas.{retained-by}
 use Rattle.thin_examples.proofs.filtering.keep_by.Goals as goal

@@ -1,4 +1,5 @@
--- `keep_distinct`: the items that `dedup` keeps in a sorted list are strictly increasing.
+-- `keep_distinct` calls `dedup` on a sorted list, so the items that `dedup` keeps are strictly
+-- increasing.
 use Rattle.std.proofs.Common.{subst, sym}
 use Rattle.std.specs.List.Sorted.{IsStrictlyIncreasing}
 use Rattle.std.proofs.lemmas.Map.Keys.{IsStrictlyIncreasing-dedup}

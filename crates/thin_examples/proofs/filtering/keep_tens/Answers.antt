@@ -1,5 +1,5 @@
--- `keep_tens`: the closure of `dedup_by_key` is stateless and changes no number, so the numbers
--- left are `dedup` of the old ones.
+-- The closure that `keep_tens` passes to `dedup_by_key` has no state and changes no number. So the
+-- remaining numbers are the result of `dedup` on the old numbers.
 use Rattle.std.proofs.Common.{rules}
 use Rattle.thin_vec.proofs.EditLemmas.{deduped_dedup}
 use Rattle.thin_examples.proofs.filtering.keep_tens.Goals as goal

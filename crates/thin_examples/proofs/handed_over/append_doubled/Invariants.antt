@@ -1,5 +1,5 @@
--- `append_doubled`: the list has its old items, followed by twice each number that the loop has
--- read, and it has room for the numbers that the loop has not read yet.
+-- In the loop of `append_doubled`, the list contains its old items, followed by twice each number
+-- that the loop has read. The list has room for the numbers that the loop has not read yet.
 use Rattle.std.proofs.Common.{◌≡◌, ◌+◌, ◌*◌, ◌++◌, ◌≤◌, length, map, take}
 use Rattle.thin_examples.proofs.handed_over.append_doubled.Given as goal
 

@@ -1,5 +1,6 @@
--- `hand_over_odd`: each call of `next` extracts an odd number, which is then pushed to `other`.
--- When `next` returns `None`, `other` has all odd numbers, and `list` has all others.
+-- In `hand_over_odd`, each call of `next` extracts an odd number from `list`, and this number is
+-- then pushed to `other`. After `next` has returned `None`, all odd numbers have been pushed to
+-- `other`, and `list` contains the other numbers.
 use Rattle.std.proofs.Common.{◌≡◌, ℕ, ◌-◌, ◌%◌, ◌==◌, ◌++◌, Bool, List, ap, arith, length, rules, take, ◌∙◌}
 use Rattle.std.proofs.Math.Seq.{take-length}
 use Rattle.std.proofs.lemmas.List.{append-nil, drop_all}
@@ -8,11 +9,11 @@ use Rattle.std.specs.Prelude.{filter, slice_range}
 use Rattle.thin_vec.proofs.EditLemmas.{extract_end, extract_start, extract_step, others}
 use Rattle.thin_examples.proofs.handed_over.hand_over_odd.Goals as goal
 
--- the test of the closure: whether a number is odd
+-- `odd number` is true if `number` is odd. The closure in `hand_over_odd` makes the same test.
 abbrev odd : ℕ → Bool
 odd number = number % 2 == 1
 
--- if n is the length of xs, the range of xs from 0 up to n is xs
+-- `slice_range xs 0 n` is `xs` if `n` is the length of `xs`.
 whole : (xs : List ℕ) (n : ℕ) → n ≡ length xs → slice_range xs 0 n ≡ xs
 whole xs n e = let same : n - 0 ≡ length xs = omega (arith, e) in
     ap (λ m. take m xs) same ∙ take-length xs

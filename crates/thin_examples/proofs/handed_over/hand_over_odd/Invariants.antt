@@ -1,5 +1,6 @@
--- `hand_over_odd`, in this order: exactly the numbers extracted so far were appended to `other`.
--- `other` has room for its old items and for all numbers of the range.
+-- In the loop of `hand_over_odd`, exactly the numbers that have been extracted so far have been
+-- appended to `other`. The capacity of `other` is enough for its old items and all numbers of the
+-- range.
 use Rattle.std.proofs.Common.{◌+◌, ◌%◌, ◌==◌, ◌≤◌, length}
 use Rattle.thin_vec.specs.Edits.ExtractIf.{extract_rest}
 use Rattle.thin_vec.proofs.EditLemmas.{IsExtracting}

@@ -1,6 +1,7 @@
--- `hand_over_stepwise`, in this order: `other`, followed by the items not yielded yet, is the old
--- `other` followed by the items of the range. `other` has room for the items not yielded yet. The
--- items that the list will have after the `Drain` is dropped have not changed.
+-- In the loop of `hand_over_stepwise`, the items of `other`, followed by the items that have not
+-- been yielded yet, are always the old items of `other`, followed by the items of the range. The
+-- list `other` has room for the items that have not been yielded yet. The loop does not change
+-- which items the drained list will contain after the `Drain` is dropped.
 use Rattle.std.proofs.Common.{◌≡◌, ◌+◌, ◌++◌, ◌≤◌, length}
 use Rattle.thin_vec.specs.Edits.Drain.{DrainKeeps, drain_rest}
 use Rattle.thin_examples.proofs.handed_over.hand_over_stepwise.Given as goal

@@ -1,4 +1,5 @@
--- `kept_all`: the closure always returns true, so `retain` keeps all items and moves none.
+-- The closure that `kept_all` passes to `retain` always returns true. So `retain` keeps all items
+-- and moves none of them.
 use Rattle.std.proofs.Common.{rules}
 use Rattle.thin_examples.proofs.MovesLemmas.{keeps-cost, keeps-items}
 use Rattle.thin_examples.proofs.moves.kept_all.Goals as goal

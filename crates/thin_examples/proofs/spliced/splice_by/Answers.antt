@@ -1,5 +1,5 @@
--- `splice_by`: the splice borrows the list, so the list after the call is the list as `finish` left
--- it.
+-- The splice in `splice_by` borrows the list. So when `splice_by` returns, the list has the value
+-- that `finish` gave it.
 use Rattle.std.proofs.Common.{◌≡◌, ◌++◌, drop, rules, subst, take}
 use Rattle.std.specs.Iterator.Runs.{WholeRun}
 use Rattle.std.specs.Prelude.{OnOk}

@@ -1,4 +1,5 @@
--- `least`: the variable `least` is the minimum of `start` and the items yielded so far.
+-- In the loop of `least`, the variable `least` is the minimum of `start` and all items that have
+-- been yielded so far.
 use Rattle.std.proofs.Common.{◌≡◌, min}
 use Rattle.std.specs.List.{fold}
 use Rattle.thin_examples.proofs.walks.least.Given as goal

@@ -1,10 +1,10 @@
--- The answers for `carry_out`. They follow from the fact that a run of one command has exactly one
--- reply.
+-- This file proves the contract of `carry_out`. The proofs use the fact that a run of one command
+-- has exactly one reply.
 use Rattle.std.proofs.Common.{◌≡◌, [], ◌∷◌, ap, arith, ◌++◌, ◌∙◌}
 use Rattle.thin_replay.proofs.RunLemmas.{headline-one, one_reply}
 use Rattle.thin_replay.proofs.carried_out.carry_out.Goals as goal
 
--- the precondition of `unwrap` holds: `pop` returns `Some`, because there is exactly one reply
+-- There is exactly one reply. So `pop` returns `Some`, and the precondition of `unwrap` holds.
 pub unwrap-requires : goal.unwrap-requires
 unwrap-requires g c =
     let one : c.push.new.self.items ≡ c.args.command ∷ [] =
@@ -16,7 +16,7 @@ unwrap-requires g c =
           c.in-Ok-run.ensures.ok,
     ))
 
--- the main theorem (`Headline`) holds for the popped reply, because there is no other reply
+-- The popped reply is the only reply, so the main theorem `Headline` holds for this reply.
 pub returns-in-Ok-run-clause-ok : goal.returns-in-Ok-run-clause-ok
 returns-in-Ok-run-clause-ok g c =
     let one : c.push.new.self.items ≡ c.args.command ∷ [] =

@@ -1,14 +1,17 @@
--- The answers for `items_of`, whose loop parses one word in each iteration.
+-- This file proves the contract of `items_of`. The loop of `items_of` parses one word in each
+-- iteration.
 use Rattle.std.proofs.Common.{[], rules}
 use Rattle.thin_replay.proofs.WordsLemmas.{zip-all, zip-next}
 use Rattle.thin_replay.specs.Words.{Spells}
 use Rattle.thin_replay.proofs.words.items_of.Goals as goal
 
--- before the first iteration, no word has been parsed, and there are no items
+-- The loop invariant holds before the first iteration, because no word has been parsed, and there
+-- are no items.
 pub loop-word-init : goal.loop-word-init
 loop-word-init c = rw c.new-items.ensures.items tt
 
--- each iteration preserves the invariant: it parses the next word, and pushes the number
+-- Each iteration preserves the loop invariant, because it parses the next word, and pushes the
+-- number that it has parsed.
 pub loop-word-preserved : goal.loop-word-preserved
 loop-word-preserved c =
     rw c.in_ok-push.ensures.items
@@ -16,7 +19,7 @@ loop-word-preserved c =
     (record { ref_ptr = (0, 0); now = [] }) c.loop-word.items.items c.in_ok-item_of.field-0
     c.loop-word-test.true c.loop-word.invariant (search rules))
 
--- when the loop ends, all words have been parsed, so the items are the numbers of all words
+-- After the loop, all words have been parsed. So the items are the numbers that the words spell.
 pub returns : goal.returns
 returns c = record {
   items = zip-all (λ w n. Spells w.now n) c.args.words.now c.loop-word.word-index

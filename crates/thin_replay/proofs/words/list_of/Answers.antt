@@ -1,14 +1,17 @@
--- The answers for `list_of`, whose loop parses one word in each iteration.
+-- This file proves the contract of `list_of`. The loop of `list_of` parses one word in each
+-- iteration.
 use Rattle.std.proofs.Common.{◌≡◌, [], ◌∷◌, ◌++◌, rules}
 use Rattle.thin_replay.proofs.WordsLemmas.{zip-all, zip-next}
 use Rattle.thin_replay.specs.Words.{Spells}
 use Rattle.thin_replay.proofs.words.list_of.Goals as goal
 
--- before the first iteration, no word has been parsed, and there are no items
+-- The loop invariant holds before the first iteration, because no word has been parsed, and there
+-- are no items.
 pub loop-word-init : goal.loop-word-init
 loop-word-init c = rw c.new-list.ensures.new.items tt
 
--- each iteration preserves the invariant: it parses the next word, and pushes the number
+-- Each iteration preserves the loop invariant, because it parses the next word, and pushes the
+-- number that it has parsed.
 pub loop-word-preserved : goal.loop-word-preserved
 loop-word-preserved c =
     let grown : c.push.new.self.items ≡ c.loop-word.list.items ++ c.in_ok-item_of.field-0 ∷ [] =
@@ -18,7 +21,7 @@ loop-word-preserved c =
     (record { ref_ptr = (0, 0); now = [] }) c.loop-word.list.items c.in_ok-item_of.field-0
     c.loop-word-test.true c.loop-word.invariant (search rules))
 
--- when the loop ends, all words have been parsed, so the items are the numbers of all words
+-- After the loop, all words have been parsed. So the items are the numbers that the words spell.
 pub returns : goal.returns
 returns c = record {
   items = zip-all (λ w n. Spells w.now n) c.args.words.now c.loop-word.word-index

@@ -1,8 +1,9 @@
--- The invariant of the loop of `list_of`.
+-- This file contains the loop invariant of `list_of`. This function parses words as numbers, and
+-- collects the numbers in a `ThinVec`.
 use Rattle.std.proofs.Common.{take}
 use Rattle.thin_replay.specs.Words.{SpellAll}
 use Rattle.thin_replay.proofs.words.list_of.Given as goal
 
--- the items are the numbers of the words parsed so far
+-- The items are the numbers of the words that have been parsed so far.
 abbrev pub invariant-loop-word : goal.invariant-loop-word
 invariant-loop-word l = SpellAll (take l.word-index l.words) l.list.items

@@ -1,5 +1,5 @@
-//! Assertions that many tests share. An assertion that is written out costs each test a second or
-//! two of proving. A call of one of these functions costs almost nothing.
+//! Assertions that many tests share. If a test contains such an assertion itself, proving the test
+//! takes one or two seconds longer. A call of one of these functions takes almost no time to prove.
 ghost use Rattle.std.specs.Prelude.{◌≡◌, length};
 
 use std::alloc::{Allocator, Global};
@@ -8,8 +8,8 @@ use std::process::Abort;
 use thin_testing::Refusing;
 use thin_vec::{Growth, ThinVec};
 
-/// Asserts that the two values are equal. The contract does not state this: after the call, the
-/// prover knows nothing about the values.
+/// Asserts that the two values are equal. The contract does not state this, so the prover learns
+/// nothing about the values from the call.
 pub fn assert_same<T: PartialEq + Debug + Drop>(rt: &impl Abort, value: T, wanted: T) {
     assert_eq!(rt; value, wanted);
 }
@@ -19,14 +19,14 @@ pub fn assert_items<T: PartialEq + Debug>(rt: &impl Abort, items: &[T], wanted: 
     assert_eq!(rt; items, wanted);
 }
 
-/// Asserts that the value is printed as `line` by `{:?}`.
+/// Asserts that `{:?}` prints the value as `line`.
 pub fn assert_text<D: Debug>(rt: &impl Abort, alloc: Global, value: &D, line: &str) {
     let text = format!(in alloc; "{value:?}").expect(rt, "memory");
     assert_same(rt, text.as_str(), line);
 }
 
-/// Asserts that the list has `len` items. A test needs this fact before a call on a range of the
-/// list.
+/// Asserts that the list has `len` items. A test needs this fact to prove that a range is within
+/// the list.
 pub fn assert_len<T, A: Allocator, G: Growth>(rt: &impl Abort, list: &ThinVec<T, A, G>, len: usize)
     ensures len { length list.now.items ≡ len }
 {
@@ -46,8 +46,8 @@ pub fn assert_list<A: Allocator, G: Growth>(
     assert_same(rt, (list.as_slice(), list.capacity()), (items, capacity));
 }
 
-/// Asserts that `requests` requests for memory were made, and that `blocks` blocks are allocated
-/// and not yet freed.
+/// Asserts that `requests` requests for memory were made, and that `blocks` blocks are currently
+/// allocated.
 pub fn assert_counts(rt: &impl Abort, refusing: &Refusing<Global>, requests: u64, blocks: u64) {
     let counts = (refusing.requests(), refusing.blocks());
     assert_same(rt, counts, (requests, blocks));

@@ -1,4 +1,4 @@
-//! An iterator whose size hint may differ from the number of items that it has.
+//! An iterator whose size hint may differ from the number of its remaining items.
 ghost use Rattle.std.specs.Prelude.{◌+◌, length};
 ghost use Rattle.std.specs.Iterator.{at_most};
 

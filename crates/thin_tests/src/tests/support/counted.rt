@@ -5,7 +5,7 @@ use std::cell::Cell;
 use std::process::Abort;
 use thin_vec::ThinVec;
 
-/// An item that adds 1 to its cell when it is dropped.
+/// An item that adds 1 to the cell `drops` when it is dropped.
 pub struct Counted<'a> {
     drops: &'a Cell<u32>,
 }
@@ -24,7 +24,7 @@ impl Drop for Counted<'_> {
     }
 }
 
-/// Returns a list of `len` items that all count their drops in one cell.
+/// Returns a list of `len` items that count their drops in the cell `drops`.
 pub fn counted_list<'a>(
     rt: &impl Abort,
     alloc: Global,

@@ -8,13 +8,13 @@ use thin_testing::Refusing;
 use thin_vec::{Growth, ThinVec};
 
 /// Returns an allocator that refuses the request with the number `number`, or no request if
-/// `number` is 0. The allocator is leaked, so that no test has to own it.
+/// `number` is 0. The allocator is leaked, so that tests can hold a `'static` reference to it.
 pub fn refusing_nth(rt: &impl Abort, alloc: Global, number: u64) -> &'static Refusing<Global> {
     let refusing = Refusing::new(alloc, number);
     Box::leak(Box::new(alloc, refusing).ok().expect(rt, "memory"))
 }
 
-/// Returns a list of `items`, without spare capacity.
+/// Returns a list that contains `items` and has no spare capacity.
 pub fn list_of<T: Copy + Drop, A: Allocator>(
     rt: &impl Abort,
     alloc: A,

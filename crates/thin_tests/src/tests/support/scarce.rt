@@ -3,8 +3,8 @@ use crate::tests::support::counted::Counted;
 use std::alloc::AllocError;
 use std::cell::Cell;
 
-/// An item that adds 1 to the cell `drops` when it is dropped. Each clone takes 1 from the number
-/// in the cell `granted`. If this number is 0, cloning fails.
+/// An item that adds 1 to the cell `drops` when it is dropped. Each clone subtracts 1 from the
+/// number in the cell `granted`. If this number is 0, cloning fails.
 #[derive(Drop)]
 pub struct Scarce<'a> {
     drops: &'a Cell<u32>,
@@ -13,7 +13,8 @@ pub struct Scarce<'a> {
 }
 
 impl<'a> Scarce<'a> {
-    /// Returns an item that counts its drop in `drops`, and whose clones are limited by `granted`.
+    /// Returns an item that counts its drops in `drops`. The number in `granted` limits how often
+    /// the item can be cloned.
     pub fn new(drops: &'a Cell<u32>, granted: &'a Cell<u32>) -> Scarce<'a> {
         Scarce {
             drops,

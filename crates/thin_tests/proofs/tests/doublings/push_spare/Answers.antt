@@ -1,4 +1,5 @@
--- The capacity does not change, so the push costs nothing.
+-- This file proves the contract of `push_spare`. The capacity does not change, so the push copies
+-- no items to a new allocation.
 use Rattle.std.proofs.Common.{arith}
 use Rattle.thin_vec.proofs.ThinVecLemmas.{costs}
 use Rattle.thin_tests.proofs.tests.doublings.push_spare.Goals as goal
