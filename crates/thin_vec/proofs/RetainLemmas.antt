@@ -387,8 +387,8 @@ module _ {S T : Type 0} (R : S → T → Bool → S → T → Type 0) where
           subst (λ (y : T). R u x false t y) (cons-head same) h.1,
         )
 
-    -- If an item `v` follows the run of kept items, then `v` is not kept, and the items `rest` after
-    -- `v` have not been tested yet.
+    -- If an item `v` follows the run of kept items, then `v` is not kept, and the items `rest`
+    -- after `v` have not been tested yet.
     pub part-goes : (v : T) (rest : List T) → drop m ys ≡ v ∷ rest → Part m s xs t (take m ys) rest
     part-goes v rest k =
         let g = stop-goes r.between r.after r.end v rest r.stops (sym run-end ∙ k) in
