@@ -43,6 +43,9 @@ use thin_block::{Block, Growth};
 /// - The *tail* contains the items after the range.
 /// - The *spare slots* are the empty slots after the tail.
 ///
+/// The items of the front are called front items. In the same way, the items of the middle run are
+/// called middle items, and the items of the tail are called tail items.
+///
 /// A *test* decides whether an item is kept or removed, and may write to the item. The *verdict* on
 /// an item is this decision, together with the item as the test left it.
 ///
