@@ -58,7 +58,7 @@ module _ {M : Type 1} {𝓤 : Ura M} (𝓛 : Logic 𝓤) (Ev : Env 𝓤 𝓛.H) 
   holds p v = ‵ (fat full_share (spot_of 𝓤 H Ev p).0 (spot_of 𝓤 H Ev p).1 zero v)
 
   -- `free p Γ` is the entry of the proof context `Γ` which says that the local variable `p` may be
-  -- written. The variable may hold any value of its type, or no value.
+  -- assigned. The variable may currently hold any value of its type, or no value.
   abbrev free : ℕ → List (Item 𝓤) → Item 𝓤
   free p Γ = nth 𝓛 0 (free_needs 𝓛 (((spot_of 𝓤 H Ev p).0, (spot_of 𝓤 H Ev p).1) ∷ [])
       (at 𝓛 p Γ ∷ ‵ ftrue ∷ []))

@@ -35,9 +35,8 @@ pub ruled-rule : (rule : Rule) (R : RattleType) (c w : ℕ) → c < w → w < 2 
 unfolding ruled_capacity
 ruled-rule rule R c w more word = rw (lt-leb w c more) (rw (lt-ltb w (2 ^ 64) word) refl)
 
--- `Grown R c w n` holds if a block of capacity `c` may grow to the capacity `n` in order to hold
--- `w` items of type `R`. The record has the same meaning as `Grows`, but the type of its last field
--- is `Fits R n`.
+-- `Grown R c w n` holds if `n` is at least `w` and at least `2 * c`, and a block of `n` items of
+-- type `R` is small enough to be allocated.
 pub record Grown (R : RattleType) (c w n : ℕ) : Type 0 where
   pub enough : w ≤ n
   pub doubled : 2 * c ≤ n
@@ -83,7 +82,8 @@ fits-none R = closed R 0 (fits_none R)
 -- Section: blocks far below every size limit, with fewer than `2 ^ 31` items of fewer than `2 ^ 31`
 -- bytes each. The lemmas are for callers that know the item type.
 
--- Fewer than `2 ^ 31` items of fewer than `2 ^ 31` bytes each take less than `2 ^ 62` bytes.
+-- Fewer than `2 ^ 31` items of fewer than `2 ^ 31` bytes each take fewer than `2 ^ 62` bytes in
+-- total.
 pub few_bytes : (c s : ℕ) → c < 2 ^ 31 → s < 2 ^ 31 → c * s < 2 ^ 62
 few_bytes c s few small =
     let wide : c * s ≤ c * (2 ^ 31) =
@@ -140,7 +140,7 @@ no_answer true n never = absurd (never refl)
 no_answer false n never = refl
 
 -- If a block of capacity `n` is too large to be allocated, then the function `fitting` returns
--- `None`.
+-- `None` for `n`.
 pub fitting_none : (R : RattleType) (n : ℕ) → (Fits R n → ⊥)
     → fitting (type_size R) (type_align R) n ≡ None
 unfolding fitting

@@ -153,9 +153,9 @@ module _ {M : Type 1} {𝓤 : Ura M} (𝓛 : Logic 𝓤) (R : RattleType) where
       move ! (2 ∷ 4 ∷ []) $ join ! $ move ! (2 ∷ 0 ∷ []) $ join ! $ move ! (1 ∷ 0 ∷ []) $ join ! $
       by ! (apply∗ 𝓤 rooms (H.room (whole R c) b o))
 
--- Section: a block without its slots.
--- `header` states what a block of `c` slots owns besides these slots. If the block has an
--- allocator, this is the formula `frame`. Otherwise it is a share of the static header.
+-- Section: a block without its slots. `header` states what a block of `c` slots owns besides these
+-- slots. If the block has an allocator, this is the formula `frame`. Otherwise, it is a share of
+-- the static header.
 abbrev pub header : {D : Type 0} → (D → Ty → Ptr → Fml) → RattleType → ℕ → ℕ
     → Option D → ℕ → ℕ → Fml
 header t R n c None b o = fsep (lent_at usize (block_ptr b o) 0 [])

@@ -62,8 +62,8 @@ module _ {n : ℕ} where
   dropped (s ∷ ss) ks = (stay_dropped s ks.0, dropped ss ks.1)
 
 module _ {M : Type 1} {𝓤 : Ura M} (𝓛 : Logic 𝓤) {n : ℕ} where
-  -- `AllSilent ss ks` holds if the contract says nothing about the state of the arguments for the
-  -- parameters `ss` after the call.
+  -- `AllSilent ss ks` holds if the contract says nothing about the state, after the call, of the
+  -- arguments for the parameters `ss`.
   abbrev pub AllSilent : (ss : List (Slot n)) → Kepts ss → Type 1
   AllSilent [] ks = Unit {1}
   AllSilent (s ∷ ss) ks = Silent 𝓛 n s ks.0 × AllSilent ss ks.1
@@ -194,8 +194,8 @@ module _ (E : El) (Y : Al) {M : Type 1} {𝓤 : Ura M} (𝓛 : Logic 𝓤) {n : 
       ∷ ‵ (flft x.0.0 x.1.0) ∷ raw (toks 𝓛 n x.0.1 x.1.1) ∷ ‵
       (owns (types_at ss x.0) x.3.1 x.4.1) ∷ Γ
 
-  -- Begins the proof of a method that takes `&mut self`. In the proof context, the `requires`
-  -- clauses are the last entry.
+  -- Begins the proof of a method that takes `&mut self`. After this step, the `requires` clauses
+  -- are the last entry of the proof context.
   pub starts : {Bd : Lfts (suc n) → Type 0} {P : SProp 𝓤} (x : Passed lent ss Bd) (Q : SProp 𝓤)
       → Sq 𝓛 (Entered x (raw Q ∷ [])) (prop P) → ent 𝓤 (sep 𝓤 (Entry lent ss 𝓛 x) Q) P
   starts x Q next = arrives lent ss 𝓛 x Q (fsplit3 ! $ drop ! $ next)

@@ -214,7 +214,7 @@ module _ (R : RattleType) (c : ℕ) where
       let same' : c * size ≡ c * type_size R = ap (λ (k : ℕ). c * k) is ∙ same in
       le-div c (2 ^ 63 - block_align (type_align R) - 16) size some (omega arith)
 
--- For the capacity 0, `is_small` is true.
+-- `is_small` is true for the capacity 0.
 pub fits_none : (R : RattleType) → is_small (type_size R) (type_align R) 0 ≡ true
 fits_none R =
     let about = rounded R 0 in

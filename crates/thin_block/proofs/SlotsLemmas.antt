@@ -143,7 +143,7 @@ module _ {T : Type 0} where
       (let e : i + length ys + (k - i - length ys) ≡ k = omega arith in e)))
 
   -- A list of slots is the concatenation of the slots before index `i`, the slots `i..i + k`, and
-  -- the slots after these.
+  -- all later slots.
   pub parted-run : (s : List (Option T)) (i k : ℕ) → s ≡ take i s ++ (run i k s ++ drop (i + k) s)
   parted-run s i k =
       sym (take-append-drop i s)
@@ -193,7 +193,8 @@ module _ {T : Type 0} where
       length-laid to (run from k s) (emptied from k s)
       (omega (arith, left, length-run s from k source)) ∙ left
 
-  -- The order of `a` empty slots and `k` empty slots directly after them does not matter.
+  -- `a` empty slots followed by `k` empty slots are the same as `k` empty slots followed by `a`
+  -- empty slots.
   empty-turn : (a k : ℕ) (post : List (Option T))
       → empty a ++ (empty k ++ post) ≡ empty k ++ (empty a ++ post)
   empty-turn a k post =

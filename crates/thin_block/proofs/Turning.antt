@@ -329,8 +329,8 @@ module _ {M : Type 1} {𝓤 : Ura M} (𝓛 : Logic 𝓤) (T : RattleType) (L : L
   units_out = via 𝓤 (H.room (array_of (R W) k) b o) (𝓛.laws.room-raw units b o)
       (header_out 𝓛 (bare (R Item)) m k b hd o)
 
-  -- Joins uninitialized memory for the capacity and for the length into uninitialized memory for
-  -- `k` words.
+  -- Converts uninitialized memory for the capacity and the length back into uninitialized memory
+  -- for `k` words.
   pub units_in : ent 𝓤 (sep 𝓤 (H.room half b o) (sep 𝓤 (H.room half b (o + 8))
       (sem 𝓛 (header_way (bare (R Item)) m k b o)))) (H.room units b o)
   units_in = via 𝓤 (H.room (array_of (R W) k) b o) (header_in 𝓛 (bare (R Item)) m k b hd o)

@@ -82,14 +82,15 @@ counts_8 = record {
   few = λ c. omega arith;
 }
 
--- `Laid s a m k` collects facts on words of `m` items with the size `s` and the alignment `a`: the
--- size and the alignment of a word, and the size of a block of such words.
+-- `Laid s a m k` collects facts on words of `m` items: the size and the alignment of a word, and
+-- the size of a block of words. Each item has the size `s` and the alignment `a`.
 abbrev Laid : ℕ → ℕ → ℕ → ℕ → Type 0
 Laid s a m k = (word_size s a m ≡ m * s) × ((word_align a ≡ block_align a)
     × (Dv 8 (word_align a) × (Dv a (word_align a)
     × ((c : ℕ) → (k + div_ceil c m) * (m * s) ≡ block_bytes s a c))))
 
--- `Laid` holds for items of 1, 2, 4, 8 and 16 bytes if the alignment of an item divides its size.
+-- `Laid` holds for items of 1, 2, 4, 8 and 16 bytes if the alignment of an item divides the size of
+-- an item.
 laid_1 : (w : Width) → Dv (bytes w) 1 → Laid 1 (bytes w) 8 2
 laid_1 w8 d = (refl, (refl, (tt, (tt, λ c. omega arith))))
 laid_1 w16 d = absurd d

@@ -85,7 +85,7 @@ module _ (E : El) (m : ℕ) where
     (stay_dropped (plain (λ _. usize)) yes, tt),
   )
 
-  -- The items of several words. Each inner list contains the items of one word.
+  -- The type of the items of several words. Each inner list contains the items of one word.
   abbrev Runs : Type 0
   Runs = List (List (el_x E))
 
@@ -98,7 +98,8 @@ module _ (E : El) (m : ℕ) where
   abbrev Wr : RattleType
   Wr = word_row E.row m
 
-  -- The machine value of a word. The items of the word have the machine value `v`, as one array.
+  -- `word_val v` is the machine value of a word with items that have, as one array, the machine
+  -- value `v`.
   abbrev word_val : Val → Val
   word_val v = vstruct (vcons v (vcons (vstruct vnil) vnil))
 
@@ -181,8 +182,8 @@ module _ (E : El) (m : ℕ) {M : Type 1} {𝓤 : Ura M} (𝓛 : Logic 𝓤) (at_
         feq_i ! (List Val) (vunit ∷ []) (vunit ∷ []) refl $ nothing ! $ nothing ! $ fjoin ! $
         nothing ! $ fjoin ! $ join ! $ move ! (2 ∷ 0 ∷ []) $ join ! $ join ! $ done !
 
-    -- The state of the loop: `i` words have been made, and `xss` lists the items of the other
-    -- words.
+    -- The type of the states of the loop. In each state, `i` words have been made, and `xss` lists
+    -- the items of the other words.
     abbrev Left : Type 0
     Left = (i : ℕ) × ((xss : Runs E m) × (i + length xss ≡ n))
 

@@ -168,9 +168,9 @@ copy_in_spec 𝓤 𝓛 𝓜 𝓡 wired T A LT LA copies gc dc g d dd metc met md
     lands_last ! refl (parts_typed v₃ b here (slots_len f) e₃ fz) $
     continues ! 𝓜 𝓡 fn l 2 ((walk_of 𝓛 En₀ hs c).post z) $
     sets ! (of_opd ! (unit_lit !)) refl (tt, tt) $
-    -- `into_raw_parts` has converted the value of core's type `Slots` into slots of the block
-    -- again. The proof context holds, in this order: [these slots; the lifetime tokens of `T`, of
-    -- the slice `items` and of `A`; the other slots; the header; the memory that holds the block's
+    -- `into_raw_parts` has converted the value of core's type `Slots` back into slots of the block.
+    -- The proof context holds, in this order: [these slots; the lifetime tokens of `T`, of the
+    -- slice `items` and of `A`; the other slots; the header; the memory that holds the block's
     -- pointer; three entries for the open borrow of the block].
     let many : slots_len f ≡ n = copy.same.count ∙ made.1.1 in
     let flags : length (slots_filled f) ≡ n = sym (slots_counts f).1 ∙ many in
