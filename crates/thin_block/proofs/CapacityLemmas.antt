@@ -35,8 +35,8 @@ pub ruled-rule : (rule : Rule) (R : RattleType) (c w : ℕ) → c < w → w < 2 
 unfolding ruled_capacity
 ruled-rule rule R c w more word = rw (lt-leb w c more) (rw (lt-ltb w (2 ^ 64) word) refl)
 
--- `Grown R c w n` holds if `n` is at least `w` and at least `2 * c`, and a block of `n` items of
--- type `R` is small enough to be allocated.
+-- `Grown R c w n` holds if `n` is at least `w` and at least `2 * c`, and a block of capacity `n`
+-- for items of type `R` is small enough to be allocated.
 pub record Grown (R : RattleType) (c w n : ℕ) : Type 0 where
   pub enough : w ≤ n
   pub doubled : 2 * c ≤ n

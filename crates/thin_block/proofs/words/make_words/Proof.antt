@@ -98,8 +98,8 @@ module _ (E : El) (m : ℕ) where
   abbrev Wr : RattleType
   Wr = word_row E.row m
 
-  -- `word_val v` is the machine value of a word with items that have, as one array, the machine
-  -- value `v`.
+  -- `word_val v` is the machine value of the word whose items, as one array, have the machine value
+  -- `v`.
   abbrev word_val : Val → Val
   word_val v = vstruct (vcons v (vcons (vstruct vnil) vnil))
 
