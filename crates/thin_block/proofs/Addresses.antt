@@ -1,12 +1,12 @@
--- These lemmas are for the proof of a function body, which is called a walk. They compute the
--- address of a slot, and split the memory of this slot off the memory of all slots. The lemmas
--- assume the laws of the separation logic (`Logic`).
---     its_ptr       reads the pointer of the block
---     slot_found    executes the statements that compute `(p.add(HEADER_WORDS) as *mut T).add(i)`
---     moves_on      executes the statements that compute `p.add(i)`
---     takes_slot    splits off the memory of one slot
---     takes_item    splits off the memory of one filled slot
---     takes_two     splits off the memory of two filled slots
+-- Lemmas for proofs of function bodies. They compute the address of a slot, and separate the memory
+-- of this slot from the memory of the other slots. The lemmas assume the laws of the separation
+-- logic (`Logic`).
+--     `its_ptr` reads the pointer of the block.
+--     `slot_found` executes the statements that compute `(p.add(HEADER_WORDS) as *mut T).add(i)`.
+--     `moves_on` executes the statements that compute `p.add(i)`.
+--     `takes_slot` separates one slot from the other slots.
+--     `takes_item` separates one filled slot from the other slots.
+--     `takes_two` separates two filled slots from the other slots.
 use Rattle.std.proofs.Common.{◌≡◌, ℕ, zero, Some, None, ◌+◌, ◌*◌, ◌^◌, ◌<◌, ◌≤◌, List, [], ◌∷◌, length, true, refl, sym, ap, subst, arith, w64}
 use lib.Dec.{T}
 use lib.ListN.{get_or}
@@ -39,7 +39,7 @@ near E xs i fits le = let low = reach (R E) i (length xs) fits le in omega arith
 
 module _ (E : El) (Y : Al) {M : Type 1} {𝓤 : Ura M} {𝓛 : Logic 𝓤} {K : Type 0}
     {Γ : List (Item 𝓤)} {h s : Item 𝓤} where
-  -- Evaluates the operand that copies the pointer of a block through a reference to the block.
+  -- Evaluates the operand that reads the pointer of a block through a reference to the block.
   pub its_ptr : K → {Ev : Env 𝓤 𝓛.H} {p b o rb ro : ℕ} {q : Share}
       → at 𝓛 p (h ∷ s ∷ ‵
       (cell_at full_share (Br E Y).mir (block_val (block_ptr b o) ∷ []) rb ro) ∷ Γ)
@@ -58,7 +58,7 @@ module _ {M : Type 1} {𝓤 : Ura M} (𝓛 : Logic 𝓤) (Ev : Env 𝓤 𝓛.H) 
   holds p v = ‵ (fat full_share (spot_of 𝓤 H Ev p).0 (spot_of 𝓤 H Ev p).1 zero v)
 
   -- `free p Γ` is the entry of the proof context `Γ` which says that the local variable `p` may be
-  -- written. The variable may hold any value of its type, or no value.
+  -- assigned. The variable may currently hold any value of its type, or no value.
   abbrev free : ℕ → List (Item 𝓤) → Item 𝓤
   free p Γ = nth 𝓛 0 (free_needs 𝓛 (((spot_of 𝓤 H Ev p).0, (spot_of 𝓤 H Ev p).1) ∷ [])
       (at 𝓛 p Γ ∷ ‵ ftrue ∷ []))
@@ -68,45 +68,44 @@ module _ {M : Type 1} {𝓤 : Ura M} (𝓛 : Logic 𝓤) (Ev : Env 𝓤 𝓛.H) 
   Takes p v = T (has_ty (spot_of 𝓤 H Ev p).0 v)
 
   module _ (Γ : List (Item 𝓤)) (E : El) (b o i p₃ p₄ : ℕ) where
-    -- The proof context `Γ` after the product of `i` and the size of an item has been stored in the
-    -- local variable `p₃`.
+    -- The proof context that results from `Γ` if the product of `i` and the item size is stored in
+    -- the local variable `p₃`.
     abbrev far : List (Item 𝓤)
     far = set 𝓛 p₃ (holds p₃ (vint w64 (i * sz E))) Γ
 
-    -- The proof context `Γ` after `p.add(i)` has been computed. The local variable `p₃` holds the
-    -- product of `i` and the size of an item, and `p₄` holds the address of item `i`.
+    -- The proof context that results from `Γ` if `p.add(i)` is computed. The local variable `p₃`
+    -- then holds the product of `i` and the item size, and `p₄` holds the address of item `i`.
     abbrev pub gone : List (Item 𝓤)
     gone = set 𝓛 p₄ (holds p₄ (vptr b (i * sz E + o))) far
 
-    -- `goes_by p pᵢ` lists the entries of the proof context that the statements for `p.add(i)` use.
+    -- `goes_by p pᵢ` is the list of the context entries that the computation of `p.add(i)` uses.
     -- The local variable `p` holds the address of the first item, and `pᵢ` holds the index `i`.
     abbrev pub goes_by : ℕ → ℕ → List (Item 𝓤)
     goes_by p pᵢ = at 𝓛 pᵢ Γ ∷ at 𝓛 p₃ Γ ∷ at 𝓛 p far ∷ at 𝓛 p₃ far ∷ at 𝓛 p₄ far ∷ []
 
-    -- The entries that the list `goes_by` must contain, in the same order, before `p.add(i)` is
-    -- computed.
+    -- `goes_with p pᵢ` is the list that `goes_by p pᵢ` must equal before `p.add(i)` is computed.
     abbrev pub goes_with : ℕ → ℕ → List (Item 𝓤)
     goes_with p pᵢ = holds pᵢ (vint w64 i) ∷ free p₃ Γ ∷ holds p (vptr b o)
         ∷ holds p₃ (vint w64 (i * sz E)) ∷ free p₄ far ∷ []
 
   module _ (Γ : List (Item 𝓤)) (E : El) (b o i p₁ p₂ : ℕ) where
-    -- The proof context `Γ` after the address of the first slot has been stored in the local
-    -- variable `p₁`.
+    -- The proof context that results from `Γ` if the address of the first slot is stored in the
+    -- local variable `p₁`.
     abbrev first : List (Item 𝓤)
     first = set 𝓛 p₁ (holds p₁ (vptr b (o + 16))) Γ
 
-    -- The proof context `Γ` after the address of the first slot has been stored in the local
-    -- variables `p₁` and `p₂`.
+    -- The proof context that results from `Γ` if the address of the first slot is stored in the
+    -- local variables `p₁` and `p₂`.
     abbrev pub turned : List (Item 𝓤)
     turned = set 𝓛 p₂ (holds p₂ (vptr b (o + 16))) first
 
-    -- `meets p₃ p₄ p pᵢ` lists the entries of the proof context that the four statements in the
-    -- lemma `slot_found` use. The local variable `p` holds the pointer of the block.
+    -- `meets p₃ p₄ p pᵢ` is the list of the context entries that the four statements in the lemma
+    -- `slot_found` use. The local variable `p` holds the pointer of the block.
     abbrev pub meets : ℕ → ℕ → ℕ → ℕ → List (Item 𝓤)
     meets p₃ p₄ p pᵢ = at 𝓛 p Γ ∷ at 𝓛 p₁ Γ ∷ at 𝓛 p₁ first ∷ at 𝓛 p₂ first
         ∷ goes_by turned E b (o + 16) i p₃ p₄ p₂ pᵢ
 
-    -- The entries that the list `meets` must contain, in the same order, before the four statements
+    -- `needs p₃ p₄ p pᵢ` is the list that `meets p₃ p₄ p pᵢ` must equal before the four statements
     -- in the lemma `slot_found` are executed.
     abbrev pub needs : ℕ → ℕ → ℕ → ℕ → List (Item 𝓤)
     needs p₃ p₄ p pᵢ = holds p (vptr b o) ∷ free p₁ Γ ∷ holds p₁ (vptr b (o + 16)) ∷ free p₂ first
@@ -162,8 +161,8 @@ module _ (E : El) {M : Type 1} {𝓤 : Ura M} {𝓛 : Logic 𝓤} {K : Type 0} {
 
 module _ (E : El) {M : Type 1} {𝓤 : Ura M} {𝓛 : Logic 𝓤} {K : Type 0} {Γ : List (Item 𝓤)}
     {G : Goal 𝓤 𝓛.H} {h : Item 𝓤} where
-  -- Splits the memory of slot `i` off the memory of all slots. The proof context [the header; all
-  -- slots] becomes [slot `i`; the other slots; the header].
+  -- Separates the memory of slot `i` from the memory of the other slots. The proof context [the
+  -- header; all slots] becomes [slot `i`; the other slots; the header].
   pub takes_slot : K → {x : Slot E} (b o : ℕ) (xs : List (Slot E)) (i : ℕ) → i < length xs
       → get_or xs i None ≡ x
       → Step K 𝓛 (‵ (slot_place (R E) x b (i * sz E + o)) ∷ ‵ (besides E 𝓛 b o xs i) ∷ h ∷ Γ) G
@@ -186,7 +185,7 @@ module _ (E : El) {M : Type 1} (𝓤 : Ura M) where
 
 module _ (E : El) {M : Type 1} {𝓤 : Ura M} {𝓛 : Logic 𝓤} {K : Type 0} {Γ : List (Item 𝓤)}
     {G : Goal 𝓤 𝓛.H} {h : Item 𝓤} where
-  -- Splits the filled slot `i` off the other slots, so that the item in it can be read. After this
+  -- Separates the filled slot `i` from the other slots, so that its item can be read. After this
   -- step the proof context holds, in this order: [the bytes of the item; what the item owns; the
   -- other slots; the header].
   pub takes_item : K → {x : el_x E} (b o : ℕ) (xs : List (Slot E)) (i : ℕ) → i < length xs
@@ -199,9 +198,9 @@ module _ (E : El) {M : Type 1} {𝓤 : Ura M} {𝓛 : Logic 𝓤} {K : Type 0} {
       use1 𝓛 (some (λ (v : Val). given (Good E v) (Bits E 𝓤 b (i * sz E + o) v ⊛ Owned E 𝓤 x v)))
       (el_out E 𝓛 b x (i * sz E + o)) $ pick k (λ v. learn k (λ good. split k $ next v good))
 
-  -- Splits two filled slots off the other slots. After this step the proof context holds, in this
-  -- order: [the bytes of the second item; what the second item owns; the bytes of the first item;
-  -- what the first item owns; the other slots; the header].
+  -- Separates two filled slots from the other slots. After this step the proof context holds, in
+  -- this order: [the bytes of the second item; what the second item owns; the bytes of the first
+  -- item; what the first item owns; the other slots; the header].
   pub takes_two : K → {x y : el_x E} (b o : ℕ) (xs : List (Slot E)) (i j : ℕ)
       (p : Two E 𝓛 b o xs i j) → (get_or xs i None ≡ Some x) × (get_or xs j None ≡ Some y)
       → ((v w : Val) → Good E v → Good E w → Seq K 𝓛 (Bits E 𝓤 b (j * sz E + o) w ∷ Owned E 𝓤 y w

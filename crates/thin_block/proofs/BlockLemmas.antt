@@ -1,12 +1,11 @@
--- Two lemmas on `Seen`, which consists of the parts of a block that contracts see. The first lemma
--- replaces the slots by equal slots. The second lemma combines two successive changes of a block
--- into one change.
+-- Two lemmas on `Seen`, the record of the parts of a block that contracts mention. The first lemma
+-- is about updated slots, and the second lemma is about an updated length.
 use Rattle.std.proofs.Common.{◌≡◌, ℕ, List, ap, ◌∙◌}
 use Rattle.std.specs.Prelude.{Option}
 use Rattle.thin_block.specs.Block.{Seen}
 
 module _ {T A : Type 0} where
-  -- If `v ≡ w` and `w.slots ≡ s`, then `v` equals `w` with the slots `s`.
+  -- If `v ≡ w` and `w.slots ≡ s`, then `v ≡ record w { slots = s }`.
   pub slots-are : {v w : Seen T A} {s : List (Option T)} → v ≡ w → w.slots ≡ s
       → v ≡ record w { slots = s }
   slots-are {w = w} e h = e ∙ ap (λ (s : List (Option T)). record w { slots = s }) h

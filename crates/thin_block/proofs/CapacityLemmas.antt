@@ -1,6 +1,6 @@
--- Lemmas on `ruled_capacity`, `exact_capacity` and `Fits`. The first two functions compute the new
--- capacity of a block, by a growth rule or for an exact number of items. `Fits` says that a block
--- of some capacity is small enough to be allocated. Other crates use these lemmas too.
+-- Lemmas on functions that choose the new capacity of a block. `ruled_capacity` uses a growth rule,
+-- and `exact_capacity` makes room for an exact number of items. `Fits` says that a block of a given
+-- capacity is small enough to be allocated.
 use Rattle.std.proofs.Common.{if◌then◌else◌, Bool, true, false, IsTrue, ◌≡◌, ℕ, zero, suc, ◌*◌, ◌^◌, ◌<◌, ◌≤◌, ap, refl, subst, sym, ◌∙◌, arith}
 use Rattle.std.specs.declared.option.Option.TheVariants.{Some, None}
 use borrow.Author.Tests.{lt-ltb, le-ltb, le-leb, lt-leb}
@@ -35,9 +35,8 @@ pub ruled-rule : (rule : Rule) (R : RattleType) (c w : ℕ) → c < w → w < 2 
 unfolding ruled_capacity
 ruled-rule rule R c w more word = rw (lt-leb w c more) (rw (lt-ltb w (2 ^ 64) word) refl)
 
--- `Grown R c w n` holds if a block of capacity `c` may grow to the capacity `n` in order to hold
--- `w` items of type `R`. The record has the same meaning as `Grows`, but the type of its last field
--- is `Fits R n`.
+-- `Grown R c w n` holds if `n` is at least `w` and at least `2 * c`, and a block of capacity `n`
+-- for items of type `R` is small enough to be allocated.
 pub record Grown (R : RattleType) (c w n : ℕ) : Type 0 where
   pub enough : w ≤ n
   pub doubled : 2 * c ≤ n
@@ -46,8 +45,8 @@ pub record Grown (R : RattleType) (c w n : ℕ) : Type 0 where
 none_some : {A B : Type 0} (x : A) → None ≡ Some x → B
 none_some x e = cc
 
--- If a growth rule keeps its law, `c < w` and `ruled_capacity rule R c w ≡ Some n`, then `w ≤ n`
--- and `2 * c ≤ n`, and a block of capacity `n` is small enough to be allocated.
+-- If `rule` obeys the law of growth rules, `c < w` and `ruled_capacity rule R c w ≡ Some n`, then
+-- `Grown R c w n` holds.
 pub ruled-grows : (rule : Rule) (R : RattleType) (c w n : ℕ) → KeepsLaw rule → c < w
     → ruled_capacity rule R c w ≡ Some n → Grown R c w n
 ruled-grows rule R c w n law more e = elim (dec_lt w (2 ^ 64)) [
@@ -80,10 +79,11 @@ fits-less R c d e less =
 pub fits-none : (R : RattleType) → Fits R 0
 fits-none R = closed R 0 (fits_none R)
 
--- Section: blocks that are far below every size limit. They hold fewer than `2 ^ 31` items of fewer
--- than `2 ^ 31` bytes each. These lemmas are for callers that know the item type.
+-- Section: blocks far below every size limit, with fewer than `2 ^ 31` items of fewer than `2 ^ 31`
+-- bytes each. The lemmas are for callers that know the item type.
 
--- Fewer than `2 ^ 31` items of fewer than `2 ^ 31` bytes each take less than `2 ^ 62` bytes.
+-- Fewer than `2 ^ 31` items of fewer than `2 ^ 31` bytes each take fewer than `2 ^ 62` bytes in
+-- total.
 pub few_bytes : (c s : ℕ) → c < 2 ^ 31 → s < 2 ^ 31 → c * s < 2 ^ 62
 few_bytes c s few small =
     let wide : c * s ≤ c * (2 ^ 31) =
@@ -98,8 +98,8 @@ small_fits R c few small =
     let about = rounded R 0 in
     closed R c (fits_yes R c (omega arith) (omega (arith, about.most)))
 
--- If the old capacity is 0, the rule `doubling` chooses the capacity 4 for 1 to 4 items of less
--- than `2 ^ 31` bytes each.
+-- If the old capacity is 0 and room is needed for 1 to 4 items of less than `2 ^ 31` bytes each,
+-- then the rule `doubling` chooses the capacity 4.
 pub doubling_first : (R : RattleType) (c w : ℕ) → c ≡ 0 → 0 < w → w ≤ 4 → type_size R < 2 ^ 31
     → ruled_capacity doubling R c w ≡ Some 4
 unfolding doubling fitting first
@@ -111,9 +111,9 @@ doubling_first R c w none some few small =
     subst (Fits R) (sym four) (small_fits R 4 (omega arith) small) in
     ruled-rule doubling R c w more (omega arith) ∙ (rw fit (ap Some four))
 
--- If the capacity `c` is too small for `w` items, but `2 * c` suffices, then the rule `doubling`
--- chooses the capacity `2 * c`. The lemma is for `0 < c < 2 ^ 30` and items of less than `2 ^ 31`
--- bytes.
+-- Suppose that the capacity `c` is too small for `w` items, but `2 * c` suffices. Then the rule
+-- `doubling` chooses the capacity `2 * c`. The lemma is for `0 < c < 2 ^ 30` and items of less than
+-- `2 ^ 31` bytes.
 pub doubling_next : (R : RattleType) (c w : ℕ) → 0 < c → c < w → w ≤ 2 * c → c < 2 ^ 30
     → type_size R < 2 ^ 31 → ruled_capacity doubling R c w ≡ Some (2 * c)
 unfolding doubling fitting
@@ -140,7 +140,7 @@ no_answer true n never = absurd (never refl)
 no_answer false n never = refl
 
 -- If a block of capacity `n` is too large to be allocated, then the function `fitting` returns
--- `None`.
+-- `None` for `n`.
 pub fitting_none : (R : RattleType) (n : ℕ) → (Fits R n → ⊥)
     → fitting (type_size R) (type_align R) n ≡ None
 unfolding fitting

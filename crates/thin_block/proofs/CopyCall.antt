@@ -1,4 +1,4 @@
--- These lemmas prove a call of the function `copied` within the proof of its caller. The function
+-- These lemmas verify a call of the function `copied` within the proof of its caller. The function
 -- copies the items of a slice into a value of core's type `Slots`. The lemmas assume the laws of
 -- the separation logic (`Logic`).
 use mathlib.Core.Path.{◌≡◌, refl, sym, ap, ◌∙◌}

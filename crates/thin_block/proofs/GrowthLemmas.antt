@@ -1,5 +1,5 @@
--- A growth rule that always chooses exactly the wanted capacity breaks the law of growth rules: the
--- new capacity may be less than twice the old capacity.
+-- A growth rule that always chooses exactly the wanted capacity breaks the law of growth rules,
+-- because the new capacity may be less than twice the old capacity.
 use Rattle.std.specs.Prelude.{◌*◌, ◌≤◌, refl}
 use Rattle.std.proofs.Common.{arith}
 use Rattle.thin_block.specs.Capacity.{fits}

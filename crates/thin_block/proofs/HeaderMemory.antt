@@ -1,16 +1,14 @@
--- These lemmas are about the machine value of a block, about the parts of its memory, and about the
--- proof steps that split a block into its parts or join the parts again. The lemmas assume the laws
--- of the separation logic (`Logic`).
---     block_val, block_own        the machine value of a block, and what its fields own
---     whole_size, whole_align     the size and the alignment of a whole block's memory
---     carve                       splits the memory of a whole block into its parts, and keeps the
---                                 right to join the parts again
---     header                      what a block owns besides its slots
---     header_fits                 derives from the header that the block is small enough to be
---                                 allocated
---     alloc_there                 if a block has slots, it has an allocator
---     block_had, block_made       split a block into its header and its slots, and join these again
---     block_opens, block_closes   split the block behind a `&mut`, and join its parts again
+-- These lemmas are about the machine value of a block and the parts of its memory. They split a
+-- block into its parts, and put the parts back together. The lemmas assume the laws of the
+-- separation logic (`Logic`).
+--     `block_val` is the machine value of a block, and `block_own` states what its fields own.
+--     `whole_size` and `whole_align` give the size and the alignment of a whole block's memory.
+--     `carve` splits the memory of a whole block into its parts.
+--     `header` states what a block owns besides its slots.
+--     `header_fits` derives from the header that the block is small enough to be allocated.
+--     `alloc_there` says that a block with slots has an allocator.
+--     `block_had` splits a block into its header and its slots, and `block_made` is the inverse.
+--     `block_opens` splits the block behind a `&mut`, and `block_closes` is the inverse.
 use Rattle.std.proofs.Common.{◌≡◌, Bool, true, ℕ, Some, None, ◌+◌, ◌*◌, ◌<◌, List, [], ◌∷◌, ◌++◌, length, refl, sym, ap, subst, ◌∙◌, arith, w64}
 use seplogic.Ra.Ura.{Ura}
 use mir.Syntax.{Ty, Tys, Width, Args, w8, w16, w32, w128, a_type, dcons, dnil, ty_int, ty_array, tcons, tnil}
@@ -64,8 +62,8 @@ block_val p = vstruct (vcons (ptr_val p) (vcons (vstruct vnil) (vcons (vstruct v
 abbrev pub block_own : Ptr → List Val → Fml
 block_own p = (plainly (RawPtr ∷ plainly [] ∷ plainly [] ∷ [])).own_val (p, (tt, (tt, tt)))
 
--- If `vs` are the machine values of a block with the pointer `p`, then `vs` consists of the one
--- value `block_val p`.
+-- If the list `vs` contains the machine values of a block with the pointer `p`, then `vs` is
+-- `block_val p ∷ []`.
 pub block_told : (p : Ptr) (vs : List Val) → shadow (block_own p vs) → vs ≡ block_val p ∷ []
 block_told p vs s = s.1.0
     ∙ (λ i. vstruct (of_list (s.1.1.0 i ++ (s.1.1.1.0.1.0 i ++ (s.1.1.1.1.0.1.0 i ++ [])))) ∷ [])
@@ -126,8 +124,8 @@ module _ (R : RattleType) (c : ℕ) where
 module _ {M : Type 1} {𝓤 : Ura M} (𝓛 : Logic 𝓤) (R : RattleType) where
   open 𝓛 use {H}
 
-  -- Splits the memory of a whole block into memory for the capacity, the length and the slots. The
-  -- last part of the result is the right to join these three parts again.
+  -- Splits the memory of a whole block into memory for the capacity, for the length and for the
+  -- slots. The result also contains the right to put these three parts back together.
   pub carve : (c b o : ℕ) → ent 𝓤 (H.room (whole R c) b o)
       (sep 𝓤 (H.room (ty_int w64) b o)
       (sep 𝓤 (H.room (ty_int w64) b (o + 8))
@@ -155,9 +153,9 @@ module _ {M : Type 1} {𝓤 : Ura M} (𝓛 : Logic 𝓤) (R : RattleType) where
       move ! (2 ∷ 4 ∷ []) $ join ! $ move ! (2 ∷ 0 ∷ []) $ join ! $ move ! (1 ∷ 0 ∷ []) $ join ! $
       by ! (apply∗ 𝓤 rooms (H.room (whole R c) b o))
 
--- Section: a block without its slots.
--- `header` states what a block of `c` slots owns besides these slots. If the block has an
--- allocator, this is the formula `frame`. Otherwise it is a share of the static header.
+-- Section: a block without its slots. `header` states what a block of `c` slots owns besides these
+-- slots. If the block has an allocator, this is the formula `frame`. Otherwise, it is a share of
+-- the static header.
 abbrev pub header : {D : Type 0} → (D → Ty → Ptr → Fml) → RattleType → ℕ → ℕ
     → Option D → ℕ → ℕ → Fml
 header t R n c None b o = fsep (lent_at usize (block_ptr b o) 0 [])
@@ -171,7 +169,7 @@ alloc_there (Some h) xs is some = (h, refl)
 alloc_there None [] is some = absurd (omega arith)
 alloc_there None (x ∷ xs) is some = absurd (clash is)
 
--- If the length of a list is positive, then the test `any` says that the list is not empty.
+-- If the list `xs` is not empty, then `any xs` is `true`.
 pub any_some : {X : Type 0} (xs : List X) → 0 < length xs → true ≡ any xs
 any_some [] some = absurd (omega arith)
 any_some (x ∷ xs) some = refl
@@ -196,8 +194,8 @@ module _ {D : Type 0} (t : D → Ty → Ptr → Fml) (R : RattleType) {M : Type 
 
 module _ {D : Type 0} (t : D → Ty → Ptr → Fml) (R : RattleType) {M : Type 1} {𝓤 : Ura M}
     {𝓛 : Logic 𝓤} {K : Type 0} {Γ : List (Item 𝓤)} {G : Goal 𝓤 𝓛.H} where
-  -- The header of a block implies that the block is small enough to be allocated. The proof then
-  -- continues with this fact.
+  -- Derives from the header of a block that the block is small enough to be allocated, and passes
+  -- this fact to the rest of the proof.
   pub header_fits : K → (n : ℕ) (xs : List (Option R.Denot)) (a : Option D)
       (b o : ℕ) → is_some a ≡ any xs
       → (fits_block R (length xs) ≡ true → Seq K 𝓛 (‵ (header t R n (length xs) a b o) ∷ Γ) G)
@@ -214,7 +212,7 @@ module _ (E : El) (Y : Al) where
   abbrev pub args : Args
   args = bounded (a_type ∷ a_type ∷ []) (E.row, (Y.row, tt)) (dcons Y.d (dcons Y.drops dnil))
 
-  -- The type of blocks with items of the type `E` and an allocator of the type `Y`.
+  -- The type of blocks with items of type `E` and an allocator of type `Y`.
   abbrev pub Br : RattleType
   Br = block.the_row (param 0 E.row) (param 1 Y.row) Y.g
 
@@ -223,7 +221,7 @@ module _ (E : El) (Y : Al) where
   t = Y.g.dealloc_token
 
   -- What the block `x` owns besides its slots. If `x` has an allocator, this is the header and the
-  -- right to free the allocation. Otherwise it is a share of the static header.
+  -- right to free the allocation. Otherwise, it is a share of the static header.
   abbrev pub Header : Br.Denot → ℕ → ℕ → Fml
   Header x b o = header t (R E) x.len (length x.slots) x.alloc b o
 
@@ -248,7 +246,7 @@ module _ (E : El) (Y : Al) {M : Type 1} {𝓤 : Ura M} {𝓛 : Logic 𝓤} {K : 
       header_fits (t E Y) (R E) k x.len x.slots x.alloc b o x.sound.1 (λ fits.
       next b o at (block_told x.at vs is.0 ∙ ap (λ (p : Ptr). block_val p ∷ []) at) fits)))
 
-  -- Joins a header and the slots into the block again.
+  -- Puts the header and the slots of a block back together.
   pub block_made : K → (x : (Br E Y).Denot) (b o : ℕ) → x.at ≡ block_ptr b o
       → Step K 𝓛 (‵ ((Br E Y).own_val x (block_val (block_ptr b o) ∷ [])) ∷ Γ) G
       (‵ (Header E Y x b o) ∷ ‵ (Slots E Y x b o) ∷ Γ) G
@@ -279,8 +277,8 @@ module _ (E : El) (Y : Al) {M : Type 1} {𝓤 : Ura M} {𝓛 : Logic 𝓤} {K : 
       rewrite k 2 (λ (us : List Val). ‵ (cell_at full_share (Br E Y).mir us rb ro))
       is refl $ next b o at fits))
 
-  -- Joins the header and the slots of the block behind a `&mut` again. This closes the borrow of
-  -- the block.
+  -- Puts the header and the slots of the block behind a `&mut` back together. This closes the
+  -- borrow of the block.
   pub block_closes : K → Soaks G → {κ : Lft} {q : Share} {u v : Gv} {γ : GName} (x : (Br E Y).Denot)
       (b o rb ro : ℕ) → x.at ≡ block_ptr b o
       → Step K 𝓛 (‵ (fobs γ ((Br E Y).coded.code x)) ∷ ‵

@@ -1,9 +1,9 @@
--- These lemmas say what holds after a `&mut` to items of a block has ended: the items are in their
--- slots again, and the block is complete again. The lemmas assume the laws of the separation logic
+-- These lemmas say what holds after a `&mut` to items of a block has ended: the block is complete
+-- again, with the changed items in their slots. The lemmas assume the laws of the separation logic
 -- (`Logic`).
---     Waiting       the header and the memory that holds the block's pointer, while slots are lent
---     item_back     the block after a `&mut` to the item in one slot has ended
---     items_back    the block after a `&mut` to the items in adjacent slots has ended
+--     `Waiting` consists of the parts of a block that are not lent while its slots are lent.
+--     `item_back` is for a `&mut` to the item in one slot.
+--     `items_back` is for a `&mut` to the items in adjacent slots.
 use Rattle.std.proofs.Common.{◌≡◌, ℕ, ◌+◌, ◌*◌, ◌<◌, ◌≤◌, List, ◌∷◌, [], length, Some, refl, sym, ◌∙◌, arith}
 use Rattle.std.proofs.lemmas.List.{length-map, length-set}
 use seplogic.Ra.Ura.{Ura}
@@ -31,14 +31,14 @@ module _ (E : El) (Y : Al) {M : Type 1} {𝓤 : Ura M} (𝓛 : Logic 𝓤) (x : 
   abbrev B : Type 0
   B = (Br E Y).Denot
 
-  -- All parts of a block except its slots: the header, and the memory that holds the block's
-  -- pointer. These parts are not lent while slots are lent.
+  -- The parts of a block that are not lent while its slots are lent: the header, and the memory
+  -- that holds the block's pointer.
   abbrev pub Waiting : Fml
   Waiting = fsep (Header E Y x b o)
       (cell_at full_share (Br E Y).mir (block_val (block_ptr b o) ∷ []) rb ro)
 
-  -- The memory of the slots `s` and the other parts of the block (`Waiting`) together form the
-  -- block with the slots `s`.
+  -- The memory of the slots `s` and the other parts of the block (`Waiting`) form the block with
+  -- the slots `s`.
   pub slots_back : (s : List (Slot E)) (same : length s ≡ length x.slots)
       → ent 𝓤 (sep 𝓤 (sem 𝓛 (places (R E) s b (o + 16))) (sem 𝓛 Waiting))
       (sem 𝓛 ((mem (Br E Y)).own_at (with_slots x s same) rb ro))
@@ -52,8 +52,8 @@ module _ (E : El) (Y : Al) {M : Type 1} {𝓤 : Ura M} (𝓛 : Logic 𝓤) (x : 
       (λ us. fsep (cell_at full_share (Br E Y).mir us rb ro)
       ((Br E Y).own_val (with_slots x s same) us)) (block_val (block_ptr b o) ∷ []) $ done !
 
-  -- If a `&mut` to the item in slot `i` ends and the item is then `w`, the block is complete again,
-  -- and slot `i` holds `w`.
+  -- If a `&mut` to the item in slot `i` ends and the item then has the value `w`, the block is
+  -- complete again, and slot `i` holds `w`.
   pub item_back : (i : ℕ) → i < length x.slots → (w : el_x E)
       → ent 𝓤 (sep 𝓤 (sem 𝓛 ((mem (R E)).own_at w b (i * sz E + (o + 16))))
       (sem 𝓛 (fsep (besides E 𝓛 b (o + 16) x.slots i) Waiting)))
@@ -67,8 +67,8 @@ module _ (E : El) (Y : Al) {M : Type 1} {𝓤 : Ura M} (𝓛 : Logic 𝓤) (x : 
       (slot_in E 𝓛 b (o + 16) x.slots i within (Some w)) $
       by ! (slots_back y.slots (length-set x.slots i (Some w)))
 
-  -- If a `&mut` to the items in the slots `i..i + k` ends and the items are then `ws`, the block is
-  -- complete again, and these slots hold `ws`.
+  -- If a `&mut` to the items in the slots `i..i + k` ends and the items then have the values `ws`,
+  -- the block is complete again, and these slots hold `ws`.
   pub items_back : (i k : ℕ) → i + k ≤ length x.slots
       → ((n : ℕ) → i ≤ n → n < i + k → IsSome (slot x.slots n))
       → (ws : List (el_x E)) → length ws ≡ k

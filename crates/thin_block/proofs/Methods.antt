@@ -1,17 +1,17 @@
--- These lemmas begin and end the proof of a method that takes `&mut self` or `&self`. Such a proof
--- of a function body is called a walk. The lemmas assume the laws of the separation logic
--- (`Logic`).
---     dropped, all_go          give no argument back to the caller, if the contract allows this
---     heard_all                splits a `requires` clause that consists of several facts
---     block_stays, goes        only the `&mut` is given back to the caller
---     arrives                  begins the walk of any function
---     starts, begins, begins_with   begin the walk of a method that takes `&mut self`
---     token_out                splits the first lifetime token off the other lifetime tokens
---     enters                   enters the body of a function, and writes out the arguments
---     opens_self, closes_over  split the block behind the `&mut`, and join it with changed slots
---     continues                continues the walk after the first statements of a body
---     seen                     begins the walk of a method that takes `&self`
---     leaves, leaves_with, leaves_unit  end a walk: they join all that must be proved at the end
+-- These lemmas begin and end the proof of a method that takes `&mut self` or `&self`. The lemmas
+-- assume the laws of the separation logic (`Logic`).
+--     `dropped` and `all_go` give no argument back to the caller, if the contract allows this.
+--     `heard_all` splits a `requires` clause that consists of several facts.
+--     `block_stays` and `goes` give only the `&mut` back to the caller.
+--     `arrives` begins the proof of any function.
+--     `starts`, `begins` and `begins_with` begin the proof of a method that takes `&mut self`.
+--     `token_out` separates the first lifetime token from the other lifetime tokens.
+--     `enters` enters the body of a function, and writes out the arguments.
+--     `opens_self` splits the block behind the `&mut`.
+--     `closes_over` puts the block back together, with changed slots.
+--     `continues` continues the proof after the first statements of a body.
+--     `seen` begins the proof of a method that takes `&self`.
+--     `leaves`, `leaves_with` and `leaves_unit` end a proof.
 use Rattle.std.proofs.Common.{◌≡◌, true, ℕ, zero, suc, ◌+◌, ◌^◌, ◌<◌, List, [], ◌∷◌, length, refl, sym, w64}
 use lib.Dec.{T}
 use seplogic.Ra.Ura.{Ura}
@@ -55,15 +55,15 @@ others [] = []
 others (s ∷ ss) = ss
 
 module _ {n : ℕ} where
-  -- This choice says that a function with the parameters `ss` gives none of its arguments back to
-  -- the caller.
+  -- `dropped ss ks` chooses, for each of the parameters `ss`, not to give its argument back to the
+  -- caller.
   abbrev pub dropped : (ss : List (Slot n)) (ks : Kepts ss) → Stays ss ks
   dropped [] ks = tt
   dropped (s ∷ ss) ks = (stay_dropped s ks.0, dropped ss ks.1)
 
 module _ {M : Type 1} {𝓤 : Ura M} (𝓛 : Logic 𝓤) {n : ℕ} where
-  -- `AllSilent ss ks` holds if the contract says nothing about the state of the parameters `ss`
-  -- after the call.
+  -- `AllSilent ss ks` holds if the contract says nothing about the state, after the call, of the
+  -- arguments for the parameters `ss`.
   abbrev pub AllSilent : (ss : List (Slot n)) → Kepts ss → Type 1
   AllSilent [] ks = Unit {1}
   AllSilent (s ∷ ss) ks = Silent 𝓛 n s ks.0 × AllSilent ss ks.1
@@ -78,8 +78,8 @@ module _ {M : Type 1} {𝓤 : Ura M} (𝓛 : Logic 𝓤) {n : ℕ} where
 
 module _ {M : Type 1} {𝓤 : Ura M} {𝓛 : Logic 𝓤} {K : Type 0} {Γ : List (Item 𝓤)}
     {G : Goal 𝓤 𝓛.H} where
-  -- Splits a conjunction of facts in the proof context into the single facts, and passes the facts
-  -- to the rest of the proof.
+  -- Splits a conjunction of facts in the proof context into single facts, and passes these facts to
+  -- the rest of the proof.
   pub heard_all : K → (φs : List (Type 0)) → (Shown φs → Seq K 𝓛 Γ G)
       → Seq K 𝓛 (raw (Facts 𝓤 φs) ∷ Γ) G
   heard_all k [] next = drop k $ next tt
@@ -92,13 +92,13 @@ module _ {M : Type 1} {𝓤 : Ura M} {𝓛 : Logic 𝓤} {K : Type 0} {Γ : List
 abbrev pub ptr_of : {X : Type 0} → MutBor X → Val
 ptr_of r = vptr r.ref_ptr.0 r.ref_ptr.1
 
--- A number less than `2 ^ 64` is a machine value of the type of 64-bit integers.
+-- A number less than `2 ^ 64` is a valid machine value of the 64-bit integer type.
 abbrev pub word : {n : ℕ} → n < 2 ^ 64 → T (has_ty (ty_int w64) (vint w64 n)) × WT (vint w64 n)
 word fits = (tt, record { fits = fits })
 
 module _ {M : Type 1} {𝓤 : Ura M} {𝓛 : Logic 𝓤} {K : Type 0} {Γ : List (Item 𝓤)} where
-  -- Enters the body of the function `f`. The arguments `us` are replaced by the equal list `vs`, in
-  -- which each value is written out.
+  -- Enters the body of the function `f`. The list `us` of the arguments is replaced with the equal
+  -- list `vs`, in which each value is written out.
   pub enters : K → {C : Calls 𝓤 𝓛.H} {Λ : Loops 𝓤 𝓛.H} (f : Fn) {us : List Val}
       {P : Val → SProp 𝓤} (vs : List Val) → us ≡ vs
       → Step K 𝓛 Γ (allocs f.locals (λ E. params' E vs (runs C Λ E f.body (at_ret E P))))
@@ -127,7 +127,7 @@ module _ (E : El) (Y : Al) {n : ℕ} (ss : List (Slot (suc n))) where
   abbrev pub on_block : List (Slot (suc n))
   on_block = mut_ref_to (0 ∷ []) tt (plain (λ _. Br E Y)) ∷ ss
 
-  -- This choice says that the method gives only the `&mut Block` back to the caller when it
+  -- `block_stays ks` chooses to give only the `&mut Block` back to the caller when the method
   -- returns.
   abbrev pub block_stays : (ks : Kepts ss) → Stays on_block (yes, ks)
   block_stays ks = (stay_ref (0 ∷ []) tt (plain (λ _. Br E Y)), dropped ss ks)
@@ -151,14 +151,14 @@ module _ {M : Type 1} {𝓤 : Ura M} {𝓛 : Logic 𝓤} {K : Type 0} {Γ : List
       (env f.locals l) (after k f.body) (at_ret (env f.locals l) P)
 
 module _ {n : ℕ} (s : Slot (suc n)) (ss : List (Slot (suc n))) where
-  -- What a function is passed: lifetimes, shares of lifetime tokens, bounds on the lifetimes, and
-  -- the arguments with their machine values.
+  -- The type of everything that is passed to a function: lifetimes, shares of lifetime tokens,
+  -- bounds on the lifetimes, and the arguments with their machine values.
   abbrev Passed : (Lfts (suc n) → Type 0) → Type 0
   Passed Bd = (κs : Lfts (suc n)) × Shares (suc n) × Bd κs × Denots (types_at (s ∷ ss) κs)
       × Valss (types_at (s ∷ ss) κs)
 
-  -- `Entry 𝓛 x` states what a function owns on entry if it is passed `x`. The `requires` clauses
-  -- are not included.
+  -- `Entry 𝓛 x` states what a function owns on entry if `x` is passed to the function. The
+  -- `requires` clauses are not included.
   abbrev Entry : {M : Type 1} {𝓤 : Ura M} (𝓛 : Logic 𝓤) {Bd : Lfts (suc n) → Type 0} → Passed Bd
       → SProp 𝓤
   Entry {𝓤 = 𝓤} 𝓛 x = sep 𝓤 (toks 𝓛 (suc n) x.0 x.1) (sem 𝓛 (owns (types_at (s ∷ ss) x.0) x.3 x.4))
@@ -177,11 +177,11 @@ module _ {n : ℕ} (s : Slot (suc n)) (ss : List (Slot (suc n))) where
 
 module _ (E : El) (Y : Al) {M : Type 1} {𝓤 : Ura M} (𝓛 : Logic 𝓤) {n : ℕ}
     (ss : List (Slot (suc n))) where
-  -- A parameter of the type `&mut Block`.
+  -- A parameter of type `&mut Block`.
   abbrev lent : Slot (suc n)
   lent = mut_ref_to (0 ∷ []) tt (plain (λ _. Br E Y))
 
-  -- A parameter of the type `&Block`.
+  -- A parameter of type `&Block`.
   abbrev shared : Slot (suc n)
   shared = shr_ref_to (0 ∷ []) tt (plain (λ _. Br E Y))
 
@@ -194,8 +194,8 @@ module _ (E : El) (Y : Al) {M : Type 1} {𝓤 : Ura M} (𝓛 : Logic 𝓤) {n : 
       ∷ ‵ (flft x.0.0 x.1.0) ∷ raw (toks 𝓛 n x.0.1 x.1.1) ∷ ‵
       (owns (types_at ss x.0) x.3.1 x.4.1) ∷ Γ
 
-  -- Begins the proof of a method that takes `&mut self`. In the proof context, the `requires`
-  -- clauses are the last entry.
+  -- Begins the proof of a method that takes `&mut self`. After this step, the `requires` clauses
+  -- are the last entry of the proof context.
   pub starts : {Bd : Lfts (suc n) → Type 0} {P : SProp 𝓤} (x : Passed lent ss Bd) (Q : SProp 𝓤)
       → Sq 𝓛 (Entered x (raw Q ∷ [])) (prop P) → ent 𝓤 (sep 𝓤 (Entry lent ss 𝓛 x) Q) P
   starts x Q next = arrives lent ss 𝓛 x Q (fsplit3 ! $ drop ! $ next)
@@ -230,16 +230,15 @@ module _ (E : El) (Y : Al) {M : Type 1} {𝓤 : Ura M} (𝓛 : Logic 𝓤) {n : 
 
 module _ {M : Type 1} {𝓤 : Ura M} {𝓛 : Logic 𝓤} {K : Type 0} {Γ : List (Item 𝓤)}
     {G : Goal 𝓤 𝓛.H} where
-  -- Splits the tokens of several lifetimes into the token of the first lifetime and the tokens of
-  -- the other lifetimes.
+  -- Separates the token of the first lifetime from the tokens of the other lifetimes.
   pub token_out : K → (n : ℕ) (κs : Lfts (suc n)) (qs : Shares (suc n))
       → Step K 𝓛 (‵ (flft κs.0 qs.0) ∷ raw (toks 𝓛 n κs.1 qs.1) ∷ Γ) G
       (raw (toks 𝓛 (suc n) κs qs) ∷ Γ) G
   token_out k n κs qs = step (λ s.
       use1 𝓛 (‵ (flft κs.0 qs.0) ⊛ raw (toks 𝓛 n κs.1 qs.1)) (id⊢ 𝓤 _) $ split k $ s)
 
--- `blanks m` is what a function must prove at its end about `m` arguments that it does not give
--- back to the caller: a trivially true formula for each argument.
+-- `blanks m` is what a function must prove at its end about `m` arguments that are not given back
+-- to the caller: a trivially true formula for each argument.
 abbrev pub blanks : ℕ → Fml
 blanks zero = ftrue
 blanks (suc m) = fsep ftrue (blanks m)
@@ -276,9 +275,9 @@ module _ (E : El) (Y : Al) {M : Type 1} {𝓤 : Ura M} {𝓛 : Logic 𝓤} {K : 
       (fbor κ (Body (mem (Br E Y)) r.ref_ptr.0 r.ref_ptr.1 r.ghost_name)) ∷ ‵ (flft κ q) ∷ Γ) G
   opens_self k z r next = block_opens E Y k z r.now r.ref_ptr.0 r.ref_ptr.1 next
 
-  -- Joins the parts of the block behind a `&mut` again. Before this step the proof context holds,
-  -- in this order: [the slots in their present state; the header; the memory that holds the block's
-  -- pointer; three entries for the open borrow of the block].
+  -- Puts the parts of the block behind a `&mut` back together. Before this step the proof context
+  -- holds, in this order: [the slots in their present state; the header; the memory that holds the
+  -- block's pointer; three entries for the open borrow of the block].
   pub closes_over : K → Soaks G → {Γ : List (Item 𝓤)} {κ : Lft} {q : Share} {u v : Gv} {c : ℕ}
       (r : MutBor (Br E Y).Denot) (y : (Br E Y).Denot) (b o : ℕ) → y.at ≡ block_ptr b o
       → length y.slots ≡ c

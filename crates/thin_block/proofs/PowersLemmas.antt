@@ -16,7 +16,7 @@ use Rattle.thin_block.specs.PowerLaws.{least_power_is, powers_filled, powers_of_
 use Rattle.thin_block.proofs.CapacityLemmas.{fitting_none}
 use Rattle.thin_block.proofs.SizesLemmas.{fits_tells, opened, rounded}
 
--- If the code computes the item size 0, then an item takes no bytes.
+-- If the item size that the code computes is 0, then an item takes no bytes.
 pub takes_none : (s size : ℕ) → size ≡ capped s → size ≡ 0 → s ≡ 0
 takes_none s size is none =
     let low : s < 2 ^ 63 = capped_small s (omega (arith, is, none)) in
@@ -31,8 +31,9 @@ capped_le s = elim (cases_lt s (2 ^ 64)) [
 takes_some : (s size : ℕ) → size ≡ capped s → 0 < size → 0 < s
 takes_some s size is some = omega (arith, is, some, capped_le s)
 
--- If an item takes at least one byte and `power_bytes` chooses a capacity, then a block of this
--- capacity fills a power of two bytes. `FillsPower` says exactly what that means.
+-- Suppose that an item takes at least one byte, and that `power_bytes` chooses a capacity. Then
+-- there is a power of two `p` such that `p` bytes have room for the header and the items, but not
+-- for one more item.
 pub each_fills : (s a c w : ℕ) (r : Option ℕ) → r ≡ power_bytes s a c w → 0 < s
     → IfSome r (FillsPower s a)
 each_fills s a c w None e some = tt
@@ -54,8 +55,8 @@ module _ (R : RattleType) (c w size : ℕ) (is : size ≡ capped (type_size R))
   abbrev wanted : ℕ
   wanted = max w (2 * c)
 
-  -- These lemmas assume that the header and `items` items take at most `2 ^ 63` bytes. Then no
-  -- number that the code computes exceeds `usize::MAX`.
+  -- These lemmas assume that the header and `items` items take at most `2 ^ 63` bytes. In this
+  -- case, no number that the code computes exceeds `usize::MAX`.
   module _ (small : 16 + items * size ≤ 2 ^ 63) where
     size_is : s ≡ size
     size_is =

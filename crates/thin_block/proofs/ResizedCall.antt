@@ -1,6 +1,6 @@
--- These lemmas prove a call of the function `resized` within the proof of its caller. The function
--- grows or shrinks a block. The lemmas say what the call requires, and what the caller owns after
--- the call. They assume the laws of the separation logic (`Logic`).
+-- These lemmas verify a call of the function `resized`, which grows or shrinks a block. They say
+-- what the call requires, and what the caller owns after the call. The lemmas assume the laws of
+-- the separation logic (`Logic`).
 use Rattle.std.proofs.Common.{ℕ, ◌≤◌, List, [], ◌∷◌, refl, w64, ◌^◌, ◌<◌}
 use seplogic.Ra.Ura.{Ura}
 use mir.Val.{Val, vint, vptr}
@@ -22,8 +22,8 @@ use Rattle.core.proofs.alloc.Resizes.{Sizes, Flagged, by_flag}
 use Rattle.core.proofs.mem.Param.{El, R, el_x}
 use Rattle.thin_block.specs.contracts.in_place.resized as F
 
--- The condition that both `grow` and `shrink` of an allocator require. The items fit into the old
--- memory and into the new memory, and neither memory is too large to be allocated.
+-- The condition that the allocator's methods `grow` and `shrink` require: the items fit into the
+-- old memory and into the new memory, and neither memory is too large to be allocated.
 abbrev pub Sized : El → Sizes
 Sized E len held wanted = (len ≤ held) × ((len ≤ wanted)
     × (FitsBlock (R E) held × FitsBlock (R E) wanted))

@@ -1,9 +1,6 @@
--- A block may be sent to another thread if its items, its allocator and the right to free its
--- memory may be sent. A block may be shared between threads if its items and its allocator may be
--- shared. The lemmas prove this: neither what a block owns (`Keyless`) nor what a `&` to a block
--- gives access to (`Common`) depends on the thread.
---     block_send    says when a block may be sent
---     block_sync    says when a block may be shared
+-- These lemmas say when a block may be sent to another thread (`block_send`), and when a block may
+-- be shared between threads (`block_sync`). They show that neither what a block owns (`Keyless`)
+-- nor what a `&` to a block gives access to (`Common`) depends on the thread.
 use Rattle.std.specs.Prelude.{ℕ, zero, suc, ◌+◌, List, [], ◌∷◌, length, Option}
 use Rattle.std.specs.declared.option.Option.TheVariants.{Some, None}
 use Rattle.std.specs.Int.{div_ceil}
@@ -31,7 +28,7 @@ number_sync : IsSync usize
 number_sync = search sendable
 
 -- The right to convert memory for items into memory for words does not depend on the thread. A word
--- is a struct of several items.
+-- is a struct of 8 or 16 bytes that consists of whole items.
 ways_Keyless : (τ : Ty) (m w b o : ℕ) → Keyless (ways τ m w b o)
 ways_Keyless τ m zero b o = tt
 ways_Keyless τ m (suc w) b o = ((tt, tt), ways_Keyless τ m w b (o + size (word_of τ m)))
@@ -72,8 +69,8 @@ module _ (R : RattleType) where
       (place_Common y x (block_ptr b o) κ, places_Common y xs b (o + type_size R) κ)
 
   module _ (Z : RattleType) (g : Ghosts Z.Denot) where
-    -- If items may be sent and the right to free memory does not depend on the thread, then what a
-    -- block owns does not depend on the thread.
+    -- If items may be sent to another thread and the right to free memory does not depend on the
+    -- thread, then what a block owns does not depend on the thread either.
     block_Keyless : IsSend R → Frees g g.dealloc_token → (p : Ptr) (n : ℕ)
         (xs : List (Option R.Denot)) (a : Option Z.Denot)
         → Keyless (block_owns g.dealloc_token R p n xs a)

@@ -1,8 +1,7 @@
 -- A `&` to a block gives access to the block's pointer, to the capacity and the length in the
--- header, and to each item. These lemmas split such a `&` into its parts. They assume the laws of
--- the separation logic (`Logic`).
---     block_seen    splits a `&` to a block into its parts
---     run_seen      converts a `&` to items in adjacent slots into a `&` to a slice
+-- header, and to each item. `block_seen` splits such a `&` into its parts, and `run_seen` converts
+-- a `&` to items in adjacent slots into a `&` to a slice. The lemmas assume the laws of the
+-- separation logic (`Logic`).
 use Rattle.std.proofs.Common.{◌≡◌, ℕ, zero, suc, Some, None, ◌+◌, ◌*◌, ◌≤◌, List, [], ◌∷◌, ◌++◌, length, Bool, true, refl, sym, ap, subst, ◌∙◌, arith}
 use native.Mathlib.Nat.{zero-mul, suc-mul}
 use lib.ListN.{drop, take-append-drop}
@@ -60,7 +59,7 @@ module _ (R : RattleType) {D : Type 0} {M : Type 1} {𝓤 : Ura M} (𝓛 : Logic
   words_lent n (x ∷ xs) None b o is le = absurd (clash is)
 
 module _ (E : El) (Y : Al) {M : Type 1} {𝓤 : Ura M} (𝓛 : Logic 𝓤) (κ : Lft) where
-  -- The struct of the fields of a block that exist at run time.
+  -- The struct type with the fields of a block that exist at run time.
   abbrev Words : RattleType
   Words = Struct (shape (block.the_type (R E) (param 1 Y.row) Y.g))
 
@@ -126,8 +125,8 @@ module _ (E : El) {M : Type 1} {𝓤 : Ura M} (𝓛 : Logic 𝓤) (b : ℕ) (κ 
   up_to (y ∷ ys) rest o = qed 𝓛 (‵ (Seen o (Some y ∷ (full ys ++ rest))) ∷ []) ∵ fsplit ! $
       fsplit ! $ keep ! (1 ∷ 2 ∷ []) $ frame ! $ by ! (up_to ys rest (o + s))
 
-  -- If the slots `i..i + k` hold the items `ys`, then a `&` to all slots gives access to a slice of
-  -- the items `ys`.
+  -- If the slots `i..i + k` hold the items `ys`, then a `&` to all slots gives access to the items
+  -- `ys` as the elements of a slice.
   pub run_seen : (xs : List (Slot E)) (i k o : ℕ) (ys : List (el_x E)) → i ≤ length xs
       → run i k xs ≡ full ys → ent 𝓤 (sem 𝓛 (Seen o xs))
       (sem 𝓛 (elements_shared (R E) ys b (i * s + o) κ))

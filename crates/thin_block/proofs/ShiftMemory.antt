@@ -1,10 +1,9 @@
--- A run is the items in adjacent slots. These lemmas split the old slots and the new slots of a run
--- off the other slots of a block, and join all slots again after the run has moved. The lemmas
--- assume the laws of the separation logic (`Logic`).
---     Moves     the memory that a copy needs can be split off, and the memory that the copy leaves
---               behind can be joined with the other slots
---     apart     proves `Moves` if the old and the new slots of the run do not overlap
---     slides    proves `Moves` if the run moves through empty slots
+-- A run consists of the items in adjacent slots. These lemmas separate the old and the new slots of
+-- a run from the other slots of a block, and put all slots back together after the run has been
+-- moved. The lemmas assume the laws of the separation logic (`Logic`).
+--     `Moves` says that the slots can be separated before the move, and put back together later.
+--     `apart` proves `Moves` if the old and the new slots of the run do not overlap.
+--     `slides` proves `Moves` if the run is moved through empty slots.
 use Rattle.std.proofs.Common.{◌≡◌, ◌⊎◌, Bool, true, false, ℕ, Some, None, ◌+◌, ◌-◌, ◌*◌, ◌<◌, ◌≤◌, List, [], ◌∷◌, ◌++◌, length, refl, sym, ap, ◌∙◌, arith, append_assoc}
 use Rattle.std.proofs.lemmas.List.{length-map, length-replicate, length-append, length-take}
 use mathlib.Core.Logic.{inl, inr, ⊎_elim}
@@ -63,9 +62,8 @@ module _ (E : El) {M : Type 1} {𝓤 : Ura M} (𝓛 : Logic 𝓤) (b o : ℕ) (s
   abbrev Room : ℕ → ℕ → Fml
   Room n at = froom (ty_array (elτ E) n) b at
 
-  -- `Moves Was Is` says that the memory `Was` can be split off the memory of all slots. After the
-  -- move, the memory `Is` can be joined with the other slots, and the result is the memory of all
-  -- slots again.
+  -- `Moves Was Is` says that the memory `Was` can be separated from the other slots before the
+  -- move, and that the memory `Is` and the other slots can be put together after the move.
   pub record Moves (Was Is : Fml) : Type 1 where
     pub Rest : Fml
     pub out : ent 𝓤 (sem 𝓛 (Row o slots)) (sep 𝓤 (sem 𝓛 Was) (sem 𝓛 Rest))
@@ -77,8 +75,9 @@ module _ (E : El) {M : Type 1} {𝓤 : Ura M} (𝓛 : Logic 𝓤) (b o : ℕ) (s
   empty-long : (n : ℕ) → length (empty {T = el_x E} n) ≡ n
   empty-long n = length-replicate n None
 
-  -- If the `d` slots before a run are empty, the run and these slots can be split off the other
-  -- slots. After the run has moved down by `d` slots, all slots can be joined again.
+  -- If the `d` slots directly before a run are empty, then the run and these slots can be separated
+  -- from the other slots. After the run has been moved down by `d` slots, all slots can be put back
+  -- together.
   pub slides_down : (d : ℕ) → from ≡ to + d → from + k ≤ length slots → run to d slots ≡ empty d
       → Moves (memory_before_copy (R E) false d k (block_ptr b src) (block_ptr b dst) xs)
       (memory_after_copy (R E) false d k (block_ptr b src) (block_ptr b dst) xs)
@@ -128,8 +127,9 @@ module _ (E : El) {M : Type 1} {𝓤 : Ura M} (𝓛 : Logic 𝓤) (b o : ℕ) (s
             rewrite ! 0 (λ (l : S). ‵ (Row o l)) result refl $ done !;
       }
 
-  -- If the `d` slots after a run are empty, the run and these slots can be split off the other
-  -- slots. After the run has moved up by `d` slots, all slots can be joined again.
+  -- If the `d` slots directly after a run are empty, then the run and these slots can be separated
+  -- from the other slots. After the run has been moved up by `d` slots, all slots can be put back
+  -- together.
   pub slides_up : (d : ℕ) → to ≡ from + d → to + k ≤ length slots → run (from + k) d slots ≡ empty d
       → Moves (memory_before_copy (R E) true d k (block_ptr b src) (block_ptr b dst) xs)
       (memory_after_copy (R E) true d k (block_ptr b src) (block_ptr b dst) xs)
@@ -177,8 +177,8 @@ module _ (E : El) {M : Type 1} {𝓤 : Ura M} (𝓛 : Logic 𝓤) (b o : ℕ) (s
             rewrite ! 0 (λ (l : S). ‵ (Row o l)) result refl $ done !;
       }
 
-  -- Splits the memory of the slots `ys ++ (mid ++ zs)` into the memory of `ys`, `zs` and `mid`. The
-  -- list `ys` consists of `k` slots.
+  -- Splits the memory of the slots `ys ++ (mid ++ zs)` into the memory of `ys`, the memory of `zs`
+  -- and the memory of `mid`. The list `ys` consists of `k` slots.
   cut3 : (ys mid zs : S) (lo hi : ℕ) → length ys ≡ k → hi ≡ length mid * s + (k * s + lo)
       → ent 𝓤 (sem 𝓛 (Row lo (ys ++ (mid ++ zs))))
       (sep 𝓤 (sem 𝓛 (Row lo ys)) (sep 𝓤 (sem 𝓛 (Row hi zs)) (sem 𝓛 (Row (k * s + lo) mid))))
@@ -216,8 +216,9 @@ module _ (E : El) {M : Type 1} {𝓤 : Ura M} (𝓛 : Logic 𝓤) (b o : ℕ) (s
       let same : length mid * s ≡ m * s = ap (λ (n : ℕ). n * s) count in
       omega arith
 
-  -- If `k` slots above a run of `k` items are empty, the run and these slots can be split off the
-  -- other slots. After the run has moved up to these slots, all slots can be joined again.
+  -- If `k` slots above a run of `k` items are empty, then the run and these slots can be separated
+  -- from the other slots. After the run has been moved up into these slots, all slots can be put
+  -- back together.
   goes_over : (m : ℕ) → to ≡ from + k + m → to + k ≤ length slots
       → run to k slots ≡ empty k → Moves Was Is
   goes_over m apart within gap =
@@ -275,8 +276,9 @@ module _ (E : El) {M : Type 1} {𝓤 : Ura M} (𝓛 : Logic 𝓤) (b o : ℕ) (s
             rewrite ! 0 (λ (l : S). ‵ (Row o l)) result refl $ done !;
       }
 
-  -- If `k` slots below a run of `k` items are empty, the run and these slots can be split off the
-  -- other slots. After the run has moved down to these slots, all slots can be joined again.
+  -- If `k` slots below a run of `k` items are empty, then the run and these slots can be separated
+  -- from the other slots. After the run has been moved down into these slots, all slots can be put
+  -- back together.
   goes_back : (m : ℕ) → from ≡ to + k + m → from + k ≤ length slots
       → run to k slots ≡ empty k → Moves Was Is
   goes_back m apart within gap =
@@ -334,13 +336,13 @@ module _ (E : El) {M : Type 1} {𝓤 : Ura M} (𝓛 : Logic 𝓤) (b o : ℕ) (s
             rewrite ! 0 (λ (l : S). ‵ (Row o l)) result refl $ done !;
       }
 
-  -- The precondition `empty` of `move_run`: each slot to which an item moves is empty, or it is one
-  -- of the slots from which the items move.
+  -- The precondition `empty` of `move_run`: each slot to which an item is moved is empty, or is one
+  -- of the slots from which the items are moved.
   abbrev pub Bare : Type 0
   Bare = (i : ℕ) → to ≤ i → i < to + k → (i < from) ⊎ (from + k ≤ i) → slot slots i ≡ None
 
-  -- If the old and the new slots of a run do not overlap, these slots can be split off the other
-  -- slots. After the run has moved, all slots can be joined again.
+  -- If the old and the new slots of a run do not overlap, then they can be separated from the other
+  -- slots. After the run has been moved, all slots can be put back together.
   pub apart : from + k ≤ length slots → to + k ≤ length slots → Bare → (from + k ≤ to)
       ⊎ (to + k ≤ from) → Moves Was Is
   apart source target bare far =
@@ -351,7 +353,7 @@ module _ (E : El) {M : Type 1} {𝓤 : Ura M} (𝓛 : Logic 𝓤) (b o : ℕ) (s
       (empty-run slots to k target
       (λ i h j. bare i h j (inl (let q : i < from = omega arith in q))))) far
 
-  -- The distance by which the run moves, in slots.
+  -- The distance by which the run is moved, in slots.
   abbrev pub distance : Bool → ℕ
   distance true = to - from
   distance false = from - to
@@ -360,16 +362,19 @@ module _ (E : El) {M : Type 1} {𝓤 : Ura M} (𝓛 : Logic 𝓤) (b o : ℕ) (s
   Way up = Moves (memory_before_copy (R E) up (distance up) k (block_ptr b src) (block_ptr b dst)
       xs) (memory_after_copy (R E) up (distance up) k (block_ptr b src) (block_ptr b dst) xs)
 
-  -- If the run moves up, then the slots between its old end and its new end are empty.
+  -- `GapAbove up` states: if the run is moved up, then the slots between its old end and its new
+  -- end are empty.
   abbrev pub GapAbove : Bool → Type 0
   GapAbove up = up ≡ true → (from ≤ to) × AreEmpty slots (from + k) (to - from)
 
-  -- If the run moves down, then the slots between its new start and its old start are empty.
+  -- `GapBelow up` states: if the run is moved down, then the slots between its new start and its
+  -- old start are empty.
   abbrev pub GapBelow : Bool → Type 0
   GapBelow up = up ≡ false → (to ≤ from) × AreEmpty slots to (from - to)
 
-  -- If the slots through which a run moves are empty, the run and these slots can be split off the
-  -- other slots. After the run has moved, all slots can be joined again.
+  -- If the slots through which a run is moved are empty, then the run and these slots can be
+  -- separated from the other slots. After the run has been moved, all slots can be put back
+  -- together.
   pub slides : from + k ≤ length slots → to + k ≤ length slots → (up : Bool) → GapAbove up
       → GapBelow up → Way up
   slides source target true above below =

@@ -25,8 +25,8 @@ use Rattle.thin_block.specs.Growth.{fitting, doubling}
 
 -- Section: rounding up
 
--- `Rounded a x` collects bounds on the size of a block whose items take `x` bytes in total. The
--- alignment of an item is `a`.
+-- `Rounded a x` collects bounds on the size of a block with items that take `x` bytes in total.
+-- Each item has the alignment `a`.
 pub record Rounded (a x : ℕ) : Type 0 where
   pub least : 8 ≤ block_align a
   pub most : block_align a ≤ 16
@@ -91,10 +91,10 @@ rounded_at a x is = subst (λ (k : ℕ). Rounded k x) (sym is.1) (rounded_to is.
 pub rounded : (R : RattleType) (x : ℕ) → Rounded (type_align R) x
 rounded R x = rounded_at (type_align R) x (align_known R)
 
--- Section: sizes that exceed `usize::MAX`. The code uses `usize::MAX` in place of such a size.
+-- Section: sizes that exceed `usize::MAX`. The code replaces each such size with `usize::MAX`.
 
--- If `c * capped s < 2 ^ 63`, then `c * s` and `c * capped s` are equal. `capped s` is the lesser
--- of `s` and `usize::MAX`.
+-- If `c * capped s < 2 ^ 63`, then `c * s` is `c * capped s`. Here `capped s` is the lesser of `s`
+-- and `usize::MAX`.
 pub whole_product : (c s : ℕ) → c * capped s < 2 ^ 63 → c * s ≡ c * capped s
 whole_product zero s h = zero-mul s ∙ sym (zero-mul (capped s))
 whole_product (suc c) s h =
@@ -102,8 +102,8 @@ whole_product (suc c) s h =
     let low : s < 2 ^ 63 = capped_small s (omega arith) in
     ap (λ (k : ℕ). suc c * k) (sym (capped_is s (omega arith)))
 
--- If `c * s < 2 ^ 63`, then `c * capped s` and `c * s` are equal. `capped s` is the lesser of `s`
--- and `usize::MAX`.
+-- If `c * s < 2 ^ 63`, then `c * capped s` is `c * s`. Here `capped s` is the lesser of `s` and
+-- `usize::MAX`.
 pub capped_product : (c s : ℕ) → c * s < 2 ^ 63 → c * capped s ≡ c * s
 capped_product zero s h = zero-mul (capped s) ∙ sym (zero-mul s)
 capped_product (suc c) s h = let more = suc-mul c s in
@@ -134,12 +134,12 @@ lt_of_not a b never = omega arith
 -- Section: blocks that are small enough to be allocated.
 
 -- `Small s a c` holds if the header, `c` items of `s` bytes, and `block_align a` bytes for padding
--- together take at most `2 ^ 63` bytes.
+-- take at most `2 ^ 63` bytes in total.
 abbrev pub Small : ℕ → ℕ → ℕ → Type 0
 Small s a c = c * s + 16 + block_align a ≤ 2 ^ 63
 
--- `Told s a c` collects what is known if a block for `c` items is small enough to be allocated. An
--- item has the size `s` and the alignment `a`.
+-- `Told s a c` collects the facts that hold if a block for `c` items is small enough to be
+-- allocated. Each item has the size `s` and the alignment `a`.
 pub record Told (s a c : ℕ) : Type 0 where
   pub few : c < 2 ^ 63
   pub room : Small s a c
@@ -178,7 +178,7 @@ module _ (R : RattleType) (c : ℕ) where
   pub fits_tells : IsSmall → Told (type_size R) (type_align R) c
   fits_tells e = small_tells (type_size R) (type_align R) c (align_known R) e
 
-  -- If `Fits` holds for a capacity, then `is_small` is true for this capacity.
+  -- If `Fits R c` holds, then `is_small` is true for `c` items of type `R`.
   pub opened : Fits R c → IsSmall
   unfolding fits
   opened e = e
@@ -214,7 +214,7 @@ module _ (R : RattleType) (c : ℕ) where
       let same' : c * size ≡ c * type_size R = ap (λ (k : ℕ). c * k) is ∙ same in
       le-div c (2 ^ 63 - block_align (type_align R) - 16) size some (omega arith)
 
--- For the capacity 0, `is_small` is true.
+-- `is_small` is true for the capacity 0.
 pub fits_none : (R : RattleType) → is_small (type_size R) (type_align R) 0 ≡ true
 fits_none R =
     let about = rounded R 0 in
@@ -272,8 +272,9 @@ pub fitting_past : (s a n : ℕ) → 2 ^ 63 ≤ n → fitting s a n ≡ None
 unfolding fitting
 fitting_past s a n many = λ i. if fits_no s a n many i then Some n else None
 
--- The code of doubling chooses the same capacity as the rule `doubling`. The code uses `usize::MAX`
--- in place of any number that exceeds `usize::MAX`, but this does not change the choice.
+-- The code that doubles the capacity chooses the same capacity as the rule `doubling`. The code
+-- replaces each number that exceeds `usize::MAX` with `usize::MAX`, but this does not change the
+-- choice.
 pub doubling_is : (s a c w d : ℕ) → c < w → (c ≡ 0 → d ≡ first s)
     → ((c ≡ 0 → ⊥) → d ≡ min (c * 2) (2 ^ 64 - 1)) → fitting s a (max w d) ≡ doubling s a c w
 unfolding doubling

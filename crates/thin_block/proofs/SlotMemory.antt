@@ -1,16 +1,14 @@
--- These lemmas split the memory of some slots of a block off the memory of the other slots, and
--- join all slots again. They also convert the memory of slots into other kinds of memory. The
--- lemmas assume the laws of the separation logic (`Logic`).
---     slot_out, slot_in    split off one slot, and join it with the other slots again
---     run_out, run_in      split off the slots `i..i + k`, and join them with the other slots again
---     two_slots            splits off two different slots, and joins them with the others again
---     to_items, of_items   convert slots that hold the items `xs` into an array of `xs`, and back
---     to_cells, of_cells   convert slots that hold the items `xs` into the elements of a slice, and
---                          back
---     to_room, of_room     convert empty slots into uninitialized memory for an array, and back
---     to_raw, of_raw       convert empty slots into uninitialized memory for the bare type of an
---                          array, and back (a bare type is a type without the names of its fields)
---     reach                bounds the distance in bytes from the first slot to any slot
+-- These lemmas separate the memory of some slots of a block from the memory of the other slots, and
+-- put all slots back together. They also convert the memory of slots into other kinds of memory.
+-- The lemmas assume the laws of the separation logic (`Logic`).
+--     `slot_out` separates one slot from the other slots, and `slot_in` puts it back.
+--     `run_out` separates the slots `i..i + k` from the other slots, and `run_in` puts them back.
+--     `two_slots` separates two different slots from the other slots, and puts them back.
+--     `to_items` converts slots that hold items into an array, and `of_items` is the inverse.
+--     `to_cells` converts slots that hold items into slice elements, and `of_cells` is the inverse.
+--     `to_room` converts empty slots into uninitialized memory for an array, and `of_room` is the
+--     inverse. `to_raw` and `of_raw` do the same for an array type with all field names erased.
+--     `reach` bounds the distance in bytes from the first slot to any slot.
 use Rattle.std.proofs.Common.{◌≡◌, true, ℕ, zero, suc, None, ◌+◌, ◌*◌, ◌^◌, ◌<◌, ◌≤◌, List, [], ◌∷◌, ◌++◌, length, refl, sym, ap, ◌∙◌, arith}
 use native.Mathlib.Nat.{zero-mul, suc-mul}
 use lib.ListN.{take, drop, set, get_or, take-append-drop, length-take, length-drop, length-set}
@@ -78,8 +76,8 @@ module _ (E : El) {M : Type 1} {𝓤 : Ura M} (𝓛 : Logic 𝓤) (b : ℕ) wher
       (cut xs ys (o + s) at (omega (arith, suc-mul (length xs) s))) $ split ! $
       move ! (2 ∷ 0 ∷ []) $ fjoin ! $ done !
 
-  -- Joins the memory of the slots `xs` and the memory of the slots `ys` after them into the memory
-  -- of `xs ++ ys`.
+  -- Joins the memory of the slots `xs` and the memory of the slots `ys` directly after `xs` into
+  -- the memory of `xs ++ ys`.
   pub glue : (xs ys : List (Slot E)) (o at : ℕ) → at ≡ length xs * s + o
       → ent 𝓤 (sep 𝓤 (sem 𝓛 (Row o xs)) (sem 𝓛 (Row at ys))) (sem 𝓛 (Row o (xs ++ ys)))
   glue [] ys o at e = qed 𝓛 (‵ ftrue ∷ ‵ (Row at ys) ∷ []) ∵ skip ! $
@@ -172,7 +170,7 @@ module _ (E : El) {M : Type 1} {𝓤 : Ura M} (𝓛 : Logic 𝓤) (b : ℕ) wher
   of_row [] o = id⊢ 𝓤 (emp 𝓤)
   of_row (x ∷ xs) o = mono_r 𝓤 (sem 𝓛 (part_at (R E) full_share x b o)) (of_row xs (o + s))
 
-  -- Slots that hold the items `xs` can be converted into an array of `xs`.
+  -- Slots that hold the items `xs` can be converted into an array of the items `xs`.
   pub to_items : (k : ℕ) (xs : List (el_x E)) (o : ℕ) → length xs ≡ k
       → ent 𝓤 (sem 𝓛 (Row o (full xs))) (sem 𝓛 (part_at (Array (R E) k) full_share xs b o))
   to_items k xs o long = qed 𝓛 (‵ (Row o (full xs)) ∷ []) ∵ use1 𝓛 (‵ (row (R E) full_share xs b o))
@@ -194,13 +192,13 @@ module _ (E : El) {M : Type 1} {𝓤 : Ura M} (𝓛 : Logic 𝓤) (b : ℕ) wher
       (arrays.apart E' 𝓛 full_share k xs b o) $
       learn ! (λ long. check ! long $ by ! (arrays.whole E' 𝓛 full_share k xs b o long))
 
-  -- Slots that hold the items `xs` can be converted into the elements of a slice of `xs`.
+  -- Slots that hold the items `xs` can be converted into the elements `xs` of a slice.
   pub to_cells : (xs : List (el_x E)) (o : ℕ) → ent 𝓤 (sem 𝓛 (Row o (full xs)))
       (sem 𝓛 (cells (mem (R E)) xs b o))
   to_cells [] o = id⊢ 𝓤 (emp 𝓤)
   to_cells (x ∷ xs) o = mono_r 𝓤 (sem 𝓛 (part_at (R E) full_share x b o)) (to_cells xs (o + s))
 
-  -- The elements of a slice of `xs` can be converted into slots that hold the items `xs`.
+  -- The elements `xs` of a slice can be converted into slots that hold the items `xs`.
   pub of_cells : (xs : List (el_x E)) (o : ℕ) → ent 𝓤 (sem 𝓛 (cells (mem (R E)) xs b o))
       (sem 𝓛 (Row o (full xs)))
   of_cells [] o = id⊢ 𝓤 (emp 𝓤)
@@ -224,20 +222,20 @@ module _ (E : El) {M : Type 1} {𝓤 : Ura M} (𝓛 : Logic 𝓤) (b : ℕ) wher
       use1 𝓛 (‵ (froom (ty_array (elτ E) k) b (o + s))) (to_room k (o + s)) $ move ! (1 ∷ []) $
       by ! (𝓛.laws.room_cons (elτ E) k b o)
 
-  -- Uninitialized memory for an array of `k` items can be converted into `k` empty slots. This
-  -- lemma is for the bare type of the array, which is the type without the names of its fields.
+  -- Uninitialized memory for an array of `k` items can be converted into `k` empty slots. The lemma
+  -- is about the bare type of the array: the type with all field names erased.
   pub of_raw : (k o : ℕ) → ent 𝓤 (H.room (bare (ty_array (elτ E) k)) b o) (sem 𝓛 (Row o (empty k)))
   of_raw k o = via 𝓤 (H.room (ty_array (elτ E) k) b o)
       (𝓛.laws.raw-room (ty_array (elτ E) k) b o) (of_room k o)
 
   -- The memory of `k` empty slots can be converted into uninitialized memory for an array of `k`
-  -- items. This lemma is for the bare type of the array, which is the type without the names of its
-  -- fields.
+  -- items. The lemma is about the bare type of the array: the type with all field names erased.
   pub to_raw : (k o : ℕ) → ent 𝓤 (sem 𝓛 (Row o (empty k))) (H.room (bare (ty_array (elτ E) k)) b o)
   to_raw k o = via 𝓤 (H.room (ty_array (elτ E) k) b o) (to_room k o)
       (𝓛.laws.room-raw (ty_array (elτ E) k) b o)
 
-  -- `Others o xs i j` is the memory of all slots `xs` except the slots `i` and `j`, if `i < j`.
+  -- If `i < j`, then `Others o xs i j` is the memory of all slots `xs` except the slots `i` and
+  -- `j`.
   abbrev Others : ℕ → List (Slot E) → ℕ → ℕ → Fml
   Others o xs i j = fsep (besides o (take j xs) i) (Row (j * s + o + s) (drop (suc j) xs))
 
@@ -276,8 +274,8 @@ module _ (E : El) {M : Type 1} {𝓤 : Ura M} (𝓛 : Logic 𝓤) (b : ℕ) wher
       (sym (drop-set-lt (suc j) xs i x (omega arith))) refl $ fjoin ! $ move ! (1 ∷ 0 ∷ []) $
       by ! (slot_in o (set xs i x) j low' y)
 
-  -- `Two o xs i j` says that the slots `i` and `j` can be split off the memory of the slots `xs`.
-  -- They can later be joined with the other slots again, whatever they then contain.
+  -- `Two o xs i j` says that the slots `i` and `j` can be separated from the other slots in the
+  -- list `xs`. All slots can later be put back together, whatever the two slots then contain.
   pub record Two (o : ℕ) (xs : List (Slot E)) (i j : ℕ) : Type 1 where
     pub Rest : Fml
     pub out : ent 𝓤 (sem 𝓛 (Row o xs))
@@ -312,8 +310,9 @@ module _ (E : El) {M : Type 1} {𝓤 : Ura M} (𝓛 : Logic 𝓤) (b : ℕ) wher
             done !;
       }
 
-  -- If `i` and `j` are different, the slots `i` and `j` can be split off the memory of the slots
-  -- `xs`. They can later be joined with the other slots again, whatever they then contain.
+  -- If `i` and `j` are different, then the slots `i` and `j` can be separated from the other slots
+  -- in the list `xs`. All slots can later be put back together, whatever the two slots then
+  -- contain.
   pub two_slots : (o : ℕ) (xs : List (Slot E)) (i j : ℕ) → (i ≡ j → ⊥) → i < length xs
       → j < length xs → Two o xs i j
   two_slots o xs i j apart low low' = ⊎_elim (λ (p : i < j). in_order o xs i j p low')

@@ -84,7 +84,7 @@ module _ {T : Type 0} where
       )
 
   -- If the slots `i..i + length ws` are filled, then `over s i ws` is `laid i (full ws) s`. Both
-  -- replace the items in these slots by the items `ws`.
+  -- replace the items in these slots with the items `ws`.
   pub over-laid : (s : List (Option T)) (i : ℕ) (ws : List T) → i + length ws ≤ length s
       → ((j : ℕ) → i ≤ j → j < i + length ws → IsSome (slot s j)) → over s i ws ≡ laid i (full ws) s
   over-laid [] zero [] le held = refl
@@ -112,8 +112,8 @@ module _ {T : Type 0} where
   laid-none i s = ap (λ (k : ℕ). take i s ++ drop k s) (let e : i + 0 ≡ i = omega arith in
       e) ∙ take-append-drop i s
 
-  -- Replacing slots by `ys` and then setting the next slot to `y` is the same as replacing slots by
-  -- `ys` followed by `y`.
+  -- Replacing slots with `ys` and then setting the slot directly after `ys` to `y` is the same as
+  -- replacing slots with `ys ++ y ∷ []`.
   pub laid-one : (i : ℕ) (ys s : List (Option T)) (k : ℕ) (y : Option T) → k ≡ i + length ys
       → k < length s → set (laid i ys s) k y ≡ laid i (ys ++ y ∷ []) s
   laid-one i ys s k y e within =
@@ -131,7 +131,7 @@ module _ {T : Type 0} where
       (sym (append_assoc ys (y ∷ []) (drop (suc k) s)))
       ∙ ap (λ (n : ℕ). take i s ++ ((ys ++ y ∷ []) ++ drop n s)) long))))
 
-  -- If slots from index `i` onward are replaced by `ys`, then the slots after `ys` do not change.
+  -- If the slots `i..i + length ys` are replaced with `ys`, then no later slot changes.
   pub slot-laid : (i : ℕ) (ys s : List (Option T)) (k : ℕ) → i ≤ length s → i + length ys ≤ k
       → slot (laid i ys s) k ≡ slot s k
   slot-laid i ys s k low past =
@@ -143,21 +143,21 @@ module _ {T : Type 0} where
       (let e : i + length ys + (k - i - length ys) ≡ k = omega arith in e)))
 
   -- A list of slots is the concatenation of the slots before index `i`, the slots `i..i + k`, and
-  -- the slots after these.
+  -- all later slots.
   pub parted-run : (s : List (Option T)) (i k : ℕ) → s ≡ take i s ++ (run i k s ++ drop (i + k) s)
   parted-run s i k =
       sym (take-append-drop i s)
       ∙ ap (λ (l : List (Option T)). take i s ++ l) (sym (take-append-drop k (drop i s))
       ∙ ap (λ (l : List (Option T)). run i k s ++ l) (drop-drop k i s))
 
-  -- The `a + k` slots from index `i` onward are the first `a` of these slots, followed by the other
-  -- `k` slots.
+  -- `run i (a + k) s` is `run i a s ++ run (i + a) k s`. Here `run i k s` consists of the `k` slots
+  -- from index `i` onward.
   pub run-split : (s : List (Option T)) (i a k : ℕ) → run i (a + k) s ≡ run i a s ++ run (i + a) k s
   run-split s i a k = take-add a k (drop i s)
       ∙ ap (λ (l : List (Option T)). run i a s ++ take k l) (drop-drop a i s)
 
-  -- If `i ≡ length pre` and `length ys ≡ length old`, then `laid i ys` replaces `old` by `ys` in
-  -- `pre ++ (old ++ post)`.
+  -- If `i ≡ length pre` and `length ys ≡ length old`, then `laid i ys` replaces `old` with `ys` in
+  -- the list `pre ++ (old ++ post)`.
   pub laid-at : (i : ℕ) (pre ys old post : List (Option T)) → i ≡ length pre
       → length ys ≡ length old → laid i ys (pre ++ (old ++ post)) ≡ pre ++ (ys ++ post)
   laid-at i pre ys old post e n =
@@ -193,7 +193,8 @@ module _ {T : Type 0} where
       length-laid to (run from k s) (emptied from k s)
       (omega (arith, left, length-run s from k source)) ∙ left
 
-  -- The order of `a` empty slots and `k` adjacent empty slots does not matter.
+  -- `a` empty slots followed by `k` empty slots are the same as `k` empty slots followed by `a`
+  -- empty slots.
   empty-turn : (a k : ℕ) (post : List (Option T))
       → empty a ++ (empty k ++ post) ≡ empty k ++ (empty a ++ post)
   empty-turn a k post =
@@ -204,8 +205,8 @@ module _ {T : Type 0} where
       ∙ append_assoc (empty k) (empty a) post)
 
   module _ (from to k d : ℕ) where
-    -- If `d` empty slots precede the slots `ys`, then moving `ys` down by `d` slots exchanges `ys`
-    -- and the empty slots.
+    -- If `d` empty slots directly precede the slots `ys`, then moving `ys` down by `d` slots
+    -- exchanges `ys` and the empty slots.
     pub moved_left : (pre ys post : List (Option T)) → to ≡ length pre → from ≡ to + d
         → k ≡ length ys
         → moved from to k (pre ++ (empty d ++ (ys ++ post))) ≡ pre ++ (ys ++ (empty d ++ post))
@@ -230,8 +231,8 @@ module _ {T : Type 0} where
         (laid-at to pre ys (empty k) (empty d ++ post) t (sym m))
 
   module _ (from to k d : ℕ) where
-    -- If `d` empty slots follow the slots `ys`, then moving `ys` up by `d` slots exchanges `ys` and
-    -- the empty slots.
+    -- If `d` empty slots directly follow the slots `ys`, then moving `ys` up by `d` slots exchanges
+    -- `ys` and the empty slots.
     pub moved_right : (pre ys post : List (Option T)) → from ≡ length pre → to ≡ from + d
         → k ≡ length ys
         → moved from to k (pre ++ (ys ++ (empty d ++ post))) ≡ pre ++ (empty d ++ (ys ++ post))
@@ -255,7 +256,7 @@ module _ {T : Type 0} where
         ∙ append_assoc pre (empty d) (ys ++ post))
 
   module _ (from to k : ℕ) where
-    -- Moving the `k` slots `ys` up past the slots `mid` to `k` empty slots exchanges `ys` and the
+    -- Moving the `k` slots `ys` up past the slots `mid` into `k` empty slots exchanges `ys` and the
     -- empty slots. The slots `mid` do not change.
     pub moved_over : (pre ys mid post : List (Option T)) → from ≡ length pre
         → to ≡ from + k + length mid → k ≡ length ys
@@ -278,8 +279,8 @@ module _ {T : Type 0} where
         (laid-at to front ys (empty k) post l (sym m) ∙ joined (ys ++ post))
 
   module _ (from to k : ℕ) where
-    -- Moving the `k` slots `ys` down past the slots `mid` to `k` empty slots exchanges `ys` and the
-    -- empty slots. The slots `mid` do not change.
+    -- Moving the `k` slots `ys` down past the slots `mid` into `k` empty slots exchanges `ys` and
+    -- the empty slots. The slots `mid` do not change.
     pub moved_back : (pre ys mid post : List (Option T)) → to ≡ length pre
         → from ≡ to + k + length mid → k ≡ length ys
         → moved from to k (pre ++ (empty k ++ (mid ++ (ys ++ post))))

@@ -1,15 +1,13 @@
--- These lemmas convert a block into one array of words, and the array back into a block. An
--- allocator can grow or shrink such an array. A word is a struct of several items. Until the
--- allocator returns, the last words are in the place of the header. The lemmas assume the laws of
--- the separation logic (`Logic`).
---     asked_size, asked_align     the size and the alignment with which a block is allocated
---     carve_asked, gather         split the memory of a block into its parts, and join these again
---     turn_out, turn_back         split the last `k` words off the other words, and join them again
---     turn_up, turn_down          form the array that an allocator can grow, and split it again
---     units_out                   converts memory for the `k` words in the place of the header into
---                                 memory for the capacity and the length
---     header_apart, header_whole  split the header into memory for words and the rights that belong
---                                 to a block, and join them again
+-- These lemmas convert a block into one array of words, which an allocator can grow or shrink, and
+-- convert this array back into a block. A word is a struct of 8 or 16 bytes that consists of whole
+-- items. The lemmas assume the laws of the separation logic (`Logic`).
+--     `asked_size` and `asked_align` give the size and the alignment of a block's allocation.
+--     `carve_asked` splits the memory of a block into its parts, and `gather` is the inverse.
+--     `turn_out` separates the last `k` words from the others, and `turn_back` is the inverse.
+--     `turn_up` forms the array that an allocator can grow, and `turn_down` is the inverse.
+--     `units_out` converts memory for `k` words into memory for the capacity and the length.
+--     `header_apart` splits the header into memory for words and the rights that belong to a block,
+--     and `header_whole` is the inverse.
 use Rattle.std.proofs.Common.{◌≡◌, true, ℕ, Some, None, ◌+◌, ◌-◌, ◌*◌, List, [], ◌∷◌, ◌++◌, length, refl, sym, ap, ◌∙◌, arith, w64, append_assoc}
 use Rattle.std.proofs.lemmas.List.{length-map, length-append, length-replicate, map-append, replicate-append-replicate}
 use Rattle.std.specs.Prelude.{Bool}
@@ -82,12 +80,12 @@ module _ (Rw : RattleType) (c : ℕ) where
   align_for (Some w) e = ap word_align (align-raw τ₀) ∙ (words_told Rw w.0 w.1 e).align
 
   -- A block is allocated with the size that `block_bytes` computes, whether or not its items can be
-  -- grouped into words. A word is a struct of several items.
+  -- grouped into words. A word is a struct of 8 or 16 bytes that consists of whole items.
   pub asked_size : size (asked Rw c) ≡ block_bytes s₀ a₀ c
   asked_size = size_for (words_of Rw) (sym same_words)
 
   -- A block is allocated with the alignment that `block_align` computes, whether or not its items
-  -- can be grouped into words. A word is a struct of several items.
+  -- can be grouped into words. A word is a struct of 8 or 16 bytes that consists of whole items.
   pub asked_align : align (asked Rw c) ≡ block_align a₀
   asked_align = align_for (words_of Rw) (sym same_words)
 
@@ -95,20 +93,20 @@ module _ (Rw : RattleType) (c : ℕ) where
 module _ {M : Type 1} {𝓤 : Ura M} (𝓛 : Logic 𝓤) (E : El) (b c o : ℕ) where
   open 𝓛 use {H}
 
-  -- The parts of a block's memory: the two words of the header, the slots, and the right to join
-  -- these parts again.
+  -- The parts of a block's memory: the two halves of the header, the slots, and the right to put
+  -- these parts back together.
   abbrev Parts : Option (ℕ × ℕ) → SProp 𝓤
   Parts w = sep 𝓤 (H.room half b o) (sep 𝓤 (H.room half b (o + 8))
       (sep 𝓤 (H.room (array_of (R E) c) b (o + 16)) (sem 𝓛 (way_back w (bare (R E)) c b o))))
 
   -- If the items of the block can be grouped into words, then `InWords` holds for the item type
-  -- without the names of its fields.
+  -- with all field names erased.
   known : (w : ℕ × ℕ) → in_words (type_size (R E)) ≡ Some w
       → InWords (size (bare (R E))) (align (bare (R E))) w.0 w.1
   known w e = nameless (elτ E) w.0 w.1 (words_told (R E) w.0 w.1 e)
 
   -- Splits the memory of a block into its parts, whether or not its items can be grouped into
-  -- words. A word is a struct of several items.
+  -- words. A word is a struct of 8 or 16 bytes that consists of whole items.
   carve_for : (w : Option (ℕ × ℕ)) → in_words (type_size (R E)) ≡ w
       → ent 𝓤 (H.room (asked_for w (bare (R E)) c) b o) (Parts w)
   carve_for None e = carve 𝓛 (R E) c b o
@@ -127,13 +125,13 @@ module _ {M : Type 1} {𝓤 : Ura M} (𝓛 : Logic 𝓤) (E : El) (b c o : ℕ) 
       let h = known w e in
       block_in 𝓛 (bare (R E)) w.0 w.1 b h (div_ceil c w.0) c o (h.counts.covers c)
 
-  -- Splits the memory of a block into its parts. The last part is the right to join the other parts
-  -- again.
+  -- Splits the memory of a block into its parts. The last part is the right to put the other parts
+  -- back together.
   pub carve_asked : ent 𝓤 (H.room (asked (R E) c) b o) (Parts (words_of (R E)))
   carve_asked = carve_for (words_of (R E)) (sym (same_words (R E) c))
 
-  -- Joins a block without its slots and uninitialized memory for its slots. The result is the
-  -- memory of the whole block, and the right to free it.
+  -- Combines a block without its slots and uninitialized memory for the slots into the memory of
+  -- the whole block and the right to free this memory.
   pub gather : (t : Ty → Ptr → Fml) (n : ℕ)
       → ent 𝓤 (sep 𝓤 (sem 𝓛 (frame t (R E) n c b o)) (H.room (array_of (R E) c) b (o + 16)))
       (sep 𝓤 (H.room (asked (R E) c) b o) (sem 𝓛 (t (asked (R E) c) (block_ptr b o))))
@@ -146,9 +144,9 @@ module _ {M : Type 1} {𝓤 : Ura M} (𝓛 : Logic 𝓤) (E : El) (b c o : ℕ) 
       (uint_out 𝓛 full_share w64 n b (o + 8)) $
       use1 𝓛 (‵ (froom half b (o + 8))) (𝓛.laws.at_room half b (o + 8) (vint w64 n)) $
       move ! (1 ∷ []) $ fsplit ! $ drop ! $ fsplit ! $
-      -- The block has been split. The proof context holds, in this order: [the right to join the
-      -- parts of the block again; the right to free the block; memory for the length; memory for
-      -- the capacity; memory for the slots].
+      -- The block has been split. The proof context holds, in this order: [the right to put the
+      -- parts of the block back together; the right to free the block; memory for the length;
+      -- memory for the capacity; memory for the slots].
       move ! (3 ∷ 2 ∷ 4 ∷ 0 ∷ []) $ group ! 4 $
       use1 𝓛 (‵ (froom (asked (R E) c) b o))
       (gather_for (words_of (R E)) (sym (same_words (R E) c))) $ done !
@@ -218,8 +216,8 @@ module _ {M : Type 1} {𝓤 : Ura M} (𝓛 : Logic 𝓤) (E : El) (b : ℕ) (k :
         (cut E 𝓛 b (full ys) (empty m) there past_all at_end) $ split ! $
         use1 𝓛 (‵ (Last there)) (to_items E 𝓛 b k ys there long) $ move ! (2 ∷ 0 ∷ 1 ∷ []) $ done !
 
-    -- Joins the items `xs`, the last `k` items `ys` and the empty slots again. The items `ys` must
-    -- be at their old address.
+    -- Puts the items `xs`, the last `k` items `ys` and the empty slots back together. The items
+    -- `ys` must be at their old address.
     pub turn_back : ent 𝓤 (sep 𝓤 (sem 𝓛 (Slots' (o + 16) (full xs)))
         (sep 𝓤 (sem 𝓛 (Last there)) (sem 𝓛 (Slots' past_all (empty m)))))
         (sem 𝓛 (Slots' (o + 16) All))
@@ -260,8 +258,8 @@ module _ {M : Type 1} {𝓤 : Ura M} (𝓛 : Logic 𝓤) (E : El) (b : ℕ) (k :
       counted' : length (ys ++ xs) ≡ n
       counted' = let a = length-append ys xs in omega arith
 
-      -- If the last `k` items are in the place of the header, then all items form one array that
-      -- begins at the start of the block.
+      -- If the last `k` items are stored in the memory of the header, then all items form one array
+      -- that begins at the start of the block.
       pub turn_up : ent 𝓤 (sep 𝓤 (sem 𝓛 (Last o)) (sep 𝓤 (sem 𝓛 (Slots' (o + 16) (full xs)))
           (sep 𝓤 (H.room (ty_array τ' k) b there)
           (sep 𝓤 (sem 𝓛 (Slots' past_all (empty m))) (sem 𝓛 Token))))) (sem 𝓛 Whole)
@@ -284,7 +282,7 @@ module _ {M : Type 1} {𝓤 : Ura M} (𝓛 : Logic 𝓤) (E : El) (b : ℕ) (k :
           move ! (1 ∷ 0 ∷ 2 ∷ []) $ fjoin3 ! $ done !
 
       -- Splits an array that begins at the start of the block into four parts: its first `k` items,
-      -- in the place of the header; the other items; the memory after the items; and the right to
+      -- in the memory of the header; the other items; the memory after the items; and the right to
       -- free the block.
       pub turn_down : ent 𝓤 (sem 𝓛 Whole) (sep 𝓤 (sem 𝓛 (Last o))
           (sep 𝓤 (sem 𝓛 (Slots' (o + 16) (full xs))) (sep 𝓤 (H.room (ty_array τ' k) b there)
@@ -324,15 +322,15 @@ module _ {M : Type 1} {𝓤 : Ura M} (𝓛 : Logic 𝓤) (T : RattleType) (L : L
   hd = nameless (elτ Item) m k (words_told (R Item) m k is)
 
   -- Splits uninitialized memory for `k` words into memory for the capacity and memory for the
-  -- length. The third part is the right to join these two parts again.
+  -- length. The third part is the right to put these two parts back together.
   pub units_out : ent 𝓤 (H.room units b o)
       (sep 𝓤 (H.room half b o)
       (sep 𝓤 (H.room half b (o + 8)) (sem 𝓛 (header_way (bare (R Item)) m k b o))))
   units_out = via 𝓤 (H.room (array_of (R W) k) b o) (𝓛.laws.room-raw units b o)
       (header_out 𝓛 (bare (R Item)) m k b hd o)
 
-  -- Joins uninitialized memory for the capacity and for the length into uninitialized memory for
-  -- `k` words.
+  -- Converts uninitialized memory for the capacity and the length back into uninitialized memory
+  -- for `k` words.
   pub units_in : ent 𝓤 (sep 𝓤 (H.room half b o) (sep 𝓤 (H.room half b (o + 8))
       (sem 𝓛 (header_way (bare (R Item)) m k b o)))) (H.room units b o)
   units_in = via 𝓤 (H.room (array_of (R W) k) b o) (header_in 𝓛 (bare (R Item)) m k b hd o)
@@ -348,9 +346,9 @@ module _ {M : Type 1} {𝓤 : Ura M} (𝓛 : Logic 𝓤) (T : RattleType) (L : L
     asked_words : words_of (R Item) ≡ Some (m, k)
     asked_words = same_words (R Item) c ∙ is
 
-    -- Splits a block without its slots into three parts: uninitialized memory for `k` words in the
-    -- place of the header, the right to convert memory for the slots into memory for words, and the
-    -- right to free the block.
+    -- Splits a block without its slots into three parts: uninitialized memory for `k` words at the
+    -- address of the header, the right to convert memory for the slots into memory for words, and
+    -- the right to free the block.
     pub header_apart : ent 𝓤 (sem 𝓛 (frame t (R Item) n c b o))
         (sep 𝓤 (H.room units b o) (sep 𝓤 (sem 𝓛 Rest) (sem 𝓛 Right)))
     header_apart =
@@ -373,9 +371,9 @@ module _ {M : Type 1} {𝓤 : Ura M} (𝓛 : Logic 𝓤) (T : RattleType) (L : L
         rewrite ! 0 (λ (j : ℕ). ‵ (t (array_of (R W) j) (block_ptr b o))) (sym total) refl $
         move ! (1 ∷ 2 ∷ 0 ∷ []) $ done !
 
-    -- Forms a block without its slots from the capacity, the length and three rights: to convert
-    -- memory for the header into memory for words, to convert memory for the slots into memory for
-    -- words, and to free the block.
+    -- Forms a block without its slots from the capacity, the length and three rights. These are the
+    -- rights to convert memory for the header and memory for the slots into memory for words, and
+    -- the right to free the block.
     pub header_whole : fits_block (R Item) c ≡ true
         → ent 𝓤 (sep 𝓤 (sem 𝓛 (lies_at usize full_share (block_ptr b o) c))
         (sep 𝓤 (sem 𝓛 (lies_at usize full_share (block_ptr b (o + 8)) n))

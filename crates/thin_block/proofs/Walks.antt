@@ -1,6 +1,6 @@
--- Lemmas that every walk needs. A walk is the proof of a function body. The lemmas are about the
--- parts of a body, about what must hold after a part has run, and about the proof of the `ensures`
--- clauses. They assume the laws of the separation logic (`Logic`).
+-- Lemmas for proofs of function bodies. They are about the parts of a body, about what must hold
+-- after a part has been executed, and about the proof of the `ensures` clauses. The lemmas assume
+-- the laws of the separation logic (`Logic`).
 pub use Rattle.core.proofs.alloc.Shapes.{after, head, inside, arm_body}
 use Rattle.std.proofs.Common.{◌≡◌, ℕ, zero, suc, List, [], ◌∷◌, refl, T}
 use seplogic.Ra.Ura.{Ura}
@@ -22,8 +22,8 @@ use denote.Laws.{Is, Typed}
 use denote.Builtin.{unit}
 use denote.Signature.{Slot, plain}
 
--- `slot_at k ss` is the parameter with the index `k` in the list `ss`. If the list is too short, it
--- is a parameter of the type `()`.
+-- `slot_at k ss` is the parameter with the index `k` in the list `ss`. If the list is too short,
+-- `slot_at k ss` is a parameter of type `()`.
 abbrev pub slot_at : {n : ℕ} → ℕ → List (Slot n) → Slot n
 slot_at k [] = plain (λ _. unit)
 slot_at zero (s ∷ ss) = s
@@ -32,11 +32,12 @@ slot_at (suc k) (s ∷ ss) = slot_at k ss
 module _ {M : Type 1} {𝓤 : Ura M} (𝓛 : Logic 𝓤) where
   open 𝓛 use {H}
 
-  -- `then_runs C Λ E b q` is what must hold before the remaining statements `b` of a body run.
+  -- `then_runs C Λ E b q` is the condition that must hold before the remaining statements `b` of a
+  -- body are executed.
   abbrev pub then_runs : Calls 𝓤 H → Loops 𝓤 H → Env 𝓤 H → Body → Post 𝓤 H → Post 𝓤 H
   then_runs C Λ E b q = any_q (after_seq 𝓤 H (Wp 𝓤 H C Λ E b (post 𝓤 H q)) (post 𝓤 H q))
 
-  -- What must hold at the end of an inner block of statements.
+  -- `out_of_block q` is the condition that must hold at the end of an inner block of statements.
   abbrev pub out_of_block : Post 𝓤 H → Post 𝓤 H
   out_of_block q = any_q (after_block 𝓤 H (post 𝓤 H q))
 
@@ -46,7 +47,7 @@ Facts 𝓤 [] = emp 𝓤
 Facts 𝓤 (φ ∷ []) = fact 𝓤 φ
 Facts 𝓤 (φ ∷ ψ ∷ φs) = sep 𝓤 (fact 𝓤 φ) (Facts 𝓤 (ψ ∷ φs))
 
--- Proofs of the `requires` or `ensures` clauses of a function.
+-- The type of proofs of the `requires` or `ensures` clauses of a function.
 abbrev pub Shown : List (Type 0) → Type 0
 Shown [] = Unit {0}
 Shown (φ ∷ []) = φ
@@ -70,7 +71,7 @@ says_all {𝓤 = 𝓤} k φs {P} x = step (λ s. record {
       (via 𝓤 (sep 𝓤 (Facts 𝓤 φs) P) (mono_l 𝓤 P (facts_i 𝓤 φs x)) (comm∗ 𝓤 (Facts 𝓤 φs) P)));
 })
 
--- An `AllocError` owns nothing. So it can be created without any resource.
+-- An `AllocError` owns nothing, so it can be created without any resource.
 pub refused_made : {M : Type 1} {𝓤 : Ura M} (𝓛 : Logic 𝓤)
     → ent 𝓤 (emp 𝓤) (sem 𝓛 (AE.the_row.own_val (record {}) (vstruct vnil ∷ [])))
 refused_made 𝓛 = qed 𝓛 [] ∵
@@ -78,8 +79,8 @@ refused_made 𝓛 = qed 𝓛 [] ∵
     (Struct-Makes 𝓛 (Declared.shape AE.the_type) tt) tt (vstruct vnil ∷ []) (tt, (refl, tt)) $
     done !
 
--- If a list of machine values matches the list of types `τ ∷ []`, then it consists of one value of
--- the type `τ`.
+-- If the machine values in the list `vs` have the types `τ ∷ []`, then `vs` consists of one value
+-- of type `τ`.
 pub alone : (τ : Ty) (vs : List Val) → Typed (τ ∷ []) vs → (v : Val)
     × ((vs ≡ v ∷ []) × (T (has_ty τ v) × WT v))
 alone τ [] t = absurd t

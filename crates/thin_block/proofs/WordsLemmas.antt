@@ -1,9 +1,9 @@
--- Arithmetic lemmas on words. A word is a struct of several items, and takes 8 or 16 bytes. The
--- lemmas say which item sizes make words, and which size and alignment the words have.
---     InWords       what is known if `m` items of `s` bytes make a word, and `k` words take as many
---                   bytes as the header
---     words_told    if `in_words` returns a pair of numbers, then `InWords` holds for it
---     nameless      `InWords` also holds for bare types, which are types without field names
+-- Arithmetic lemmas on words. A word is a struct of 8 or 16 bytes that consists of whole items. The
+-- lemmas say which item sizes allow words, and what the size and the alignment of a word are.
+--     `InWords` collects the facts that hold if `m` items of `s` bytes make a word, and `k` words
+--     take as many bytes as the header.
+--     `words_told` says that `InWords` holds for the pair that `in_words` returns, if any.
+--     `nameless` says that `InWords` also holds for a type with all field names erased.
 use Rattle.std.proofs.Common.{◌≡◌, true, false, ℕ, Some, None, ◌+◌, ◌*◌, ◌<◌, ◌≤◌, refl, sym, ap, subst, arith}
 use Rattle.std.proofs.lemmas.Bool.{eqb-true}
 use Rattle.std.specs.Prelude.{◌==◌, if◌then◌else◌, Bool, Option, max}
@@ -31,8 +31,8 @@ word_align a = max a (max 8 1)
 abbrev pub word_size : ℕ → ℕ → ℕ → ℕ
 word_size s a m = up (word_align a) (up 8 (up a 0 + m * s) + 0 * 8)
 
--- `Counts m` collects facts on `div_ceil c m`. This is the number of words that `c` items need if a
--- word holds `m` items.
+-- `Counts m` collects facts about `div_ceil c m`, the number of words that `c` items need if a word
+-- holds `m` items.
 pub record Counts (m : ℕ) : Type 0 where
   pub some : 0 < m
   pub covers : (c : ℕ) → c ≤ div_ceil c m * m
@@ -82,14 +82,15 @@ counts_8 = record {
   few = λ c. omega arith;
 }
 
--- `Laid s a m k` collects facts on words of `m` items with the size `s` and the alignment `a`: the
--- size and the alignment of a word, and the size of a block of such words.
+-- `Laid s a m k` collects facts on words of `m` items: the size and the alignment of a word, and
+-- the size of a block of words. Each item has the size `s` and the alignment `a`.
 abbrev Laid : ℕ → ℕ → ℕ → ℕ → Type 0
 Laid s a m k = (word_size s a m ≡ m * s) × ((word_align a ≡ block_align a)
     × (Dv 8 (word_align a) × (Dv a (word_align a)
     × ((c : ℕ) → (k + div_ceil c m) * (m * s) ≡ block_bytes s a c))))
 
--- `Laid` holds for items of 1, 2, 4, 8 and 16 bytes if the alignment of an item divides its size.
+-- `Laid` holds for items of 1, 2, 4, 8 and 16 bytes if the alignment of an item divides the size of
+-- an item.
 laid_1 : (w : Width) → Dv (bytes w) 1 → Laid 1 (bytes w) 8 2
 laid_1 w8 d = (refl, (refl, (tt, (tt, λ c. omega arith))))
 laid_1 w16 d = absurd d
@@ -160,15 +161,16 @@ abbrev pair : Option (ℕ × ℕ) → ℕ × ℕ
 pair None = (0, 0)
 pair (Some p) = p
 
--- In `AtAny t p.0 p.1`, the size `t` may be replaced by an equal size `s`, and the pair `p` by an
--- equal pair `q`.
+-- In `AtAny t p.0 p.1`, the size `t` may be replaced with an equal size `s`, and the pair `p` with
+-- an equal pair `q`.
 at_size : (s t : ℕ) (p q : ℕ × ℕ) → s ≡ t → ◌≡◌ {A = Option (ℕ × ℕ)} (Some p) (Some q)
     → AtAny t p.0 p.1 → AtAny s q.0 q.1
 at_size s t p q es e all =
     subst (λ (x : ℕ × (ℕ × ℕ)). AtAny x.0 x.1.0 x.1.1) (λ i. (sym es i, pair (e i))) all
 
--- The result of `in_words`, computed from five tests of the item size. It is the number of items
--- that make a word, and the number of words that take as many bytes as the header.
+-- The result of `in_words`, computed from five tests of the item size. If it is a pair, it contains
+-- the number of items that make a word, and the number of words that take as many bytes as the
+-- header.
 abbrev tested : Bool → Bool → Bool → Bool → Bool → Option (ℕ × ℕ)
 tested x y z u v = if x then Some (8, 2) else (if y then Some (4, 2) else
     (if z then Some (2, 2) else (if u then Some (1, 2) else (if v then Some (1, 1) else None))))
@@ -205,7 +207,8 @@ words_told R m k e =
     subst (λ (a : ℕ). InWords s a m k) (sym known)
     (at_width (align_w (layout R)) (subst (λ (a : ℕ). Dv a s) known (align_size (layout R))))
 
--- If `InWords` holds for a type, it also holds for the same type without the names of its fields.
+-- If `InWords` holds for a type, then `InWords` also holds for this type with all field names
+-- erased.
 pub nameless : (τ : Ty) (m k : ℕ) → InWords (size τ) (align τ) m k
     → InWords (size (raw τ)) (align (raw τ)) m k
 nameless τ m k h = subst (λ (p : ℕ × ℕ). InWords p.0 p.1 m k)

@@ -1,15 +1,14 @@
 -- These lemmas convert the memory of items into memory of words, and back. A word is a struct of
 -- `m` items. The lemmas assume the laws of the separation logic (`Logic`).
---     ways_out, ways_in      convert memory for words into memory for their items, and back
---     header_out, header_in  convert memory for words that take as many bytes as the header into
---                            memory for the capacity and the length, and back
---     block_out, block_in    convert memory for a block of words into memory for its parts, and
---                            back
---     word_el                the type of words, as the item type of a block
---     word_out               splits a word into its items and the right to make the word's memory
---                            from the memory of these items again
---     words_in, words_back   convert filled slots into items that can be made words, and empty
---                            slots into empty words, and back
+--     `ways_out` converts memory for words into memory for items, and `ways_in` is the inverse.
+--     `header_out` converts memory for words into memory for the capacity and the length, and
+--     `header_in` is the inverse.
+--     `block_out` converts memory for a block of words into memory for its parts, and `block_in` is
+--     the inverse.
+--     `word_el` is the type of words, as the item type of a block.
+--     `word_out` splits a word into its items and the right to convert their memory back.
+--     `words_in` converts filled slots into items that can be made into words, and empty slots into
+--     empty words. `words_back` is the inverse.
 use Rattle.std.proofs.Common.{◌≡◌, ℕ, zero, suc, Some, ◌+◌, ◌-◌, ◌*◌, ◌≤◌, List, [], ◌∷◌, ◌++◌, length, map, take, drop as rest, refl, sym, ap, subst, ◌∙◌, arith, zero-mul, suc-mul}
 use Rattle.std.proofs.lemmas.List.{take-append-drop, length-take, length-drop, length-map, map-append}
 use Rattle.std.specs.Prelude.{Option}
@@ -113,16 +112,17 @@ module _ {M : Type 1} {𝓤 : Ura M} (𝓛 : Logic 𝓤) (τ : Ty) (m k b : ℕ)
       use1 𝓛 (‵ (froom (ty_array τ (w * m)) b (o + u)) ⊛ ‵ (ways τ m w b (o + u)))
       (ways_out w (o + u)) $ split ! $
       -- The memory has been split. The proof context holds, in this order: [memory for the items of
-      -- the other words; the right to convert this memory into memory for the words; memory for the
-      -- items of the first word; the right to convert this memory into memory for the word].
+      -- the other words; the right to convert this memory into memory for these words; memory for
+      -- the items of the first word; the right to convert this memory into memory for the first
+      -- word].
       rewrite ! 0 (λ (n : ℕ). ‵ (froom (ty_array τ (w * m)) b n)) (sym (after_run o)) refl $
       move ! (2 ∷ 0 ∷ []) $ use2 𝓛 (‵ (froom (ty_array τ (m + w * m)) b o))
       (room_glue 𝓛 τ m (w * m) b o) $
       rewrite ! 0 (λ (n : ℕ). ‵ (froom (ty_array τ n) b o)) (one_more w) refl $
       move ! (2 ∷ 1 ∷ 0 ∷ []) $ fjoin ! $ move ! (1 ∷ 0 ∷ []) $ done !
 
-  -- Joins memory for the items of `w` words and the right (`ways`) to convert this memory. The
-  -- result is memory for the words.
+  -- Uses the right (`ways`) to convert memory for the items of `w` words into memory for these
+  -- words.
   pub ways_in : (w o : ℕ) → ent 𝓤 (sep 𝓤 (H.room (ty_array τ (w * m)) b o) (sem 𝓛 (ways τ m w b o)))
       (H.room (ty_array ω w) b o)
   ways_in zero o = qed 𝓛 (‵ (froom (ty_array τ (0 * m)) b o) ∷ ‵ ftrue ∷ []) ∵ keep ! [] $
@@ -168,8 +168,8 @@ module _ {M : Type 1} {𝓤 : Ura M} (𝓛 : Logic 𝓤) (τ : Ty) (m k b : ℕ)
       move ! (1 ∷ 0 ∷ []) $ use2 𝓛 (‵ (froom two b o)) (𝓛.laws.room_cons half 1 b o) $
       by ! (apply∗ 𝓤 (H.room two b o) (H.room units b o))
 
-  -- Joins memory for the capacity, memory for the length and the right (`header_way`) to convert
-  -- the two. The result is memory for `k` words.
+  -- Uses the right (`header_way`) to convert memory for the capacity and the length into memory for
+  -- `k` words.
   pub header_in : (o : ℕ) → ent 𝓤 (sep 𝓤 (H.room half b o) (sep 𝓤 (H.room half b (o + 8))
       (sem 𝓛 (header_way τ m k b o)))) (H.room units b o)
   header_in o =
@@ -191,8 +191,7 @@ module _ {M : Type 1} {𝓤 : Ura M} (𝓛 : Logic 𝓤) (τ : Ty) (m k b : ℕ)
       rewrite ! 0 (λ (n : ℕ). ‵ (froom (ty_array τ pad) b n)) (past_is τ c o) refl $
       move ! (2 ∷ 0 ∷ []) $ fjoin ! $ move ! (1 ∷ 0 ∷ []) $ done !
 
-  -- Joins memory for `c` slots and the right (`slots_way`) to convert this memory. The result is
-  -- memory for `w` words.
+  -- Uses the right (`slots_way`) to convert memory for `c` slots into memory for `w` words.
   slots_in : (w c o : ℕ) → c ≤ w * m → ent 𝓤 (sep 𝓤 (H.room (ty_array τ c) b o)
       (sem 𝓛 (slots_way τ m w c b o))) (H.room (ty_array ω w) b o)
   slots_in w c o le =
@@ -225,8 +224,8 @@ module _ {M : Type 1} {𝓤 : Ura M} (𝓛 : Logic 𝓤) (τ : Ty) (m k b : ℕ)
         (slots_out w c (o + 16) le) $ split ! $ move ! (4 ∷ 1 ∷ []) $ fjoin ! $
         move ! (2 ∷ 3 ∷ 1 ∷ 0 ∷ []) $ done !
 
-    -- Joins memory for the capacity, the length and the slots and the right (`Back`) to convert
-    -- this memory. The result is memory for a block of words.
+    -- Uses the right (`Back`) to convert memory for the capacity, the length and the slots into
+    -- memory for a block of words.
     pub block_in : ent 𝓤 (sep 𝓤 (H.room half b o) (sep 𝓤 (H.room half b (o + 8))
         (sep 𝓤 (H.room (ty_array τ c) b (o + 16)) (sem 𝓛 Back)))) (H.room (ty_array ω (k + w)) b o)
     block_in =
@@ -238,8 +237,8 @@ module _ {M : Type 1} {𝓤 : Ura M} (𝓛 : Logic 𝓤) (τ : Ty) (m k b : ℕ)
         move ! (2 ∷ 3 ∷ 1 ∷ []) $ use3 𝓛 (‵ (froom units b o)) (header_in o) $
         by ! (room_glue 𝓛 ω k w b o)
 
--- Section: items.
--- The number of items in a word, as the const parameter of the type `Words`.
+-- Section: words that hold items. `number_of_items m` is the number of items in a word, as the
+-- const argument of the type `Words`.
 abbrev pub number_of_items : ℕ → RattleType
 number_of_items m = param 1 (number m)
 
@@ -267,8 +266,8 @@ zero_at w128 = refl
 zero_up : (τ : Ty) → up (align τ) 0 ≡ 0
 zero_up τ = subst (λ (a : ℕ). up a 0 ≡ 0) (sym (align-bytes τ)) (zero_at (align_w τ))
 
--- `words_made T m n xs` is the list of the first `n` words that the items `xs` make. Each word
--- takes `m` items.
+-- `words_made T m n xs` is the list of the first `n` words that are made from the items `xs`. Each
+-- word consists of `m` items.
 abbrev pub words_made : (T : RattleType) (m n : ℕ) → List T.Denot → List (word_row T m).Denot
 words_made T m n xs = map (word (param 0 T) (number_of_items m)) (first_chunks m n xs)
 
@@ -314,8 +313,8 @@ module _ {M : Type 1} {𝓤 : Ura M} (𝓛 : Logic 𝓤) (T : RattleType) (L : L
   hd' : InWords (size τ') (align τ') m k
   hd' = nameless σ m k hd
 
-  -- If the names of fields are removed from the type of a word, the size of a word is still `m`
-  -- times the size of an item.
+  -- If all field names in the type of a word are erased, the size of a word is still `m` times the
+  -- size of an item.
   wide : u' ≡ m * s
   wide = hd'.size ∙ ap (λ (n : ℕ). m * n) (size-raw σ)
 
@@ -351,7 +350,7 @@ module _ {M : Type 1} {𝓤 : Ura M} (𝓛 : Logic 𝓤) (T : RattleType) (L : L
     Rooms = rooms_for 𝓤 H fields zero b o
 
     -- If memory for the fields of a word can be converted into memory for the word, then memory for
-    -- the items of the word can also be converted into memory for the word.
+    -- the items of the word can be converted too.
     way_out : ent 𝓤 (RoomBack 𝓤 H (the_type (R E) N).name fields b o) (sem 𝓛 (way τ' m b o))
     way_out =
         qed 𝓛 (raw (RoomBack 𝓤 H (the_type (R E) N).name fields b o) ∷ []) ∵
@@ -363,7 +362,7 @@ module _ {M : Type 1} {𝓤 : Ura M} (𝓛 : Logic 𝓤) (T : RattleType) (L : L
         use2 𝓛 (‵ (froom (layout W.row) b o)) (apply∗ 𝓤 Rooms (H.room (layout W.row) b o)) $
         by ! (𝓛.laws.room-raw (layout W.row) b o)
 
-    -- Splits a word in memory into its items, and the right (`way`) to convert the memory of these
+    -- Splits a word in memory into its items and the right (`way`) to convert the memory of these
     -- items back into memory for the word.
     pub word_out : (xs : List X) → ent 𝓤 (sem 𝓛 (part_at (R W) full_share (word (R E) N xs) b o))
         (sep 𝓤 (sem 𝓛 (part_at (Array (R E) m) full_share xs b o)) (sem 𝓛 (way τ' m b o)))
@@ -391,8 +390,8 @@ module _ {M : Type 1} {𝓤 : Ura M} (𝓛 : Logic 𝓤) (T : RattleType) (L : L
   abbrev words : ℕ → List X → List W.row.Denot
   words n xs = words_made T m n xs
 
-  -- Slots that hold the items `xs` are the slots of the first `m` items, followed by the slots of
-  -- the other items. The first `m` items make the first word.
+  -- The slots that hold the items `xs` are the slots of the first `m` items, followed by the slots
+  -- of the other items. The first `m` items make the first word.
   parted : (xs : List X) → full xs ≡ full (take m xs) ++ full (rest m xs)
   parted xs = ap full (sym (take-append-drop m xs)) ∙ map-append Some (take m xs) (rest m xs)
 
@@ -409,8 +408,9 @@ module _ {M : Type 1} {𝓤 : Ura M} (𝓛 : Logic 𝓤) (T : RattleType) (L : L
         ap (λ (n : ℕ). n * s) (length-map (take m xs) Some ∙ first_long) in
         let e = wide in omega arith
 
-  -- Groups slots that hold the items of `n` words by word. Each group gets the right (`way`) to
-  -- convert its memory into memory for the word, and the rights for `j` further words remain.
+  -- Groups the slots that hold the items of `n` words, with one group for each word. Each group
+  -- gets the right (`way`) to convert its memory into memory for the word. The rights for `j`
+  -- further words remain.
   to_runs : (n w j : ℕ) (xs : List X) (o at : ℕ) → length xs ≡ n * m → w ≡ j + n → at ≡ n * u' + o
       → ent 𝓤 (sep 𝓤 (sem 𝓛 (places (R E) (full xs) b o)) (sem 𝓛 (ways τ' m w b o)))
       (sep 𝓤 (sem 𝓛 (runs_at (R E) N (chunks n xs) b o)) (sem 𝓛 (ways τ' m j b at)))
@@ -440,7 +440,8 @@ module _ {M : Type 1} {𝓤 : Ura M} (𝓛 : Logic 𝓤) (T : RattleType) (L : L
       (omega (arith, ea, suc-mul n u'))) $ split ! $ move ! (2 ∷ 0 ∷ []) $ fjoin ! $ done !
 
   -- Turns `n` adjacent words into slots that hold their items, and into the rights (`ways`) to
-  -- convert these slots back into words. The rights for the `j` words after these words are added.
+  -- convert these slots back into words. The result includes the rights for the `j` words directly
+  -- after these words.
   of_runs : (n w j : ℕ) (xs : List X) (o at : ℕ) → length xs ≡ n * m → w ≡ j + n → at ≡ n * u' + o
       → ent 𝓤 (sep 𝓤 (sem 𝓛 (places (R W) (full (words n xs)) b o)) (sem 𝓛 (ways τ' m j b at)))
       (sep 𝓤 (sem 𝓛 (places (R E) (full xs) b o)) (sem 𝓛 (ways τ' m w b o)))
@@ -512,7 +513,7 @@ module _ {M : Type 1} {𝓤 : Ura M} (𝓛 : Logic 𝓤) (T : RattleType) (L : L
         rewrite ! 0 (λ (n : ℕ). ‵ (froom (ty_array τ' pad) b n)) (sym end_at) refl $
         move ! (1 ∷ 2 ∷ 0 ∷ []) $ done !
 
-  -- Section: all slots of a block. The `c` slots lie in `w` words, and `n` of these words hold
+  -- Section: all slots of a block. The `c` slots occupy `w` words, and `n` of these words hold
   -- items.
   module _ (xs : List X) (n j v w c o : ℕ) (long : length xs ≡ n * m) (all : c ≡ length xs + j)
       (total : w ≡ v + n) (le : c ≤ w * m) where
@@ -547,7 +548,7 @@ module _ {M : Type 1} {𝓤 : Ura M} (𝓛 : Logic 𝓤) (T : RattleType) (L : L
         ap (λ (x : ℕ). length xs * x) (size-raw σ) in
         let e = same_bytes in let a = at_after in omega arith
 
-    -- Turns filled slots into items that can be made words, and empty slots into empty words.
+    -- Turns filled slots into items that can be made into words, and empty slots into empty words.
     pub words_in : ent 𝓤 (sep 𝓤 (sem 𝓛 (places (R E) (full xs ++ empty j) b o))
         (sem 𝓛 (slots_way τ' m w c b o)))
         (sep 𝓤 (sem 𝓛 (runs_at (R E) N (chunks n xs) b o)) (sem 𝓛 (places (R W) (empty v) b after)))
@@ -568,7 +569,7 @@ module _ {M : Type 1} {𝓤 : Ura M} (𝓛 : Logic 𝓤) (T : RattleType) (L : L
     last_word = ap (λ (x : ℕ). x * type_size (R W) + o)
         (sym (length-map (words n xs) Some ∙ words_long T m n xs))
 
-    -- Joins the memory of words and the memory of the empty words after these words.
+    -- Joins the memory of words and the memory of the empty words directly after them.
     pub words_joined : ent 𝓤 (sep 𝓤 (sem 𝓛 (places (R W) (full (words n xs)) b o))
         (sem 𝓛 (places (R W) (empty v) b after)))
         (sem 𝓛 (places (R W) (full (words n xs) ++ empty v) b o))

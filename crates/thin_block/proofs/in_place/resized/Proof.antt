@@ -134,8 +134,8 @@ module _ (E : El) (Y : Al) {M : Type 1} {𝓤 : Ura M} (𝓛 : Logic 𝓤) (at_m
       fjoin ! $ nothing ! $ fjoin ! $ join ! $ move ! (3 ∷ 4 ∷ []) $ join ! $
       move ! (3 ∷ 0 ∷ []) $ join ! $ join ! $ done !
 
-  -- What must hold at the end of each arm of the conditional. The body then continues after its
-  -- first `k` statements.
+  -- The condition that must hold at the end of each arm of the conditional. After the conditional,
+  -- the body continues after its first `k` statements.
   abbrev from : Env 𝓤 H → Ptr → ℕ → After 𝓤 H
   from Ev x k = then_runs 𝓛 C Λ Ev (after k (here E Y).body) (at_ret Ev (Post x))
 

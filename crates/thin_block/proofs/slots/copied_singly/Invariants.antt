@@ -1,5 +1,5 @@
 -- The loop invariant: after `i` iterations, the first `i` places of `row` hold copies of the first
--- `i` items. The memory of `row` is the same as before the loop.
+-- `i` items. The value `row` still refers to the same places in memory as before the loop.
 use Rattle.std.proofs.Common.{◌≡◌, take}
 use Rattle.core.specs.Mem.Slots.{SamePlaces, slots_filled, slots_items}
 use Rattle.core.specs.Mem.Slots.Ownership.{Filled}

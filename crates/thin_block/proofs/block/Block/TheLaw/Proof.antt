@@ -1,6 +1,6 @@
--- A `&` to a block lends the two words of the header and the items in the slots. It lends each of
--- them in the same way as a `&` to that word or item. The proof assumes the laws of the separation
--- logic (`Logic`).
+-- A `&` to a block lends the two words of the header and the items in the slots. Each word and each
+-- item is lent in the same way as by a `&` to it alone. The proof assumes the laws of the
+-- separation logic (`Logic`).
 use mathlib.Core.List.{List, [], ◌∷◌, ◌++◌, not-mem-nil}
 use Prim.Native.Nat.{ℕ, ◌+◌}
 use mathlib.Core.Bool.{Bool, true}
@@ -72,7 +72,7 @@ module _ (R : RattleType) (L : RowLaws R) where
 module _ {M : Type 1} {𝓤 : Ura M} (𝓛 : Logic 𝓤) where
   open 𝓛 use {H, A}
 
-  -- What is lent for the lifetime `'static` can be lent again for any lifetime `l`.
+  -- What is lent for the lifetime `'static` can also be lent for any lifetime `l`.
   Lends-kept : (t : Lft → Fml) → ShrLaws t → (l : Lft) → Lends 𝓛 (t []) t l
   Lends-kept t L l κ ts inc sp =
       let P : Fml = t [] in

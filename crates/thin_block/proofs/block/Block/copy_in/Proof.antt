@@ -1,6 +1,6 @@
--- `copy_in` copies items into adjacent empty slots by means of core's type `Slots`. The proof
--- splits these slots off the other slots, and joins all slots again afterwards. It assumes the laws
--- of the separation logic (`Logic`).
+-- `copy_in` copies items into adjacent empty slots, using core's type `Slots`. The proof separates
+-- these slots from the other slots, and puts all slots back together afterwards. It assumes the
+-- laws of the separation logic (`Logic`).
 use Rattle.std.proofs.Common.{◌≡◌, ℕ, Some, None, false, ◌+◌, ◌*◌, ◌^◌, ◌<◌, ◌≤◌, List, ◌∷◌, [], ◌++◌, length, refl, sym, subst, ◌∙◌, arith, w64}
 use lib.ListN.{length-map, length-replicate, replicate}
 use mir.Syntax.{Fn, Args, ty_array, a_type, dcons, dnil, named}
@@ -105,10 +105,10 @@ copy_in_spec 𝓤 𝓛 𝓜 𝓡 wired T A LT LA copies gc dc g d dd metc met md
     use1 𝓛 (‵ (all V b here xs (replicate n false))) (of_space E 𝓛 b here n xs refl) $
     move ! (7 ∷ []) $ token_out ! 2 z.0.0.1 z.0.1.1 $ move ! (1 ∷ []) $
     token_out ! 1 z.0.0.1.1 z.0.1.1.1 $ move ! (3 ∷ 0 ∷ 2 ∷ 1 ∷ []) $
-    -- The empty slots for the copies have been split off the other slots. The proof context holds,
-    -- in this order: [these slots; the lifetime tokens of `T`, of the slice `items` and of `A`; the
-    -- other slots; the header; the memory that holds the block's pointer; three entries for the
-    -- open borrow of the block; the slice `items`].
+    -- The empty slots for the copies have been separated from the other slots. The proof context
+    -- holds, in this order: [these slots; the lifetime tokens of `T`, of the slice `items` and of
+    -- `A`; the other slots; the header; the memory that holds the block's pointer; three entries
+    -- for the open borrow of the block; the slice `items`].
     let y₁ = at_from V 𝓛 𝓜.mem 𝓡.returns κ₂ q₂ b here n xs (replicate n false) in
     use2 𝓛 (raw ((From V 𝓛 𝓜.mem 𝓡.returns).pre y₁))
     (from_goes V 𝓛 𝓜.mem 𝓡.returns κ₂ q₂ b here n xs (replicate n false) lives refl
@@ -168,9 +168,9 @@ copy_in_spec 𝓤 𝓛 𝓜 𝓡 wired T A LT LA copies gc dc g d dd metc met md
     lands_last ! refl (parts_typed v₃ b here (slots_len f) e₃ fz) $
     continues ! 𝓜 𝓡 fn l 2 ((walk_of 𝓛 En₀ hs c).post z) $
     sets ! (of_opd ! (unit_lit !)) refl (tt, tt) $
-    -- `into_raw_parts` has converted the value of core's type `Slots` into slots of the block
-    -- again. The proof context holds, in this order: [these slots; the lifetime tokens of `T`, of
-    -- the slice `items` and of `A`; the other slots; the header; the memory that holds the block's
+    -- `into_raw_parts` has converted the value of core's type `Slots` back into slots of the block.
+    -- The proof context holds, in this order: [these slots; the lifetime tokens of `T`, of the
+    -- slice `items` and of `A`; the other slots; the header; the memory that holds the block's
     -- pointer; three entries for the open borrow of the block].
     let many : slots_len f ≡ n = copy.same.count ∙ made.1.1 in
     let flags : length (slots_filled f) ≡ n = sym (slots_counts f).1 ∙ many in

@@ -1,5 +1,5 @@
--- `free_block` returns the memory of the block to the allocator. The proof joins the parts of the
--- block into its whole memory and the right to free this memory. It assumes the laws of the
+-- `free_block` returns the memory of the block to the allocator. The proof combines the parts of
+-- the block into its whole memory and the right to free this memory. It assumes the laws of the
 -- separation logic (`Logic`).
 use Rattle.std.proofs.Common.{◌≡◌, ℕ, ◌+◌, List, [], ◌∷◌, ◌++◌, length, refl, sym, ap, ◌∙◌, arith, w64, Some, Option}
 use mir.Syntax.{Ty, place}

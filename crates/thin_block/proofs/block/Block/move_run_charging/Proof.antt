@@ -1,6 +1,6 @@
--- `move_run_charging` copies items from `self` to empty slots of `to_block`. The proof splits the
--- slots of the items and these empty slots off the other slots of the two blocks, and joins all
--- slots again afterwards. It assumes the laws of the separation logic (`Logic`).
+-- `move_run_charging` copies items from `self` to empty slots of `to_block`. The proof separates
+-- the affected slots from the other slots of the two blocks, and puts all slots back together
+-- afterwards. It assumes the laws of the separation logic (`Logic`).
 use Rattle.std.proofs.Common.{◌≡◌, ℕ, Some, None, ◌+◌, ◌*◌, ◌^◌, ◌<◌, ◌≤◌, List, ◌∷◌, [], ◌++◌, length, refl, sym, ap, subst, ◌∙◌, arith, w64}
 use lib.Dec.{T as Holds}
 use lib.ListN.{length-map, length-replicate}
@@ -166,10 +166,11 @@ move_run_charging_spec 𝓤 𝓛 𝓜 𝓡 wired T A LT LA g d dd met md =
     (run_out E 𝓛 b (o + 16) x.slots from k source (full xs) items.1) $ split ! $
     use1 𝓛 (‵ (part_at (Array (R E) k) full_share xs b src)) (to_items E 𝓛 b k xs src long) $
     move ! (0 ∷ 2 ∷ []) $ move ! (14 ∷ []) $ split ! $ move ! (2 ∷ 3 ∷ 0 ∷ []) $
-    -- The slots of the items and the slots to which they will be moved have been split off. The
-    -- proof context holds, in this order: [the items; the empty slots; the lifetime tokens of `T`
-    -- and `A`; the other slots of `self`; the other slots of `to_block`; the header, the pointer
-    -- and the open borrow of `to_block`; the header, the pointer and the open borrow of `self`].
+    -- The slots of the items and the slots to which they will be moved have been separated from the
+    -- other slots. The proof context holds, in this order: [the items; the empty slots; the
+    -- lifetime tokens of `T` and `A`; the other slots of `self`; the other slots of `to_block`; the
+    -- header, the pointer and the open borrow of `to_block`; the header, the pointer and the open
+    -- borrow of `self`].
     let G = Copies T 𝓛 𝓜.mem 𝓡.returns in
     let y₀ : G.Ghost = at_copies T 𝓛 𝓜.mem 𝓡.returns κ₂ q₂ b src b' dst k xs in
     use3 𝓛 (raw (G.pre y₀)) (Copies-goes T 𝓛 𝓜.mem 𝓡.returns κ₂ q₂ b src b' dst k xs lives fk light)

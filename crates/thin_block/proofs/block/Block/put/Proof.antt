@@ -1,5 +1,5 @@
--- `put` writes an item to an empty slot. The proof splits this slot off the other slots, and joins
--- all slots again afterwards. It assumes the laws of the separation logic (`Logic`).
+-- `put` writes an item to an empty slot. The proof separates this slot from the other slots, and
+-- puts all slots back together afterwards. It assumes the laws of the separation logic (`Logic`).
 use Rattle.std.proofs.Common.{◌≡◌, ℕ, Some, None, ◌+◌, ◌*◌, ◌<◌, List, ◌∷◌, [], ◌++◌, length, refl, arith, w64}
 use lib.ListN.{set, length-set, get_or}
 use mir.Val.{Val, vint, vunit}
@@ -51,10 +51,10 @@ put_spec 𝓤 𝓛 𝓜 𝓡 wired T A LT LA g d dd met md =
     let here : ℕ = i * sz E + (o + 16) in
     takes_slot E ! b (o + 16) x.slots i within empty $
     use1 𝓛 (‵ (froom (layout T) b here)) (𝓛.laws.raw-room (layout T) b here) $
-    -- The empty slot has been split off the other slots. The proof context holds, in this order:
-    -- [memory for the item; the other slots; the header; the memory that holds the block's pointer;
-    -- three entries for the open borrow of the block; the other lifetime tokens; what the item
-    -- owns].
+    -- The empty slot has been separated from the other slots. The proof context holds, in this
+    -- order: [memory for the item; the other slots; the header; the memory that holds the block's
+    -- pointer; three entries for the open borrow of the block; the other lifetime tokens; what the
+    -- item owns].
     sets ! (of_opd ! (get ! refl)) refl good $
     assigns_last ! (of_opd ! (get ! refl)) (through ! refl (stop !)) (init ! 0 refl good) $
     continues ! 𝓜 𝓡 fn l 2 ((walk_of 𝓛 En₀ hs c).post z) $

@@ -63,10 +63,10 @@ put_and_store_spec 𝓤 𝓛 𝓜 𝓡 wired T A LT LA g d dd met md =
     slot_found E ! b o i fm refl ((tt, tt), (tt, tt)) $
     takes_slot E ! b (o + 16) x.slots i within said.1.1.1.0 $
     use1 𝓛 (‵ (froom (layout T) b here)) (𝓛.laws.raw-room (layout T) b here) $
-    -- The empty slot has been split off the other slots. The proof context holds, in this order:
-    -- [memory for the item; the other slots; the header; the memory that holds the block's pointer;
-    -- three entries for the open borrow of the block; the other lifetime tokens; what the item
-    -- owns].
+    -- The empty slot has been separated from the other slots. The proof context holds, in this
+    -- order: [memory for the item; the other slots; the header; the memory that holds the block's
+    -- pointer; three entries for the open borrow of the block; the other lifetime tokens; what the
+    -- item owns].
     sets ! (of_opd ! (get ! refl)) refl good $
     assigns ! (of_opd ! (get ! refl)) (through ! refl (stop !)) (init ! 0 refl good) $
     move ! (0 ∷ 8 ∷ []) $ use2 𝓛 (‵ (place (R E) (Some value) b here)) (el_in E 𝓛 b value here v) $

@@ -1,5 +1,5 @@
--- The ghost argument of `move_run_charging` is the cost of the new block after the items of the old
--- block have been moved to it.
+-- The ghost argument of `move_run_charging` is the cost of the new block (its counted blocks,
+-- copies and moves) after the items of the old block have been moved to it.
 use Rattle.thin_block.specs.Cost.{growing}
 use Rattle.thin_block.proofs.block.Block.remake.Given as goal
 

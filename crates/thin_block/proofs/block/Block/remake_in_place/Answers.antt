@@ -1,4 +1,4 @@
--- A block of the new capacity takes so few words that their number fits into a `usize`.
+-- The number of words that a block of the new capacity takes fits into a `usize`.
 use Rattle.std.proofs.Common.{arith}
 use Rattle.thin_block.proofs.SizesLemmas.{opened, fits_tells}
 use Rattle.thin_block.proofs.WordsLemmas.{words_told}

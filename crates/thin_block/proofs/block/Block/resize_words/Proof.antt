@@ -1,6 +1,6 @@
--- `resize_words` converts the items of a block into words, and moves the last words to the place of
--- the header. Then the block is one array of words. The function passes this array to `resized`,
--- and converts the array that it gets back into a block of items. The proof assumes the laws of the
+-- `resize_words` converts the items of a block into words, and moves the last words into the memory
+-- of the header, so that the block is one array of words. It passes this array to `resized`, and
+-- converts the returned array back into a block of items. The proof assumes the laws of the
 -- separation logic (`Logic`).
 use Rattle.std.proofs.Common.{◌≡◌, ℕ, ◌+◌, ◌-◌, ◌*◌, ◌^◌, ◌<◌, ◌≤◌, List, [], ◌∷◌, ◌++◌, length, true, refl, sym, ap, subst, ◌∙◌, arith, lit<, w64, Some, None, Option}
 use Rattle.std.specs.Prelude.{take, drop as rest}
@@ -189,8 +189,8 @@ resize_words_spec 𝓤 𝓛 𝓜 𝓡 wired T A m k LT LA fits_m fits_k g d dd m
     let slots_are' : cap ≡ length items + j' = omega arith in
     let row : x.slots ≡ full items ++ empty j = packed.row
     ∙ (λ i. full items ++ empty (let e : length x.slots - length items ≡ j = omega arith in e i)) in
-    -- The items make `count` words. The list `ws` contains all words, `ys` contains the last `k`
-    -- words, and `xs` contains the words before these.
+    -- The items make `count` words. The list `ws` contains all words, the list `ys` contains the
+    -- last `k` words, and the list `xs` contains the other words.
     let xss : List (List T.Denot) = first_chunks m count items in
     let ws : List W.row.Denot = words_made T m count items in
     let many : length ws ≡ count = words_long T m count items in
@@ -317,10 +317,10 @@ resize_words_spec 𝓤 𝓛 𝓜 𝓡 wired T A m k LT LA fits_m fits_k g d dd m
     use1 𝓛 (‵ (places Rw (full xs) b (o + 16)) ⊛ ‵ (part_at (Array Rw k) full_share ys b there) ⊛ ‵
     (places Rw (empty v) b (k * s + there))) (turn_out 𝓛 W b k sixteen o xs ys long count v parted)
     $ split3 ! $ move ! (3 ∷ []) $ split3 ! $ move ! (2 ∷ []) $ drop ! $
-    -- The last words have been split off the other words. The proof context holds, in this order:
-    -- [the lifetime tokens of `T` and `M`; the other words; the last words; the empty words; memory
-    -- for the header; the right to free the block; the `&` to the allocator; the lifetime tokens of
-    -- this `&`, of `A` and of `K`].
+    -- The last words have been separated from the other words. The proof context holds, in this
+    -- order: [the lifetime tokens of `T` and `M`; the other words; the last words; the empty words;
+    -- memory for the header; the right to free the block; the `&` to the allocator; the lifetime
+    -- tokens of this `&`, of `A` and of `K`].
     move ! (1 ∷ 10 ∷ []) $ join ! $ move ! (9 ∷ 0 ∷ []) $ join ! $
     move ! (3 ∷ 2 ∷ 4 ∷ 5 ∷ 6 ∷ 7 ∷ 8 ∷ 1 ∷ 0 ∷ []) $
     -- The entries of the proof context have been put into a new order: [the last words; the other
@@ -342,14 +342,14 @@ resize_words_spec 𝓤 𝓛 𝓜 𝓡 wired T A m k LT LA fits_m fits_k g d dd m
     move ! (1 ∷ []) $
     sets ! (of_opd ! (load ! (through ! refl (stop !)) (look ! 0 refl))) refl good $
     assigns ! (of_opd ! (get ! refl)) (through ! refl (stop !)) (init ! 4 refl good) $
-    -- The bytes of the last words have been copied to the place of the header. The proof context
+    -- The bytes of the last words have been copied into the memory of the header. The proof context
     -- holds, in this order: [these bytes at their old address; what the last words own; the other
-    -- words; the empty words; the same bytes in the place of the header; the right to free the
+    -- words; the empty words; the same bytes in the memory of the header; the right to free the
     -- block; the `&` to the allocator; the lifetime tokens].
     use1 𝓛 (‵ (froom (ty_array ω k) b there)) (𝓛.laws.at_room (ty_array ω k) b there u₁) $
     move ! (4 ∷ 1 ∷ []) $ use2 𝓛 (‵ (part_at (Array Rw k) full_share ys b o))
     (part_in 𝓛 (Array Rw k) refl full_share ys b o u₁) $
-    -- The last words are now in the place of the header. The proof context holds, in this order:
+    -- The last words are now in the memory of the header. The proof context holds, in this order:
     -- [the last words; uninitialized memory at their old address; the other words; the empty words;
     -- the right to free the block; the `&` to the allocator; the lifetime tokens].
     move ! (0 ∷ 2 ∷ 1 ∷ 3 ∷ 4 ∷ []) $ group ! 5 $
@@ -445,9 +445,9 @@ resize_words_spec 𝓤 𝓛 𝓜 𝓡 wired T A m k LT LA fits_m fits_k g d dd m
     is_u₂).0 in
     move ! (1 ∷ []) $
     -- The array that `resized` has returned has been split. The proof context holds, in this order:
-    -- [the bytes of the last words, in the place of the header; what the last words own; the memory
-    -- after the other words; the empty words; the right to free the block; the other words; the
-    -- lifetime tokens].
+    -- [the bytes of the last words, in the memory of the header; what the last words own; the
+    -- memory after the other words; the empty words; the right to free the block; the other words;
+    -- the lifetime tokens].
     sets ! (of_opd ! (load ! (through ! refl (stop !)) (look ! 0 refl))) refl good' $
     assigns ! (of_opd ! (get ! refl)) (through ! refl (stop !)) (init ! 2 refl good') $
     use1 𝓛 (‵ (froom (ty_array ω k) b' o')) (𝓛.laws.at_room (ty_array ω k) b' o' u₂) $
@@ -529,9 +529,9 @@ resize_words_spec 𝓤 𝓛 𝓜 𝓡 wired T A m k LT LA fits_m fits_k g d dd m
     is_u₂).0 in
     move ! (1 ∷ []) $
     -- `resized` has failed, and the old array has been split. The proof context holds, in this
-    -- order: [the bytes of the last words, in the place of the header; what the last words own; the
-    -- memory after the other words; the empty words; the right to free the block; the other words;
-    -- the lifetime tokens].
+    -- order: [the bytes of the last words, in the memory of the header; what the last words own;
+    -- the memory after the other words; the empty words; the right to free the block; the other
+    -- words; the lifetime tokens].
     sets ! (of_opd ! (load ! (through ! refl (stop !)) (look ! 0 refl))) refl good' $
     assigns ! (of_opd ! (get ! refl)) (through ! refl (stop !)) (init ! 2 refl good') $
     use1 𝓛 (‵ (froom (ty_array ω k) b o)) (𝓛.laws.at_room (ty_array ω k) b o u₂) $

@@ -1,5 +1,5 @@
--- `slice_mut` lends the items in adjacent slots as a slice, which may be empty. The proof splits
--- these slots off the other slots, and shows that the block is complete again after the borrow has
+-- `slice_mut` lends the items in adjacent slots as a slice, which may be empty. The proof separates
+-- these slots from the other slots, and shows that the block is complete again after the borrow has
 -- ended. It assumes the laws of the separation logic (`Logic`).
 use Rattle.std.proofs.Common.{◌≡◌, ℕ, Some, ◌+◌, ◌-◌, ◌*◌, ◌^◌, ◌<◌, ◌≤◌, List, ◌∷◌, [], ◌++◌, length, refl, sym, ap, subst, ◌∙◌, arith, w64}
 use lib.ListN.{length-map}
@@ -83,9 +83,9 @@ slice_mut_spec 𝓤 𝓛 𝓜 𝓡 wired T A LT LA g d dd met md =
     (‵ (places (R E) (full xs) b here) ⊛ ‵ (around E 𝓛 b (o + 16) x.slots i k))
     (run_out E 𝓛 b (o + 16) x.slots i k (omega arith) (full xs) items.1) $ split ! $
     use1 𝓛 (‵ (cells (mem (R E)) xs b here)) (to_cells E 𝓛 b xs here) $
-    -- The items of the slice have been split off the other slots. The proof context holds, in this
-    -- order: [the items; the other slots; the header; the memory that holds the block's pointer;
-    -- three entries for the open borrow of the block; the other lifetime tokens].
+    -- The items of the slice have been separated from the other slots. The proof context holds, in
+    -- this order: [the items; the other slots; the header; the memory that holds the block's
+    -- pointer; three entries for the open borrow of the block; the other lifetime tokens].
     let Rest : Fml = fsep (around E 𝓛 b (o + 16) x.slots i k)
     (Waiting E Y 𝓛 x b o r.ref_ptr.0 r.ref_ptr.1 at) in
     let Back : List T.Denot → Type 1 =

@@ -1,6 +1,6 @@
--- `slide_run` calls `slide` to move items through the empty slots next to them. The proof splits
--- the items and these empty slots off the other slots, and joins all slots again afterwards. It
--- assumes the laws of the separation logic (`Logic`).
+-- `slide_run` calls `slide` to move items through the empty slots next to them. The proof separates
+-- the items and these empty slots from the other slots, and puts all slots back together
+-- afterwards. It assumes the laws of the separation logic (`Logic`).
 use Rattle.std.proofs.Common.{◌≡◌, ℕ, Some, ◌+◌, ◌*◌, ◌^◌, ◌<◌, ◌≤◌, List, ◌∷◌, [], ◌++◌, length, refl, sym, ap, subst, ◌∙◌, arith, w64}
 use lib.ListN.{length-map}
 use lib.Dec.{T as Holds}
@@ -122,10 +122,10 @@ slide_run_spec 𝓤 𝓛 𝓜 𝓡 wired T A LT LA g d dd met md =
     let fits_k : Fits = omega arith in
     move ! (1 ∷ []) $ use1 𝓛 (‵ Before ⊛ ‵ p.Rest) p.out $ split ! $ move ! (7 ∷ []) $
     token_out ! 1 z.0.0.1 z.0.1.1 $ move ! (2 ∷ 0 ∷ []) $
-    -- The items and the empty slots next to them have been split off the other slots. The proof
-    -- context holds, in this order: [the items and the empty slots; the lifetime tokens of `T` and
-    -- `A`; the other slots; the header; the memory that holds the block's pointer; three entries
-    -- for the open borrow of the block].
+    -- The items and the empty slots next to them have been separated from the other slots. The
+    -- proof context holds, in this order: [the items and the empty slots; the lifetime tokens of
+    -- `T` and `A`; the other slots; the header; the memory that holds the block's pointer; three
+    -- entries for the open borrow of the block].
     let G = triple_of 𝓛 (slide.signature T) (slide.spec T 𝓛 𝓜.mem 𝓡.returns) in
     let y₀ : G.Ghost = (
       (

@@ -1,5 +1,5 @@
--- `slot_mut` lends the item in a filled slot. The proof splits this slot off the other slots, and
--- shows that the block is complete again after the borrow has ended. It assumes the laws of the
+-- `slot_mut` lends the item in a filled slot. The proof separates this slot from the other slots,
+-- and shows that the block is complete again after the borrow has ended. It assumes the laws of the
 -- separation logic (`Logic`).
 use Rattle.std.proofs.Common.{◌≡◌, ℕ, Some, None, ◌+◌, ◌*◌, ◌<◌, ◌∷◌, [], ◌++◌, length, refl, arith, w64}
 use lib.ListN.{get_or}
@@ -50,9 +50,9 @@ slot_mut_spec 𝓤 𝓛 𝓜 𝓡 wired T A LT LA g d dd met md =
     slot_found E ! b o i fm refl ((tt, tt), (tt, tt)) $
     let here : ℕ = i * sz E + (o + 16) in
     takes_slot E ! b (o + 16) x.slots i within item.1 $
-    -- The filled slot has been split off the other slots. The proof context holds, in this order:
-    -- [the item; the other slots; the header; the memory that holds the block's pointer; three
-    -- entries for the open borrow of the block; the other lifetime tokens].
+    -- The filled slot has been separated from the other slots. The proof context holds, in this
+    -- order: [the item; the other slots; the header; the memory that holds the block's pointer;
+    -- three entries for the open borrow of the block; the other lifetime tokens].
     sets_last ! (addr ! (through ! refl (stop !))) refl (tt, tt) $
     continues ! 𝓜 𝓡 fn l 2 ((walk_of 𝓛 En₀ hs c).post z) $
     sets ! (of_opd ! (get ! refl)) refl (tt, tt) $

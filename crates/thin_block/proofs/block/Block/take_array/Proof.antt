@@ -1,6 +1,6 @@
--- `take_array` moves the items out of adjacent slots as one array. The proof splits these slots off
--- the other slots, and joins all slots again afterwards. It assumes the laws of the separation
--- logic (`Logic`).
+-- `take_array` moves the items out of adjacent slots as one array. The proof separates these slots
+-- from the other slots, and puts all slots back together afterwards. It assumes the laws of the
+-- separation logic (`Logic`).
 use Rattle.std.proofs.Common.{◌≡◌, ℕ, Some, None, ◌+◌, ◌*◌, ◌≤◌, List, ◌∷◌, [], ◌++◌, length, refl, sym, ap, ◌∙◌, arith, w64}
 use lib.ListN.{length-map, length-replicate}
 use mir.Syntax.{ty_array}
@@ -73,10 +73,10 @@ take_array_spec 𝓤 𝓛 𝓜 𝓡 wired T A N LT LA fits_N g d dd met md =
     let good = (((array_at_laws 2 (R E) (param_laws 0 T LT) N).lawful 𝓛).typed xs (v ∷ [])
     is_v).0 in
     move ! (1 ∷ []) $
-    -- The items have been split off the other slots as one array. The proof context holds, in this
-    -- order: [the bytes of the array; what the array owns; the other slots; the header; the memory
-    -- that holds the block's pointer; three entries for the open borrow of the block; the other
-    -- lifetime tokens].
+    -- The items have been separated from the other slots as one array. The proof context holds, in
+    -- this order: [the bytes of the array; what the array owns; the other slots; the header; the
+    -- memory that holds the block's pointer; three entries for the open borrow of the block; the
+    -- other lifetime tokens].
     sets_last ! (of_opd ! (load ! (through ! refl (stop !)) (look ! 0 refl))) refl good $
     continues ! 𝓜 𝓡 fn l 2 ((walk_of 𝓛 En₀ hs c).post z) $
     sets ! (of_opd ! (get ! refl)) refl good $
