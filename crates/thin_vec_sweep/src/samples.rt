@@ -90,7 +90,7 @@ impl Sample for i32 {
 
     const LIMIT: usize = 2_305_843_009_213_693_946;
 
-    // Makes a negative item if `number` is odd, and a positive item if `number` is even.
+    // Negates the number if it is odd, so that the test items have both signs.
     fn nth<R: Abort>(_rt: &R, _ledger: &'static Ledger, number: u64) -> i32 {
         let magnitude = (number % 2_147_483_647) as i32;
         if number % 2 == 0 {
@@ -244,7 +244,7 @@ impl Sample for Counted {
     }
 }
 
-/// A list that is the item of another list. Cloning such an item makes one allocation request.
+/// A list that is an item of another list. Cloning such an item makes one allocation request.
 pub type Inner = ThinVec<u64, &'static Refusing<Global>>;
 
 impl Sample for Inner {
