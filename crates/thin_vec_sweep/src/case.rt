@@ -114,7 +114,7 @@ impl<T: Sample, G: Ruled> Case<T, G> {
         self.is_left_out
     }
 
-    /// Returns how many requests of the call are refused in turn, each in its own test case. If the
+    /// Returns how many requests of the call can be refused, each in a test case of its own. If the
     /// call was skipped, this number is 1, because the call takes no memory if its first request is
     /// refused.
     pub fn requests_in_turn(&self) -> u64 {

@@ -15,8 +15,8 @@ use std::process::Abort;
 use thin_testing::Refusing;
 use thin_vec::{Doubling, ThinVec, ThinVecError, thin_vec};
 
-/// A test that makes a list of one, two or three items using the macro `thin_vec!`, in the form
-/// `thin_vec![alloc => x, y]` or `thin_vec![in alloc; x, y]`.
+/// A test that makes a list of one, two or three items, using `thin_vec![alloc => x, y]` or
+/// `thin_vec![in alloc; x, y]`.
 pub struct Listed {}
 
 impl<T: Sample> Call<T, Doubling> for Listed {

@@ -216,8 +216,8 @@ impl<T: Sample> Call<T, Doubling> for WithCapacity {
     }
 }
 
-/// A test that makes a list of `k` equal items, for several numbers `k`. It uses the forms
-/// `thin_vec![alloc => x; k]` and `thin_vec![in alloc; x; k]` of the macro.
+/// A test that makes a list of `k` equal items, for several numbers `k`, using
+/// `thin_vec![alloc => x; k]` or `thin_vec![in alloc; x; k]`.
 pub struct Repeated {}
 
 impl<T: Sample> Call<T, Doubling> for Repeated {

@@ -96,7 +96,7 @@ impl<T: Sample, G: Ruled> Call<T, G> for ShrinkToFit {
     }
 }
 
-// The number of very large values that are tried as the number of additional items.
+// How many of the tried numbers of additional items are very large.
 const GREAT: usize = 6;
 
 // Returns the number of additional items to reserve. The `GREAT` highest values of `argument`
