@@ -15,8 +15,8 @@ use thin_vec::Growth;
 // Test items are made from numbers. The new item is made from this number.
 const FRESH: u64 = 70_000;
 
-// Before a test clones the iterator, it calls `next` or `next_back` several times. Returns how many
-// different numbers of calls are tried. On a list of at most 4 items, these numbers are
+// Before a test clones the iterator, it calls `next` or `next_back` a certain number of times.
+// Returns how many such numbers are tried. On a list of at most 4 items, they are
 // `0..=length + 2`.
 fn steps(shape: Shape) -> usize {
     shape.indices().saturating_add(2)
