@@ -22,8 +22,8 @@ fn form_of(order: Order) -> Form {
 }
 
 impl<T: Numbered<A>, A: Allocator + Copy, G: Ruled> Model<T, A, G> {
-    // Returns the capacity that the command needs before it clones items into the list. Returns 0 if
-    // the command clones no items into the list.
+    // Returns the capacity that the command needs before it clones items into the list. Returns 0
+    // if the command clones no items into the list.
     fn room_of_clones(&self, order: Order) -> usize {
         match order.kind {
             Kind::Resize => order.lower,
