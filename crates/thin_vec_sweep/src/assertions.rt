@@ -1,4 +1,4 @@
-//! Assertions for the sweeps. A sweep tests one call on many small lists. The message of a failed
+//! Assertions for the sweeps. A sweep tests one call on many lists. The message of a failed
 //! assertion contains an `At`, which says on which list and with which argument the call was made.
 use crate::ledger::{Counts, Ledger, count};
 use crate::samples::Sample;
@@ -67,9 +67,9 @@ pub fn assert_same_items<T: Sample, R: Abort>(rt: &R, at: &At, items: &[T], numb
     assert_same(rt, at, "first item that differs", difference, None);
 }
 
-/// If the ledger counts items of type `T`, asserts that exactly `items` items have not been
-/// dropped. Also asserts the number of allocated blocks: one for each item if items own blocks,
-/// plus one for the list if `capacity` is not 0.
+/// Asserts that exactly `items` items have not been dropped, if the ledger counts items of type
+/// `T`. Also checks the number of allocated blocks: one for each item if items own blocks, plus one
+/// for the list if `capacity` is not 0.
 pub fn assert_live<T: Sample, R: Abort>(
     rt: &R,
     at: &At,

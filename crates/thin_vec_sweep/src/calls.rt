@@ -1,5 +1,5 @@
-//! Groups of sweeps. A sweep tests one call on many small lists. Some groups accept every item
-//! type, and others only types that implement certain traits.
+//! Groups of sweeps. A sweep tests one call on many lists. Some groups accept every item type, and
+//! others only types that implement certain traits.
 pub mod arrays;
 pub mod clones;
 pub mod compared;
@@ -86,7 +86,7 @@ pub fn every_edit<T: Sample, G: Ruled, R: Abort>(rt: &R, scope: &Scope) {
     sweep::<TryTake, T, G, R>(rt, scope);
 }
 
-/// Tests calls that replace a range, and calls that append several items to spare capacity, on the
+/// Tests calls that replace a range, and calls that append items without growing the list, on the
 /// lists in `scope`.
 pub fn every_replacing<T: Sample, G: Ruled, R: Abort>(rt: &R, scope: &Scope) {
     sweep::<ReplaceRange, T, G, R>(rt, scope);
@@ -129,8 +129,8 @@ pub fn every_reading<T: Sample, G: Ruled, R: Abort>(rt: &R, scope: &Scope) {
     sweep::<IntoIterClone, T, G, R>(rt, scope);
 }
 
-/// Tests calls that make a list, such as `from_iter` and `collect`, and the method `extend` of the
-/// trait `Extend`. All tests use the growth rule `Doubling`.
+/// Tests the method `extend` of the trait `Extend`, and calls that make a list, such as `from_iter`
+/// and `collect`. All tests use the growth rule `Doubling`.
 pub fn every_making<T: Sample, R: Abort>(rt: &R, scope: &Scope) {
     sweep::<New, T, Doubling, R>(rt, scope);
     sweep::<WithCapacity, T, Doubling, R>(rt, scope);

@@ -1,5 +1,5 @@
 //! One test case of a sweep: a call on a list, and the expected result. Each item is made from a
-//! number, so the expected items are a `Vec` of numbers.
+//! number, so a `Vec` of numbers describes the expected items.
 use crate::assertions::{At, assert_live, assert_same, assert_same_item, assert_same_items};
 use crate::ledger::Ledger;
 use crate::samples::Sample;
@@ -114,9 +114,9 @@ impl<T: Sample, G: Ruled> Case<T, G> {
         self.is_left_out
     }
 
-    /// Returns the number of further test cases, in each of which one request of the call is
-    /// refused. If the call was skipped, this number is 1, because the call takes no memory if its
-    /// first request is refused.
+    /// Returns how many requests of the call can be refused, each in a test case of its own. If the
+    /// call was skipped, this number is 1, because the call takes no memory if its first request is
+    /// refused.
     pub fn requests_in_turn(&self) -> u64 {
         if self.is_left_out { 1 } else { self.requests }
     }
@@ -151,7 +151,7 @@ impl<T: Sample, G: Ruled> Case<T, G> {
     }
 
     /// Adds one to the expected number of allocation requests, and returns whether the allocator
-    /// grants the new request.
+    /// grants this request.
     pub fn granted(&mut self) -> bool {
         self.requests = self.requests.saturating_add(1);
         self.requests != self.at.refused
@@ -283,8 +283,8 @@ impl<T: Sample, G: Ruled> Case<T, G> {
         );
     }
 
-    /// Checks the list from which a call moves all items to another list. On success, the list must
-    /// be empty and keep its capacity. On failure, the list must be unchanged. `shape` and `first`
+    /// Checks the list from which a call moves all items to another list. On success, this list
+    /// must be empty and keep its capacity. On failure, it must be unchanged. `shape` and `first`
     /// describe the list before the call.
     pub fn assert_moved_from<R: Abort>(
         &self,
@@ -351,8 +351,8 @@ impl<T: Sample, G: Ruled> Case<T, G> {
         assert_live::<T, R>(rt, &self.at, self.ledger, self.items.len(), self.capacity);
     }
 
-    /// Counts the completed test case, and drops it. Then asserts that all items are dropped and
-    /// all blocks are freed.
+    /// Counts the completed test case, and drops it. Then asserts that all items have been dropped
+    /// and all blocks have been freed.
     pub fn end<R: Abort>(self, rt: &R) {
         let at = self.at;
         let ledger = self.ledger;

@@ -18,16 +18,16 @@ use std::alloc::Global;
 use std::process::Abort;
 use thin_vec::Doubling;
 
-// Runs the sweep of `resize` on two kinds of empty lists, and checks the counts. Without spare
-// capacity, adding `k` items makes `k` allocation requests: one for the block, and one for each of
-// the `k - 1` clones. (The last new item is the passed value itself.) There is one case without a
-// refusal, and one case for each refused request, but at most 50 cases in total.
+// Checks the counts of the sweep of `resize` on two empty lists. On the list of capacity 0, adding
+// `k` items makes `k` allocation requests: one for the block, and one for each of the `k - 1`
+// clones. (The last new item is the passed value itself.) For each `k`, there is one case without a
+// refusal, and one case for each refused request, but no more than 50 cases.
 //
-// The tested numbers of new items are 0 (twice), 1 to 9, 17, and 100. On an empty list of capacity
-// 0, there are 2 + (2 + .. + 10) + 18 + 50 = 124 cases. In (1 + .. + 9) + 17 + 49 = 111 of these
-// cases, a request is refused. On an empty list of capacity 1, adding one item makes no request, so
-// there are 123 cases, with 110 refusals. Each case makes ten comparisons: one of the return value,
-// seven by `check`, and two by `end`.
+// The tested values of `k` are 0 (twice), 1 to 9, 17, and 100. On the list of capacity 0, there are
+// 2 + (2 + .. + 10) + 18 + 50 = 124 cases. In (1 + .. + 9) + 17 + 49 = 111 of these cases, a
+// request is refused. On the list of capacity 1, adding one item makes no request, so there are 123
+// cases, with 110 refusals. Each case makes ten comparisons: one of the return value, seven in
+// `check`, and two in `end`.
 #[test]
 fn small_sweep_runs_each_case(rt: HostRuntime) {
     let ledger = Ledger::new(&rt, rt.alloc());
@@ -120,7 +120,7 @@ fn each_call_makes_expected_number_of_comparisons(rt: HostRuntime) {
     assert_eq!(rt; counts, COUNTS);
 }
 
-// Returns a test case whose list has the capacity 3 and contains two items of type `Counted`.
+// Returns a test case whose list has capacity 3 and contains two items of type `Counted`.
 fn two_items<R: Abort>(rt: &R, alloc: Global) -> Case<Counted, Doubling> {
     let ledger = Ledger::new(rt, alloc);
     let shape = Shape {

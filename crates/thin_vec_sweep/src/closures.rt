@@ -7,7 +7,7 @@ use crate::shapes::Cases;
 use std::cell::Cell;
 use std::process::Abort;
 
-/// The numbers of patterns for lists of 0 to 6 items. A pattern says for each item whether it is
+/// The number of patterns for each length of a list from 0 to 6. A pattern says which items are
 /// kept, so a list of `k` items has `2^k` patterns.
 pub const PATTERNS: Cases = [1, 2, 4, 8, 16, 32, 64];
 

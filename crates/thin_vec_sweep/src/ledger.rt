@@ -22,7 +22,7 @@ pub struct Ledger {
     pub alloc: Refusing<Global>,
     /// The allocator for values that are not under test.
     pub global: Global,
-    /// The number of items of type `Counted` that have been made but not been dropped yet.
+    /// The number of items of type `Counted` that have been made but have not been dropped yet.
     pub standing: Cell<u64>,
     /// The number of clones of `Counted` items since the last call of `begin`.
     pub clones: Cell<u64>,
@@ -64,8 +64,8 @@ impl Ledger {
         self.hinted.set(0);
     }
 
-    /// Counts a completed test case. Also counts a refusal if the request with the number `refused`
-    /// is among the `requests` requests of the test case.
+    /// Counts a completed test case that made `requests` allocation requests. If the request with
+    /// the number `refused` is one of them, also counts a refusal.
     pub fn count_case(&self, refused: u64, requests: u64) {
         count(&self.counts.cases);
         if 0 < refused && refused <= requests {

@@ -1,7 +1,7 @@
-//! Tests of the methods of `ThinVec`: sweeps and runs. A sweep tests one call on many small lists,
-//! and compares the results with expected values: a `Vec` for the items, and a number for the
-//! capacity. A run executes many commands on one list, and compares the results with a model, which
-//! is a simple program that specifies the commands (`runs.rt`).
+//! Tests of the methods of `ThinVec`: sweeps and runs. A sweep tests one call on many lists, and
+//! compares the results with expected values: a `Vec` for the items, and a number for the capacity.
+//! A run executes many commands on one list, and compares the results with a model, which is a
+//! simple program that specifies the commands (`runs.rt`).
 //!
 //! A sweep makes its call on lists of many lengths and spare capacities (`shapes.rt`), with several
 //! arguments. For each list and argument, the sweep makes the call first with enough memory, and
@@ -23,7 +23,7 @@
 //!    step if the call makes no request.
 //! 3. Call `begin`, which resets the counts and says which request the allocator refuses.
 //! 4. Test the preconditions of the call, and make the call.
-//! 5. Call `assert_answer`, and make the same edit of `case.items`.
+//! 5. Call `assert_answer`, and edit `case.items` as the call edits the list.
 //!
 //! A call that appends the items of a slice implements `AppendsSlice` (`calls/slices.rt`) instead
 //! of `Call`, and a call that makes a second list implements `MakesSecond` (`calls/seconds.rt`).

@@ -24,15 +24,15 @@ pub trait Sample: Clone + Drop + PartialEq {
     const SIZE: usize;
 
     /// The greatest possible capacity of a list of such items, computed by hand. A block consists
-    /// of 16 bytes and the items. Its size is rounded up to its alignment, and must be at most
-    /// `isize::MAX`. The alignment of a block is the alignment of an item, but at least 8.
+    /// of a header of 16 bytes and the items. Its size, rounded up to its alignment, must be at
+    /// most `isize::MAX`. The alignment of a block is the alignment of an item, but at least 8.
     const LIMIT: usize;
 
     /// Makes an item from `number`.
     fn nth<R: Abort>(rt: &R, ledger: &'static Ledger, number: u64) -> Self;
 
     /// Returns the number from which the item was made. If the type has too few values for all
-    /// numbers, returns only what the item preserves of this number.
+    /// numbers, returns only the part of this number that the item preserves.
     fn kept_number(&self) -> u64;
 
     /// Returns what `kept_number` must return for the item that is made from `number`.
@@ -90,7 +90,7 @@ impl Sample for i32 {
 
     const LIMIT: usize = 2_305_843_009_213_693_946;
 
-    // Makes a negative item if `number` is odd, and a positive item if `number` is even.
+    // Negates the number if it is odd, so that the test items have both signs.
     fn nth<R: Abort>(_rt: &R, _ledger: &'static Ledger, number: u64) -> i32 {
         let magnitude = (number % 2_147_483_647) as i32;
         if number % 2 == 0 {
@@ -244,7 +244,7 @@ impl Sample for Counted {
     }
 }
 
-/// A list that is the item of another list. Cloning such an item makes one allocation request.
+/// A list that is an item of another list. Cloning such an item makes one allocation request.
 pub type Inner = ThinVec<u64, &'static Refusing<Global>>;
 
 impl Sample for Inner {

@@ -8,14 +8,14 @@ pub struct Shape {
     pub spare: usize,
 }
 
-/// The number of list shapes that the tests use, without the two longest shapes.
+/// The number of list shapes that the tests use, not counting the two longest shapes.
 pub const SHAPES: usize = 110;
 
-/// The number of list shapes that have at most 40 items. Their numbers are `0..SHORT`.
+/// The number of shapes of lists with at most 40 items. These shapes have the numbers `0..SHORT`.
 pub const SHORT: usize = 107;
 
-/// The number of the first list shape that has 100,000 items. Only some tests use the two shapes of
-/// this length.
+/// The number of the first shape of a list with 100,000 items. Only some tests use the two shapes
+/// of this length.
 pub const LONGEST: usize = SHAPES;
 
 /// The number of all list shapes, including the two longest shapes.
@@ -31,9 +31,8 @@ const MANY: [usize; 2] = [1, 300];
 
 const MOST: [usize; 2] = [1, 100_000];
 
-/// For each number of items from 0 to 6, the number of test cases of a call on that many items. On
-/// a list of at most 6 items, all these test cases are run, either on the whole list or on each
-/// range.
+/// The number of test cases of a call on `k` items, for each `k` from 0 to 6. On a list of at most
+/// 6 items, all these test cases are run, either on the whole list or on each range.
 pub type Cases = [usize; 7];
 
 // The number of ranges that are tried on a list of more than 6 items.
@@ -55,9 +54,9 @@ impl Ranged {
 }
 
 impl Shape {
-    /// Returns the shape with the number `number`. In order, the shapes have 0 to 4 items and 0 to
-    /// 4 empty slots; 0 to 40 items and 0 or 1 empty slots; 2,000 to 10,000 items (three shapes);
-    /// and 100,000 items (two shapes).
+    /// Returns the shape with the number `number`. The first 25 shapes have 0 to 4 items and 0 to 4
+    /// empty slots. The next 82 shapes have 0 to 40 items and 0 or 1 empty slots. The last five
+    /// shapes have 2,000, 5,000, 10,000, 100,000 and 100,000 items.
     pub fn nth(number: usize) -> Shape {
         if number < 25 {
             return Shape {
@@ -110,7 +109,7 @@ impl Shape {
         if self.is_long() { 2 } else { 50 }
     }
 
-    /// Returns the number of indices, from 0 to the length, that a test tries.
+    /// Returns how many indices a test tries. Each of them is between 0 and the length, inclusive.
     pub fn indices(self) -> usize {
         if self.is_small() {
             self.length.saturating_add(1)
@@ -144,8 +143,8 @@ impl Shape {
         self.alone(if self.is_long() { 2 } else { 20 })
     }
 
-    /// Returns the number of test cases of a call on a range of the list. If the list has at most 6
-    /// items, all cases are tried on all ranges.
+    /// Returns the number of test cases of a call that acts on a range, for all tried ranges
+    /// together. If the list has at most 6 items, all cases are tried on all ranges.
     pub fn ranged_cases(self, cases: &Cases) -> usize {
         if self.length >= cases.len() {
             return self.some().saturating_mul(RANGES);
@@ -214,7 +213,7 @@ impl Shape {
         }
     }
 
-    /// Returns one of the numbers of new items that a test tries. `number` selects one of them.
+    /// Returns one of the numbers of new items that a test tries. `number` selects which one.
     pub fn count(self, number: usize) -> usize {
         let count = if self.is_small() {
             FEW.get(number)

@@ -84,7 +84,8 @@ fn readings_and_copies<T: Sample + Copy, R: Abort>(rt: &R, alloc: Global)
     every_copying::<T, R>(rt, &all::<T, R>(rt, alloc));
 }
 
-// Tests calls that replace a range of a list of `T`, and calls that append items to spare capacity.
+// Tests calls that replace a range of a list of `T`, and calls that append items without growing
+// the list.
 fn replacings<T: Sample, G: Ruled, R: Abort>(rt: &R, alloc: Global) {
     let scope = short(rt, alloc);
     every_replacing::<T, G, R>(rt, &scope);

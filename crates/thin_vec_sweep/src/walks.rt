@@ -2,8 +2,8 @@
 //! `next_back`. This file also determines the item that each step must yield.
 use crate::shapes::Cases;
 
-/// For each number of items `k` from 0 to 6, the number of walks of at most `k + 1` steps. Each
-/// step is from the front or from the back.
+/// The number of walks of at most `k + 1` steps over `k` items, for each `k` from 0 to 6. Each step
+/// takes an item from the front or from the back.
 pub const WALKS: Cases = [3, 7, 15, 31, 63, 127, 255];
 
 // Four sequences of steps over more than 6 items. Each bit stands for one step: 1 is a step from
@@ -50,14 +50,14 @@ impl Walk {
         }
     }
 
-    /// Returns whether the step with the number `step` is from the back.
+    /// Returns whether the step with the number `step` takes an item from the back.
     pub fn is_back(self, step: usize) -> bool {
         self.ends >> (step % 64) & 1 == 1
     }
 }
 
-/// Returns one of the five numbers of steps that are tried over `count` items, if `count` is
-/// greater than 6. `number`, from 0 to 4, selects one of them.
+/// Returns how many steps are taken over `count` items, if `count` is greater than 6. Five numbers
+/// of steps are tried, and `number` (0 to 4) selects one of them.
 pub fn some_steps(count: usize, number: usize) -> usize {
     match number {
         0 => count / 2,
@@ -84,9 +84,9 @@ impl Remaining {
         }
     }
 
-    /// Removes the item that the next step must yield from the range, and returns the number of
-    /// this item. The step is from the back if `is_back` is true. `numbers` contains the numbers of
-    /// all items.
+    /// Removes from the range the item that the next step must yield, and returns the number from
+    /// which this item was made. The step is from the back if `is_back` is true. `numbers` contains
+    /// the number of each item.
     pub fn take(&mut self, is_back: bool, numbers: &[u64]) -> Option<u64> {
         if self.start >= self.end {
             return None;
@@ -101,7 +101,7 @@ impl Remaining {
         numbers.get(place).copied()
     }
 
-    /// Returns the numbers of the items that remain.
+    /// Returns the remaining items, as the numbers from which they were made.
     pub fn of(self, numbers: &[u64]) -> &[u64] {
         numbers.get(self.start..self.end).unwrap_or(&[])
     }

@@ -1,5 +1,5 @@
-//! Tests of the macro `thin_vec!` with items that are written out, and of the conversions between
-//! lists and arrays.
+//! Tests of the macro `thin_vec!` with a list of items, as in `thin_vec![alloc => x, y]`, and of
+//! the conversions between lists and arrays.
 ghost use Rattle.std.specs.Mem.{type_size};
 ghost use Rattle.std.specs.Prelude.{◌*◌, ◌<◌, ◌^◌};
 
@@ -15,7 +15,7 @@ use std::process::Abort;
 use thin_testing::Refusing;
 use thin_vec::{Doubling, ThinVec, ThinVecError, thin_vec};
 
-/// A test that makes a list of one, two or three items by `thin_vec![alloc => x, y]` or by
+/// A test that makes a list of one, two or three items, using `thin_vec![alloc => x, y]` or
 /// `thin_vec![in alloc; x, y]`.
 pub struct Listed {}
 
@@ -111,8 +111,8 @@ fn arrays<T: Sample, const N: usize, R: Abort>(rt: &R, ledger: &'static Ledger)
     }
 }
 
-// Runs one test case. If the list has `N` items, it must become an array, and then a list again.
-// Otherwise, `into_array` must return the list unchanged.
+// Runs one test case. If the list has `N` items, it is converted to an array and then back to a
+// list. Otherwise, `into_array` must return the list unchanged.
 fn array<T: Sample, const N: usize, R: Abort>(rt: &R, ledger: &'static Ledger, at: At)
     requires small { N * type_size T.row < 2 ^ 63 }
 {

@@ -9,7 +9,7 @@ use std::process::Abort;
 use thin_testing::Ruled;
 use thin_vec::ThinVecError;
 
-// Test items are made from numbers. This is the number of the first new item.
+// Test items are made from numbers. This is the smallest number from which a new item is made.
 const FRESH: u64 = 80_000;
 
 /// A test that calls `resize` with several new lengths. Some of them are at most the old length,
@@ -101,7 +101,7 @@ fn add_from_last<T: Sample, G: Ruled, R: Abort>(rt: &R, case: &mut Case<T, G>, m
     case.items.append(&mut new).expect(rt, "memory");
 }
 
-// For each length of a range, from 0 to 6, the number of test cases on that range. Each range is
+// The number of test cases on a range, for each length of the range from 0 to 6. Each range is
 // tried once.
 const EACH_RANGE: Cases = [1; 7];
 

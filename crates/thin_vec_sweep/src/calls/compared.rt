@@ -1,5 +1,5 @@
-//! Tests of comparing, hashing and printing lists. Each result must be the same as for the slice of
-//! the items.
+//! Tests of comparing, hashing and printing lists. Each result must be the same as for a slice of
+//! the same items.
 use crate::assertions::{At, assert_same};
 use crate::case::{Case, List, filled};
 use crate::samples::Sample;

@@ -10,13 +10,13 @@ use std::process::Abort;
 use thin_testing::{Refusing, Ruled};
 use thin_vec::{Doubling, Rejected, ThinVec, ThinVecError, thin_vec};
 
-// Test items are made from numbers. This is the number of the new item.
+// Test items are made from numbers. Each new item is made from this number.
 const FRESH: u64 = 70_000;
 
-// The allocator of the lists under test, which can refuse a request.
+// The allocator of the lists under test. It can refuse one request.
 type Lender = &'static Refusing<Global>;
 
-/// Calls `into_vec` and `into_boxed_slice`.
+/// A test that calls `into_vec` or `into_boxed_slice`.
 pub struct IntoOthers {}
 
 impl<T: Sample, G: Ruled> Call<T, G> for IntoOthers {
@@ -216,8 +216,8 @@ impl<T: Sample> Call<T, Doubling> for WithCapacity {
     }
 }
 
-/// A test that makes a list of `k` equal items by `thin_vec![alloc => x; k]` and by
-/// `thin_vec![in alloc; x; k]`, for several numbers `k`.
+/// A test that makes a list of `k` equal items, for several numbers `k`, using
+/// `thin_vec![alloc => x; k]` or `thin_vec![in alloc; x; k]`.
 pub struct Repeated {}
 
 impl<T: Sample> Call<T, Doubling> for Repeated {

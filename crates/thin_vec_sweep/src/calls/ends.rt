@@ -10,14 +10,15 @@ use std::process::Abort;
 use thin_testing::Ruled;
 use thin_vec::Rejected;
 
-// Test items are made from numbers. This is the number of the new item.
+// Test items are made from numbers. The new item is made from this number.
 const FRESH: u64 = 70_000;
 
-// Test items are made from numbers. This is the number of the item that is passed to `push_mut` or
-// `insert_mut`. After the call, the test replaces this item by the item with the number `FRESH`.
+// Test items are made from numbers. The item that is passed to `push_mut` or `insert_mut` is made
+// from this number. After the call, the test replaces this item with the item that is made from
+// `FRESH`.
 const PASSED: u64 = 71_000;
 
-/// Calls `push`.
+/// A test that calls `push`.
 pub struct Push {}
 
 impl<T: Sample, G: Ruled> Call<T, G> for Push {
@@ -55,9 +56,9 @@ impl<T: Sample, G: Ruled> Call<T, G> for PushMut {
     }
 }
 
-// Checks the result of `push_mut` or `insert_mut` at `index`. If the call succeeded, `hand` must be
-// the item that was passed to the call, because the test has swapped it with another item. If the
-// call failed, the call must have returned the passed item.
+// Checks the result of `push_mut` or `insert_mut`. If the call succeeded, the test has moved the
+// added item from the list to `hand`, so `hand` must be this item. If the call failed, it must have
+// returned the item.
 fn lent<T: Sample, G: Ruled, R: Abort>(
     rt: &R,
     case: &mut Case<T, G>,

@@ -14,8 +14,8 @@ use std::process::Abort;
 use thin_testing::Ruled;
 use thin_vec::{Doubling, ThinVec};
 
-// Test items are made from numbers. This is the number of the first item that the iterator yields.
-// Each further item is made from the next lower number.
+// Test items are made from numbers. The first item that an iterator yields is made from this
+// number. Each further item is made from the next lower number.
 const FRESH: u64 = 800_000;
 
 // The number of size hints that are tried.
@@ -117,8 +117,8 @@ pub fn fill<T: Sample, G: Ruled, R: Abort>(
     Ending::done(count)
 }
 
-/// Returns the numbers of the items that the iterator yields at the positions
-/// `before..before + count`.
+/// Returns the items that the iterator yields at the positions `before..before + count`, as the
+/// numbers from which they are made.
 pub fn coming<R: Abort>(
     rt: &R,
     ledger: &'static Ledger,
@@ -133,7 +133,8 @@ pub fn coming<R: Abort>(
     numbers
 }
 
-/// Asserts that `next` and `size_hint` of the iterator were called as many times as `ending` says.
+/// Asserts that `next` and `size_hint` of the iterator were called the number of times that
+/// `ending` specifies.
 pub fn assert_iterator_calls<T: Sample, G: Ruled, R: Abort>(
     rt: &R,
     case: &Case<T, G>,
@@ -150,8 +151,9 @@ pub fn assert_iterator_calls<T: Sample, G: Ruled, R: Abort>(
     );
 }
 
-/// Asserts that a failed call returned the item for which it found no room, if there is one, and
-/// the iterator with all its remaining items. The iterator had `count` items before the call.
+/// Asserts that a failed call returned the iterator with all its remaining items. If the call had
+/// taken an item and found no room for it, the call must have returned this item, too. The iterator
+/// had `count` items before the call.
 pub fn back<T: Sample, G: Ruled, R: Abort>(
     rt: &R,
     case: &Case<T, G>,
@@ -171,8 +173,8 @@ pub fn back<T: Sample, G: Ruled, R: Abort>(
     case.assert_items(rt, items.as_slice(), numbers.as_slice());
 }
 
-/// Returns an iterator over `count` items. They are made from `FRESH` and the next lower numbers,
-/// in this order. The lower bound of the iterator's size hint is `lower`.
+/// Returns an iterator over `count` items. The items are made from the numbers `FRESH`,
+/// `FRESH - 1`, and so on. The lower bound of the iterator's size hint is `lower`.
 pub fn claims<T: Sample, G: Ruled, R: Abort>(
     rt: &R,
     case: &Case<T, G>,
@@ -233,8 +235,8 @@ impl<T: Sample, G: Ruled> Call<T, G> for ExtendAsTrait {
     }
 }
 
-// Asserts that the call succeeded if `ending` says so, and failed otherwise. `is_done` says whether
-// the call succeeded.
+// Asserts that the call succeeded if and only if `ending` expects it to succeed. `is_done` says
+// whether the call succeeded.
 fn done<T: Sample, G: Ruled, R: Abort>(rt: &R, case: &Case<T, G>, ending: &Ending, is_done: bool) {
     assert_same(
         rt,

@@ -11,7 +11,7 @@ use std::mem;
 use std::process::Abort;
 use thin_testing::Ruled;
 
-// Test items are made from numbers. This is the number of the new item.
+// Test items are made from numbers. The new item is made from this number.
 const FRESH: u64 = 70_000;
 
 /// A test that calls `retain`. The closure only reads the items.
@@ -38,8 +38,8 @@ impl<T: Sample, G: Ruled> Call<T, G> for Retain {
     }
 }
 
-// Returns the numbers of the items that remain in a list of `count` items after `retain`. `pattern`
-// determines which items the closure keeps.
+// Returns the items that remain in a list of `count` items after `retain`, as the numbers from
+// which they were made. `pattern` determines which items the closure keeps.
 fn kept<R: Abort>(rt: &R, global: Global, count: usize, pattern: usize) -> Vec<u64, Global> {
     let mut left = Vec::new(global);
     for index in 0..count {
@@ -50,8 +50,8 @@ fn kept<R: Abort>(rt: &R, global: Global, count: usize, pattern: usize) -> Vec<u
     left
 }
 
-/// A test that calls `retain_mut`. The closure replaces the first item by a new item, and each
-/// later item by the item before it.
+/// A test that calls `retain_mut`. The closure replaces the first item with a new item, and each
+/// later item with the item before it.
 pub struct RetainMut {}
 
 impl<T: Sample, G: Ruled> Call<T, G> for RetainMut {
@@ -79,9 +79,9 @@ impl<T: Sample, G: Ruled> Call<T, G> for RetainMut {
     }
 }
 
-// Returns the numbers of the items that remain after the test `RetainMut` on `count` items. The
-// closure replaces the first item by a new item, and each later item by the item before it.
-// `pattern` determines which indices are kept.
+// Returns the items that remain after the test `RetainMut` on `count` items, as the numbers from
+// which they were made. The closure replaces the first item with a new item, and each later item
+// with the item before it. `pattern` determines which indices are kept.
 fn moved_up<R: Abort>(rt: &R, global: Global, count: usize, pattern: usize) -> Vec<u64, Global> {
     let mut left = Vec::new(global);
     let mut number = FRESH;
@@ -96,7 +96,7 @@ fn moved_up<R: Abort>(rt: &R, global: Global, count: usize, pattern: usize) -> V
 
 /// A test that calls `pop_if`. The closure owns a new item, and swaps it with the last item of the
 /// list. The old last item is then dropped together with the closure. The closure returns `true` in
-/// one case, and `false` in the other.
+/// one test case, and `false` in the other.
 pub struct PopIf {}
 
 impl<T: Sample, G: Ruled> Call<T, G> for PopIf {
@@ -125,9 +125,9 @@ impl<T: Sample, G: Ruled> Call<T, G> for PopIf {
     }
 }
 
-// Updates `items`, the numbers of the expected items, for the test `PopIf`. Replaces the last
-// number, if there is one, by the number of the new item. If `goes` is true, removes and returns
-// the new number.
+// Updates the expected items for the test `PopIf`. Replaces the last number in `items`, if there is
+// one, with the number from which the new item is made. If `goes` is true, removes and returns the
+// new number.
 fn popped<R: Abort>(rt: &R, items: &mut Vec<u64, Global>, goes: bool) -> Option<u64> {
     let _last = items.pop()?;
     if goes {
@@ -168,9 +168,9 @@ impl<T: Sample, G: Ruled> Call<T, G> for DedupBy {
     }
 }
 
-// Returns the numbers of the items that remain after the test `DedupBy` on `count` items. The
-// closure swaps each item with the last item that was kept. Then `pattern` determines whether the
-// item at the later index is removed.
+// Returns the items that remain after the test `DedupBy` on `count` items, as the numbers from
+// which they were made. The closure swaps each item with the last item that was kept. Then
+// `pattern` determines whether the item at the later index is removed.
 fn exchanged<R: Abort>(rt: &R, global: Global, count: usize, pattern: usize) -> Vec<u64, Global> {
     let mut left = Vec::new(global);
     let mut last = number_at(0);
@@ -187,9 +187,9 @@ fn exchanged<R: Abort>(rt: &R, global: Global, count: usize, pattern: usize) -> 
     left
 }
 
-/// A test that calls `dedup_by_key`, which compares the key of each item with the key of the last
-/// kept item. The first key is always 1. The second key is 1 if the item is to be removed, and 0
-/// otherwise. The test detects keys that are not dropped.
+/// A test that calls `dedup_by_key`. In each comparison, the key of the later item is 1. The key of
+/// the kept item is 1 if the later item is to be removed, and 0 otherwise. The test also detects
+/// keys that are not dropped.
 pub struct DedupByKey {}
 
 impl<T: Sample, G: Ruled> Call<T, G> for DedupByKey {
@@ -225,8 +225,9 @@ impl<T: Sample, G: Ruled> Call<T, G> for DedupByKey {
     }
 }
 
-// Returns the numbers of the items that remain after the test `DedupByKey` on `count` items. The
-// first item always remains, and `pattern` determines which later items remain.
+// Returns the items that remain after the test `DedupByKey` on `count` items, as the numbers from
+// which they were made. The first item always remains, and `pattern` determines which later items
+// remain.
 fn first_kept<R: Abort>(rt: &R, global: Global, count: usize, pattern: usize) -> Vec<u64, Global> {
     let mut left = Vec::new(global);
     for index in 0..count {
@@ -266,7 +267,7 @@ impl<T: Sample + PartialEq, G: Ruled> Call<T, G> for Dedup {
     }
 }
 
-// Replaces the item at `index` by the item that is made from `number`.
+// Replaces the item at `index` with the item that is made from `number`.
 fn write<T: Sample, G: Ruled, R: Abort>(rt: &R, case: &mut Case<T, G>, index: usize, number: u64) {
     if index < case.list.len() {
         case.list[index] = case.item(rt, number);

@@ -12,11 +12,12 @@ use std::process::Abort;
 use thin_testing::Ruled;
 use thin_vec::Growth;
 
-// Test items are made from numbers. This is the number of the new item.
+// Test items are made from numbers. The new item is made from this number.
 const FRESH: u64 = 70_000;
 
-// Returns how many different numbers of steps are tried before the iterator is cloned. On a list of
-// at most 4 items, these numbers are `0..=length + 2`.
+// Before a test clones the iterator, it calls `next` or `next_back` a certain number of times.
+// Returns how many such numbers are tried. On a list of at most 4 items, they are
+// `0..=length + 2`.
 fn steps(shape: Shape) -> usize {
     shape.indices().saturating_add(2)
 }
@@ -75,7 +76,7 @@ fn remains<T: Sample, A: Allocator, G: Growth, R: Abort>(
 }
 
 // Calls `next` and `next_back` in the order that `walk` specifies, and checks each item that is
-// yielded. Returns the numbers of the items that remain.
+// yielded. Returns the remaining items, as the numbers from which they were made.
 fn step_through<'a, T: Sample, A: Allocator, G: Growth, R: Abort>(
     rt: &R,
     at: &At,

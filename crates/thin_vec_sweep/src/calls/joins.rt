@@ -7,11 +7,11 @@ use crate::sweep::Call;
 use std::process::Abort;
 use thin_testing::Ruled;
 
-// Test items are made from numbers. This is the number of the first item of the second list.
+// Test items are made from numbers. The first item of the second list is made from this number.
 const FRESH: u64 = 80_000;
 
-/// A test that calls `append` with second lists of several lengths. Each second list is tried
-/// without spare capacity, and with one empty slot.
+/// A test that calls `append` with a second list of various lengths. Each length is tried without
+/// spare capacity, and with one empty slot.
 pub struct Append {}
 
 impl<T: Sample, G: Ruled> Call<T, G> for Append {

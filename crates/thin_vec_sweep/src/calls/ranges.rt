@@ -34,7 +34,8 @@ impl<T: Sample, G: Ruled> Call<T, G> for Drained {
     }
 }
 
-// Returns the numbers of the items outside `range` in a list of `length` items.
+// Returns the items outside `range` in a list of `length` items, as the numbers from which they
+// were made.
 fn outside<R: Abort>(rt: &R, global: Global, range: Ranged, length: usize) -> Vec<u64, Global> {
     let mut left = Vec::new(global);
     for index in 0..length {
@@ -79,7 +80,7 @@ fn remains<T: Sample, A: Allocator, G: Growth, R: Abort>(
 }
 
 // Calls `next` and `next_back` in the order that `walk` specifies, and checks each item that is
-// yielded. Returns the numbers of the items that remain.
+// yielded. Returns the remaining items, as the numbers from which they were made.
 fn step_through<'a, T: Sample, A: Allocator, G: Growth, R: Abort>(
     rt: &R,
     at: &At,
@@ -100,8 +101,9 @@ fn step_through<'a, T: Sample, A: Allocator, G: Growth, R: Abort>(
     remaining.of(numbers)
 }
 
-// For each length `k` of a range, from 0 to 6, the number of test cases of `extract_if`. The test
-// calls `next` up to `k + 1` times, and tries all `2^k` combinations of the closure's results.
+// The number of test cases of `extract_if` on a range, for each length `k` of the range from 0 to
+// 6. The test calls `next` up to `k + 1` times, and tries all `2^k` combinations of the closure's
+// results.
 const EXTRACTIONS: Cases = [2, 6, 16, 40, 96, 224, 512];
 
 /// A test that calls `extract_if` on several ranges, with several closures. The test calls `next` a
@@ -130,13 +132,14 @@ impl<T: Sample, G: Ruled> Call<T, G> for Extracted {
 struct Extraction {
     // The number of times `next` is called.
     calls: usize,
-    // The number that determines the results of the closure (its pattern).
+    // The number that determines what the closure returns for each item.
     pattern: usize,
     // The number of times the closure must be called.
     asked: usize,
-    // The numbers of the items that `next` must yield.
+    // The items that `next` must yield, as the numbers from which they are made.
     given: Vec<u64, Global>,
-    // The numbers of the items that the list must contain after the `ExtractIf` is dropped.
+    // The items that the list must contain after the `ExtractIf` is dropped, as the numbers from
+    // which they are made.
     left: Vec<u64, Global>,
 }
 
@@ -185,9 +188,8 @@ fn calls_and_pattern(width: usize, number: usize) -> (usize, usize) {
     (number % calls, number / calls)
 }
 
-// Calls `extract_if`, and then calls `next` as many times as `wanted` says. Checks each item that
-// is yielded. The closure keeps an item that is passed to it out of order, whatever the pattern
-// says.
+// Calls `extract_if`, and then calls `next` the number of times that `wanted` specifies. Checks
+// each item that is yielded. The closure never removes an item that is passed to it out of order.
 fn extract<T: Sample, A: Allocator, G: Growth, R: Abort>(
     rt: &R,
     at: &At,
@@ -221,8 +223,8 @@ fn extract<T: Sample, A: Allocator, G: Growth, R: Abort>(
 // numbers `n`.
 const BOUNDS: usize = 19;
 
-/// A test that calls `bounds` with all pairs of certain bounds. They are `Unbounded`, and inclusive
-/// and exclusive bounds at the numbers 0 to 4, at the length, at the length plus 1, and at the two
+/// A test that calls `bounds` with each pair of 19 bounds: `Unbounded`, and inclusive and exclusive
+/// bounds at nine numbers. These numbers are 0 to 4, the length, the length plus 1, and the two
 /// greatest values of `usize`.
 pub struct Bounds {}
 

@@ -9,7 +9,7 @@ use std::mem;
 use std::process::Abort;
 use thin_testing::Ruled;
 
-// Test items are made from numbers. This is the number of the new item.
+// Test items are made from numbers. The new item is made from this number.
 const FRESH: u64 = 70_000;
 
 /// A test that calls `len`, `is_empty`, `has_capacity` and `allocator`.
@@ -30,7 +30,7 @@ impl<T: Sample, G: Ruled> Call<T, G> for Read {
     }
 }
 
-/// A test that reads the items at several indices by `list[index]`.
+/// A test that reads items at several indices, using `list[index]`.
 pub struct Index {}
 
 impl<T: Sample, G: Ruled> Call<T, G> for Index {
@@ -50,7 +50,7 @@ impl<T: Sample, G: Ruled> Call<T, G> for Index {
     }
 }
 
-/// Iterates over `&list`.
+/// A test that iterates over `&list`.
 pub struct Iterate {}
 
 impl<T: Sample, G: Ruled> Call<T, G> for Iterate {
@@ -130,7 +130,7 @@ impl<T: Sample, G: Ruled> Call<T, G> for IndexMut {
 }
 
 /// A test that calls `get_mut` with several indices, some of which are out of bounds. If the call
-/// returns a reference, the test replaces the item.
+/// returns a reference, the test replaces the item at this index.
 pub struct GetMut {}
 
 impl<T: Sample, G: Ruled> Call<T, G> for GetMut {
@@ -163,8 +163,8 @@ impl<T: Sample, G: Ruled> Call<T, G> for GetMut {
     }
 }
 
-/// A test that iterates over `&mut list`. It replaces the first item by a new item, and each later
-/// item by the item before it.
+/// A test that iterates over `&mut list`. It replaces the first item with a new item, and each
+/// later item with the item before it.
 pub struct IterateMut {}
 
 impl<T: Sample, G: Ruled> Call<T, G> for IterateMut {

@@ -1,5 +1,5 @@
 //! Tests of `replace_range`, `replace_range_from_copies` and `replace_range_from_list`, which
-//! replace the items of a range by other items.
+//! replace the items of a range with other items.
 use crate::case::{Case, Verdict, filled, numbers, put, source};
 use crate::closures::number_at;
 use crate::samples::Sample;
@@ -8,18 +8,17 @@ use crate::sweep::Call;
 use std::process::Abort;
 use thin_testing::Ruled;
 
-// Test items are made from numbers. This is the number of the first new item.
+// Test items are made from numbers. The first new item is made from this number.
 const FRESH: u64 = 80_000;
 
-// Each range is replaced in this number of test cases, which differ in the number of new items.
+// The number of test cases on each range. They differ in the number of new items.
 const COUNTS: usize = 7;
 
-// For each length of a range, from 0 to 6, the number of test cases on that range.
+// The number of test cases on a range, for each length of the range from 0 to 6.
 const EACH_COUNT: Cases = [COUNTS; 7];
 
-// Returns the number of new items in the test case `range.number`. This number is at most the
-// length of the range plus 9. On a list of more than 40 items, only the cases 0 and 1 are run, in
-// which the list becomes longer.
+// Returns the number of new items in the test case `range.number`. On a list of more than 40 items,
+// only the cases 0 and 1 are run. In these two cases, the list becomes longer.
 fn count_for(range: Ranged) -> usize {
     let width = range.width();
     match range.number % COUNTS {
@@ -33,8 +32,8 @@ fn count_for(range: Ranged) -> usize {
     }
 }
 
-// If the call must succeed, replaces the range in `case.items` by `count` consecutive numbers,
-// beginning with `FRESH`.
+// If the call must succeed, replaces the range in `case.items` with the `count` consecutive numbers
+// from `FRESH` onward.
 fn replaced<T: Sample, G: Ruled, R: Abort>(
     rt: &R,
     case: &mut Case<T, G>,

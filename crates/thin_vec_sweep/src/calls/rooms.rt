@@ -81,7 +81,7 @@ impl<T: Sample, G: Ruled> Call<T, G> for ShrinkTo {
     }
 }
 
-/// Calls `shrink_to_fit`.
+/// A test that calls `shrink_to_fit`.
 pub struct ShrinkToFit {}
 
 impl<T: Sample, G: Ruled> Call<T, G> for ShrinkToFit {
@@ -96,12 +96,12 @@ impl<T: Sample, G: Ruled> Call<T, G> for ShrinkToFit {
     }
 }
 
-// The number of very large values that are tried as the number of additional items.
+// How many of the tried numbers of additional items are very large.
 const GREAT: usize = 6;
 
-// Returns the number of additional items to reserve. The last `GREAT` arguments select very large
-// numbers. The first of these numbers leads to the greatest possible capacity. The second leads to
-// a capacity that is too great by one.
+// Returns the number of additional items to reserve. The `GREAT` highest values of `argument`
+// select very large numbers. The first of these numbers leads to the greatest possible capacity.
+// The second leads to a capacity that is too great by one.
 fn additional<T: Sample>(shape: Shape, argument: usize) -> usize {
     let most = T::LIMIT.saturating_sub(shape.length);
     match argument.checked_sub(shape.counts()) {

@@ -18,7 +18,7 @@ pub trait MakesSecond<T: Sample, G: Ruled> {
     /// Whether the call clones each item.
     const CLONES: bool = false;
 
-    /// Makes a new list with the items of `list` by the call under test. If the call takes an
+    /// Makes a new list with the items of `list`, using the call under test. If the call takes an
     /// allocator, `alloc` is passed to it.
     fn second(
         list: &List<T, G>,

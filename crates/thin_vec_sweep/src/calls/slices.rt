@@ -10,7 +10,7 @@ use std::process::Abort;
 use thin_testing::Ruled;
 use thin_vec::ThinVecError;
 
-// Test items are made from numbers. This is the number of the first new item.
+// Test items are made from numbers. The first new item is made from this number.
 const FRESH: u64 = 80_000;
 
 /// A call that appends the items of a slice to a list of `T` with the growth rule `G`.
@@ -168,7 +168,7 @@ impl<G: Ruled> AppendsSlice<u8, G> for WriteSome {
     }
 }
 
-/// Calls `write_all` and `flush`.
+/// A call of `write_all`, followed by a call of `flush`.
 pub struct WriteAll {}
 
 impl<G: Ruled> AppendsSlice<u8, G> for WriteAll {

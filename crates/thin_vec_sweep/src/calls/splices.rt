@@ -1,6 +1,6 @@
 //! Tests of `splice`. They take some items of the replaced range from the `Splice`, and then call
-//! `finish`, which moves the new items into the list. The lower bound of the iterator's size hint
-//! is too small, exact, or too large.
+//! `finish`, which moves the new items into the list. The size hint of the new items has a lower
+//! bound that is too small, exact, or too large.
 ghost use Rattle.std.specs.Iterator.{IsFinite};
 ghost use Rattle.std.specs.Prelude.{◌≤◌, length};
 ghost use Rattle.thin_vec.specs.Edits.Splice.{SpliceKeeps};
@@ -26,21 +26,21 @@ const HINTS: usize = 5;
 // 5. This is the number of combinations.
 const FILLS: usize = 30;
 
-// The number of short sequences of steps: no step, one step from the front, and one step from the
-// back. Each of these sequences is tried with each size hint and each number of new items.
+// The number of short sequences of calls: no call, one call of `next`, and one call of `next_back`.
+// Each of these sequences is tried with each size hint and each number of new items.
 const SHORT_WALKS: usize = 3;
 
-// For each length of a range, from 0 to 6, the number of test cases. Each sequence of at most one
-// step is combined with each size hint and each number of new items. Each longer sequence is tried
-// once. On an empty range, there are only 3 test cases with a step.
+// The number of test cases on a range, for each length of the range from 0 to 6. Each sequence of
+// at most one call of `next` or `next_back` is combined with each size hint and each number of new
+// items. Each longer sequence is tried once. On an empty range, only 3 test cases make such a call.
 const AFTER_STEPS: Cases = [33, 94, 102, 118, 150, 214, 342];
 
-// For each length of a range, from 0 to 6, the number of test cases without steps: one for each
-// combination of a size hint and a number of new items.
+// The number of test cases that take no item before `finish`, for each length of a range from 0 to
+// 6. There is one case for each combination of a size hint and a number of new items.
 const AT_ONCE: Cases = [FILLS; 7];
 
 // Returns the number of test cases for each length of a range. Spare capacity affects only
-// `finish`, so no steps are taken on lists with spare capacity.
+// `finish`, so the cases with spare capacity call `finish` without taking an item first.
 fn cases(shape: Shape) -> Cases {
     if shape.spare == 0 {
         AFTER_STEPS
@@ -49,14 +49,14 @@ fn cases(shape: Shape) -> Cases {
     }
 }
 
-// One test case of `splice`: the replaced range, the steps before the call of `finish`, and the
-// properties of the iterator over the new items.
+// One test case of `splice`: the replaced range, the calls of `next` and `next_back` before
+// `finish`, and the properties of the iterator over the new items.
 #[derive(Drop)]
 struct Plan {
     range: Ranged,
     // The numbers from which the items in the range are made.
     numbers: Vec<u64, Global>,
-    // The steps before `finish`.
+    // The calls of `next` and `next_back` before `finish`.
     walk: Walk,
     // The number of new items that the iterator yields.
     count: usize,
@@ -65,9 +65,9 @@ struct Plan {
 }
 
 impl Plan {
-    // Returns the plan of the test case `argument`. When `finish` reads the size hint, some new
-    // items have already been moved into the range. One of the tried size hints is exact at that
-    // moment.
+    // Returns the test case with the number `argument`. When `finish` reads the size hint, it may
+    // already have moved new items into the range. One of the size hints is chosen so that it is
+    // exact at that moment.
     fn new<T: Sample, G: Ruled, R: Abort>(rt: &R, case: &Case<T, G>, argument: usize) -> Plan {
         let shape = case.at.shape;
         let range = shape.ranged_case(&cases(shape), argument);
@@ -92,8 +92,8 @@ impl Plan {
     }
 }
 
-// Returns the number of the walk (the sequence of steps) in the test case `number`, on a list of at
-// most 6 items.
+// Returns the number of the walk in the test case `number`, on a list of at most 6 items. A walk is
+// a sequence of calls of `next` and `next_back`.
 fn few_steps(number: usize) -> usize {
     let crossed = SHORT_WALKS.saturating_mul(FILLS);
     match number.checked_sub(crossed) {
@@ -102,8 +102,9 @@ fn few_steps(number: usize) -> usize {
     }
 }
 
-// Returns the number of new items on a list of more than 6 items. Depending on `number`, this is
-// more than twice the length of the range, exactly this length, one less, or 0.
+// Returns the number of new items for a list of more than 6 items. Depending on `number`, it is
+// greater than twice the length of the range, equal to this length, one less than this length, or
+// 0.
 fn many(width: usize, number: usize) -> usize {
     match number {
         0 => width.saturating_mul(2).saturating_add(9),
@@ -114,7 +115,7 @@ fn many(width: usize, number: usize) -> usize {
 }
 
 // Returns a lower bound for the size hint of an iterator over `all` items. `number` selects one of
-// several bounds. When `finish` reads the size hint, `left` items remain.
+// several bounds. When `finish` reads the size hint, `left` items remain in the iterator.
 fn hint(number: usize, left: usize, all: usize) -> usize {
     match number {
         0 => 0,
@@ -226,19 +227,19 @@ impl<T: Sample, G: Ruled> Call<T, G> for Spliced {
     }
 }
 
-// The result of the steps: the first step that yielded a wrong item, and the number of remaining
-// items.
+// The result of the calls of `next` and `next_back`: the first call that yielded a wrong item, and
+// the number of remaining items.
 #[derive(Drop, Debug, PartialEq)]
 struct Walked {
-    // The number of the first step that yielded a wrong item, or `None` if there is no such step.
+    // The index of the first call that yielded a wrong item, or `None` if there is no such call.
     wrong: Option<usize>,
     // The number of remaining items of the range, as returned by `len` and by `size_hint`.
     remaining: (usize, (usize, Option<usize>)),
 }
 
 impl Walked {
-    // Returns the expected result of the steps: no wrong item, and the right number of remaining
-    // items.
+    // Returns the expected result of the calls of `next` and `next_back`: no wrong item, and the
+    // right number of remaining items.
     fn due(plan: &Plan) -> Walked {
         let width = plan.numbers.len();
         let count = width.saturating_sub(plan.walk.steps);
@@ -249,8 +250,8 @@ impl Walked {
     }
 }
 
-// Calls `splice` on the range of `plan`, takes the steps of `plan` by `next` and `next_back`, and
-// calls `finish`.
+// Calls `splice` on the range of `plan`, then calls `next` and `next_back` in the order that `plan`
+// specifies, and finally calls `finish`.
 fn splice<T: Sample, A: Allocator, G: Growth, I: Iterator<Item = T>>(
     list: &mut ThinVec<T, A, G>,
     plan: &Plan,
@@ -267,8 +268,8 @@ fn splice<T: Sample, A: Allocator, G: Growth, I: Iterator<Item = T>>(
     (walked, splice.finish(alloc))
 }
 
-// Calls `next` and `next_back` as `plan` says. Returns the first step that yielded a wrong item,
-// and the number of remaining items.
+// Calls `next` and `next_back` in the order that `plan` specifies. Returns the first call that
+// yielded a wrong item, and the number of remaining items.
 fn walk<T: Sample, A: Allocator, G: Growth, I>(
     splice: &mut Splice<'_, I, T, A, G>,
     plan: &Plan,

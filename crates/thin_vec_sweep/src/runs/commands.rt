@@ -118,7 +118,8 @@ fn random_runs_get_each_reply_of_each_command(rt: HostRuntime) {
     assert_eq!(rt; replies.len(), REPLIES.lines().count());
 }
 
-// Returns a command without steps, described by plain numbers (an `Order`).
+// Returns an `Order`, which describes a command with plain numbers. The command has no steps (calls
+// of `next` and `next_back`).
 const fn plain(kind: Kind, at: usize, to: usize, count: usize, lower: usize, number: u64) -> Order {
     Order {
         kind,
@@ -132,7 +133,7 @@ const fn plain(kind: Kind, at: usize, to: usize, count: usize, lower: usize, num
 }
 
 // Returns the commands of a run whose results were computed by hand. Each `Order` describes a
-// command by plain numbers.
+// command with plain numbers.
 fn worked_orders() -> [Order; 6] {
     let walked = Order {
         steps: 1,
@@ -159,8 +160,8 @@ const WORKED: [(&[u64], usize); 6] = [
 ];
 
 // Returns the commands of a run whose results were computed by hand for the growth rule
-// `PowerBytes`. A block of 32, 64 or 128 bytes contains a header and has room for 4, 12 or 28 items
-// of 4 bytes.
+// `PowerBytes`. A block of 32, 64 or 128 bytes consists of a header and 4, 12 or 28 slots of 4
+// bytes, respectively.
 fn worked_powers() -> [Order; 9] {
     [
         plain(Kind::Push, 0, 0, 0, 0, 1),
@@ -187,7 +188,7 @@ const WORKED_POWERS: [(&[u32], usize); 9] = [
     (&[1, 7, 8, 9, 6], 20),
 ];
 
-// Returns whether the list has the items and the capacity that `worked` contains.
+// Returns whether the list has the items and the capacity in `worked`.
 fn is_worked<T: Eq, A: Allocator, G: Growth>(
     list: &ThinVec<T, A, G>,
     worked: &(&[T], usize),
@@ -197,7 +198,8 @@ fn is_worked<T: Eq, A: Allocator, G: Growth>(
 }
 
 // Executes each command both on a `ThinVec` and on a model. After each command, asserts that the
-// two agree, and that the list has the items and the capacity that `worked` contains.
+// two agree, and that the list has the items and the capacity in `worked`, which were computed by
+// hand.
 fn assert_worked<'a, T: Numbered<Lender<'a>>, G: Ruled, J: Judge<T>, R: Abort>(
     rt: &R,
     alloc: Lender<'a>,
@@ -238,7 +240,7 @@ fn run_under_power_bytes_reaches_states_computed_by_hand(rt: HostRuntime) {
 }
 
 // Executes a command of this kind on an empty list and on `model`. Returns the variant of the
-// reply, or `Never` if the list and `model` differ in the reply or after the command.
+// reply, or `Never` if the two replies differ, or if the list and `model` differ after the command.
 fn form_against_model<'a, R: Abort>(
     rt: &R,
     alloc: Lender<'a>,

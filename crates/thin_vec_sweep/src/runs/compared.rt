@@ -1,5 +1,5 @@
-//! Executes a command both on a `ThinVec`, by the runner, and on a model, and compares the results.
-//! The model is a simple program that specifies the commands.
+//! The runner executes a command on a `ThinVec`, a model executes the same command, and the two
+//! results are compared. The model is a simple program that specifies the commands.
 use crate::runs::model::Model;
 use crate::runs::orders::{Order, command_of};
 use crate::runs::samples::{Lender, Numbered};
@@ -28,9 +28,9 @@ fn has_its_blocks<'a, T: Numbered<Lender<'a>>, G: Ruled>(
     blocks == alloc.blocks()
 }
 
-// Executes a command on a `ThinVec`, by the runner. The allocator refuses the request with the
-// number `nth`, or no request if `nth` is 0. Returns the parts of the reply, and whether a request
-// was refused.
+// Lets the runner execute a command on a `ThinVec`. The allocator refuses the request with the
+// number `nth`, or no request if `nth` is 0. Returns the reply, divided into its parts, and whether
+// a request was refused.
 fn shown_by_runner<'a, T: Numbered<Lender<'a>>, G: Ruled, J: Judge<T>>(
     alloc: Lender<'a>,
     list: &mut ThinVec<T, Lender<'a>, G>,
@@ -46,10 +46,10 @@ fn shown_by_runner<'a, T: Numbered<Lender<'a>>, G: Ruled, J: Judge<T>>(
     Ok((show(alloc, reply)?, refused))
 }
 
-/// Executes a command both by the runner and on the model. While the runner executes the command,
-/// the allocator refuses the request with the number `nth`, or no request if `nth` is 0. Returns
-/// the variant of the reply (`Never` if the runner and the model differ), and the cause if the
-/// command failed.
+/// Lets the runner and the model execute the same command. While the runner executes it, the
+/// allocator refuses the request with the number `nth`, or no request if `nth` is 0. Returns the
+/// variant of the reply (`Never` if the runner and the model differ), and the cause if the command
+/// failed.
 pub fn both<'a, T: Numbered<Lender<'a>>, G: Ruled, J: Judge<T>>(
     alloc: Lender<'a>,
     list: &mut ThinVec<T, Lender<'a>, G>,

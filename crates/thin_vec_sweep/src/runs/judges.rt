@@ -68,9 +68,9 @@ impl<T> Judge<T> for Digits {
     }
 }
 
-/// A judge that picks the even numbers, and considers two numbers equal if their halves, rounded
-/// down, are equal. The judge also changes items: `keep` and `key` halve the item, and `same` sets
-/// the kept item to 0.
+/// A judge that decides `true` for even numbers, and considers `x` and `y` equal if
+/// `x / 2 == y / 2`. The judge also changes items: `keep` and `key` halve the item, rounding down,
+/// and `same` sets the kept item to 0.
 #[derive(Clone, Copy)]
 pub struct Evens;
 

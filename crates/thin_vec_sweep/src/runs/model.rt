@@ -1,5 +1,5 @@
-//! The model: a short and slow program that specifies the commands. The model represents a list by
-//! a `Vec` of its items and by its capacity.
+//! The model: a short and slow program that specifies the commands. The model represents a list as
+//! a `Vec` of its items and a number, the capacity.
 mod filling;
 mod refused;
 
@@ -26,7 +26,8 @@ pub struct Model<T, A: Allocator, G> {
     rule: PhantomData<G>,
 }
 
-// Takes the steps of `order` on an iterator over `items`, and returns what each step yields.
+// Calls `next` and `next_back` of an iterator over `items`, in the order that the steps of `order`
+// specify. Returns the results of these calls.
 fn walked<T: Drop, A: Allocator + Copy>(
     alloc: A,
     items: Vec<T, A>,
@@ -45,7 +46,7 @@ fn walked<T: Drop, A: Allocator + Copy>(
 }
 
 // Returns the start and the end of the range that a command replaces in a list of `len` items, and
-// the number of the new items.
+// the number of new items.
 fn range_of(len: usize, order: Order) -> (usize, usize, usize) {
     let at = order.at;
     match order.kind {
@@ -153,8 +154,8 @@ impl<T: Numbered<A>, A: Allocator + Copy, G: Ruled> Model<T, A, G> {
         mem::replace(&mut self.items, Vec::new(alloc))
     }
 
-    // Replaces the items `start..end` by `new`, and returns the replaced items. Fails if the range
-    // is out of bounds.
+    // Replaces the items `start..end` with `new`, and returns the replaced items. Fails if the
+    // range is out of bounds.
     fn replace(
         &mut self,
         start: usize,
@@ -203,7 +204,7 @@ impl<T: Numbered<A>, A: Allocator + Copy, G: Ruled> Model<T, A, G> {
         }
     }
 
-    // Executes a command that is equivalent to replacing a range by new items, and returns the
+    // Executes a command that is equivalent to replacing a range with new items, and returns the
     // reply.
     fn exchange(&mut self, alloc: A, order: Order) -> Result<Shown<T, A>, AllocError> {
         let len = self.len();

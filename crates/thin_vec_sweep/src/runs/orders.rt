@@ -1,4 +1,4 @@
-//! Orders, which describe commands by plain numbers. The commands for the runner are made from
+//! Orders, which describe commands with plain numbers. The commands for the runner are made from
 //! orders.
 use crate::runs::samples::{Numbered, put, samples};
 use std::alloc::{AllocError, Allocator};
@@ -64,21 +64,21 @@ pub const KINDS: [Kind; 25] = [
     Kind::Splice,
 ];
 
-/// A description of a command by plain numbers. The runner executes a command that is made from the
-/// order, and the model executes the order itself.
+/// A description of a command with plain numbers. The runner executes a command that is made from
+/// the order, and the model executes the order itself.
 #[derive(Clone, Copy, Debug)]
 pub struct Order {
     pub kind: Kind,
-    /// The index of the command, or the start of its range.
+    /// The index at which the command acts, or the start of the range on which it acts.
     pub at: usize,
-    /// The end of the range of the command.
+    /// The end of the range on which the command acts.
     pub to: usize,
     /// The number of new items, or the number of calls of `next`.
     pub count: usize,
     /// The lower bound of a size hint, the number of items for which room is reserved, or the new
     /// length for `resize`.
     pub lower: usize,
-    /// The number of steps over the range.
+    /// The number of steps. Each step takes an item from the front or from the back of the range.
     pub steps: usize,
     /// The number from which the first new item is made. Its binary digits, beginning with the last
     /// digit, also determine the steps over the range: 1 is a step from the front, and 0 is a step

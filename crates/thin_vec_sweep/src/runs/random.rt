@@ -183,8 +183,8 @@ impl Tally {
     }
 }
 
-// Asserts that `ThinVec` and the model agree on `RUNS` runs, whose seeds begin with `first`.
-// Returns the counts of the executed commands.
+// Asserts that `ThinVec` and the model agree on `RUNS` runs, with consecutive seeds from `first`
+// onward. Returns the counts of the executed commands.
 fn assert_all_from<'a, T: Numbered<Lender<'a>>, G: Ruled, R: Abort>(
     rt: &R,
     alloc: Lender<'a>,

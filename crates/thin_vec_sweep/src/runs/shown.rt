@@ -22,13 +22,13 @@ pub enum Form {
     Never,
 }
 
-/// The index or the range of a command, and the steps over the range. If the command has only an
-/// index, all fields except `start` are 0.
+/// The index or the range on which a command acts, and the steps over the range. If the command has
+/// only an index, all fields except `start` are 0.
 #[derive(Clone, Copy, PartialEq, Eq)]
 pub struct Place {
-    /// The index of the command, or the start of its range.
+    /// The index at which the command acts, or the start of the range on which it acts.
     pub start: usize,
-    /// The end of the range of the command.
+    /// The end of the range on which the command acts.
     pub end: usize,
     /// The lower bound of the size hint, or the number of calls of `next`.
     pub claim: usize,
@@ -71,7 +71,8 @@ pub struct Shown<T, A: Allocator> {
     pub form: Form,
     /// The cause of the failure, if the command failed.
     pub cause: Option<ThinVecError>,
-    /// The items that the steps yielded, or the item that was removed or replaced.
+    /// The results of the calls of `next` and `next_back`, or the item that was removed or
+    /// replaced.
     pub answers: Vec<Option<T>, A>,
     /// The items of the list in the reply, or the items that a failed command returned.
     pub items: Vec<T, A>,
@@ -81,7 +82,7 @@ pub struct Shown<T, A: Allocator> {
     /// Whether the failed command had taken an item from the iterator and found no room for it. In
     /// `items`, this item follows the items that had been stored in a temporary vector.
     pub in_hand: bool,
-    /// The index or the range of the returned command, if the reply is `OutOfRange`.
+    /// If the reply is `OutOfRange`, the index or the range that is out of bounds.
     pub place: Place,
 }
 
@@ -114,7 +115,8 @@ impl<T: Drop, A: Allocator + Copy> Shown<T, A> {
         }
     }
 
-    /// Returns the parts of a reply that contains the results of steps, or a removed item.
+    /// Returns the parts of a reply that contains the results of calls of `next` and `next_back`,
+    /// or an item that was removed or replaced.
     pub fn with_answers(form: Form, alloc: A, answers: Vec<Option<T>, A>) -> Shown<T, A> {
         Shown {
             answers,
@@ -145,7 +147,8 @@ impl<T: Eq, A: Allocator> Shown<T, A> {
     }
 }
 
-// Returns the index or the range of `command`, and its steps.
+// Returns the index or the range on which `command` acts, and its steps (calls of `next` and
+// `next_back`).
 fn place_of<T, A: Allocator, G: Growth>(command: &Command<T, A, G>) -> Place {
     match command {
         Command::Insert(at, _)
@@ -235,7 +238,7 @@ fn show_returned<T: Drop, A: Allocator + Copy>(
     Ok(Shown::with_items(Form::Returned, Some(cause), alloc, items, 0))
 }
 
-// Returns the parts of a reply that returns `command`, whose index or range is out of bounds.
+// Returns the parts of the reply to `command`, whose index or range is out of bounds.
 fn show_out_of_range<T: Drop, A: Allocator + Copy, G: Growth>(
     alloc: A,
     command: Command<T, A, G>,

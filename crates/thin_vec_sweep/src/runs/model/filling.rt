@@ -9,8 +9,8 @@ use thin_testing::Ruled;
 use thin_vec::ThinVecError;
 
 impl<T: Numbered<A>, A: Allocator + Copy, G: Ruled> Model<T, A, G> {
-    // Adapts an `Extend` so that it describes a splice at the end of the list, without steps.
-    // Returns a `Splice` unchanged.
+    // If `order` is an `Extend`, returns it with an empty range at the end of the list, and without
+    // steps. Otherwise, returns `order` unchanged.
     pub(crate) fn placed(&self, order: Order) -> Order {
         let len = self.items.len();
         if order.kind == Kind::Extend {
@@ -44,7 +44,7 @@ impl<T: Numbered<A>, A: Allocator + Copy, G: Ruled> Model<T, A, G> {
         made
     }
 
-    // Replaces the range by the first `placed` new items of `order`. Returns the reply, which
+    // Replaces the range with the first `placed` new items of `order`. Returns the reply, which
     // contains the remaining new items.
     fn fill(
         &mut self,
@@ -89,11 +89,13 @@ impl<T: Numbered<A>, A: Allocator + Copy, G: Ruled> Model<T, A, G> {
     // was found after it was taken from the iterator. An item is held back if it was stored in a
     // temporary vector.
     //
-    // If there are no items after the range, no item is held back. Also, either an item is in hand
-    // and the list is full, or no item is in hand and no new item was moved into the list.
+    // If there are no items after the range, the reply is possible if no item is held back and one
+    // of two conditions holds: an item is in hand and the list is full, or no item is in hand and
+    // no new item was moved into the list.
     //
-    // If there are items after the range, new items have filled the range. Also, an item is in
-    // hand, or no item is held back, or the iterator has yielded all its items.
+    // If there are items after the range, the reply is possible if new items have filled the range
+    // and one of three conditions holds: an item is in hand, no item is held back, or the iterator
+    // has yielded all its items.
     fn may_stop(&self, order: Order, given: &Shown<T, A>) -> bool {
         let placed = order.count.saturating_sub(given.items.len());
         if order.to == self.items.len() {

@@ -9,7 +9,7 @@ use std::alloc::{AllocError, Allocator};
 use thin_testing::Ruled;
 use thin_vec::ThinVecError;
 
-// Returns `Refused` if this is a possible reply to the command, and `Never` otherwise.
+// Returns `Refused` if `Refused` is a possible reply to the command, and `Never` otherwise.
 fn form_of(order: Order) -> Form {
     let may_be = match order.kind {
         Kind::Drain | Kind::Splice => order.steps > 0,
@@ -22,8 +22,8 @@ fn form_of(order: Order) -> Form {
 }
 
 impl<T: Numbered<A>, A: Allocator + Copy, G: Ruled> Model<T, A, G> {
-    // Returns the least capacity that the list has when the command begins to clone items into it.
-    // Returns 0 if the command clones no items into the list.
+    // Returns the capacity that the command needs before it clones items into the list. Returns 0
+    // if the command clones no items into the list.
     fn room_of_clones(&self, order: Order) -> usize {
         match order.kind {
             Kind::Resize => order.lower,
