@@ -1,4 +1,5 @@
-//! The iterator `Hinted`. Its size hint may claim more or fewer items than it yields.
+//! The iterator `Hinted`. Its size hint may claim that more or fewer items are left than the
+//! iterator actually yields.
 ghost use Rattle.std.specs.Prelude.{◌≡◌, IfSome, None};
 ghost use Rattle.std.specs.Iterator.{UpTo};
 ghost use Rattle.std.specs.Iterator.Runs.{YieldsInOrder};
