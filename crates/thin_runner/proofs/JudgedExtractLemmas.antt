@@ -158,7 +158,7 @@ charged (suc gone) m k c =
 
 -- The state of an `extract_if` between two calls of `next`.
 pub record Stand (T : Type 0) : Type 0 where
-  -- The verdicts on the items that have not been tested yet.
+  -- The verdicts on the items that have not been tested so far, computed in advance.
   pub left : Verdicts T
   -- The items before the range, followed by the items of the range that have been kept so far.
   pub front : List T

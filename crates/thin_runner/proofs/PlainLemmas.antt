@@ -108,14 +108,14 @@ module _ {T : Type 0} where
         r.shorter less ∙ sym (ap (λ n. take k xs ++ replicate n x) none ∙ append-nil (take k xs))
   ]
 
-  -- If the empty range at the end of the list `xs` is replaced by `ys`, the result is `xs ++ ys`.
+  -- If the empty range at the end of the list `xs` is replaced with `ys`, the result is `xs ++ ys`.
   at-end : (xs ys : List T) → (take (length xs) xs ++ ys) ++ drop (length xs) xs ≡ xs ++ ys
   at-end xs ys =
       ap (λ (t : List T). (t ++ ys) ++ drop (length xs) xs) (take-length xs)
       ∙ (ap (λ (t : List T). (xs ++ ys) ++ t) (drop-length xs) ∙ append-nil (xs ++ ys))
 
-  -- Suppose that only the items `a..b` of the list `xs` are tested. Then the result is `xs`, with
-  -- this range replaced with the items of the range that are kept.
+  -- Suppose that only the items `a..b` of the list `xs` are tested. Then the kept items of this
+  -- range replace the range, and all other items of `xs` are unchanged.
   left-around : (xs : List T) (a b : ℕ) (verdicts : Verdicts T)
       → left_at true (around xs a b verdicts) ≡ replace_range xs a b (left_at true verdicts)
   left-around xs a b verdicts =

@@ -179,7 +179,8 @@ module _ {T A : Type 0} (old : Thin T A) where
   places-end P most none fits (inl few) = none (omega (arith, few))
   places-end P most none fits (inr room) = fits (room-end most room.1)
 
--- Appending items to a list is the same as replacing the empty range at its end.
+-- The lemmas of this module show that appending items to a list is the same as replacing the empty
+-- range at its end.
 module _ {T A : Type 0} (rule : Rule) (R : RattleType) (old new : Thin T A) where
   -- `IsFilled placed most` holds if a call of `extend` appended the items `placed`, and thereby
   -- turned the list `old` into `new`. The iterator could yield at most `most` items. The fields are

@@ -10,7 +10,7 @@ use Rattle.thin_runner.specs.declared.command.Step.{Step}
 use Rattle.thin_runner.specs.declared.command.Step.TheVariants.{Back}
 
 module _ {T : Type 0} where
-  -- The item of `xs ++ x ∷ []` at the index `length xs` is `x`.
+  -- The item of `xs ++ x ∷ []` at index `length xs` is `x`.
   pub last-of : (xs : List T) (x : T) → slice_get (xs ++ x ∷ []) (length xs) ≡ Some x
   last-of [] x = refl
   last-of (y ∷ xs) x = last-of xs x

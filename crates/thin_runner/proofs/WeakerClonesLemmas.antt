@@ -34,8 +34,8 @@ module _ {T : Type 0} (clones like : T → T → Type 0)
 
 module _ {T A G J : Type 0} (here : Setting T A J) (like : T → T → Type 0)
     (weaker : (x y : T) → here.clones x y → like x y) where
-  -- Every step that is possible with the clone relation of the setting is also possible with the
-  -- weaker relation `like`.
+  -- Every step that is possible with a clone relation is also possible with a weaker relation
+  -- `like`.
   pub step-weaker : (old new : Thin T A) (command : Command T A G) (reply : Reply T A G)
       → Steps here old command reply new
       → Steps (record here { clones = like }) old command reply new
@@ -48,8 +48,8 @@ module _ {T A G J : Type 0} (here : Setting T A J) (like : T → T → Type 0)
       (s.0, (zip-weaker here.clones like weaker old.items copy.items s.1.0, s.1.1, s.1.2))
   step-weaker old new command reply s = s
 
-  -- Every run that is possible with the clone relation of the setting is also possible with the
-  -- weaker relation `like`.
+  -- Every run that is possible with a clone relation is also possible with a weaker relation
+  -- `like`.
   pub run-weaker : (old new : Thin T A) (commands : List (Command T A G))
       (replies : List (Reply T A G)) → Runs here old commands replies new
       → Runs (record here { clones = like }) old commands replies new

@@ -21,9 +21,9 @@ module _ {T A : Type 0} where
   abbrev pub hinted_count : Hinted T A → Count
   hinted_count h = at_most (hinted_claim h + length (hinted_items h))
 
-  -- `HintedSteps old item new` holds if `item` is the first item that is left in the iterator
-  -- `old`, or `None` if no item is left, and a call of `next` that returns `item` turns `old` into
-  -- `new`. The lower bound of the size hint must not change.
+  -- `HintedSteps old item new` holds if a call of `next` may turn the iterator `old` into `new` and
+  -- return `item`: the first item that is left in `old`, or `None` if no item is left. The call
+  -- must not change the lower bound of the size hint.
   abbrev pub HintedSteps : Hinted T A → Option T → Hinted T A → Type 0
   HintedSteps old item new =
       YieldsFirst hinted_items old item new × (hinted_claim new ≡ hinted_claim old)

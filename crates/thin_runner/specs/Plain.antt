@@ -41,8 +41,8 @@ module _ {T A G : Type 0} where
   in_range xs command = true
 
 module _ {T A G J : Type 0} (here : Setting T A J) where
-  -- `granted xs command` is the pair of the reply to a command and the items after it, if the
-  -- command is in range and does not fail. The items before the command are `xs`.
+  -- `granted xs command` is the pair of the reply and the resulting items if the command runs on a
+  -- list with the items `xs`, is in range, and does not fail.
   abbrev pub granted : List T → Command T A G → Seen T A G × List T
   granted xs (Push v) = (says Done, xs ++ v ∷ [])
   granted xs Pop = let last = length xs - 1 in (says (Item (slice_get xs last)), take last xs)
@@ -76,19 +76,19 @@ module _ {T A G J : Type 0} (here : Setting T A J) where
   -- All other commands test the items and remove some of them.
   granted xs command = (says Done, left_at true (unwrap_or (answered here xs command) []))
 
-  -- `plain_step xs command` is the pair of the reply to a command and the items after it, if the
-  -- command does not fail. The items before the command are `xs`. If the command is out of range,
-  -- the reply returns the command, and the items do not change.
+  -- `plain_step xs command` is the pair of the reply and the resulting items if the command runs on
+  -- a list with the items `xs` and does not fail. If the command is out of range, the reply returns
+  -- the command, and the items do not change.
   abbrev pub plain_step : List T → Command T A G → Seen T A G × List T
   plain_step xs command =
       if in_range xs command then granted xs command else (says (OutOfRange command), xs)
 
-  -- `reply_to xs command` is the reply to a command that does not fail. The items before the
-  -- command are `xs`.
+  -- `reply_to xs command` is the reply if the command runs on a list with the items `xs` and does
+  -- not fail.
   abbrev pub reply_to : List T → Command T A G → Seen T A G
   reply_to xs command = (plain_step xs command).0
 
-  -- `items_after xs command` is the list of the items after a command that does not fail. The items
-  -- before the command are `xs`.
+  -- `items_after xs command` is the list of the resulting items if the command runs on a list with
+  -- the items `xs` and does not fail.
   abbrev pub items_after : List T → Command T A G → List T
   items_after xs command = (plain_step xs command).1

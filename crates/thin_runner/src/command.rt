@@ -104,7 +104,7 @@ pub enum Reply<T, A: Allocator = Global, G: Growth = Doubling> {
     Refused(ThinVecError),
     /// A call of `extend`, or of `finish` on a splice, failed.
     Stopped {
-        /// The results of the steps that were taken before `finish` was called. After an `extend`,
+        /// The results of the steps that were taken before `finish` was called. If `extend` failed,
         /// this vector is empty.
         answers: Vec<Option<T>, A>,
         /// The cause of the failure.

@@ -1,5 +1,5 @@
-//! The iterator `Hinted`. Its size hint may claim that more or fewer items are left than the
-//! iterator actually yields.
+//! The iterator `Hinted`. The lower bound of its size hint may be greater or less than the number
+//! of items that the iterator yields.
 ghost use Rattle.std.specs.Prelude.{◌≡◌, IfSome, None};
 ghost use Rattle.std.specs.Iterator.{UpTo};
 ghost use Rattle.std.specs.Iterator.Runs.{YieldsInOrder};

@@ -40,7 +40,7 @@ pub trait Family {
     type Cells: Table;
 
     /// Builds a tree of depth `depth`. Each node that is not a leaf has `width` children. Returns
-    /// the sum of the depths of all nodes, where a leaf has the depth 0.
+    /// the sum of the depths of all nodes, where a leaf has depth 0.
     ///
     /// # Errors
     ///

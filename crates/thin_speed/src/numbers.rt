@@ -14,7 +14,8 @@ pub fn mixed(sum: u64, number: u64) -> u64 {
     sum.wrapping_mul(31).wrapping_add(number)
 }
 
-/// An item of a list. From each item, a number can be computed, which is mixed into a sum.
+/// An item of a list. A workload can compute a number from the item, and mix this number into a
+/// sum.
 pub trait Item: Drop {
     /// Returns the number that is computed from the item.
     fn number(&self) -> u64;
@@ -103,7 +104,7 @@ impl Item for String {
 
 /// A way to make the items of a list.
 pub trait Source<T: Drop> {
-    /// Makes the item at the index `number` of a list.
+    /// Makes the item at index `number` of a list.
     ///
     /// # Errors
     ///
@@ -149,7 +150,7 @@ impl Source<u64> for InTurn {
     }
 }
 
-/// Makes each item from its index. The item at the index `i` is `i ^ 5`.
+/// Makes each item from its index. The item at index `i` is `i ^ 5`.
 pub struct Turned;
 
 impl Source<u64> for Turned {

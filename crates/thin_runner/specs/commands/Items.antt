@@ -8,8 +8,8 @@ use Rattle.thin_vec.specs.declared.ThinVecError.TheVariants.{CapacityOverflow}
 use Rattle.thin_runner.specs.Setting.{Setting}
 
 module _ {T A : Type 0} where
-  -- `edited old xs m` is the list `old` with its items replaced by `xs`, and with `m` more moves in
-  -- its cost.
+  -- `edited old xs m` is the list `old` with its items replaced with `xs`, and with `m` more moves
+  -- in its cost.
   abbrev pub edited : Thin T A → List T → ℕ → Thin T A
   edited old xs m = record old { items = xs; cost = moving m old.cost }
 

@@ -28,9 +28,9 @@ module _ {T A : Type 0} (old : Thin T A) (a b : ℕ) where
 module _ {T A : Type 0} (rule : Rule) (R : RattleType) (old : Thin T A) (a b : ℕ) where
   -- `Replaces placed most new` states that the items `placed` replaced the items `a..b` of the list
   -- `old`, which became `new`. The iterator could yield at most `most` items. Each placed item was
-  -- moved once, and each item after the range at most twice. Either the capacity did not change, or
-  -- the growth rule requires the new capacity for at most the final number of items, or for a size
-  -- hint of at most `most`.
+  -- moved once, and each item after the range at most twice. If the capacity changed, the growth
+  -- rule requires the new capacity, either for at most the final number of items or for a size hint
+  -- of at most `most`.
   pub record Replaces (placed : List T) (most : ℕ) (new : Thin T A) : Type 0 where
     pub items : new.items ≡ (take a old.items ++ placed) ++ drop b old.items
     pub capacity : IsLoose rule R old.capacity new.capacity

@@ -67,7 +67,7 @@ pub fn refilled<L: List<T>, T: Item, S: Source<T>, W: Work<L, T>>(
     Ok(sum)
 }
 
-/// Makes a list of the numbers below `size`, with the capacity `size`.
+/// Makes a list of the numbers below `size`, with capacity `size`.
 ///
 /// # Errors
 ///
@@ -107,7 +107,7 @@ pub trait Make<L> {
     fn make(alloc: Global, size: usize, source: &L) -> Result<L, AllocError>;
 }
 
-/// Makes a new list in the way `M`. Does this `times` times.
+/// Makes a new list using `M::make`. Does this `times` times.
 ///
 /// # Errors
 ///
