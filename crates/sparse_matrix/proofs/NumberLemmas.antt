@@ -1,4 +1,4 @@
--- Lemmas about the numbers of a matrix after one of its numbers was written.
+-- These lemmas state how writing one number into a matrix changes the numbers of the matrix.
 use Rattle.std.proofs.Common.{◌≡◌, ◌≢◌, ℕ, ◌<◌, ◌≤◌, ◌==◌, ◌&&◌, ◌^◌, if◌then◌else◌, Bool, true, false, inl, inr, length, OnErr, OnOk, Result, Ok, Err, ap, refl, sym, ◌∙◌}
 use Rattle.std.specs.Option.{unwrap_or}
 use Rattle.std.proofs.lemmas.Bool.{and_from, and_left, and_right, cases_eq, eq-eqb, ne_eqb}
@@ -12,8 +12,9 @@ if_true x y e = ap (λ (b : Bool). if b then x else y) e
 if_false : {b : Bool} (x y : ℕ) → b ≡ false → (if b then x else y) ≡ y
 if_false x y e = ap (λ (b : Bool). if b then x else y) e
 
--- The functions `f` and `g` map a row and a column to a number. If `f i j ≡ v`, and `f` and `g`
--- agree everywhere else, then `f k l` is `if k == i && l == j then v else g k l`.
+-- Suppose that the functions `f` and `g` map a row and a column to a number, and that they agree
+-- everywhere except at row `i` and column `j`. If `f i j` is `v`, then `f k l` is
+-- `if k == i && l == j then v else g k l`.
 pub at_place : (f g : ℕ → ℕ → ℕ) (i j v : ℕ) → f i j ≡ v → ((k l : ℕ) → l ≢ j → f k l ≡ g k l)
     → ((k l : ℕ) → k ≢ i → f k l ≡ g k l)
     → (k l : ℕ) → f k l ≡ (if k == i && l == j then v else g k l)
@@ -43,8 +44,9 @@ module _ (f g : ℕ → ℕ → ℕ) (i j v : ℕ)
   other_rows k l other =
       told k l ∙ if_false v (g k l) (and_left (k == i) (l == j) (ne_eqb k i other))
 
--- The functions `f`, `g` and `h` map a row and a column to a number. If `f` agrees with `h` in row
--- `i`, and with `g` in all other rows, then `f k l` is `if k == i then h k l else g k l`.
+-- Suppose that the functions `f`, `g` and `h` map a row and a column to a number. If `f` agrees
+-- with `h` in row `i`, and with `g` in all other rows, then `f k l` is
+-- `if k == i then h k l else g k l`.
 pub at_row : (f g h : ℕ → ℕ → ℕ) (i : ℕ) → ((l : ℕ) → f i l ≡ h i l)
     → ((k l : ℕ) → k ≢ i → f k l ≡ g k l)
     → (k l : ℕ) → f k l ≡ (if k == i then h k l else g k l)
@@ -65,8 +67,8 @@ module _ (t : Table ℕ) (i j : ℕ) where
       (λ k l other. ap (λ o. unwrap_or o 0) (columns_unchanged t i j k l v other))
       (λ k l other. ap (λ o. unwrap_or o 0) (rows_unchanged t i j k l v other))
 
-  -- If `v` is 0, and the entry at row `i` and column `j` of the table `t` is removed, then the
-  -- number there is `v`, and all other numbers are unchanged.
+  -- Suppose that the entry at row `i` and column `j` of the table `t` is removed, and that `v` is
+  -- 0. Then the number at this place becomes `v`, and all other numbers are unchanged.
   pub number-without_value : (v : ℕ) → v ≡ 0 → (k l : ℕ)
       → number_at (without_value t i j) k l ≡ (if k == i && l == j then v else number_at t k l)
   number-without_value v zero =
@@ -90,9 +92,9 @@ pub still_small : (t u : Table ℕ) (i j v : ℕ) → v < 2 ^ 64
 still_small t u i j v fits small told k l =
     rw (told k l) (either_below (k == i && l == j) v (number_at t k l) (2 ^ 64) fits (small k l))
 
--- The table is `t` before a call and `u` after it. If the call succeeded, it wrote `v` at row `i`
--- and column `j`. If the call failed, it changed nothing. If `v` and all numbers of `t` are less
--- than `2 ^ 64`, then so are all numbers of `u`.
+-- Suppose that a call turned the table `t` into `u`: on success, it wrote `v` at row `i` and column
+-- `j`, and on failure, it changed nothing. If `v` and all numbers of `t` are less than `2 ^ 64`,
+-- then so are all numbers of `u`.
 pub small_if_written : {X E : Type 0} (result : Result X E) (t u : Table ℕ) (i j v : ℕ)
     → i < length t → v < 2 ^ 64 → ((k l : ℕ) → number_at t k l < 2 ^ 64)
     → OnOk result (u ≡ with_value t i j v) → OnErr result (u ≡ t)

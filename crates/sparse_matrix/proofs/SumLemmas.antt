@@ -53,8 +53,8 @@ no_sum f zero = refl
 no_sum f (suc n) = let rest = no_sum f n in omega arith
 
 module _ (f : ℕ → ℕ) where
-  -- `term entries j` is the number of the entry in column `j`, times the factor `f j` of this
-  -- column. It is 0 if no entry is in column `j`.
+  -- If `entries` contains the number `x` in column `j`, then `term entries j` is `x * f j`. If it
+  -- contains no number in column `j`, then `term entries j` is 0.
   abbrev term : List (ℕ × ℕ) → ℕ → ℕ
   term entries j = unwrap_or (find nat_cmp j entries) 0 * f j
 
@@ -66,9 +66,9 @@ module _ (f : ℕ → ℕ) where
       (is_less (nat_cmp x e.0) (both_hold _ _ below).0)
       ∙ none_found x entries (both_hold _ _ below).1
 
-  -- If the columns of the entries are strictly increasing and less than `n`, then two sums are
-  -- equal. The first sum adds, for each entry, its number times `f c`, where `c` is its column. The
-  -- second sum adds `term entries j` for all columns `j` less than `n`.
+  -- Suppose that the columns of the entries are strictly increasing and less than `n`. Then the sum
+  -- of `x * f c` over all entries, each with a column `c` and a number `x`, equals the sum of
+  -- `term entries j` over all columns `j` less than `n`.
   entries_sum : (entries : List (ℕ × ℕ)) (n : ℕ) → T (is_sorted nat_cmp entries)
       → ((k : ℕ) → k < length entries → (slice_index_or entries k (0, 0)).0 < n)
       → sum_by (λ e. e.1 * f e.0) entries ≡ sum_below n (term entries)
@@ -97,9 +97,9 @@ module _ (f : ℕ → ℕ) where
           ∙ (let nothing : term entries e.0 ≡ 0 * f e.0 = ap (λ o. unwrap_or o 0 * f e.0) none in
           omega (arith, nothing))
 
--- If all entries of `row` are in columns less than `n`, then two sums are equal. Both sums add, for
--- each column `j`, the number in the column times `f j`. The first sum is over the columns that
--- have an entry, and the second sum is over all columns less than `n`.
+-- Suppose that all entries of `row` are in columns less than `n`, and that the number in each
+-- column `j` is multiplied by `f j`. Then the sum of the products over the columns that have an
+-- entry equals the sum over all columns less than `n`.
 pub row_sum : (f : ℕ → ℕ) (row : Columns ℕ) (n : ℕ) (entries : List (ℕ × ℕ))
     → entries ≡ columns.entries row
     → ((k : ℕ) → k < length entries → (slice_index_or entries k (0, 0)).0 < n)

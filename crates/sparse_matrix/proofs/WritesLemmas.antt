@@ -13,7 +13,7 @@ never : {P : Type 0} {x : ℕ} → None ≡ Some x → P
 never e = cc
 
 -- In this module, `row` is the row whose entries are written, and `old j` is the number at column
--- `j` before any entry is written. If `v` is written over the number `u`, the result is
+-- `j` before any entry is written. Writing the number `v` over the number `u` results in the number
 -- `write u v`.
 module _ (write : ℕ → ℕ → ℕ) (row : Columns ℕ) (old : ℕ → ℕ) where
   abbrev column : ℕ → ℕ
@@ -61,8 +61,8 @@ module _ (write : ℕ → ℕ → ℕ) (row : Columns ℕ) (old : ℕ → ℕ) w
       → IsWritten (n + 1) next
   next_written entries is = rw is one_more
 
-  -- After all entries of the row were written, the number at column `j` is `write (old j) v`. Here,
-  -- `v` is the number of the row at column `j`, or 0 if the row has no entry there. The lemma
+  -- After all entries of the row have been written, the number at column `j` is `write (old j) v`.
+  -- Here, `v` is the number of the row at column `j`, or 0 if the row has no entry there. The lemma
   -- requires that `write (old j) 0` is `old j`.
   pub all_written : (n : ℕ) (now : ℕ → ℕ) → n ≡ length (columns.entries row) → IsWritten n now
       → (j : ℕ) → write (old j) 0 ≡ old j

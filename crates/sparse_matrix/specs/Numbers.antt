@@ -8,7 +8,7 @@ use Rattle.thin_rows.specs.Table.{Table, value_at}
 abbrev pub number_at : Table ℕ → ℕ → ℕ → ℕ
 number_at table i j = unwrap_or (value_at table i j) 0
 
--- The sum of two numbers, or `u64::MAX` if the sum is greater.
+-- `added x y` is the sum of the numbers `x` and `y`, or `u64::MAX` if the sum is greater.
 abbrev pub added : ℕ → ℕ → ℕ
 added a b = min (a + b) (2 ^ 64 - 1)
 

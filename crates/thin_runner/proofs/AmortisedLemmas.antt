@@ -20,9 +20,9 @@ use Rattle.thin_runner.specs.declared.command.Reply.{Reply}
 use Rattle.thin_runner.specs.declared.command.Reply.TheVariants.{Done, Item, Returned, OutOfRange}
 use Rattle.thin_runner.proofs.PaidLemmas.{step-paid}
 
--- `IsAmortised m v` holds if the list `v` is cheap (`IsCheap`) and has at most `m` items, its items
--- fit into its capacity, and growing the list has copied either no items or fewer than `2 * m`
--- items.
+-- `IsAmortised m v` holds if the list `v` is cheap (`IsCheap`: growing it has cost little) and has
+-- at most `m` items, which fit into its capacity. In addition, growing the list must have copied
+-- either no items or fewer than `2 * m` items.
 pub record IsAmortised {T A : Type 0} (m : ℕ) (v : Thin T A) : Type 0 where
   pub cheap : IsCheap v
   pub room : length v.items ≤ v.capacity
@@ -62,8 +62,8 @@ module _ {T A : Type 0} where
   same-amortised : (m : ℕ) (v w : Thin T A) → IsAmortised m v → w ≡ v → IsAmortised (m + 0) w
   same-amortised m v w a same = let e : m + 0 ≡ m = omega arith in rw (same, e) a
 
--- If the cost `k` is cheap for the capacity `c` (`IsCheapAt`), and `c ≤ m`, then the number of
--- items that growth has copied, plus `c`, is less than `2 * (m + 1)`.
+-- Suppose that the cost `k` is cheap for the capacity `c` (`IsCheapAt`), and that `c ≤ m`. Then
+-- `k.grown + c < 2 * (m + 1)`, where `k.grown` is the number of items that growth has copied.
 copied-growing : (c m : ℕ) (k : Cost) → IsCheapAt c k → c ≤ m → k.grown + c < 2 * (m + 1)
 copied-growing zero m k h few = let z = h.none refl in omega (arith, z.1)
 copied-growing (suc c) m k h few =
@@ -77,8 +77,8 @@ copied-kept m more (inl few) same = inl (omega (arith, few, same))
 copied-kept m more (inr none) same = inr (same ∙ none)
 
 module _ {T A G J : Type 0} (here : Setting T A J) (law : KeepsLaw here.rule) where
-  -- If `IsAmortised m` holds for a list, and then a push succeeds, `IsAmortised (m + 1)` holds
-  -- after the push. A failed push and a pop preserve `IsAmortised m`.
+  -- Suppose that `IsAmortised m` holds for a list. Then `IsAmortised (m + 1)` holds after a
+  -- successful push, and `IsAmortised m` still holds after a failed push or a pop.
   step-amortised : (m : ℕ) (v w : Thin T A) (command : Command T A G) (reply : Reply T A G)
       → IsPushOrPop command → IsAmortised m v → Steps here v command reply w
       → IsAmortised (m + accepted (command ∷ []) (reply ∷ [])) w

@@ -20,7 +20,7 @@ module _ {T A : Type 0} where
   grown v c xs m = record v { items = xs; capacity = c; cost = moving m (cost_at v c) }
 
   -- Suppose that the list `w` has the items `xs` and the allocator of the list `v`. If the cost of
-  -- `w` is the cost of `v` after a change to the capacity of `w`, plus `m` moves, then `w` is
+  -- `w` is the cost of `v`, plus the cost of the change of capacity, plus `m` moves, then `w` is
   -- `grown v w.capacity xs m`.
   pub is-grown : (v w : Thin T A) (xs : List T) (m : ℕ) → w.items ≡ xs → w.cost
       ≡ moving m (cost_at v w.capacity) → w.alloc ≡ v.alloc → w ≡ grown v w.capacity xs m
@@ -33,9 +33,9 @@ module _ {T A : Type 0} where
 
   module _ (rule : Rule) where
     -- Suppose that a call that clones the items `sources` failed, and turned the list `v` into `w`
-    -- without changing the items or the allocator. Then either `w` is `v`, or two things hold. The
-    -- capacity of `w` is the one that the rule requires for `k` more items. A source could not be
-    -- cloned, and the cost of `w` counts one move for each source before it.
+    -- without changing the items or the allocator. Then either nothing else changed, or `w` has the
+    -- capacity that the growth rule requires for `k` more items, and one of the sources could not
+    -- be cloned. In the second case, each source before that one counts as one move.
     pub refuses-clone : (R : RattleType) (k : ℕ) {infallible : T → Type 0} {sources : List T}
         {v w : Thin T A} → w.items ≡ v.items → w.alloc ≡ v.alloc
         → (w ≡ v) ⊎ (capacity_for rule R v k ≡ Some w.capacity)

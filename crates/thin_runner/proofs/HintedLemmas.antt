@@ -20,8 +20,8 @@ module _ {T A : Type 0} where
   yields-claim s t [] e = ap hinted_claim (sym e)
   yields-claim s t (x ∷ xs) e = yields-claim e.0 t xs e.2 ∙ e.1.1
 
-  -- If `next` is called until it returns `None`, and the calls yield the items `xs`, then `xs` are
-  -- all items that were left in the iterator.
+  -- Suppose that `next` is called until it returns `None`, and that the calls yield the items `xs`.
+  -- Then `xs` is the list of all items that were left in the iterator.
   pub drains-items : (s : Hinted T A) (xs : List T) → Drains (HintedSteps {T = T} {A = A}) s xs
       → xs ≡ hinted_items s
   drains-items s xs d = sym (yields-items s d.1.0 xs d.1.1

@@ -16,14 +16,15 @@ use Rattle.thin_runner.specs.commands.Ranges.{walked}
 use Rattle.thin_runner.specs.declared.command.Step.TheVariants.{Front}
 
 module _ {T : Type 0} where
-  -- The verdicts on the item that a call of `next` returned. If the call returned an item, its
-  -- verdict says that the item is removed. If the call returned `None`, there is no verdict.
+  -- `goes item` lists the verdicts on `item`, the result of a call of `next`. If `item` is
+  -- `Some x`, the list has one verdict, which says that `x` is removed. If `item` is `None`, the
+  -- list is empty.
   abbrev pub goes : Option T → Verdicts T
   goes None = []
   goes (Some x) = (false, x) ∷ []
 
-  -- `handed_out k xs` lists the results of `k` calls of `next` if `xs` are the items to extract:
-  -- these items in order, and then `None`.
+  -- `handed_out k xs` lists the results of `k` calls of `next` if `xs` is the list of the items to
+  -- extract: first these items in order, and then `None`.
   abbrev pub handed_out : ℕ → List T → List (Option T)
   handed_out k xs = walked xs (replicate k Front)
 
@@ -59,9 +60,9 @@ module _ {T : Type 0} where
   few-goes None = refl
   few-goes (Some x) = refl
 
-  -- The verdicts `a` are followed by the verdicts `b`. If `a` removes no item, then the number of
-  -- moves is the number for `a` plus the number for `b`. If `a` removes an item, then the number of
-  -- moves is the number for `a` plus one for each item that `b` keeps.
+  -- Suppose that the verdicts `a` are followed by the verdicts `b`. If `a` removes an item, then
+  -- the number of moves is the number for `a`, plus one for each item that `b` keeps. If `a`
+  -- removes no item, then it is the number for `a` plus the number for `b`.
   pub moves-append : (a b : Verdicts T) → moved_down (flags_of (a ++ b))
       ≡ moved_down (flags_of a) + (if length (left_at false a) == 0 then moved_down
       (flags_of b) else trues (flags_of b))
@@ -82,9 +83,9 @@ module _ {S T J : Type 0} (R : S → T → Bool → S → T → Type 0) (judge_o
   -- In this module, a call of `next` returns `item`. After the call, the items `rest` are untested,
   -- the closure is in the state `t`, and up to `k` more calls follow.
   module _ (t : S) (k : ℕ) (item : Option T) (rest : List T) where
-    -- A call of `next` keeps the items `kept` and returns `item`. Then the verdicts of this call
-    -- and of `k` more calls begin with the verdicts that keep `kept`. The verdict on `item`
-    -- follows, and then the verdicts of the `k` calls.
+    -- Suppose that a call of `next` keeps the items `kept` and returns `item`. Then the verdicts of
+    -- this call and of `k` more calls are, in this order: the verdicts that keep `kept`, the
+    -- verdict on `item` (if any), and the verdicts of the `k` calls.
     pub extracts-by : (s : S) (xs kept : List T) → ExtractsNext R s xs item t kept rest
         → extracting ask (judge_of s) (suc k) xs
         ≡ stay kept ++ (goes item ++ extracting ask (judge_of t) k rest)
@@ -123,8 +124,8 @@ module _ {S T J : Type 0} (R : S → T → Bool → S → T → Type 0) (judge_o
         answered true by m = let wrong = m.0 in absurd (none-some (sym none ∙ wrong))
         answered false by m = by m.0 m.1
 
-    -- `handed_out` computes the results of a call of `next` and of `k` more calls. The first result
-    -- is `item`, and the other results are the results of the `k` calls.
+    -- Suppose that a call of `next` returns `item`. Then the results that `handed_out` computes for
+    -- this call and `k` more calls are `item`, followed by the results of the `k` calls.
     pub handed-by : (s : S) (xs kept : List T) → ExtractsNext R s xs item t kept rest
         → handed_out (suc k) (left_at false (extracting ask (judge_of s) (suc k) xs))
         ≡ item ∷ handed_out k (left_at false (extracting ask (judge_of t) k rest))
@@ -144,8 +145,8 @@ module _ {S T J : Type 0} (R : S → T → Bool → S → T → Type 0) (judge_o
             ∙ ap (left_at false) (none-left (judge_of t) k) in
             subst (λ l. handed_out (suc k) l ≡ None ∷ handed_out k l) (sym empty) refl
 
--- Suppose that `m` moves are added to a cost, and then `k` more moves if `gone` is not 0. The
--- result is the same as if all these moves were added at once.
+-- Adding `m` moves to a cost, and then `k` more moves if `gone` is not 0, has the same result as
+-- adding all these moves at once.
 charged : (gone m k : ℕ) (c : Cost)
     → (if gone == 0 then moving m c else moving k (moving m c))
     ≡ moving (m + (if gone == 0 then 0 else k)) c
@@ -157,7 +158,7 @@ charged (suc gone) m k c =
 
 -- The state of an `extract_if` between two calls of `next`.
 pub record Stand (T : Type 0) : Type 0 where
-  -- The verdicts on the items that have not been tested yet.
+  -- The verdicts on the items that have not been tested so far, computed in advance.
   pub left : Verdicts T
   -- The items before the range, followed by the items of the range that have been kept so far.
   pub front : List T
@@ -166,12 +167,12 @@ pub record Stand (T : Type 0) : Type 0 where
   -- the cost so far
   pub paid : Cost
 
--- In this module, an `extract_if` tests the items of a range of a list. `asked` are the verdicts on
--- all items of the range, and `start` are the items before the range. `before` is the cost of the
--- list before the first call of `next`.
+-- In this module, an `extract_if` tests the items of a range of a list. `asked` contains the
+-- verdicts on all items of the range, and `start` contains the items before the range. `before` is
+-- the cost of the list before the first call of `next`.
 module _ {T : Type 0} (asked : Verdicts T) (start : List T) (before : Cost) where
   -- `IsExtracting at` holds if `at` is the state of the extraction after some number of calls of
-  -- `next`. The field `done` has the verdicts of these calls.
+  -- `next`. The field `done` contains the verdicts of these calls.
   pub record IsExtracting (at : Stand T) : Type 0 where
     pub done : Verdicts T
     pub split : asked ≡ done ++ at.left
@@ -245,13 +246,13 @@ module _ {T : Type 0} (asked : Verdicts T) (start : List T) (before : Cost) wher
           paid = charge ∙ paid-next at h now (length kept) still moved;
         }
 
--- In this module, an `extract_if` on the items `a..b` turned the list `v` into `w`, and `asked` are
--- the verdicts on these items.
+-- In this module, an `extract_if` on the items `a..b` turned the list `v` into `w`, and `asked`
+-- contains the verdicts on these items.
 module _ {T A : Type 0} (v w : Thin T A) (a b : ℕ) (asked : Verdicts T) where
-  -- `IsLeft at rest tail` describes the list `w`. Its items are the items of `at.front`, then the
-  -- untested items `rest` of the range, and then the items `tail` after the range. If an item was
-  -- extracted, each item of `rest` and `tail` was moved once. The capacity and the allocator are
-  -- unchanged.
+  -- `IsLeft at rest tail` holds if the list `w` consists of the items of `at.front`, the untested
+  -- items `rest` of the range, and the items `tail` after the range, in this order. If an item was
+  -- extracted, each item of `rest` and `tail` must count as one move. The capacity and the
+  -- allocator must be unchanged.
   pub record IsLeft (at : Stand T) (rest tail : List T) : Type 0 where
     pub items : w.items ≡ at.front ++ (rest ++ tail)
     pub cost : w.cost ≡ (if at.out == 0 then at.paid else moving (length rest
@@ -259,8 +260,8 @@ module _ {T A : Type 0} (v w : Thin T A) (a b : ℕ) (asked : Verdicts T) where
     pub capacity : w.capacity ≡ v.capacity
     pub alloc : w.alloc ≡ v.alloc
 
-  -- After the extraction has ended, `w` is the list `v` with only the items that the verdicts keep
-  -- (`sifted`).
+  -- After the extraction has ended, the list `w` contains exactly the items of the list `v` that
+  -- the verdicts keep (`sifted`).
   pub extracting-ends : (at : Stand T) (rest tail : List T)
       → IsExtracting asked (take a v.items) v.cost at → at.left ≡ stay rest → tail ≡ drop b v.items
       → IsLeft at rest tail → w ≡ sifted v (around v.items a b asked)

@@ -32,8 +32,8 @@ module _ {S T J : Type 0} (R : S → T → Bool → S → T → Type 0) (judge_o
       a.6 ∙ (ap (λ l. (a.0, a.1) ∷ l) (asked-by a.2 t xs a.3 a.5)
       ∙ ap (λ l. (l.0, l.1) ∷ asked ask l.2 xs) (told s x a.0 a.2 a.1 a.4))
 
-  -- If `retain` or `retain_mut` turned the list `v` into `w`, with a closure that asks the judge,
-  -- then `w` is `v` with only the items that the judge keeps (`sifted`).
+  -- Suppose that `retain` or `retain_mut`, called with a closure that asks the judge, turned the
+  -- list `v` into `w`. Then `w` contains exactly the items of `v` that the judge keeps (`sifted`).
   pub retained-by : {A : Type 0} (s : S) (v w : Thin T A) → IsRetained R s v w
       → w.capacity ≡ v.capacity → w.alloc ≡ v.alloc
       → w ≡ sifted v (asked ask (judge_of s) v.items)
@@ -46,9 +46,9 @@ module _ {S T J : Type 0} (R : S → T → Bool → S → T → Type 0) (judge_o
 -- This module is about methods such as `dedup_by`, which compare each item with the last item kept
 -- before it.
 module _ {T : Type 0} where
-  -- The pair `b` consists of the first item and the verdicts on the later items.
-  -- `Leaves flags ys b` holds if `flags` say which later items are kept, and `ys` are the kept
-  -- items: the first item, and then the later items that are kept.
+  -- `Leaves flags ys b` holds if `flags` and `ys` agree with the pair `b`, which consists of the
+  -- first item and the verdicts on the later items. `flags` must say which later items are kept.
+  -- `ys` must contain the first item, and then the later items that are kept.
   abbrev pub Leaves : List Bool → List T → T × Verdicts T → Type 0
   Leaves flags ys b = (flags ≡ flags_of b.1) × (ys ≡ b.0 ∷ left_at true b.1)
 
@@ -57,9 +57,9 @@ module _ {S T J : Type 0} (R : S → T → T → Bool → S → T → T → Type
     (same : J → T → T → Bool × T × T × J)
     (told : (s : S) (x k : T) (b : Bool) (u : S) (x' k' : T) → R s x k b u x' k'
     → (b, x', k', judge_of u) ≡ same (judge_of s) x k) where
-  -- Suppose that each item of `xs` was compared with the last item kept before it, and the first
-  -- item of `xs` with `k`. Then `flags` and the kept items `ys` agree with the decisions of the
-  -- judge.
+  -- Suppose that each item of `xs` was compared with the last item kept before it, and that the
+  -- first item of `xs` was compared with `k`. Then `flags` and the kept items `ys` agree with the
+  -- decisions of the judge.
   pub asked-last-by : (s t : S) (k : T) (xs : List T) (flags : List Bool) (ys : List T)
       → AskedLast R s k xs flags ys t → Leaves flags ys (asked_last same (judge_of s) k xs)
   asked-last-by s t k [] flags ys a = (a.0, a.1)
@@ -89,8 +89,8 @@ module _ {S T J : Type 0} (R : S → T → T → Bool → S → T → T → Type
   asked-pairs-by s t (x ∷ xs) flags ys a = let h = asked-last-by s t x xs flags ys a
       in (ap moved_down h.0, h.1)
 
-  -- If `dedup_by` turned the list `v` into `w`, with a closure that asks the judge, then `w` is `v`
-  -- with only the items that the judge keeps (`sifted`).
+  -- Suppose that `dedup_by`, called with a closure that asks the judge, turned the list `v` into
+  -- `w`. Then `w` contains exactly the items of `v` that the judge keeps (`sifted`).
   pub deduped-by : {A : Type 0} (s : S) (v w : Thin T A) → IsDedupedBy R s v w
       → w.capacity ≡ v.capacity → w.alloc ≡ v.alloc
       → w ≡ sifted v (asked_pairs same (judge_of s) v.items)
@@ -104,9 +104,9 @@ module _ {F T A J : Type 0} (g : Mut F (MutBor T × Unit {0}) (ℕ × (MutBor T 
     (judge_of : F → J) (key : J → T → ℕ × T × J)
     (told : (f : F) (x : T) (k : ℕ) (f' : F) (x' : T) → CalledAtMut g f x k f' x'
     → (k, x', judge_of f') ≡ key (judge_of f) x) where
-  -- If `dedup_by_key` turned the list `v` into `w`, with a closure that asks the judge, then `w` is
-  -- `v` with only the items that the judge keeps (`sifted`). Of two compared items, the key of the
-  -- later one is computed first.
+  -- Suppose that `dedup_by_key`, called with a closure that asks the judge, turned the list `v`
+  -- into `w`. Then `w` contains exactly the items of `v` that the judge keeps (`sifted`). Of two
+  -- compared items, the key of the later one is computed first.
   pub deduped-by-keys : (f : F) (v w : Thin T A)
       → IsDedupedBy (ComparesKeys g (λ a b. a == b)) f v w → w.capacity ≡ v.capacity
       → w.alloc ≡ v.alloc → w ≡ sifted v (asked_pairs (same_key key) (judge_of f) v.items)
@@ -139,8 +139,8 @@ module _ {T : Type 0} where
   few-left ((true, x) ∷ verdicts) = omega (arith, few-left verdicts)
   few-left ((false, x) ∷ verdicts) = omega (arith, few-left verdicts)
 
-  -- Extends the results `a` for the items after `x` by the result for `x`. The item `x` was
-  -- compared with the kept item `k`. If `b` is true, `x` is removed. Otherwise, `x` is kept.
+  -- `next b x k a` extends the results `a` for the items after `x` with the result for `x`, which
+  -- was compared with the kept item `k`. If `b` is true, `x` is removed. Otherwise, `x` is kept.
   abbrev next : Bool → T → T → T × Verdicts T → T × Verdicts T
   next b x k a = if b then (a.0, (false, x) ∷ a.1) else (k, (true, a.0) ∷ a.1)
 
@@ -184,17 +184,17 @@ module _ {T J : Type 0} where
       → length (left_at true (asked_pairs same j xs)) ≤ length xs
   few-pairs same j xs = omega (arith, few-left (asked_pairs same j xs), pairs-length same j xs)
 
--- The lemmas of this module show that `dedup` with the stateless test `E` keeps the same items as a
--- judge that decides by `E`.
+-- The lemmas of this module show that `dedup` with the equality test `E` keeps the same items as
+-- `dedup_by` with a judge that returns the results of `E`.
 module _ {T J : Type 0} (E : T → T → Bool) (j : J) where
-  -- The test `E` in the form of a method of a judge. It returns what `E` returns, and changes
-  -- neither the items nor the state of the judge.
+  -- `tells` is the test `E` in the form of a method of a judge. It returns the result of `E`, and
+  -- changes neither the items nor the state of the judge.
   abbrev pub tells : J → T → T → Bool × T × T × J
   tells j later kept = (E later kept, later, kept, j)
 
-  -- Suppose that `k` is the item kept before the items `xs`. Then `dedup_from` returns `k` and the
-  -- items of `xs` that the test `E` keeps. The flags of `unlike_from` say which items of `xs` the
-  -- test keeps.
+  -- Suppose that `k` is the last item that was kept before the items `xs`. Then `dedup_from`
+  -- returns `k`, followed by the items of `xs` that a judge with the test `E` keeps. The flags of
+  -- `unlike_from` say which items of `xs` these are.
   dedup-last : (k : T) (xs : List T) → Leaves (unlike_from E k xs) (dedup_from E k xs)
       (asked_last tells j k xs)
   dedup-last k [] = (refl, refl)
@@ -209,16 +209,17 @@ module _ {T J : Type 0} (E : T → T → Bool) (j : J) where
       told by true = let h = by k in (ap (λ l. false ∷ l) h.0, h.1)
       told by false = let h = by x in (ap (λ l. true ∷ l) h.0, ap (λ l. k ∷ l) h.1)
 
-  -- `dedup` returns the items of `xs` that the test `E` keeps. The number of moves is the same,
-  -- whether it is computed from the flags of `unlike` or from the verdicts of the test.
+  -- `dedup E xs` contains exactly the items of `xs` that a judge with the test `E` keeps. The
+  -- number of moves is the same, whether it is computed from the flags of `unlike` or from the
+  -- verdicts of the judge.
   pub dedup-pairs : (xs : List T)
       → (moved_down (unlike E xs) ≡ moved_down (flags_of (asked_pairs tells j xs)))
       × (dedup E xs ≡ left_at true (asked_pairs tells j xs))
   dedup-pairs [] = (refl, refl)
   dedup-pairs (x ∷ xs) = let h = dedup-last x xs in (ap moved_down h.0, h.1)
 
-  -- If `dedup` with the test `E` turned the list `v` into `w`, then `w` is `v` with only the items
-  -- that the test keeps (`sifted`).
+  -- Suppose that `dedup`, which compares items with the test `E`, turned the list `v` into `w`.
+  -- Then `w` contains exactly the items of `v` that a judge with the test `E` keeps (`sifted`).
   pub deduped-alike : {A : Type 0} (v w : Thin T A) → w.items ≡ dedup E v.items → w.cost
       ≡ moving (moved_down (unlike E v.items)) v.cost
       → w.capacity ≡ v.capacity → w.alloc ≡ v.alloc → w ≡ sifted v (asked_pairs tells j v.items)

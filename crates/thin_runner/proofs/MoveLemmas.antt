@@ -48,8 +48,8 @@ module _ {T A : Type 0} (v w : Thin T A) where
   grown-moves xs m e = omega (arith, ap (λ z. z.cost.moves) e, cost_at-moves v w.capacity)
 
   module _ (rule : Rule) (R : RattleType) (a b : ℕ) where
-    -- If a splice placed at most `k` items, then it added at most `k` moves to the cost, plus 2
-    -- moves for each item after the range.
+    -- If a splice inserted at most `k` items, then it added at most `k` moves to the cost, plus 2
+    -- moves for each item after the replaced range.
     spliced-moves : (placed : List T) (most k : ℕ) → Replaces rule R v a b placed most w
         → length placed ≤ k → w.cost.moves ≤ v.cost.moves + (2 * (length v.items - b) + k)
     spliced-moves placed most k f few =
@@ -64,7 +64,7 @@ module _ {T A : Type 0} (v w : Thin T A) where
         )
 
     -- A failed splice adds to the cost at most one move for each item of its iterator, plus 2 moves
-    -- for each item after the range.
+    -- for each item after the replaced range.
     stopped-moves : (xs held : List T) (lower : ℕ) (cause : ThinVecError) (in_hand : Option T)
         (rest : Hinted T A) → StopsBetween rule R v a b xs held lower cause in_hand rest w
         → w.cost.moves ≤ v.cost.moves + (2 * (length v.items - b) + length xs)

@@ -42,9 +42,9 @@ cheap-same c k k' blocks grown h = record {
       omega (arith, same, b);
 }
 
--- `IsPaid v w` holds for a change of the list `v` to `w` if three conditions are satisfied. If `v`
--- is cheap, then `w` is cheap. The number of items that growth copied is at most the increase of
--- the capacity. The items of `w` fit into its capacity.
+-- `IsPaid v w` states three facts about a change of the list `v` to `w`. First, if `v` is cheap,
+-- then `w` is cheap. Second, the number of items that growth copied is at most the increase of the
+-- capacity. Third, the items of `w` fit into its capacity.
 pub record IsPaid {T A : Type 0} (v w : Thin T A) : Type 0 where
   pub cheap : IsCheap v → IsCheap w
   pub copied : w.cost.grown + v.capacity ≤ v.cost.grown + w.capacity
@@ -68,7 +68,7 @@ module _ {T A : Type 0} (v w : Thin T A) (room : length v.items ≤ v.capacity) 
   same-paid : w ≡ v → IsPaid v w
   same-paid e = subst (IsPaid v) (sym e) (none-paid v room)
 
-  -- Suppose that `w` equals a list `u` that has the capacity of `v` and at most `length v.items`
+  -- Suppose that `w` equals a list `u`, which has the capacity of `v` and at most `length v.items`
   -- items. If the costs of `u` and `v` count the same blocks and the same copied items, then
   -- `IsPaid v w` holds.
   kept-paid : (u : Thin T A) → w ≡ u → u.capacity ≡ v.capacity
@@ -110,8 +110,8 @@ module _ {T A J : Type 0} (here : Setting T A J) (law : KeepsLaw here.rule) (v w
         ];
       }
 
-  -- If a call that clones items fails and turns the list `v` into `w`, then `IsPaid v w` holds. The
-  -- call fails if there is no room for `n` more items, or if an item cannot be cloned.
+  -- If a call that clones items fails and turns the list `v` into `w`, then `IsPaid v w` holds.
+  -- Such a call fails if there is no room for `n` more items, or if an item cannot be cloned.
   refused-paid : (n : ℕ) (sources : List T) (cause : ThinVecError)
       → RefusesClone here v n sources cause w → IsPaid v w
   refused-paid n sources cause r = stopped r.2

@@ -56,8 +56,8 @@ module _ {T A G : Type 0} where
   in_range-decides xs command = ((λ e. tt), (λ e. refl))
 
 module _ {T : Type 0} where
-  -- If a `pop` turns the list `xs` into `ys` and returns `o`, then `o` is the last item of `xs`,
-  -- and `ys` are the items before it. (If `xs` is empty, `o` is `None`.)
+  -- If a call of `pop` turns the list `xs` into `ys` and returns `o`, then `o` is the last item of
+  -- `xs`, and `ys` contains the items before it. (If `xs` is empty, `o` is `None`.)
   popped : (xs ys : List T) (o : Option T) → (IsSome o ↔ (0 < length xs))
       → xs ≡ ys ++ option_to_list o
       → (o ≡ slice_get xs (length xs - 1)) × (ys ≡ take (length xs - 1) xs)
@@ -108,14 +108,14 @@ module _ {T : Type 0} where
         r.shorter less ∙ sym (ap (λ n. take k xs ++ replicate n x) none ∙ append-nil (take k xs))
   ]
 
-  -- If the empty range at the end of the list `xs` is replaced by `ys`, the result is `xs ++ ys`.
+  -- If the empty range at the end of the list `xs` is replaced with `ys`, the result is `xs ++ ys`.
   at-end : (xs ys : List T) → (take (length xs) xs ++ ys) ++ drop (length xs) xs ≡ xs ++ ys
   at-end xs ys =
       ap (λ (t : List T). (t ++ ys) ++ drop (length xs) xs) (take-length xs)
       ∙ (ap (λ (t : List T). (xs ++ ys) ++ t) (drop-length xs) ∙ append-nil (xs ++ ys))
 
-  -- If only the items `a..b` of the list `xs` are tested, the result is `xs` with this range
-  -- replaced by the items of the range that are kept.
+  -- Suppose that only the items `a..b` of the list `xs` are tested. Then the kept items of this
+  -- range replace the range, and all other items of `xs` are unchanged.
   left-around : (xs : List T) (a b : ℕ) (verdicts : Verdicts T)
       → left_at true (around xs a b verdicts) ≡ replace_range xs a b (left_at true verdicts)
   left-around xs a b verdicts =
@@ -127,8 +127,8 @@ module _ {T : Type 0} where
       ∙ ((λ i. before ++ (kept ++ left_at-stay after i)) ∙ sym (append_assoc before kept after)))
 
 module _ {T A G J : Type 0} (here : Setting T A J) (equal : ClonesEqual here.clones) where
-  -- If each clone equals its source, then `granted` computes the reply and the resulting items of
-  -- every command that is in range and does not fail.
+  -- If each clone equals its source, then `granted` computes the reply to each command that is in
+  -- range and does not fail, and the items after this command.
   does-granted : (v w : Thin T A) (command : Command T A G) (reply : Reply T A G)
       → IsGranted reply → Does here v command reply w
       → (seen reply, w.items) ≡ granted here v.items command
@@ -188,8 +188,8 @@ module _ {T A G J : Type 0} (here : Setting T A J) (equal : ClonesEqual here.clo
       λ j. (yields (d.0 j), d.1.items j)
   does-granted v w command reply ok d = absurd d
 
-  -- If each clone equals its source, then `plain_step` computes the reply and the resulting items
-  -- of every command that does not fail.
+  -- If each clone equals its source, then `plain_step` computes the reply to each command that does
+  -- not fail, and the items after this command.
   step-plain : (v w : Thin T A) (command : Command T A G) (reply : Reply T A G)
       → IsGranted reply → Steps here v command reply w
       → (seen reply, w.items) ≡ plain_step here v.items command
@@ -205,9 +205,9 @@ module _ {T A G J : Type 0} (here : Setting T A J) (equal : ClonesEqual here.clo
       ∙ sym (cond-true (in_range v.items command) (granted here v.items command)
       (says (OutOfRange command), v.items) inside)
 
-  -- Suppose that each clone equals its source, and that no call of the run fails. Then folding
-  -- `items_after` over the commands computes the final items. Scanning the commands with `reply_to`
-  -- computes, for each reply, the part that `seen` shows.
+  -- Suppose that each clone equals its source, and that no call of the run fails. Then the fold of
+  -- `items_after` over the commands is the list of the final items. The scan with `reply_to` is the
+  -- list of the replies, each reduced to the part that `seen` extracts.
   pub run-plain : (v w : Thin T A) (commands : List (Command T A G)) (replies : List (Reply T A G))
       → All IsGranted replies → Runs here v commands replies w
       → (w.items ≡ fold (items_after here) v.items commands)

@@ -13,14 +13,16 @@ use Rattle.thin_runner.specs.declared.command.Command.{Command}
 use Rattle.thin_runner.specs.declared.command.Reply.{Reply}
 
 module _ {T A G : Type 0} (count : Command T A G → Reply T A G → ℕ) where
-  -- The sum of `count command reply` over the commands of a run and their replies.
+  -- `counted commands replies` is the sum of `count command reply` over the commands of a run and
+  -- their replies.
   abbrev pub counted : List (Command T A G) → List (Reply T A G) → ℕ
   counted (command ∷ commands) (reply ∷ replies) = count command reply + counted commands replies
   counted commands replies = 0
 
 module _ {T A G J : Type 0} (here : Setting T A J) where
-  -- All of `commands` have run, except the commands `left` at the end. They turned the list `old`
-  -- into `new`. Their replies were appended to the list `before`, and the result is `after`.
+  -- `HasRun` states that all of `commands` have run, except the commands `left` at the end, and
+  -- that they turned the list `old` into `new`. Their replies were appended to the list `before`,
+  -- which became `after`.
   pub record HasRun (old : Thin T A) (commands left : List (Command T A G))
       (before after : List (Reply T A G)) (new : Thin T A) : Type 0 where
     pub done : List (Command T A G)
@@ -30,7 +32,7 @@ module _ {T A G J : Type 0} (here : Setting T A J) where
     pub ran : Runs here old done replies new
 
   -- `HasRun` holds before the first command runs: all commands are left, the list `old` is
-  -- unchanged, and no reply was appended.
+  -- unchanged, and no reply has been appended.
   pub HasRun-none : (old : Thin T A) (commands left : List (Command T A G))
       (before after : List (Reply T A G)) → left ≡ commands → after ≡ before
       → HasRun old commands left before after old
@@ -42,8 +44,8 @@ module _ {T A G J : Type 0} (here : Setting T A J) where
     ran = refl;
   }
 
-  -- If a second run begins with the list that results from a first run, then the two runs together
-  -- are one run.
+  -- If a second run begins with the list that results from a first run, then the two runs form one
+  -- longer run.
   pub runs-append : (old mid new : Thin T A) (commands more : List (Command T A G))
       (replies further : List (Reply T A G)) → Runs here old commands replies mid
       → Runs here mid more further new → Runs here old (commands ++ more) (replies ++ further) new
@@ -59,8 +61,8 @@ module _ {T A G J : Type 0} (here : Setting T A J) where
   module _ (mid new : Thin T A) (command : Command T A G) (reply : Reply T A G)
       (stepped : Steps here mid command reply new) where
     -- Suppose that `HasRun` holds for the list `mid`, and that `command` is the first command that
-    -- is left. After `command` has run and its reply was appended, `HasRun` holds for the list
-    -- `new`.
+    -- is left. Then `HasRun` holds for the list `new` after `command` has run and its reply has
+    -- been appended.
     pub HasRun-push : {old : Thin T A} {commands left left' : List (Command T A G)}
         {before after after' : List (Reply T A G)} → HasRun old commands left before after mid
         → left ≡ command ∷ left' → after' ≡ after ++ reply ∷ []

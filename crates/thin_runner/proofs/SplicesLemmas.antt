@@ -69,8 +69,8 @@ module _ {T A : Type 0} (s : Hinted T A) (placed : List T)
       ∙ (ap (λ (l : List T). (placed ++ held) ++ l) (ended.2.2.0.0 ∙ sym left)
       ∙ append_assoc placed held (option_to_list in_hand ++ hinted_items rest))
 
-  -- If `finish` failed, then the size hint of `rest`, the rest of the iterator, has the same lower
-  -- bound as the size hint of the iterator `s` before the call.
+  -- If `finish` failed, then the size hint of `rest`, which is the remaining iterator, has the same
+  -- lower bound as the size hint of the iterator `s` before the call.
   pub stopped-claim : Broke → hinted_claim error.rest ≡ hinted_claim s
   stopped-claim (inl gave) =
       yields-claim s error.rest ((placed ++ error.held.items) ++ option_to_list error.in_hand)
@@ -86,9 +86,9 @@ module _ {T A : Type 0} (s : Hinted T A) (placed : List T)
   stopped-ended (inr ended) none some = ended.2.2.0.1
 
 module _ {T A : Type 0} (old : Thin T A) (a b : ℕ) where
-  -- A splice removes the items `a..b` of the list `old`. Meanwhile, the allocation of the list is
-  -- the open block `block`, which may have a gap between its items. The allocator of the list is
-  -- `alloc`.
+  -- `IsOpened block alloc` holds if `block` is the block of the list `old` while a splice replaces
+  -- the items `a..b`. Such an open block may have a gap between its items. The allocator of the
+  -- list is `alloc`.
   pub record IsOpened (block : Open T A) (alloc : A) : Type 0 where
     pub front : block.front ≡ take a old.items
     pub tail : block.tail ≡ drop b old.items
@@ -97,8 +97,8 @@ module _ {T A : Type 0} (old : Thin T A) (a b : ℕ) where
     pub cost : block.cost ≡ old.cost
 
   module _ (block : Open T A) (alloc : A) (is : IsOpened block alloc) where
-    -- The open block without the items of its range, as a list, is `cut old a b`: the list `old`
-    -- without the items `a..b`.
+    -- `left_of block alloc`, the list of the front items and the tail items of the open block, is
+    -- `cut old a b`: the list `old` without the items `a..b`.
     pub left-is : left_of block alloc ≡ cut old a b
     left-is = λ i. record {
       items = is.front i ++ is.tail i;
@@ -122,9 +122,9 @@ module _ {T A : Type 0} (old : Thin T A) (a b : ℕ) where
         subst (λ (v : Thin T A). CostsAdding v new (2 * (length old.items - b))) left-is
         (subst (λ (n : ℕ). CostsAdding (left_of block alloc) new (2 * n)) tail-count cost)
 
-    -- The limit `left` says that the iterator can yield at most `most` items. If `IsExtended` holds
-    -- for the list of the open block and the limit `left`, then it also holds for the list
-    -- `cut old a b` and the limit `most`.
+    -- Suppose that `left` is the limit `at_most most` on the number of items that an iterator may
+    -- still yield. If `IsExtended` holds for the list of the open block and the limit `left`, then
+    -- it also holds for the list `cut old a b` and the limit `at_most most`.
     pub ruled : (rule : Rule) (R : RattleType) (new : Thin T A) (most : ℕ) (left : Count)
         → left ≡ at_most most
         → IsExtended rule R (left_of block alloc) new.capacity (length new.items) left
@@ -179,11 +179,12 @@ module _ {T A : Type 0} (old : Thin T A) where
   places-end P most none fits (inl few) = none (omega (arith, few))
   places-end P most none fits (inr room) = fits (room-end most room.1)
 
--- Appending items to a list is the same as replacing the empty range at its end.
+-- The lemmas of this module show that appending items to a list is the same as replacing the empty
+-- range at its end.
 module _ {T A : Type 0} (rule : Rule) (R : RattleType) (old new : Thin T A) where
-  -- `IsFilled placed most` holds if an `extend` turned the list `old` into `new` by appending the
-  -- items `placed`. The iterator could yield at most `most` items. The fields are clauses of the
-  -- contract of `extend`.
+  -- `IsFilled placed most` holds if a call of `extend` appended the items `placed`, and thereby
+  -- turned the list `old` into `new`. The iterator could yield at most `most` items. The fields are
+  -- clauses of the contract of `extend`.
   pub record IsFilled (placed : List T) (most : ℕ) : Type 0 where
     pub items : new.items ≡ old.items ++ placed
     pub capacity : IsLoose rule R old.capacity new.capacity

@@ -10,14 +10,14 @@ use Rattle.thin_runner.specs.declared.command.Step.{Step}
 use Rattle.thin_runner.specs.declared.command.Step.TheVariants.{Back}
 
 module _ {T : Type 0} where
-  -- The item of `xs ++ x ∷ []` at the index `length xs` is `x`.
+  -- The item of `xs ++ x ∷ []` at index `length xs` is `x`.
   pub last-of : (xs : List T) (x : T) → slice_get (xs ++ x ∷ []) (length xs) ≡ Some x
   last-of [] x = refl
   last-of (y ∷ xs) x = last-of xs x
 
-  -- Let `item` be the last item of the list `xs`, and let `ys` be the items before it. (If `xs` is
-  -- empty, let `item` be `None` and `ys` be empty.) Then the results of the steps `Back ∷ steps` on
-  -- `xs` are `item`, followed by the results of `steps` on `ys`.
+  -- Suppose that `item` is the last item of the list `xs`, and that `ys` contains the items before
+  -- it. (If `xs` is empty, then `item` is `None`, and `ys` is empty.) Then the results of the steps
+  -- `Back ∷ steps` on `xs` are `item`, followed by the results of `steps` on `ys`.
   walked-last : (xs ys : List T) (item : Option T)
       → MatchOption item ((xs ≡ []) × (ys ≡ [])) (λ x. xs ≡ ys ++ x ∷ [])
       → (steps : List Step) → walked xs (Back ∷ steps) ≡ item ∷ walked ys steps

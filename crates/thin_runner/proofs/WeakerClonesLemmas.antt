@@ -1,6 +1,6 @@
--- The clone relation of a setting says which values may be clones of an item. Every run that the
--- setting allows is still allowed if a weaker relation replaces the clone relation. So if each
--- clone equals its source, equality may replace the clone relation.
+-- The clone relation says which values may be clones of an item. Every run that is possible with a
+-- clone relation is also possible with a weaker one. So if each clone equals its source, the clone
+-- relation may be replaced with equality.
 use Rattle.std.proofs.Common.{◌≡◌, ℕ, List, [], ◌∷◌}
 use Rattle.std.specs.List.{AllZip}
 use Rattle.thin_vec.specs.List.Clones.{ClonesEqual, IsResized}
@@ -22,8 +22,8 @@ module _ {T : Type 0} (clones like : T → T → Type 0)
   zip-weaker (x ∷ xs) (y ∷ ys) z = (weaker x y z.0, zip-weaker xs ys z.1)
   zip-weaker xs ys z = absurd z
 
-  -- If `ys` is the list `xs` resized with clones of `x`, then these are also clones according to
-  -- the weaker relation `like`.
+  -- Suppose that `ys` is the list `xs`, resized with clones of `x`. Then these clones are also
+  -- clones according to the weaker relation `like`.
   resized-weaker : (xs ys : List T) (n : ℕ) (x : T) → IsResized clones xs n x ys
       → IsResized like xs n x ys
   resized-weaker xs ys n x r = record {
@@ -34,8 +34,8 @@ module _ {T : Type 0} (clones like : T → T → Type 0)
 
 module _ {T A G J : Type 0} (here : Setting T A J) (like : T → T → Type 0)
     (weaker : (x y : T) → here.clones x y → like x y) where
-  -- Every step that the setting allows is still allowed if the weaker relation `like` replaces the
-  -- clone relation.
+  -- Every step that is possible with a clone relation is also possible with a weaker relation
+  -- `like`.
   pub step-weaker : (old new : Thin T A) (command : Command T A G) (reply : Reply T A G)
       → Steps here old command reply new
       → Steps (record here { clones = like }) old command reply new
@@ -48,8 +48,8 @@ module _ {T A G J : Type 0} (here : Setting T A J) (like : T → T → Type 0)
       (s.0, (zip-weaker here.clones like weaker old.items copy.items s.1.0, s.1.1, s.1.2))
   step-weaker old new command reply s = s
 
-  -- Every run that the setting allows is still allowed if the weaker relation `like` replaces the
-  -- clone relation.
+  -- Every run that is possible with a clone relation is also possible with a weaker relation
+  -- `like`.
   pub run-weaker : (old new : Thin T A) (commands : List (Command T A G))
       (replies : List (Reply T A G)) → Runs here old commands replies new
       → Runs (record here { clones = like }) old commands replies new
@@ -61,8 +61,8 @@ module _ {T A G J : Type 0} (here : Setting T A J) (like : T → T → Type 0)
 
 -- In this module, each clone equals its source.
 module _ {T A G J : Type 0} (here : Setting T A J) (equal : ClonesEqual here.clones) where
-  -- Every run that the setting allows is still allowed, with the same lists and replies, if
-  -- equality replaces the clone relation.
+  -- Every run that is possible with the clone relation is also possible, with the same lists and
+  -- replies, if the clone relation is replaced with equality.
   pub run-equal : (old new : Thin T A) (commands : List (Command T A G))
       (replies : List (Reply T A G)) → Runs here old commands replies new
       → Runs (record here { clones = λ x y. y ≡ x }) old commands replies new

@@ -13,29 +13,30 @@ use Rattle.thin_runner.specs.declared.command.Command.{Command}
 use Rattle.thin_runner.specs.declared.command.Reply.{Reply}
 
 module _ {T A G J : Type 0} (here : Setting T A J) where
-  -- The main theorem. A run of `commands` turned the list `old` into `new`, and appended its
-  -- replies to the list `before`, which became `after`.
+  -- `Headline` is the main theorem about a run of `commands` that turned the list `old` into `new`.
+  -- The run appended its replies to the list `before`, which became `after`.
   pub record Headline (old : Thin T A) (commands : List (Command T A G))
       (before after : List (Reply T A G)) (new : Thin T A) : Type 0 where
     -- The replies to the commands of the run. They were appended to the replies in `before`.
     pub replies : List (Reply T A G)
     pub appended : after ≡ before ++ replies
-    -- If each clone equals its source, and no call failed, then the final items are the fold of
-    -- `items_after` over the commands. Scanning the commands with `reply_to` computes, for each
-    -- reply, the part that `seen` shows. Both functions are defined on plain lists of items.
+    -- Suppose that each clone equals its source, and that no call failed. Then the fold of
+    -- `items_after` over the commands computes the final items, and the scan with `reply_to`
+    -- computes the part of each reply that `seen` extracts. Both functions are defined on plain
+    -- lists of items.
     pub plain : ClonesEqual here.clones → All IsGranted replies
         → (new.items ≡ fold (items_after here) old.items commands)
         × (map seen replies ≡ scan (items_after here) (reply_to here) old.items commands)
-    -- In every case, even if calls failed, the definition `Runs` allows the final list (its items,
-    -- capacity and cost) and the replies.
+    -- In every case, even if calls failed, the definition `Runs` allows the replies and the final
+    -- list, including its items, capacity and cost.
     pub allowed : Runs here old commands replies new
     -- The items fit into the capacity of the list. An allocation of this capacity does not exceed
     -- the size limit for allocations.
     pub within : IsWithin here.R new
     -- If no command is `ReserveExact` or `ShrinkToFit`, then a cheap list is still cheap after the
-    -- run. A list with a capacity `c` greater than 0 is cheap under two conditions: growth has
-    -- copied fewer than `c` items, and the number of requests for memory is at most the number of
-    -- binary digits of `c`. Every new list is cheap.
+    -- run. A list with a capacity `c` greater than 0 is cheap if growth has copied fewer than `c`
+    -- items, and the number of requests for memory is at most the number of binary digits of `c`.
+    -- Every new list is cheap.
     pub stays_cheap : All KeepsCheap commands → IsCheap old → IsCheap new
     -- If no command is `ReserveExact` or `ShrinkToFit`, then the number of items that growth copied
     -- during the run is at most the increase of the capacity. This holds even if the old list was

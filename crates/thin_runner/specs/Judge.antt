@@ -1,4 +1,4 @@
--- `Judging` describes the decisions of a judge by functions, one for each method of the trait
+-- `Judging` describes the decisions of a judge with one function for each method of the trait
 -- `Judge`.
 use Rattle.std.specs.Prelude.{ℕ, Bool}
 

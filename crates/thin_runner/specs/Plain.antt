@@ -1,5 +1,5 @@
--- These functions describe commands that do not fail. They are defined on plain lists of items, and
--- compute the items after each command and the reply to it.
+-- These functions describe commands that do not fail. They are defined on plain lists of items.
+-- They compute the items after each command and the reply to the command.
 use Rattle.std.specs.Prelude.{◌-◌, Bool, true, false, ◌&&◌, List, [], ◌∷◌, ◌++◌, Option, None, drop, if◌then◌else◌, insert, length, nat_le, nat_lt, remove, replicate, slice_get, slice_range, slice_set, take}
 use Rattle.std.specs.List.{dedup, remove_range, replace_range, swap_remove}
 use Rattle.std.specs.Option.{option_map_or, unwrap_or}
@@ -14,8 +14,9 @@ use Rattle.thin_runner.specs.declared.command.Reply.{Reply}
 use Rattle.thin_runner.specs.declared.command.Reply.TheVariants.{Answers, Done, Item, List as Made, Other, OutOfRange}
 use Rattle.thin_runner.specs.declared.command.Step.TheVariants.{Front}
 
--- The part of a reply that the main theorem determines. For the reply `Answers`, this part consists
--- of the items of its vector. For any other reply, it is the whole reply.
+-- `Seen` is the type of the part of a reply that the main theorem determines. For the reply
+-- `Answers`, this part is the list of the results in its vector. For any other reply, it is the
+-- whole reply.
 pub data Seen (T A G : Type 0) : Type 0 where
   says : Reply T A G → Seen T A G
   yields : List (Option T) → Seen T A G
@@ -40,8 +41,8 @@ module _ {T A G : Type 0} where
   in_range xs command = true
 
 module _ {T A G J : Type 0} (here : Setting T A J) where
-  -- `granted xs command` describes a command that is in range and does not fail. If `xs` are the
-  -- items before the command, the result is the reply and the items after the command.
+  -- `granted xs command` is the pair of the reply and the resulting items if the command runs on a
+  -- list with the items `xs`, is in range, and does not fail.
   abbrev pub granted : List T → Command T A G → Seen T A G × List T
   granted xs (Push v) = (says Done, xs ++ v ∷ [])
   granted xs Pop = let last = length xs - 1 in (says (Item (slice_get xs last)), take last xs)
@@ -75,19 +76,19 @@ module _ {T A G J : Type 0} (here : Setting T A J) where
   -- All other commands test the items and remove some of them.
   granted xs command = (says Done, left_at true (unwrap_or (answered here xs command) []))
 
-  -- `plain_step xs command` describes a command that does not fail. If `xs` are the items before
-  -- the command, the result is the reply and the items after the command. If the command is out of
-  -- range, the reply returns the command, and the items do not change.
+  -- `plain_step xs command` is the pair of the reply and the resulting items if the command runs on
+  -- a list with the items `xs` and does not fail. If the command is out of range, the reply returns
+  -- the command, and the items do not change.
   abbrev pub plain_step : List T → Command T A G → Seen T A G × List T
   plain_step xs command =
       if in_range xs command then granted xs command else (says (OutOfRange command), xs)
 
-  -- `reply_to xs command` is the reply to a command that does not fail, if `xs` are the items
-  -- before it.
+  -- `reply_to xs command` is the reply if the command runs on a list with the items `xs` and does
+  -- not fail.
   abbrev pub reply_to : List T → Command T A G → Seen T A G
   reply_to xs command = (plain_step xs command).0
 
-  -- `items_after xs command` are the items after a command that does not fail, if `xs` are the
-  -- items before it.
+  -- `items_after xs command` is the list of the resulting items if the command runs on a list with
+  -- the items `xs` and does not fail.
   abbrev pub items_after : List T → Command T A G → List T
   items_after xs command = (plain_step xs command).1

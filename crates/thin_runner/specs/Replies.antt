@@ -1,12 +1,12 @@
--- These definitions tell from a reply whether the call failed, and why it failed.
+-- These definitions determine from a reply whether the call failed, and why it failed.
 use Rattle.std.specs.Prelude.{◌≡◌, None, Option, Some}
 use Rattle.thin_vec.specs.declared.ThinVecError.{ThinVecError}
 use Rattle.thin_runner.specs.declared.command.Reply.{Reply}
 use Rattle.thin_runner.specs.declared.command.Reply.TheVariants.{Other, Returned, Refused, Stopped}
 
 module _ {T A G : Type 0} where
-  -- The cause of the failure if the call failed, and `None` if the call succeeded. If the command
-  -- was out of range, no call was made, and the result is `None`, too.
+  -- `refusal_of reply` is the cause of the failure if the call failed, and `None` if the call
+  -- succeeded. It is also `None` if no call was made because the command was out of range.
   abbrev pub refusal_of : Reply T A G → Option ThinVecError
   refusal_of (Other back refused) = refused
   refusal_of (Returned v cause) = Some cause

@@ -34,19 +34,18 @@ module _ {T A G : Type 0} where
 
 module _ {T A G J : Type 0} (here : Setting T A J) where
   -- `Runs old commands replies new` holds if the commands, carried out in order, may turn the list
-  -- `old` into `new` and get these replies, one for each command. `mid` is the list after the first
-  -- command.
+  -- `old` into `new` and get these replies, one for each command. In the definition, `mid` is the
+  -- list after the first command.
   abbrev pub Runs : Thin T A → List (Command T A G) → List (Reply T A G) → Thin T A → Type 0
   Runs old [] [] new = new ≡ old
   Runs old (command ∷ commands) (reply ∷ replies) new =
       (mid : Thin T A) × (Steps here old command reply mid × Runs mid commands replies new)
   Runs old commands replies new = ⊥
 
-  -- An upper bound on the number of items that the command moves. The items before the command are
-  -- `xs`, and the command gets the given reply. Copies by growth are not counted. For a command
-  -- that tests items and removes some of them, the bound is the number of kept items that change
-  -- their place. A command that fails after it has moved some items may move fewer items than the
-  -- bound.
+  -- `may_move xs command reply` is an upper bound on the number of items that the command moves, if
+  -- the items before it are `xs` and it gets this reply. Items that growth copies are not counted.
+  -- For a command that tests items and removes some of them, the bound is the number of kept items
+  -- that change their place. If a command fails partway, it may move fewer items than the bound.
   abbrev pub may_move : List T → Command T A G → Reply T A G → ℕ
   may_move xs command (OutOfRange back) = 0
   may_move xs (Push v) Done = 1
@@ -65,16 +64,16 @@ module _ {T A G J : Type 0} (here : Setting T A J) where
   may_move xs (Splice a b steps ys lower) reply = 2 * (length xs - b) + length ys.items
   may_move xs command reply = moved_down (flags_of (unwrap_or (answered here xs command) []))
 
-  -- The sum of the bounds `may_move` for the commands of a run. The bound for a command depends on
-  -- its reply, and on the items that the list has before the command.
+  -- `run_may_move` is the sum of the bounds `may_move` for the commands of a run. The bound for a
+  -- command depends on its reply, and on the items that the list has before the command.
   abbrev pub run_may_move : (old new : Thin T A) (commands : List (Command T A G))
       (replies : List (Reply T A G)) → Runs old commands replies new → ℕ
   run_may_move old new (command ∷ commands) (reply ∷ replies) run =
       may_move old.items command reply + run_may_move run.0 new commands replies run.1.1
   run_may_move old new commands replies run = 0
 
-  -- The greatest length of the list during a run. The lengths before the first command and after
-  -- the last command are included.
+  -- `peak` is the greatest length of the list during a run, including the length before the first
+  -- command and the length after the last command.
   abbrev pub peak : (old new : Thin T A) (commands : List (Command T A G))
       (replies : List (Reply T A G)) → Runs old commands replies new → ℕ
   peak old new (command ∷ commands) (reply ∷ replies) run =

@@ -13,8 +13,8 @@ pub record Setting (T A J : Type 0) : Type 1 where
   pub clones : T → T → Type 0
   pub infallible : T → Type 0
   pub eq : T → T → Bool
-  -- `judging` contains the functions by which the judge decides. `rule` is the growth rule. `R` is
-  -- the type of the items, with its size and alignment.
+  -- `judging` contains the functions that describe the decisions of the judge. `rule` is the growth
+  -- rule. `R` is the type of the items, with its size and alignment.
   pub judging : Judging T J
   pub rule : Rule
   pub R : RattleType

@@ -77,7 +77,8 @@ module _ {T A G J : Type 0} (here : Setting T A J) where
       × Grows here old more new.items more new
   Does old (ExtendFromSlice xs) (Refused cause) new = let more = length xs.items in
       (0 < more) × RefusesClone here old more xs.items cause new
-  -- An `extend` is a splice that replaces the empty range at the end of the list.
+  -- A call of `extend` is described as a splice that replaces the empty range at the end of the
+  -- list.
   Does old (Extend xs lower) Done new = let end = length old.items in
       Replaces here.rule here.R old end end xs.items (lower + length xs.items) new
   Does old (Extend xs lower) (Stopped answers cause held in_hand rest) new =

@@ -1,4 +1,4 @@
--- The definitions of what the commands may do. Each file is about one kind of command.
+-- These definitions state what the commands may do. Each file is about one kind of command.
 pub mod Items
 pub mod Room
 pub mod Many

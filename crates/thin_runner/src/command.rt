@@ -31,7 +31,7 @@ pub enum Command<T, A: Allocator = Global, G: Growth = Doubling> {
     Remove(usize),
     /// Calls `swap_remove`. The reply is `Item`.
     SwapRemove(usize),
-    /// Replaces the item at the index with the value, through `IndexMut`. The reply is `Item`, with
+    /// Replaces the item at the index with the value, using `IndexMut`. The reply is `Item`, with
     /// the old item.
     Set(usize, T),
     /// Calls `truncate`. The reply is `Done`.
@@ -89,22 +89,22 @@ pub enum Command<T, A: Allocator = Global, G: Growth = Doubling> {
 pub enum Reply<T, A: Allocator = Global, G: Growth = Doubling> {
     /// The call succeeded, and it returned no value.
     Done,
-    /// The item that the call removed or replaced, or `None` if there was none.
+    /// The item that the call removed or replaced, or `None` if there was no such item.
     Item(Option<T>),
     /// The results of the calls of `next` and `next_back`, in order.
     Answers(Vec<Option<T>, A>),
     /// The list that the call made.
     List(ThinVec<T, A, G>),
-    /// The list that was passed to `append`, and the cause if `append` failed. After a success, the
-    /// list is empty. After a failure, it is unchanged.
+    /// The list that was passed to `append`, and the cause if `append` failed. On success, the list
+    /// is empty. On failure, the list is unchanged.
     Other(ThinVec<T, A, G>, Option<ThinVecError>),
     /// The value that was passed to a call that failed, and the cause of the failure.
     Returned(T, ThinVecError),
     /// The cause of the failure.
     Refused(ThinVecError),
-    /// An `extend`, or the `finish` of a splice, failed.
+    /// A call of `extend`, or of `finish` on a splice, failed.
     Stopped {
-        /// The results of the steps that were taken before `finish` was called. After an `extend`,
+        /// The results of the steps that were taken before `finish` was called. If `extend` failed,
         /// this vector is empty.
         answers: Vec<Option<T>, A>,
         /// The cause of the failure.

@@ -1,4 +1,5 @@
-//! The iterator `Hinted`. Its size hint may claim more or fewer items than it yields.
+//! The iterator `Hinted`. The lower bound of its size hint may be greater or less than the number
+//! of items that the iterator yields.
 ghost use Rattle.std.specs.Prelude.{◌≡◌, IfSome, None};
 ghost use Rattle.std.specs.Iterator.{UpTo};
 ghost use Rattle.std.specs.Iterator.Runs.{YieldsInOrder};

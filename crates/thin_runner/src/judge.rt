@@ -1,10 +1,10 @@
 //! The trait `Judge`. Commands such as `Retain` call the methods of a judge instead of a closure.
 ghost use Rattle.std.specs.Prelude.{◌≡◌};
 
-/// Decides about items. Commands use a judge in place of the closures that methods such as `retain`
-/// take.
+/// Decides which items are kept. Commands use a judge instead of the closures that methods such as
+/// `retain` take.
 ///
-/// Each command that asks a judge begins with a copy of the judge that was passed to `run` or
+/// Each command that asks a judge gets its own copy of the judge that was passed to `run` or
 /// `step`. So the state of the judge is not carried from one command to the next.
 pub trait Judge<T>: Copy {
     ghost use Rattle.thin_runner.specs.Judge.{Judging};

@@ -11,8 +11,8 @@ use std::alloc::Allocator;
 use std::marker::PhantomData;
 use thin_vec::{Growth, ThinVec, ThinVecError};
 
-// Returns whether the index or the range of `command` is in bounds. Returns true if `command` has
-// neither an index nor a range.
+// Returns whether the index or the range of `command` is in bounds. Also returns true if `command`
+// has neither an index nor a range.
 fn is_in_range<T, A: Allocator, G: Growth>(
     list: &ThinVec<T, A, G>,
     command: &Command<T, A, G>,
@@ -37,7 +37,7 @@ fn is_in_range<T, A: Allocator, G: Growth>(
 ///
 /// If the index or the range of the command is out of bounds, the list does not change, and the
 /// reply returns the command. The lists and vectors that the command makes use the allocator
-/// `alloc`. A command that asks the judge begins with a copy of `judge`.
+/// `alloc`. A command that asks the judge gets its own copy of `judge`.
 pub fn step<T: Clone + Eq, A: Allocator + Copy, G: Growth, J: Judge<T>>(
     alloc: A,
     list: &mut ThinVec<T, A, G>,
@@ -90,7 +90,7 @@ pub fn step<T: Clone + Eq, A: Allocator + Copy, G: Growth, J: Judge<T>>(
 /// Carries out the commands in order, and appends the reply to each command to `replies`.
 ///
 /// The function first reserves room for all replies. The lists and vectors that the commands make
-/// use the allocator `alloc`. Each command that asks the judge begins with a copy of `judge`.
+/// use the allocator `alloc`. Each command that asks the judge gets its own copy of `judge`.
 ///
 /// # Errors
 ///
@@ -118,8 +118,8 @@ pub fn run<T: Clone + Eq, A: Allocator + Copy, G: Growth, J: Judge<T>>(
         × (vec_capacity replies.new ≡ vec_capacity replies.old)) }
     ensures cause { IfErr result (λ cause. cause ≡ ThinVecError.OutOfMemory) }
 {
-    // Only the prover needs this call. Its contract says that the old items fit into the old
-    // capacity. The proof of the clause `ok` uses this fact, even if there are no commands.
+    // Only the prover needs this call. The contract of `capacity` says that the old items fit into
+    // the old capacity. The proof of the clause `ok` uses this fact, even if there are no commands.
     let _capacity = list.capacity();
     match replies.reserve(commands.len()) {
         Ok(()) => (),
@@ -132,8 +132,8 @@ pub fn run<T: Clone + Eq, A: Allocator + Copy, G: Growth, J: Judge<T>>(
             Err(_refused) => unreachable!(),
         }
     }
-    // Only the prover needs this call. Its contract implies the field `within` of `Headline`, which
-    // does not follow from the contract of `step`.
+    // Only the prover needs this call. The contract of `capacity` implies the field `within` of
+    // `Headline`, which does not follow from the contract of `step`.
     let _end = list.capacity();
     Ok(())
 }

@@ -1,7 +1,7 @@
 //! The traits through which the workloads use lists. A workload is a piece of work whose time is
 //! measured.
 //!
-//! Unless its comment says otherwise, a method calls the method of the list with the same name. A
+//! Unless its comment says otherwise, each method calls the list's method of the same name. A
 //! method that returns a `Result` fails if there is no room for the items.
 mod kit;
 mod thin;
@@ -12,8 +12,8 @@ use std::alloc::{AllocError, Global};
 use std::io::Write;
 pub use thin::Thin;
 
-/// A kind of list: either `ThinVec`, or the `Vec` of Rattle's library. The associated types are the
-/// list types for various types of items. `Cells` is the type of a table.
+/// A kind of list: either `ThinVec`, or the `Vec` of Rattle's library. Each associated type is a
+/// list type for one type of items, except that `Cells` is the type of a table.
 pub trait Family {
     type Numbers: Numbers;
 
@@ -40,7 +40,7 @@ pub trait Family {
     type Cells: Table;
 
     /// Builds a tree of depth `depth`. Each node that is not a leaf has `width` children. Returns
-    /// the sum of the depths of all nodes, where a leaf has the depth 0.
+    /// the sum of the depths of all nodes, where a leaf has depth 0.
     ///
     /// # Errors
     ///
@@ -74,27 +74,27 @@ pub trait Numbers: List<u64> {
     /// Removes the item at `index` and returns it. Returns `None` if there is no such item.
     fn remove_at(&mut self, index: usize) -> Option<u64>;
 
-    /// Removes the item in the middle by `swap_remove`, and returns it. Returns `None` if the list
-    /// is empty.
+    /// Removes the item in the middle, using `swap_remove`, and returns it. Returns `None` if the
+    /// list is empty.
     fn remove_middle(&mut self) -> Option<u64>;
 
     /// Collects the numbers below `end` from an iterator into a new list.
     fn collected(alloc: Global, end: usize) -> Result<Self, AllocError>;
 
-    /// Appends the numbers below `end`, by `extend` with an iterator whose size hint is exact.
+    /// Appends the numbers below `end`, using `extend` and an iterator whose size hint is exact.
     fn extend_hinted(&mut self, end: usize) -> Result<(), AllocError>;
 
-    /// Appends the numbers below `end`, by `extend` with an iterator whose size hint has the lower
-    /// bound 0.
+    /// Appends the numbers below `end`, using `extend` and an iterator whose size hint has a lower
+    /// bound of 0.
     fn extend_unhinted(&mut self, end: usize) -> Result<(), AllocError>;
 
-    /// Appends the even numbers in `items`, by `extend` with an iterator that skips the other
+    /// Appends the even numbers in `items`, using `extend` and an iterator that skips the odd
     /// numbers.
     fn extend_filtered(&mut self, items: &[u64]) -> Result<(), AllocError>;
 
-    /// Appends the first half of `items`, and then the second half, by two calls of `extend`. The
-    /// two iterators have the same type, so both calls run the same instance of the generic method
-    /// `extend`.
+    /// Appends the first half of `items`, and then the second half, using two calls of `extend`.
+    /// The two iterators have the same type, so both calls run the same instance of the generic
+    /// method `extend`.
     fn extend_twice(&mut self, items: &[u64]) -> Result<(), AllocError>;
 
     /// Appends copies of `items`.
@@ -107,16 +107,17 @@ pub trait Numbers: List<u64> {
     /// Makes a list of copies of the items.
     fn copy(&self, alloc: Global) -> Result<Self, AllocError>;
 
-    /// Splits off the second half of the list by `split_off`, and appends it again.
+    /// Splits off the second half of the list, using `split_off`, and then appends it to the first
+    /// half.
     fn split_and_append(&mut self, alloc: Global) -> Result<(), AllocError>;
 
-    /// Drains the items from `start` up to, but not including, `end`. Does nothing if this range is
-    /// out of bounds. Returns `sum` after each drained item was mixed into it.
+    /// Drains the items from `start` up to, but not including, `end`. Mixes each drained item into
+    /// `sum`, and returns the new sum. Does nothing if this range is out of bounds.
     fn drain_range(&mut self, start: usize, end: usize, sum: u64) -> u64;
 
-    /// Replaces the items from `start` up to, but not including, `end`, by a call of `splice`. The
-    /// new items are `C::count()` consecutive numbers, beginning with `first`. The size hint of
-    /// their iterator is exact. Does nothing if the range is out of bounds.
+    /// Replaces the items from `start` up to, but not including, `end`, using `splice`. The new
+    /// items are `C::count()` consecutive numbers, beginning with `first`. The size hint of their
+    /// iterator is exact. Does nothing if the range is out of bounds.
     fn splice_few<C: Count>(
         &mut self,
         alloc: Global,
@@ -130,12 +131,12 @@ pub trait Numbers: List<u64> {
     /// be specialized for the lengths that a caller passes.
     fn replace(&mut self, start: usize, end: usize, items: &[u64]) -> Result<(), AllocError>;
 
-    /// Replaces the middle half of the list with the numbers below `end`, by `splice` with an
+    /// Replaces the middle half of the list with the numbers below `end`, using `splice` and an
     /// iterator whose size hint is exact.
     fn splice_hinted(&mut self, alloc: Global, end: usize) -> Result<(), AllocError>;
 
-    /// Replaces the middle half of the list with the numbers below `end`, by `splice` with an
-    /// iterator whose size hint has the lower bound 0.
+    /// Replaces the middle half of the list with the numbers below `end`, using `splice` and an
+    /// iterator whose size hint has a lower bound of 0.
     fn splice_unhinted(&mut self, alloc: Global, end: usize) -> Result<(), AllocError>;
 
     fn dedup(&mut self);
@@ -143,12 +144,12 @@ pub trait Numbers: List<u64> {
     /// Calls `dedup_by_key`. The key of a number is half of the number, rounded down.
     fn dedup_halves(&mut self);
 
-    /// Extracts the items that `P` picks, by `extract_if`. Returns `sum` after each extracted item
-    /// was mixed into it.
+    /// Extracts the items that `P` picks, using `extract_if`. Mixes each extracted item into `sum`,
+    /// and returns the new sum.
     fn extract<P: Pick>(&mut self, sum: u64) -> u64;
 
-    /// Consumes the list from the front by `into_iter`. Returns `sum` after each item was mixed
-    /// into it.
+    /// Consumes the list from the front, using `into_iter`. Mixes each item into `sum`, and returns
+    /// the new sum.
     fn walk(self, sum: u64) -> u64;
 }
 

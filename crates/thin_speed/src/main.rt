@@ -23,8 +23,8 @@ fn main(rt: HostRuntime) -> io::Result<()> {
 }
 
 // Runs the workload that a line names. The line has four words: the kind of list (`thin` or `kit`),
-// the name of the workload, the size (the number of items, or the depth of a tree), and how often
-// the work is done. Returns `None` if the line is not of this form.
+// the name of the workload, the size (such as the number of items, or the depth of a tree), and how
+// often the work is done. Returns `None` if the line is not of this form.
 fn asked(alloc: Global, line: &str) -> Option<Outcome> {
     let mut words = line.split_whitespace();
     let list = words.next()?;

@@ -14,14 +14,15 @@ pub fn mixed(sum: u64, number: u64) -> u64 {
     sum.wrapping_mul(31).wrapping_add(number)
 }
 
-/// An item of a list. A number can be computed from it and mixed into a sum.
+/// An item of a list. A workload can compute a number from the item, and mix this number into a
+/// sum.
 pub trait Item: Drop {
     /// Returns the number that is computed from the item.
     fn number(&self) -> u64;
 }
 
-/// Returns the length of `items`, plus the number of the item in the middle. If `items` is empty,
-/// returns 0.
+/// Returns the length of `items`, plus the number that is computed from the item in the middle. If
+/// `items` is empty, returns 0.
 pub fn seen<T: Item>(items: &[T]) -> u64 {
     let middle = match items.get(items.len() / 2) {
         Some(item) => item.number(),
@@ -103,7 +104,7 @@ impl Item for String {
 
 /// A way to make the items of a list.
 pub trait Source<T: Drop> {
-    /// Makes the item at the index `number` of a list.
+    /// Makes the item at index `number` of a list.
     ///
     /// # Errors
     ///
@@ -149,7 +150,7 @@ impl Source<u64> for InTurn {
     }
 }
 
-/// Makes each item from its index. The item at the index `i` is `i ^ 5`.
+/// Makes each item from its index. The item at index `i` is `i ^ 5`.
 pub struct Turned;
 
 impl Source<u64> for Turned {
@@ -278,7 +279,7 @@ impl Count for Three {
 
 /// A test that picks numbers.
 pub trait Pick {
-    /// Returns whether `number` is picked.
+    /// Returns whether the test picks `number`.
     fn picks(number: u64) -> bool;
 }
 
@@ -347,7 +348,7 @@ impl Pick for Nothing {
 }
 
 /// Picks the numbers whose last four bits are not all 1. Of the numbers 0, 1, 2 and so on, it picks
-/// fifteen in a row, then skips one, and so on.
+/// fifteen in a row, skips one, picks the next fifteen, and so on.
 pub struct InARun;
 
 impl Pick for InARun {

@@ -1,6 +1,6 @@
 -- Definitions about commands that test the items of a list and remove some of them. The test of an
--- item results in a verdict. A verdict says whether the item is kept, and contains the item as it
--- is after the test. (std: `Vec::retain_mut`, `Vec::dedup_by`, `Vec::extract_if`)
+-- item results in a verdict, which says whether the item is kept, and contains the item as it is
+-- after the test. (std: `Vec::retain_mut`, `Vec::dedup_by`, `Vec::extract_if`)
 use Rattle.std.specs.Prelude.{ℕ, zero, suc, ◌==◌, List, [], ◌∷◌, ◌++◌, Bool, None, Option, Some, drop, false, if◌then◌else◌, not, take, true}
 use Rattle.thin_vec.specs.Edits.Retain.{Verdicts, flags_of, left_at, moved_down, stay}
 use Rattle.thin_vec.specs.ThinVec.{Thin}
@@ -10,22 +10,22 @@ use Rattle.thin_runner.specs.declared.command.Command.{Command}
 use Rattle.thin_runner.specs.declared.command.Command.TheVariants.{Retain, RetainMut, Dedup, DedupBy, DedupByKey}
 
 module _ {T J : Type 0} where
-  -- Compares the items `later` and `kept` by their keys. The key of `later` is computed first. The
-  -- result says whether the keys are equal, and contains both items and the state of the judge
-  -- after the calls of `key`.
+  -- `same_key key j later kept` compares the items `later` and `kept` by their keys. The key of
+  -- `later` is computed first. The result says whether the keys are equal, and contains both items
+  -- and the state of the judge after the calls of `key`.
   abbrev pub same_key : (J → T → ℕ × T × J) → J → T → T → Bool × T × T × J
   same_key key j later kept =
       let a = key j later in let b = key a.2 kept in (a.0 == b.0, a.1, b.1, b.2)
 
 module _ {T J : Type 0} (ask : J → T → Bool × T × J) where
-  -- `asked j xs` are the verdicts on the items `xs` if `ask` is called for each item, in order, and
-  -- the judge starts in the state `j`.
+  -- `asked j xs` is the list of the verdicts on the items `xs` if `ask` is called for each item, in
+  -- order, and the judge starts in the state `j`.
   abbrev pub asked : J → List T → Verdicts T
   asked j [] = []
   asked j (x ∷ xs) = let a = ask j x in (a.0, a.1) ∷ asked a.2 xs
 
-  -- `extracting j k xs` are the verdicts on the items `xs` after `k` calls of `next` on an
-  -- `ExtractIf`, if the judge starts in the state `j`. After `k` items have been extracted, the
+  -- `extracting j k xs` is the list of the verdicts on the items `xs` after `k` calls of `next` on
+  -- an `ExtractIf`, if the judge starts in the state `j`. After `k` items have been extracted, the
   -- remaining items are kept without a test.
   abbrev pub extracting : J → ℕ → List T → Verdicts T
   extracting j zero xs = stay xs
@@ -43,27 +43,28 @@ module _ {T J : Type 0} (same : J → T → T → Bool × T × T × J) where
       let a = same j x k in let b = asked_last a.3 (if a.0 then a.2 else a.1) xs in
       if a.0 then (b.0, (false, a.1) ∷ b.1) else (a.2, (true, b.0) ∷ b.1)
 
-  -- The verdicts on the items of a list if the first item is kept, and each later item is compared
-  -- with the last item kept before it.
+  -- `asked_pairs j xs` is the list of the verdicts on the items `xs` if the first item is kept, and
+  -- each later item is compared with the last item kept before it.
   abbrev pub asked_pairs : J → List T → Verdicts T
   asked_pairs j [] = []
   asked_pairs j (x ∷ xs) = let b = asked_last j x xs in (true, b.0) ∷ b.1
 
 module _ {T : Type 0} where
-  -- The verdicts on all items of `xs` if only the items `a..b` were tested. `verdicts` are the
-  -- verdicts on these items. The items before and after the range are kept.
+  -- `around xs a b verdicts` is the list of the verdicts on all items of `xs` if only the items
+  -- `a..b` were tested, with the results `verdicts`. The items before and after this range are
+  -- kept.
   abbrev pub around : List T → ℕ → ℕ → Verdicts T → Verdicts T
   around xs a b verdicts = stay (take a xs) ++ (verdicts ++ stay (drop b xs))
 
-  -- `sifted old verdicts` is the list `old` with only the items that `verdicts` keep, as they are
-  -- after the test. Each kept item that changes its place counts one move.
+  -- `sifted old verdicts` contains exactly the items of the list `old` that `verdicts` keep, as
+  -- they are after the test. Each kept item that changes its place counts as one move.
   abbrev pub sifted : {A : Type 0} → Thin T A → Verdicts T → Thin T A
   sifted old verdicts = edited old (left_at true verdicts) (moved_down (flags_of verdicts))
 
 module _ {T A G J : Type 0} (here : Setting T A J) where
-  -- The verdicts of `Retain`, `RetainMut`, `Dedup`, `DedupBy` or `DedupByKey` on the items of a
-  -- list. For any other command, the result is `None`. `Retain` does not write to the items, and
-  -- `Dedup` does not ask the judge.
+  -- `answered xs command` contains the verdicts of `Retain`, `RetainMut`, `Dedup`, `DedupBy` or
+  -- `DedupByKey` on the items `xs`. For any other command, it is `None`. `Retain` does not write to
+  -- the items, and `Dedup` does not ask the judge.
   abbrev pub answered : List T → Command T A G → Option (Verdicts T)
   answered xs Retain =
       Some (asked (λ j x. let a = here.judging.look j x in (a.0, x, a.1)) here.judge xs)

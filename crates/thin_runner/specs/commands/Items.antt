@@ -8,8 +8,8 @@ use Rattle.thin_vec.specs.declared.ThinVecError.TheVariants.{CapacityOverflow}
 use Rattle.thin_runner.specs.Setting.{Setting}
 
 module _ {T A : Type 0} where
-  -- `edited old xs m` is the list `old` with its items replaced by `xs`, and with `m` more moves in
-  -- its cost.
+  -- `edited old xs m` is the list `old` with its items replaced with `xs`, and with `m` more moves
+  -- in its cost.
   abbrev pub edited : Thin T A → List T → ℕ → Thin T A
   edited old xs m = record old { items = xs; cost = moving m old.cost }
 
@@ -18,9 +18,10 @@ module _ {T A : Type 0} where
   abbrev pub at_capacity : Thin T A → ℕ → Thin T A
   at_capacity old c = record old { capacity = c; cost = cost_at old c }
 
-  -- A call failed because the list `old` has no room for `k` more items. The list did not change.
-  -- `named` is the capacity that the call needed, or `None` if this capacity is too large. The
-  -- cause is `CapacityOverflow` if and only if `named` is `None`.
+  -- `Refuses named old k cause new` states that a call failed because the list `old` has no room
+  -- for `k` more items, and that the list did not change. `named` is the capacity that the call
+  -- needed, or `None` if this capacity is too large. The cause is `CapacityOverflow` if and only if
+  -- `named` is `None`.
   abbrev pub Refuses : Option ℕ → Thin T A → ℕ → ThinVecError → Thin T A → Type 0
   Refuses named old k cause new =
       ¬ (HasRoomFor old k) × ((named ≡ None) ↔ (cause ≡ CapacityOverflow)) × (new ≡ old)

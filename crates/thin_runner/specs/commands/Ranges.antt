@@ -5,9 +5,9 @@ use Rattle.thin_runner.specs.declared.command.Step.{Step}
 use Rattle.thin_runner.specs.declared.command.Step.TheVariants.{Front, Back}
 
 module _ {T : Type 0} where
-  -- `walked xs steps` lists the results of the steps, in order, if `xs` are the items of the range.
-  -- `Front` removes and returns the first item that is left, and `Back` the last one. Both return
-  -- `None` if no item is left.
+  -- `walked xs steps` lists the results of the steps, in order, on a range that contains the items
+  -- `xs`. `Front` removes and returns the first item that is left, and `Back` the last one. Both
+  -- return `None` if no item is left.
   abbrev pub walked : List T → List Step → List (Option T)
   walked xs [] = []
   walked xs (Front ∷ steps) = slice_get xs 0 ∷ walked (drop 1 xs) steps

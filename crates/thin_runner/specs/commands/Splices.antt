@@ -1,4 +1,4 @@
--- These definitions describe a splice, which replaces the items of a range by the items of an
+-- These definitions describe a splice, which replaces the items of a range with the items of an
 -- iterator. (std: `Vec::splice`, `Vec::extend`)
 use Rattle.std.specs.Prelude.{◌≡◌, ◌↔◌, ◌⊎◌, ℕ, ◌+◌, ◌-◌, ◌*◌, ◌<◌, ◌≤◌, List, [], ◌++◌, IsSome, None, Option, drop, length, take}
 use Rattle.std.specs.Borrow.{RattleType}
@@ -26,10 +26,11 @@ module _ {T A : Type 0} (old : Thin T A) (a b : ℕ) where
   HasPlacesFor most = (most ≤ b - a) ⊎ ((b ≡ length old.items) × HasRoomFor cut most)
 
 module _ {T A : Type 0} (rule : Rule) (R : RattleType) (old : Thin T A) (a b : ℕ) where
-  -- The items `placed` were yielded by an iterator that could yield at most `most` items. They
-  -- replaced the items `a..b` of the list `old`. Each placed item was moved once, and each item
-  -- after the range at most twice. The capacity did not change, or the growth rule requires the new
-  -- capacity for at most the final number of items, or for a size hint of at most `most`.
+  -- `Replaces placed most new` states that the items `placed` replaced the items `a..b` of the list
+  -- `old`, which became `new`. The iterator could yield at most `most` items. Each placed item was
+  -- moved once, and each item after the range at most twice. If the capacity changed, the growth
+  -- rule requires the new capacity, either for at most the final number of items or for a size hint
+  -- of at most `most`.
   pub record Replaces (placed : List T) (most : ℕ) (new : Thin T A) : Type 0 where
     pub items : new.items ≡ (take a old.items ++ placed) ++ drop b old.items
     pub capacity : IsLoose rule R old.capacity new.capacity
@@ -40,8 +41,9 @@ module _ {T A : Type 0} (rule : Rule) (R : RattleType) (old : Thin T A) (a b : �
     pub cheap : IsCheap old → IsCheap new
     pub alloc : new.alloc ≡ old.alloc
 
-  -- A splice or an `extend` failed after it had placed the items `placed` (perhaps none). All other
-  -- items of the iterator are in `held`, in `in_hand`, or in `rest`.
+  -- `StopsBetween` states that a splice or a call of `extend` failed after it had placed the items
+  -- `placed` (perhaps none). All other items of the iterator must be in `held`, in `in_hand`, or in
+  -- `rest`.
   pub record StopsBetween (xs held : List T) (lower : ℕ) (cause : ThinVecError)
       (in_hand : Option T) (rest : Hinted T A) (new : Thin T A) : Type 0 where
     pub placed : List T
@@ -67,7 +69,8 @@ module _ {T A : Type 0} (rule : Rule) (R : RattleType) (old : Thin T A) (a b : �
         → (cause ≡ CapacityOverflow) ↔ (capacity_for rule R new 1 ≡ None)
     -- If `held` has items and `in_hand` is `None`, then the iterator has ended.
     pub ended : in_hand ≡ None → 0 < length held → into_iter_items rest.items ≡ []
-    -- If items follow the range, then the placed items fill at least the places of the range.
+    -- If items follow the range `a..b`, then the number of placed items is at least the length of
+    -- the range.
     pub range : b < length old.items → b - a ≤ length placed
     -- If no item follows the range, then `held` is empty. If in this case `in_hand` has an item,
     -- then the list is full.

@@ -1,5 +1,5 @@
 //! The commands that test the items and remove some of them: `Retain`, `RetainMut`, `Dedup`,
-//! `DedupBy` and `DedupByKey`. `Dedup` compares items by `==`. Each of the other commands asks a
+//! `DedupBy` and `DedupByKey`. `Dedup` compares items with `==`. Each of the other commands asks a
 //! copy of the judge that was passed to `run` or `step`.
 ghost use Rattle.std.specs.Prelude.{◌≡◌};
 ghost use Rattle.thin_runner.specs.Setting.{setting};

@@ -13,8 +13,8 @@ use std::alloc::Allocator;
 use thin_vec::{Drain, Growth, ThinVec, ThinVecError};
 
 impl<T: Clone + Eq, A: Allocator + Copy, G: Growth, J: Judge<T>> Setting<T, A, G, J> {
-    // Drains the range. Before that, room for the results of the steps is reserved. (If there are
-    // no steps, this allocates nothing.)
+    // Reserves room for the results of the steps, and then drains the range `start..end`. If there
+    // are no steps, no memory is allocated for the results.
     pub(crate) fn drain(
         self,
         list: &mut ThinVec<T, A, G>,
@@ -39,8 +39,8 @@ impl<T: Clone + Eq, A: Allocator + Copy, G: Growth, J: Judge<T>> Setting<T, A, G
         Reply::Answers(answers)
     }
 
-    // Extracts items of the range. Before that, room for the results of the calls of `next` is
-    // reserved. (If `count` is 0, this allocates nothing.)
+    // Reserves room for the results of `count` calls of `next`, and then extracts items of the
+    // range `start..end`. If `count` is 0, no memory is allocated for the results.
     pub(crate) fn extract_if(
         self,
         list: &mut ThinVec<T, A, G>,

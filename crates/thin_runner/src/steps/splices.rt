@@ -1,4 +1,4 @@
-//! The command `Splice`, which replaces the items of a range by the items of an iterator.
+//! The command `Splice`, which replaces the items of a range with the items of an iterator.
 ghost use Rattle.std.specs.Prelude.{◌≡◌, ◌+◌, ◌≤◌, List, ◌∷◌, ◌++◌, length, vec_capacity, vec_len};
 ghost use Rattle.thin_runner.specs.Setting.{setting};
 ghost use Rattle.thin_runner.specs.Steps.{Steps};
@@ -14,8 +14,8 @@ use std::alloc::Allocator;
 use thin_vec::{Growth, Splice, SpliceRefused, ThinVec, ThinVecError};
 
 impl<T: Clone + Eq, A: Allocator + Copy, G: Growth, J: Judge<T>> Setting<T, A, G, J> {
-    // Replaces the items of the range with `items`. Before that, room for the results of the steps
-    // is reserved. (If there are no steps, this allocates nothing.)
+    // Reserves room for the results of the steps, and then replaces the items of the range
+    // `start..end` with `items`. If there are no steps, no memory is allocated for the results.
     pub(crate) fn splice(
         self,
         list: &mut ThinVec<T, A, G>,

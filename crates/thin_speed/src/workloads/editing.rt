@@ -94,8 +94,8 @@ impl<L: Numbers, const IN_MIDDLE: bool> Work<L, u64> for Remove<IN_MIDDLE> {
     }
 }
 
-/// Fills a list, and then empties it by calls of `swap_remove`, each of which removes the item in
-/// the middle. Does this `times` times.
+/// Fills a list, and then calls `swap_remove` until the list is empty. Each call removes the item
+/// in the middle. Does this `times` times.
 ///
 /// # Errors
 ///
@@ -115,7 +115,8 @@ pub fn swap_remove<L: Numbers>(alloc: Global, size: usize, times: usize) -> Outc
     Ok(sum)
 }
 
-/// Splits off the second half of a list, and appends it again. Does this `times` times.
+/// Splits off the second half of a list, and then appends it to the first half. Does this `times`
+/// times.
 ///
 /// # Errors
 ///
@@ -199,7 +200,7 @@ impl<L: Numbers> Work<L, u64> for ReplaceMore {
 }
 
 /// Shrinks the capacity to the length. Then pushes a number, so that the list has to grow, and pops
-/// the number again.
+/// this number.
 pub struct ShrinkPush;
 
 impl<L: Numbers> Work<L, u64> for ShrinkPush {
@@ -214,7 +215,7 @@ impl<L: Numbers> Work<L, u64> for ShrinkPush {
     }
 }
 
-// Pops two items. Returns `sum` after mixing each popped item into it.
+// Pops two items, mixes each of them into `sum`, and returns the new sum.
 #[inline(always)]
 fn pop_two<L: Numbers>(list: &mut L, sum: u64) -> u64 {
     let mut sum = sum;
@@ -226,8 +227,8 @@ fn pop_two<L: Numbers>(list: &mut L, sum: u64) -> u64 {
     sum
 }
 
-/// Replaces the middle half of a list of `size` items with `size` numbers, from an iterator whose
-/// size hint is exact.
+/// Replaces the middle half of a list of `size` items with `size` numbers. The size hint of their
+/// iterator is exact.
 pub struct SpliceHinted;
 
 impl<L: Numbers> Work<L, u64> for SpliceHinted {
@@ -238,8 +239,8 @@ impl<L: Numbers> Work<L, u64> for SpliceHinted {
     }
 }
 
-/// Replaces the middle half of a list of `size` items with `size` numbers, from an iterator whose
-/// size hint has the lower bound 0.
+/// Replaces the middle half of a list of `size` items with `size` numbers. The size hint of their
+/// iterator has a lower bound of 0.
 pub struct SpliceUnhinted;
 
 impl<L: Numbers> Work<L, u64> for SpliceUnhinted {

@@ -1,4 +1,4 @@
-//! Workloads that remove items by `retain`, `dedup`, `dedup_by_key` or `extract_if`.
+//! Workloads that remove items, using `retain`, `dedup`, `dedup_by_key` or `extract_if`.
 use crate::lists::{Family, List, Numbers};
 use crate::numbers::{
     All, Even, InARun, InTurn, Item, NotOne, Nothing, Outcome, Pairs, Pick, Random, ThreeOfFour,
@@ -74,7 +74,7 @@ pub fn run_filtering<F: Family>(
     }
 }
 
-/// Keeps the items that `P` picks, by `retain`.
+/// Keeps only the items that `P` picks, using `retain`.
 pub struct Retain<P> {
     picks: PhantomData<P>,
 }
@@ -87,7 +87,7 @@ impl<L: List<T>, T: Item, P: Pick> Work<L, T> for Retain<P> {
     }
 }
 
-/// Removes the second item of each pair of equal neighbors, by `dedup`.
+/// Removes the second item of each pair of equal neighbors, using `dedup`.
 pub struct Dedup;
 
 impl<L: Numbers> Work<L, u64> for Dedup {
@@ -98,7 +98,7 @@ impl<L: Numbers> Work<L, u64> for Dedup {
     }
 }
 
-/// Removes every second item, by `dedup_by_key`. The key of an item is half of the item, rounded
+/// Removes every second item, using `dedup_by_key`. The key of an item is half of the item, rounded
 /// down.
 pub struct DedupByKey;
 
@@ -110,7 +110,7 @@ impl<L: Numbers> Work<L, u64> for DedupByKey {
     }
 }
 
-/// Extracts the items that `P` picks, by `extract_if`.
+/// Extracts the items that `P` picks, using `extract_if`.
 pub struct Extract<P> {
     picks: PhantomData<P>,
 }

@@ -1,4 +1,4 @@
-//! Workloads in which a list grows, is filled again, or is read to its end.
+//! Workloads in which a list grows, is refilled, or is read to its end.
 use crate::lists::{Family, List, Numbers};
 use crate::numbers::{
     InTurn, Item, Outcome, Pairs, SIXTEEN, Source, Triples, Turned, Wides, Words, mixed, seen,
@@ -132,7 +132,7 @@ impl<L: Numbers> Make<L> for Reserved {
     }
 }
 
-/// Extends a new list by an iterator whose size hint is exact.
+/// Extends a new list with numbers from an iterator whose size hint is exact.
 pub struct ExtendHinted;
 
 impl<L: Numbers> Make<L> for ExtendHinted {
@@ -144,7 +144,7 @@ impl<L: Numbers> Make<L> for ExtendHinted {
     }
 }
 
-/// Extends a new list by an iterator whose size hint has the lower bound 0.
+/// Extends a new list with numbers from an iterator whose size hint has a lower bound of 0.
 pub struct ExtendUnhinted;
 
 impl<L: Numbers> Make<L> for ExtendUnhinted {
@@ -156,7 +156,7 @@ impl<L: Numbers> Make<L> for ExtendUnhinted {
     }
 }
 
-/// Extends a new list by the even numbers of a slice. The iterator skips the other numbers.
+/// Extends a new list with the even numbers of a slice. The iterator skips the odd numbers.
 pub struct ExtendFilter;
 
 impl<L: Numbers> Make<L> for ExtendFilter {
@@ -168,8 +168,8 @@ impl<L: Numbers> Make<L> for ExtendFilter {
     }
 }
 
-/// Makes a list with enough capacity. Then extends it by the two halves of a slice, in two calls of
-/// `extend`.
+/// Makes a list with enough capacity. Then extends it with the two halves of a slice, using two
+/// calls of `extend`.
 pub struct ExtendTwice;
 
 impl<L: Numbers> Make<L> for ExtendTwice {
@@ -191,7 +191,7 @@ impl<L: Numbers> Make<L> for Collect {
     }
 }
 
-/// Extends a new list by copies of the items of a slice, in one call.
+/// Extends a new list with copies of the items of a slice, in one call.
 pub struct ExtendSlice;
 
 impl<L: Numbers> Make<L> for ExtendSlice {
@@ -203,7 +203,7 @@ impl<L: Numbers> Make<L> for ExtendSlice {
     }
 }
 
-/// Extends a new list several times, each time by copies of sixteen items.
+/// Extends a new list several times, each time with copies of sixteen items.
 pub struct ExtendSixteen;
 
 impl<L: Numbers> Make<L> for ExtendSixteen {
@@ -259,7 +259,7 @@ pub fn write_five<L: List<u8> + Write>(alloc: Global, size: usize, times: usize)
     Ok(sum)
 }
 
-/// Fills a list, and consumes it from the front by `into_iter`. Does this `times` times.
+/// Fills a list, and then consumes it from the front, using `into_iter`. Does this `times` times.
 ///
 /// # Errors
 ///

@@ -5,7 +5,7 @@ use crate::workloads::growing::Growing;
 use crate::workloads::many::Many;
 use crate::workloads::tables::Tables;
 
-/// A workload. Each variant contains the workloads that one file defines.
+/// A workload. There is one variant for each file that defines workloads.
 #[derive(Clone, Copy)]
 pub enum Workload {
     Growing(Growing),

@@ -3,13 +3,13 @@ use crate::lists::{List, Numbers};
 use crate::numbers::{Item, Outcome, Source, mixed, seen};
 use std::alloc::{AllocError, Global};
 
-/// The work that a workload does on a list again and again.
+/// The work that a workload does repeatedly on a list.
 pub trait Work<L, T> {
-    /// Does the work once. Returns `sum`, into which some kinds of work mix the items that they
-    /// remove.
+    /// Does the work once, and returns the new sum. Some kinds of work mix the items that they
+    /// remove into `sum`. The other kinds return `sum` unchanged.
     ///
     /// The meaning of `number` depends on the caller. `refilled` passes the length of the list.
-    /// `repeated` passes how often the work was done before.
+    /// `repeated` passes how often the work has already been done.
     ///
     /// # Errors
     ///
@@ -67,7 +67,7 @@ pub fn refilled<L: List<T>, T: Item, S: Source<T>, W: Work<L, T>>(
     Ok(sum)
 }
 
-/// Makes a list of the numbers below `size`, with the capacity `size`.
+/// Makes a list of the numbers below `size`, with capacity `size`.
 ///
 /// # Errors
 ///
@@ -98,8 +98,8 @@ pub fn repeated<L: Numbers, W: Work<L, u64>>(alloc: Global, size: usize, times: 
 
 /// The way in which a workload makes a new list.
 pub trait Make<L> {
-    /// Makes a new list. The list either has the length `size`, or is made from the items of
-    /// `source`. The length of `source` is `size`.
+    /// Makes a new list. Either `size` determines the number of its items, or it is made from the
+    /// items of `source`. The length of `source` is `size`.
     ///
     /// # Errors
     ///
@@ -107,7 +107,7 @@ pub trait Make<L> {
     fn make(alloc: Global, size: usize, source: &L) -> Result<L, AllocError>;
 }
 
-/// Makes a new list in the way `M`. Does this `times` times.
+/// Makes a new list using `M::make`. Does this `times` times.
 ///
 /// # Errors
 ///

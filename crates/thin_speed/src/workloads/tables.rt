@@ -42,8 +42,8 @@ pub fn set_all<C: Table>(alloc: Global, size: usize, times: usize) -> Outcome {
     Ok(sum)
 }
 
-/// Makes a table with `size` entries, and then reads all entries `times` times. The entries are
-/// read neither row by row nor in the order in which they were written.
+/// Makes a table with `size` entries, and then reads all entries `times` times, neither row by row
+/// nor in the order in which they were written.
 ///
 /// # Errors
 ///

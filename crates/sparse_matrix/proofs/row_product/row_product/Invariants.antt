@@ -1,5 +1,5 @@
--- `total` is the sum of the products for the entries visited so far, or `u64::MAX` if this sum is
--- greater.
+-- In the loop of `row_product`, `total` is the sum of the products for all entries that have been
+-- visited so far, or `u64::MAX` if this sum is greater.
 use Rattle.std.proofs.Common.{◌≡◌, ◌*◌, ◌-◌, ◌^◌, map, min, slice_index, sum, take}
 use Rattle.sparse_matrix.proofs.row_product.row_product.Given as goal
 

@@ -1,6 +1,6 @@
 -- After the loop in `transposed`, each row of `self` equals the column of the result with the same
--- index. The clause also covers indices at which `self` has no row. There, the numbers of `self`
--- and of the result are all 0.
+-- index. The contract also covers indices at which `self` has no row. For such an index, the
+-- numbers of `self` and of the result are all 0.
 use Rattle.std.proofs.Common.{◌≡◌, arith, inl, inr, length, sym, ◌∙◌}
 use Rattle.std.proofs.lemmas.Bool.{cases_lt}
 use Rattle.sparse_matrix.proofs.NumberLemmas.{no_row}

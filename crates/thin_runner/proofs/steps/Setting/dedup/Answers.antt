@@ -1,4 +1,4 @@
--- `dedup` compares items by `==`, which has no state. So the lemma `deduped-alike` determines the
+-- `dedup` compares items with `==`, which has no state. So the lemma `deduped-alike` determines the
 -- resulting list.
 use Rattle.std.proofs.Common.{rules}
 use Rattle.thin_runner.proofs.JudgedLemmas.{deduped-alike}

@@ -1,5 +1,5 @@
--- The slice has the same items as the vector. So the clauses about a failed call hold for the
--- vector, too.
+-- `extend_from_slice` is called with the items of the command's vector as a slice. So the clauses
+-- about a failed call hold for the vector, too.
 use Rattle.std.proofs.Common.{Err, ap, arith, length}
 use Rattle.thin_vec.specs.ThinVec.{HasRoomFor}
 use Rattle.thin_runner.proofs.CommandLemmas.{refuses-clone, some-items}
