@@ -1,4 +1,5 @@
--- This file defines the distance between two runs of adjacent items in one block.
+-- This file defines the predicate `IsShifted`, which states how far and in which direction items
+-- are moved within a block.
 use Rattle.std.specs.Prelude.{◌≡◌, ℕ, Bool, true, false}
 use Rattle.core.specs.Ptr.{Ptr, ptr_add}
 use denote.RattleType.{RattleType}
