@@ -18,8 +18,8 @@ static NO_BLOCK: Header = Header {
     aligned: [],
 };
 
-// A header holds a capacity and a length. The array `aligned` is empty. It only raises the
-// alignment of the header, so that items of any alignment can follow the header.
+// A header holds a capacity and a length. The empty array `aligned` only raises the alignment of
+// the header, so that items of any alignment can follow the header.
 struct Header {
     cap: usize,
     len: usize,
@@ -81,7 +81,7 @@ impl<T, A: Allocator> Block<T, A> {
         }
     }
 
-    /// Returns the stored length, which is a number of items.
+    /// Returns the stored length, counted in items.
     pub fn len(&self) -> usize
         ensures value { result ≡ self.now.len }
         ensures in_bounds { result ≤ length self.now.slots }
