@@ -54,12 +54,12 @@ module _ {X Z : Type 0} where
   with_items b i ws = with_slots b (over b.slots i ws) (length-over b.slots i ws)
 
 module _ (T A : RattleType) (g : Ghosts A.Denot) (b : MutBor (Block T.Denot A.Denot)) where
-  -- `LendsItem i r` says that `r` is a `&mut` to the item in slot `i` of the block. After the
-  -- borrow has ended, the slot holds the final value of `r`.
+  -- `LendsItem i r` says that `r` is a `&mut` to the item in slot `i` of the block, and that the
+  -- slot holds the final value of `r` after the borrow has ended.
   abbrev pub LendsItem : ℕ → MutBor T.Denot → Fml
   LendsItem i r = Lends (the_row T A g) T b r (with_item b.now i)
 
   -- `LendsItems i r` says that `r` is a `&mut` slice of adjacent items of the block, starting at
-  -- slot `i`. After the borrow has ended, the slots hold the final items of `r`.
+  -- slot `i`. It also says that the slots hold the final items of `r` after the borrow has ended.
   abbrev pub LendsItems : ℕ → MutBor (List T.Denot) → Fml
   LendsItems i r = Lends (the_row T A g) (Array T 0) b r (with_items b.now i)

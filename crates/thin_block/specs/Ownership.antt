@@ -85,8 +85,8 @@ abbrev pub words_of : RattleType → Option (ℕ × ℕ)
 words_of R = in_words (size (bare R))
 
 -- `asked_for` is the type that the allocator sees: the memory of a block is allocated as memory for
--- one value of this type. If the items form words, it is an array of words, which the allocator can
--- resize in place. Otherwise it is the type of the whole block.
+-- one value of this type. If the items form words, this type is an array of words, which the
+-- allocator can resize in place. Otherwise it is the type of the whole block.
 abbrev pub asked_for : Option (ℕ × ℕ) → Ty → ℕ → Ty
 asked_for None τ c = whole_of τ c
 asked_for (Some w) τ c = ty_array (word_of τ w.0) (w.1 + div_ceil c w.0)

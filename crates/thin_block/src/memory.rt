@@ -50,7 +50,7 @@ impl<T, A: Allocator> Block<T, A> {
     ///
     /// # Errors
     ///
-    /// Fails with `OutOfMemory` if the allocator fails. On failure, the block is unchanged.
+    /// Fails with `OutOfMemory` if the allocator fails. In this case, the block is unchanged.
     #[inline(always)]
     pub fn grow(&mut self, alloc: &A, cap: usize) -> Result<(), ThinVecError>
         requires from { IsFrom self.old.alloc alloc.now }
@@ -109,7 +109,7 @@ impl<T, A: Allocator> Block<T, A> {
     ///
     /// # Errors
     ///
-    /// Fails with `OutOfMemory` if the allocator fails. On failure, the block is unchanged.
+    /// Fails with `OutOfMemory` if the allocator fails. In this case, the block is unchanged.
     pub fn shrink(&mut self, alloc: &A, cap: usize) -> Result<(), ThinVecError>
         requires from { IsFrom self.old.alloc alloc.now }
         requires some { 0 < cap }

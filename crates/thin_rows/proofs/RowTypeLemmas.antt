@@ -50,9 +50,9 @@ error_tells R S w cause (Err e) size align passed told = record {
   );
 }
 
--- `TellsOverflow a` says that the error of a call is `CapacityOverflow` if and only if `a` is
--- `None`. If this is true of the error `cause` and of `b` instead of `a`, and `a` equals `b`, then
--- it is also true of `cause` and `a`.
+-- Suppose that a call fails with the error `cause`, and that `cause` is `CapacityOverflow` if and
+-- only if `b` is `None`. If `a` equals `b`, then the call satisfies `TellsOverflow a`, which says
+-- the same about `a`.
 pub failure_tells : {X Y : Type 0} {a b : Option ℕ} {cause : ThinVecError} → a ≡ b
     → IsErrOf {T = X} (Err cause) CapacityOverflow ↔ (b ≡ None)
     → TellsOverflow a (let r : Result Y ThinVecError = Err cause in r)

@@ -43,8 +43,8 @@ abbrev pub on_slot : {X Y : Type 0} → (X → Y) → Option X → Option Y
 on_slot h None = None
 on_slot h (Some x) = Some (h x)
 
--- This module builds the former of slots from the former `g` of items. The former of slots says
--- which values of a type `X` a slot contains.
+-- This module builds the type former of slots from the type former `g` of items. The former of
+-- slots says which values of a type `X` a slot contains.
 module _ (g : Former {0}) where
   -- `slot_count a n` is `n` plus the number of values in a slot of the shape `a`. The shape of a
   -- slot is the slot without its values.
@@ -130,8 +130,8 @@ module _ {g : Former {0}} (w : Weighed g) where
   w_slot = record { weight = slot_weight; puts = slot_puts }
 
 module _ {X Y Z : Type 0} (d : Block X Z) where
-  -- `Fits ys` holds if the block `d` may have the slots `ys`. The number of these slots must be at
-  -- least the stored length of `d`, and it must be 0 if and only if `d` has no allocation.
+  -- `Fits ys` holds if the block `d` may have the slots `ys`: their number must be at least the
+  -- stored length of `d`, and it must be 0 if and only if `d` has no allocation.
   abbrev pub Fits : List (Option Y) → Type 0
   Fits ys = (d.len ≤ length ys) × (is_some d.alloc ≡ any ys)
 

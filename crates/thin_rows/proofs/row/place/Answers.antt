@@ -1,6 +1,6 @@
--- The columns of the entries are strictly increasing, and the binary search compares the columns of
--- the entries with the given column. So the search finds the index of the column's entry, or the
--- index at which such an entry would be inserted.
+-- The columns of the entries are strictly increasing, and the binary search compares them with the
+-- given column. So the search finds the index of the column's entry, or the index at which such an
+-- entry would be inserted.
 use Rattle.std.proofs.Common.{rules}
 use Rattle.std.proofs.lemmas.List.Sorted.{answers_always}
 use Rattle.thin_rows.proofs.EntriesLemmas.{searched}

@@ -1,6 +1,5 @@
--- This file states the invariant of the loop in `len`. If numbers above `usize::MAX` are replaced
--- with `usize::MAX`, the count plus the number of entries in the remaining rows is the number of
--- all entries.
+-- This file states the invariant of the loop in `len`. The count plus the number of entries in the
+-- remaining rows is the number of all entries, if both numbers are capped at `usize::MAX`.
 use Rattle.std.proofs.Common.{◌≡◌, ◌+◌, ◌-◌, ◌^◌, ◌<◌, map, min, sum}
 use Rattle.std.specs.FinMap.{len}
 use Rattle.thin_rows.proofs.table.Rows.len.Given as goal

@@ -1,6 +1,6 @@
 -- `allocate` calls `refuses`. If `refuses` returns `true`, `allocate` returns an error. Otherwise
--- it passes the answer of the inner allocator to `granted`, which counts the new block, and then
--- returns this answer. The proof assumes the laws of the separation logic (`Logic`).
+-- it passes the answer of the inner allocator to `granted`, which counts the block if the answer is
+-- `Ok`. Then it returns this answer. The proof assumes the laws of the separation logic (`Logic`).
 use Rattle.std.proofs.Common.{◌≡◌, ℕ, zero, suc, ◌+◌, ◌^◌, ◌<◌, true, false, Bool, List, [], ◌∷◌, Ok, Err, refl, w64, Bor}
 use seplogic.Ra.Ura.{Ura}
 use mir.Syntax.{Ty, Args, Fn, Body, seq, skip, a_type, dnil, dcons}
