@@ -14,8 +14,8 @@ use denote.RattleType.{RattleType}
 abbrev pub IsAlign : ℕ → Type 0
 IsAlign a = (w : Width) × (a ≡ bytes w)
 
--- `items_offset a` is the offset in bytes of the first item in a block, if items have the alignment
--- `a`. Two words of 8 bytes, and padding if necessary, precede the first item.
+-- `items_offset a` is the offset in bytes of the first item in a block, if the items have the
+-- alignment `a`. Two words of 8 bytes, and padding if necessary, precede the first item.
 abbrev pub items_offset : ℕ → ℕ
 items_offset a = max 16 a
 
@@ -28,15 +28,15 @@ block_align a = max 8 a
 abbrev pub block_bytes : ℕ → ℕ → ℕ → ℕ
 block_bytes s a c = next_multiple_of (items_offset a + c * s) (block_align a)
 
--- Consider a block for `c` items of size `s` and alignment `a`. `is_small s a c` is true if neither
--- `c` nor the size of this block in bytes exceeds `isize::MAX`. In std, `Layout::from_size_align`
--- sets the same limit on sizes.
+-- `is_small s a c` is true if `c` is at most `isize::MAX`, and so is the size in bytes of a block
+-- for `c` items of size `s` and alignment `a`. In std, `Layout::from_size_align` sets the same
+-- limit on sizes.
 abbrev pub is_small : ℕ → ℕ → ℕ → Bool
 is_small s a c = nat_lt c (2 ^ 63) && nat_lt (block_bytes s a c) (2 ^ 63)
 
--- `fits s a c` says whether a block for `c` items of size `s` and alignment `a` is small enough to
--- be allocated. It has the same value as `is_small s a c`, but the prover does not unfold `fits` by
--- itself.
+-- `fits s a c` is true if a block for `c` items of size `s` and alignment `a` is small enough to be
+-- allocated. Its value is `is_small s a c`, but the prover unfolds `fits` only if a proof asks for
+-- it.
 unfoldable pub fits : ℕ → ℕ → ℕ → Bool
 fits s a c = is_small s a c
 
@@ -45,8 +45,8 @@ abbrev pub Fits : RattleType → ℕ → Type 0
 Fits R c = IsTrue (fits (type_size R) (type_align R) c)
 
 -- `first s` is the capacity that the rule `Doubling` chooses for the first block of a list, unless
--- the list needs room for more items. It is 1 if the size `s` of an item exceeds `usize::MAX / 8`
--- bytes, and 4 otherwise, as in the Rust crate thin-vec.
+-- the list needs room for more than `first s` items. It is 1 if the size `s` of an item exceeds
+-- `usize::MAX / 8` bytes, and 4 otherwise, as in the Rust crate thin-vec.
 unfoldable pub first : ℕ → ℕ
 first s = if nat_lt (2 ^ 61 - 1) s then 1 else 4
 

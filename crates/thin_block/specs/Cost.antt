@@ -1,9 +1,10 @@
--- The record `Cost` counts what was done to a block. The counts are unbounded and exist only in
--- proofs: the program does not store them.
+-- The record `Cost` counts requests for memory, copies of items, and moves of items. These counts
+-- are unbounded and exist only in proofs: the program does not store them.
 use Rattle.std.specs.Prelude.{ℕ, ◌+◌, refl}
 use Rattle.std.specs.Coded.{Coded, code_by, coded×, coded_ℕ}
 
--- Three counts of the work that was done on a block since the block was created.
+-- `Cost` consists of three counts of the work that has been done on a block since the block was
+-- created.
 pub record Cost : Type 0 where
   -- The number of requests for memory that the allocator granted. A request allocates memory, or
   -- changes the size of an allocation.
@@ -16,22 +17,21 @@ pub record Cost : Type 0 where
   -- count.
   pub moves : ℕ
 
--- `cost_code` encodes a cost as its three counts.
+-- `cost_code` encodes a value of the type `Cost` as its three counts.
 abbrev pub cost_code : Coded Cost
 cost_code =
     code_by (ℕ × (ℕ × ℕ)) (coded× coded_ℕ (coded× coded_ℕ coded_ℕ))
     (λ c. (c.blocks, (c.grown, c.moves)))
     (λ p. record { blocks = p.0; grown = p.1.0; moves = p.1.1 }) (λ _. refl)
 
--- The cost whose three counts are 0.
+-- `no_cost` is the cost whose three counts are all 0.
 abbrev pub no_cost : Cost
 no_cost = record { blocks = 0; grown = 0; moves = 0 }
 
--- `growing k c` is the cost `c` after one more granted request for memory. This request copied `k`
--- items.
+-- `growing k c` is the cost `c` plus one granted request for memory that copied `k` items.
 abbrev pub growing : ℕ → Cost → Cost
 growing k c = record { blocks = c.blocks + 1; grown = c.grown + k; moves = c.moves }
 
--- `moving k c` is the cost `c` after `k` more moves of items.
+-- `moving k c` is the cost `c` plus `k` moves of items.
 abbrev pub moving : ℕ → Cost → Cost
 moving k c = record { blocks = c.blocks; grown = c.grown; moves = c.moves + k }

@@ -1,6 +1,6 @@
--- This file defines the growth rules as functions on numbers, and the law that every rule must
--- satisfy. The rule `doubling` and the first capacity are taken from the Rust crate thin-vec. std's
--- `Vec` promises no growth rule.
+-- A growth rule chooses the new capacity of a list that grows. This file defines the rules as
+-- functions on numbers, and the law that every rule must satisfy. The rule `doubling` and the first
+-- capacity of a list are taken from the Rust crate thin-vec. std's `Vec` promises no growth rule.
 use Rattle.std.specs.Prelude.{◌≡◌, ℕ, zero, suc, ◌+◌, ◌-◌, ◌*◌, ◌/◌, ◌^◌, ◌<◌, ◌≤◌, ◌==◌, IsTrue, Option, if◌then◌else◌, max, nat_le, nat_lt}
 use Rattle.std.specs.declared.option.Option.TheVariants.{Some, None}
 use Rattle.std.specs.Mem.{type_size}
@@ -9,9 +9,9 @@ use denote.RattleType.{RattleType}
 use Rattle.std.specs.Int.{IsPowerOfTwo}
 use Rattle.thin_block.specs.Capacity.{fits, first, items_offset}
 
--- A growth rule is a function of the size and the alignment of an item, the old capacity, and the
--- number of items that need room. This number exceeds the old capacity. The rule returns the new
--- capacity, or `None` if the new capacity is too large.
+-- A growth rule is a function of the size of an item, the alignment of an item, the old capacity,
+-- and the required capacity. The required capacity exceeds the old capacity. The rule returns the
+-- new capacity, or `None` if the new capacity is too large.
 abbrev pub Rule : Type 0
 Rule = ℕ → ℕ → ℕ → ℕ → Option ℕ
 
@@ -28,8 +28,8 @@ abbrev pub Grows : RattleType → ℕ → ℕ → ℕ → Type 0
 Grows R c w n = IsGrown (type_size R) (type_align R) c w n
 
 -- `KeepsLaw rule` holds if each capacity that the rule chooses for `w` items is at least `w`, at
--- least twice the old capacity, and small enough for a block to be allocated. The rule may assume
--- that `w` is greater than the old capacity and less than `2 ^ 64`.
+-- least twice the old capacity, and small enough that a block of this capacity can be allocated.
+-- The rule may assume that `w` is greater than the old capacity and less than `2 ^ 64`.
 abbrev pub KeepsLaw : Rule → Type 0
 KeepsLaw rule = (s a c w n : ℕ) → c < w → w < 2 ^ 64 → rule s a c w ≡ Some n → IsGrown s a c w n
 
@@ -38,9 +38,9 @@ KeepsLaw rule = (s a c w n : ℕ) → c < w → w < 2 ^ 64 → rule s a c w ≡ 
 unfoldable pub fitting : ℕ → ℕ → ℕ → Option ℕ
 fitting s a n = if fits s a n then Some n else None
 
--- The rule `Doubling` chooses twice the old capacity, or the first capacity if the old capacity is
--- 0. If more items than that need room, the rule chooses the number of these items. `reserve` in
--- the Rust crate thin-vec uses the same rule.
+-- `doubling` is the growth rule `Doubling`. It chooses twice the old capacity, or `first_capacity`
+-- if the old capacity is 0, but never less than the required capacity. `reserve` in the Rust crate
+-- thin-vec uses the same rule.
 unfoldable pub doubling : Rule
 doubling s a c w = fitting s a (max w (if c == 0 then first s else 2 * c))
 
@@ -54,10 +54,10 @@ doubled_to (suc more) n p = if nat_le n p then p else doubled_to more n (2 * p)
 unfoldable pub least_power : ℕ → ℕ
 least_power n = doubled_to n n 1
 
--- Let `w` items need room, and let the old capacity be `c`. The rule `PowerBytes` takes the least
--- power of two `p` such that `p` bytes have room for the header and `max w (2 * c)` items. It
--- chooses the number of items that have room in `p` bytes after the header. For items of size 0,
--- the rule is `doubling`.
+-- `power_bytes s a c w` is the capacity that the rule `PowerBytes` chooses if the old capacity is
+-- `c` and the required capacity is `w`. The rule rounds the size of the header and `max w (2 * c)`
+-- items up to a power of two bytes. It chooses the number of items that fit in these bytes after
+-- the header. For items of size 0, it chooses the same capacity as `doubling`.
 unfoldable pub power_bytes : Rule
 power_bytes s a c w = if s == 0 then doubling s a c w else fitting s a
     ((least_power (items_offset a + max w (2 * c) * s) - items_offset a) / s)
@@ -71,15 +71,15 @@ pub record FillsPower (s a c : ℕ) : Type 0 where
   pub holds : items_offset a + c * s ≤ power
   pub is_full : power < items_offset a + (c + 1) * s
 
--- `ruled_capacity rule R c w` is the capacity of a block after it has reserved room for `w` items
--- of the type `R` under a growth rule. It is the old capacity `c` if `w <= c`. Otherwise it is the
--- result of the rule, or `None` if `w` exceeds `usize::MAX`.
+-- `ruled_capacity rule R c w` is the capacity of a block after the block has reserved room for `w`
+-- items of the type `R` under the growth rule `rule`. It is the old capacity `c` if `w <= c`.
+-- Otherwise it is the result of the rule, or `None` if `w` exceeds `usize::MAX`.
 unfoldable pub ruled_capacity : Rule → RattleType → ℕ → ℕ → Option ℕ
 ruled_capacity rule R c w = if nat_le w c then Some c else
     (if nat_lt w (2 ^ 64) then rule (type_size R) (type_align R) c w else None)
 
--- `exact_capacity R c w` is the capacity of a block after it has reserved room for exactly `w`
--- items of the type `R`. It is the old capacity `c` if `w <= c`. Otherwise it is `w` if a block of
--- capacity `w` is small enough to be allocated, and `None` if not.
+-- `exact_capacity R c w` is the capacity of a block after the block has reserved room for exactly
+-- `w` items of the type `R`. It is the old capacity `c` if `w <= c`. Otherwise it is `w` if a block
+-- of capacity `w` is small enough to be allocated, and `None` if not.
 unfoldable pub exact_capacity : RattleType → ℕ → ℕ → Option ℕ
 exact_capacity R c w = if nat_le w c then Some c else fitting (type_size R) (type_align R) w

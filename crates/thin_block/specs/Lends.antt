@@ -12,8 +12,8 @@ use Rattle.thin_block.specs.contracts.block.Block.{the_row}
 
 module _ {X : Type 0} where
   -- `over s i ws` is the list of slots `s` after the items of `ws` have overwritten the items in
-  -- the slots from index `i` onward. Writing stops at the first empty slot, and at the end of `s`
-  -- or of `ws`.
+  -- the slots from index `i` onward. Writing stops at the first empty slot, at the end of `s`, or
+  -- at the end of `ws`, whichever is reached first.
   abbrev pub over : List (Option X) → ℕ → List X → List (Option X)
   over [] i ws = []
   over (x ∷ s) (suc i) ws = x ∷ over s i ws
@@ -30,8 +30,8 @@ module _ {X : Type 0} where
   length-over (Some x ∷ s) zero (w ∷ ws) = ap suc (length-over s zero ws)
 
 module _ {X Z : Type 0} where
-  -- `with_slots b s` is the block `b` with its slots replaced by `s`. The number of slots must not
-  -- change.
+  -- `with_slots b s` is the block `b` with its slots replaced with `s`. The list `s` must have the
+  -- same length as the old list of slots.
   abbrev pub with_slots : (b : Block X Z) (s : List (Option X))
       → length s ≡ length b.slots → Block X Z
   with_slots b s same =
@@ -54,12 +54,12 @@ module _ {X Z : Type 0} where
   with_items b i ws = with_slots b (over b.slots i ws) (length-over b.slots i ws)
 
 module _ (T A : RattleType) (g : Ghosts A.Denot) (b : MutBor (Block T.Denot A.Denot)) where
-  -- `LendsItem i r` says that `r` is a `&mut` to the item in slot `i` of the block. After the
-  -- borrow has ended, the slot holds the final value of `r`.
+  -- `LendsItem i r` says that `r` is a `&mut` to the item in slot `i` of the block, and that the
+  -- slot holds the final value of `r` after the borrow has ended.
   abbrev pub LendsItem : ℕ → MutBor T.Denot → Fml
   LendsItem i r = Lends (the_row T A g) T b r (with_item b.now i)
 
-  -- `LendsItems i r` says that `r` is a `&mut` slice of the items in the slots of the block from
-  -- index `i` onward. After the borrow has ended, the slots hold the final items of `r`.
+  -- `LendsItems i r` says that `r` is a `&mut` slice of adjacent items of the block, starting at
+  -- slot `i`. It also says that the slots hold the final items of `r` after the borrow has ended.
   abbrev pub LendsItems : ℕ → MutBor (List T.Denot) → Fml
   LendsItems i r = Lends (the_row T A g) (Array T 0) b r (with_items b.now i)

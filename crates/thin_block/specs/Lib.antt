@@ -1,6 +1,6 @@
 -- These modules contain the definitions that the contracts use, the proofs that the growth rules
--- satisfy their law, and the former of blocks. The former tells the prover why a type may contain
--- blocks of values of the same type.
+-- satisfy their law, and the type former of `Block`. The type former tells the prover why a type
+-- `T` may have a field of the type `Block<T, A>`.
 pub mod Capacity
 pub mod Growth
 pub mod GrowthLaws

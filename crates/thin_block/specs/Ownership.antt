@@ -1,11 +1,11 @@
--- This file describes what a block owns in memory, and what a `&` to a block lends. `R` is the type
--- of an item with its layout. An address consists of an allocation `b` and an offset `o`. No public
--- contract refers to this file.
+-- This file describes what a block owns in memory, and what a `&` to a block lends. In this file,
+-- `R` is the type of an item, including its layout. An address consists of an allocation `b` and an
+-- offset `o`. No public contract refers to this file.
 --     place, places   One slot in memory, and several adjacent slots.
 --     frame           A block without its slots.
 --     word_of         The type of a word. A word consists of one or more items.
---     way             The conversion of memory for the items of a word into memory for the word.
---     backing         The conversion of the parts of a block back into the memory that was
+--     way             The right to convert memory for the items of a word into memory for the word.
+--     backing         The right to convert the parts of a block back into the memory that was
 --                     allocated, and the right to free that memory.
 --     block_owns      What a block owns.
 --     .._lent         What a `&` to a slot, to several slots, to a header or to a block lends.
@@ -41,8 +41,8 @@ any_same [] (y ∷ ys) e = absurd (omega arith)
 any_same (x ∷ xs) [] e = absurd (omega arith)
 any_same (x ∷ xs) (y ∷ ys) e = refl
 
--- `fits_block R c` says whether a block of `c` slots for items of the type `R` is small enough to
--- be allocated.
+-- `fits_block R c` is true if a block of `c` slots for items of the type `R` is small enough to be
+-- allocated.
 abbrev pub fits_block : RattleType → ℕ → Bool
 fits_block R c = is_small (type_size R) (type_align R) c
 
@@ -64,8 +64,8 @@ abbrev pub whole_of : Ty → ℕ → Ty
 whole_of τ c = ty_struct []
     (tcons (ty_int w64) (tcons (ty_int w64) (tcons (ty_array τ c) tnil)))
 
--- `bare R` is the compiled type of an item without the names of its fields. Two item types with the
--- same layout have the same bare type.
+-- `bare R` is the compiled type of an item, with all field names erased. If two item types have the
+-- same layout, then they have the same bare type.
 abbrev pub bare : RattleType → Ty
 bare R = raw (lone R.mir)
 
@@ -79,23 +79,25 @@ abbrev pub word_of : Ty → ℕ → Ty
 word_of τ m = ty_struct [] (tcons (ty_array τ m) (tcons (ty_array (ty_int w64) 0) tnil))
 
 -- `words_of R` is `Some (m, k)` if `m` items of the type `R` form one word, and `k` words are as
--- large as the header. It is `None` if the items form no words. Only the size of an item matters.
+-- large as the header. It is `None` if the items form no words. It depends only on the size of an
+-- item.
 abbrev pub words_of : RattleType → Option (ℕ × ℕ)
 words_of R = in_words (size (bare R))
 
--- The memory of a block is allocated as memory for a value of this type. If the items form words,
--- the type is an array of words, which the allocator can resize in place. Otherwise it is the type
--- of the whole block.
+-- `asked_for` is the type that the allocator sees: the memory of a block is allocated as memory for
+-- one value of this type. If the items form words, this type is an array of words, which the
+-- allocator can resize in place. Otherwise it is the type of the whole block.
 abbrev pub asked_for : Option (ℕ × ℕ) → Ty → ℕ → Ty
 asked_for None τ c = whole_of τ c
 asked_for (Some w) τ c = ty_array (word_of τ w.0) (w.1 + div_ceil c w.0)
 
--- The memory of a block of `c` slots for items of the type `R` is allocated as memory for a value
--- of the type `asked R c`.
+-- `asked R c` is the type that the allocator sees: a block of `c` slots for items of the type `R`
+-- is allocated as memory for one value of this type.
 abbrev pub asked : RattleType → ℕ → Ty
 asked R c = asked_for (words_of R) (bare R) c
 
--- `header_room b o` is uninitialized memory for the two words of the header.
+-- `header_room b o` is uninitialized memory for the two words of the header, at the offset `o` of
+-- the allocation `b`.
 abbrev pub header_room : ℕ → ℕ → Fml
 header_room b o = fsep (froom (ty_int w64) b o) (froom (ty_int w64) b (o + 8))
 
@@ -110,42 +112,43 @@ parts_for τ c b o = fsep (froom (ty_int w64) b o)
 abbrev pub parts : RattleType → ℕ → ℕ → ℕ → Fml
 parts R c b o = parts_for (bare R) c b o
 
--- `way τ m b o` converts uninitialized memory for the `m` items of one word into uninitialized
--- memory for the word.
+-- `way τ m b o` is the right to convert uninitialized memory for the `m` items of one word into
+-- uninitialized memory for the word.
 abbrev pub way : Ty → ℕ → ℕ → ℕ → Fml
 way τ m b o = fwand (froom (ty_array τ m) b o) (froom (word_of τ m) b o)
 
--- For each of `w` adjacent words, `ways τ m w b o` converts uninitialized memory for the items of
--- the word into uninitialized memory for the word.
+-- `ways τ m w b o` contains one right for each of `w` adjacent words: the right to convert
+-- uninitialized memory for the items of the word into uninitialized memory for the word.
 abbrev pub ways : Ty → ℕ → ℕ → ℕ → ℕ → Fml
 ways τ m zero b o = ftrue
 ways τ m (suc w) b o = fsep (way τ m b o) (ways τ m w b (o + size (word_of τ m)))
 
--- `header_way τ m k b o` converts uninitialized memory for the header into uninitialized memory for
--- `k` words. Together, these words are as large as the header.
+-- `header_way τ m k b o` is the right to convert uninitialized memory for the header into
+-- uninitialized memory for `k` words. These `k` words are exactly as large as the header.
 abbrev pub header_way : Ty → ℕ → ℕ → ℕ → ℕ → Fml
 header_way τ m k b o = fwand (header_room b o) (froom (ty_array (word_of τ m) k) b o)
 
--- `slots_way τ m w c b o` contains all that is needed to turn the memory of the `c` slots into
--- memory for `w` words: the conversion for each word, and the unused memory after the last slot.
+-- `slots_way τ m w c b o` contains everything that is needed to convert the memory of `c` slots
+-- into memory for `w` words: the right to convert each word, and the unused memory directly behind
+-- the last slot.
 abbrev pub slots_way : Ty → ℕ → ℕ → ℕ → ℕ → ℕ → Fml
 slots_way τ m w c b o = fsep (ways τ m w b o) (froom (ty_array τ (w * m - c)) b (o + c * size τ))
 
--- `way_back` converts the uninitialized parts of a block back into uninitialized memory for the
--- whole block, including the padding.
+-- `way_back` contains the right to convert the uninitialized parts of a block back into
+-- uninitialized memory for the whole block, including the padding.
 abbrev pub way_back : Option (ℕ × ℕ) → Ty → ℕ → ℕ → ℕ → Fml
 way_back None τ c b o = fwand (parts_for τ c b o) (froom (whole_of τ c) b o)
 way_back (Some w) τ c b o = fsep (header_way τ w.0 w.1 b o)
     (slots_way τ w.0 (div_ceil c w.0) c b (o + 16))
 
--- The backing of a block consists of two parts. `way_back` converts the parts of the block back
--- into memory for the whole block, and `t` is the right to free the block.
+-- `backing_for` is the backing of a block. It consists of `way_back`, the right to convert the
+-- parts of the block back into memory for the whole block, and of `t`, the right to free the block.
 abbrev pub backing_for : (Ty → Ptr → Fml) → Option (ℕ × ℕ) → Ty → ℕ → ℕ → ℕ → Fml
 backing_for t w τ c b o = fsep (way_back w τ c b o) (t (asked_for w τ c) (block_ptr b o))
 
 -- `backing t R c b o` is the backing of a block of `c` slots for items of the type `R`. It consists
--- of the conversion of the parts of the block back into memory for the whole block, and of the
--- right `t` to free the block.
+-- of the right to convert the parts of the block back into memory for the whole block, and of `t`,
+-- the right to free the block.
 abbrev pub backing : (Ty → Ptr → Fml) → RattleType → ℕ → ℕ → ℕ → Fml
 backing t R c b o = backing_for t (words_of R) (bare R) c b o
 
@@ -158,9 +161,9 @@ frame t R n c b o =
     (fsep (lies_at usize full_share (block_ptr b (o + 8)) n)
     (fsep (feq Bool (fits_block R c) true) (backing t R c b o)))
 
--- A block with an allocation owns its header, its slots, and the right to free the allocation. A
--- block without an allocation owns nothing. It shares the two words of the static header, which are
--- always 0.
+-- `block_owns` states what a block owns. A block with an allocation owns its header, its slots, and
+-- the right to free the allocation. A block without an allocation owns nothing. It only shares the
+-- static header, whose two words are always 0.
 abbrev pub block_owns : {D : Type 0} → (D → Ty → Ptr → Fml) → (R : RattleType) → Ptr → ℕ
     → List (Option R.Denot) → Option D → Fml
 block_owns t R null_ptr n xs a = ffalse
@@ -187,8 +190,8 @@ frame_lent R n c b o =
     beside (lent_at usize (block_ptr b o) c)
     (beside (lent_at usize (block_ptr b (o + 8)) n) (said (feq Bool (fits_block R c) true)))
 
--- A `&` to a block contains a `&` to each of the two words of its header, and a `&` to each item in
--- its slots.
+-- `block_lent` states what a `&` to a block lends: a `&` to each of the two words of the header,
+-- and a `&` to each item in the slots.
 abbrev pub block_lent : {D : Type 0} → (R : RattleType) → Ptr → ℕ
     → List (Option R.Denot) → Option D → Lft → Fml
 block_lent R null_ptr n xs a = said ffalse

@@ -1,6 +1,6 @@
--- This file proves that the rule `power_bytes` satisfies the law of growth rules, and that its
--- blocks fill a power of two bytes. The proof is in `specs` and not in `proofs`, because the impl
--- of `Growth` refers to it.
+-- This file proves that the rule `power_bytes` satisfies the law of growth rules, and that each
+-- block under this rule fills a power of two bytes. The proofs are in `specs` and not in `proofs`,
+-- because the impl of `Growth` refers to them.
 use Rattle.std.specs.Prelude.{◌≡◌, ℕ, zero, suc, ◌+◌, ◌-◌, ◌*◌, ◌/◌, ◌^◌, ◌<◌, ◌≤◌, ◌==◌, nat_le, Bool, true, false, IsTrue, if◌then◌else◌, max, refl}
 use Rattle.std.specs.declared.option.Option.TheVariants.{Some}
 use Rattle.std.specs.Int.{IsPowerOfTwo, IsNextPowerOfTwo}
@@ -21,16 +21,16 @@ below_power : (n : ℕ) → n < 2 ^ n
 below_power zero = omega arith
 below_power (suc n) = omega (arith, below_power n, pow_more 2 n)
 
--- Let `p` be a power of two with `p / 2 < max 1 n`, and let `b` be the value of the test `n <= p`.
--- If `p < n`, let `next` be the least power of two that is at least `n`. Then this least power is
--- `if b then p else next`.
+-- Suppose that a search for the least power of two that is at least `n` has reached the power `p`,
+-- and that `p / 2 < max 1 n`. Then the result of the search is `p` if `n <= p`, and otherwise it is
+-- the result `next` of the remaining search.
 one_step : (b : Bool) (n p next : ℕ) → nat_le n p ≡ b → IsPowerOfTwo p → p / 2 < max 1 n
     → (p < n → IsNextPowerOfTwo n next) → IsNextPowerOfTwo n (if b then p else next)
 one_step true n p next e power half later = (power, leb-true n p e, half)
 one_step false n p next e power half later = later (leb-false n p e)
 
--- Let `p` be a power of two with `p / 2 < max 1 n` and `n <= 2 ^ k * p`. Then `doubled_to k n p` is
--- the least power of two that is at least `n`.
+-- Suppose that `p` is a power of two with `p / 2 < max 1 n` and `n <= 2 ^ k * p`. Then `doubled_to
+-- k n p` is the least power of two that is at least `n`.
 doubled_is : (k n p : ℕ) → IsPowerOfTwo p → p / 2 < max 1 n → n ≤ 2 ^ k * p
     → IsNextPowerOfTwo n (doubled_to k n p)
 doubled_is zero n p power half enough = (power, omega (arith, enough), half)
@@ -72,9 +72,9 @@ pub powers_of_none : (s a c w : ℕ) → s ≡ 0 → power_bytes s a c w ≡ dou
 unfolding power_bytes
 powers_of_none s a c w none = let test : (s == 0) ≡ true = grind (arith, nat_tests) in rw test refl
 
--- Let the size `s` of an item be positive, and let `p` be the least power of two such that `p`
--- bytes have room for the header and `max w (2 * c)` items. Then `power_bytes` is the number of
--- items that have room in `p` bytes after the header, or `None` if this capacity is too large.
+-- If items take at least one byte, `power_bytes` rounds the size of the header and `max w (2 * c)`
+-- items up to a power of two bytes. It chooses the number of items that fit in these bytes after
+-- the header, or `None` if this capacity is too large.
 pub powers_of_some : (s a c w : ℕ) → 0 < s → power_bytes s a c w ≡ fitting s a
     ((least_power (items_offset a + max w (2 * c) * s) - items_offset a) / s)
 unfolding power_bytes
@@ -100,8 +100,8 @@ module _ (s a c w n : ℕ) (some : 0 < s) (e : power_bytes s a c w ≡ Some n) w
   room : items_offset a + wanted ≤ power
   room = (least_power_is (items_offset a + wanted)).1
 
-  -- The capacity `n` has room for `w` items, is at least `2 * c`, and is small enough for a block
-  -- to be allocated.
+  -- The capacity `n` has room for `w` items and is at least `2 * c`. A block of capacity `n` is
+  -- small enough to be allocated.
   pub powers_grow : IsGrown s a c w n
   powers_grow =
       let more : max w (2 * c) ≤ (power - items_offset a) / s =

@@ -1,11 +1,12 @@
--- This file defines the distance between two runs of adjacent items in one block.
+-- This file defines the predicate `IsShifted`, which states how far and in which direction items
+-- are moved within a block.
 use Rattle.std.specs.Prelude.{◌≡◌, ℕ, Bool, true, false}
 use Rattle.core.specs.Ptr.{Ptr, ptr_add}
 use denote.RattleType.{RattleType}
 
--- `IsShifted R up d source target` holds if the distance between the pointers `source` and `target`
--- is `d` items of the type `R`. The target is above the source if `up` is true, and below the
--- source otherwise.
+-- If `up` is true, `IsShifted R up d source target` states that the pointer `target` is `d` items
+-- of the type `R` above the pointer `source`. Otherwise it states that `target` is `d` items below
+-- `source`.
 abbrev pub IsShifted : RattleType → Bool → ℕ → Ptr → Ptr → Type 0
 IsShifted R true d source target = target ≡ ptr_add R d source
 IsShifted R false d source target = source ≡ ptr_add R d target

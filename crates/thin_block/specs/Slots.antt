@@ -36,17 +36,17 @@ module _ {T : Type 0} where
   abbrev pub front : List T → ℕ → List (Option T)
   front xs c = full xs ++ empty (c - length xs)
 
-  -- `IsPacked s n` holds if the row `s` contains exactly `n` items, and all of these items are in
-  -- the first `n` slots.
+  -- `IsPacked s n` holds if each of the first `n` slots of the row `s` holds an item, and all other
+  -- slots of `s` are empty.
   pub record IsPacked (s : List (Option T)) (n : ℕ) : Type 0 where
     pub row : s ≡ front (items_in s) (length s)
     pub len : n ≡ length (items_in s)
 
-  -- `run i k s` consists of the slots `i..i + k` of the row `s`.
+  -- `run i k s` is the list of the slots `i..i + k` of the row `s`.
   abbrev pub run : ℕ → ℕ → List (Option T) → List (Option T)
   run i k s = take k (drop i s)
 
-  -- `laid i ys s` is the row `s` with the slots `i..i + length ys` replaced by the slots `ys`.
+  -- `laid i ys s` is the row `s` with the slots `i..i + length ys` replaced with the slots `ys`.
   abbrev pub laid : ℕ → List (Option T) → List (Option T) → List (Option T)
   laid i ys s = take i s ++ (ys ++ drop (i + length ys) s)
 
@@ -54,7 +54,7 @@ module _ {T : Type 0} where
   abbrev pub emptied : ℕ → ℕ → List (Option T) → List (Option T)
   emptied i k s = laid i (empty k) s
 
-  -- `moved from to k s` is the row `s` after the contents of the slots `from..from + k` were moved
-  -- to the slots `to..to + k`.
+  -- `moved from to k s` is the row `s` after the contents of the slots `from..from + k` have been
+  -- moved to the slots `to..to + k`.
   unfoldable pub moved : ℕ → ℕ → ℕ → List (Option T) → List (Option T)
   moved from to k s = laid to (run from k s) (emptied from k s)

@@ -18,8 +18,8 @@ static NO_BLOCK: Header = Header {
     aligned: [],
 };
 
-// A header holds a capacity and a length. The array `aligned` is empty. It only raises the
-// alignment of the header, so that items of any alignment can follow the header.
+// A header holds a capacity and a length. The empty array `aligned` only raises the alignment of
+// the header, so that items of any alignment can follow the header.
 struct Header {
     cap: usize,
     len: usize,
@@ -53,8 +53,9 @@ impl<T, A: Allocator> Model for Block<T, A> {
     ghost also_shares = { λ b _ κ. block_lent T.row b.at b.len b.slots b.alloc κ };
 }
 
-// A block is the only owner of its allocation. If it has none, it only shares the static header,
-// which is never written to. So a block is `Send` if its items and its allocator are `Send`.
+// A block is the only owner of its allocation. A block without an allocation only shares the static
+// header, which is never written to. So a block is `Send` if its items and its allocator are
+// `Send`.
 unsafe impl<T: Send, A: Allocator + Send> Send for Block<T, A> {}
 
 // Code that uses a `&` to a block only reads the header and the items. So a block is `Sync` if its
@@ -81,7 +82,7 @@ impl<T, A: Allocator> Block<T, A> {
         }
     }
 
-    /// Returns the stored length, which is a number of items.
+    /// Returns the stored length, counted in items.
     pub fn len(&self) -> usize
         ensures value { result ≡ self.now.len }
         ensures in_bounds { result ≤ length self.now.slots }

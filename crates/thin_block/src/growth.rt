@@ -14,7 +14,7 @@ pub mod power_bytes;
 /// exact capacity, such as `reserve_exact`, do not use the rule.
 pub trait Growth {
     /// The growth rule as a function on numbers. Its arguments are the size and the alignment of an
-    /// item in bytes, the old capacity, and the number of items that need room. This number exceeds
+    /// item in bytes, the old capacity, and the required capacity. The required capacity exceeds
     /// the old capacity. The function returns `None` if the new capacity is too large.
     ghost rule: { ℕ → ℕ → ℕ → ℕ → Option ℕ };
 
@@ -25,7 +25,8 @@ pub trait Growth {
         ensures value { result ≡ rule (type_size T.row) (type_align T.row) cap want };
 
     /// The law of growth rules: each capacity that the rule chooses has room for the wanted items,
-    /// is at least twice the old capacity, and is small enough to be allocated.
+    /// is at least twice the old capacity, and is small enough that a block of this capacity can be
+    /// allocated.
     ghost law: { KeepsLaw rule };
 }
 

@@ -19,7 +19,7 @@ use std::alloc::{AllocError, Allocator};
 use std::marker::PhantomData;
 use std::mem::{ManuallyDrop, replace};
 
-// If the items of a block form at least this number of words of 8 bytes, the allocator resizes the
+// If the items of a block form at least this many words of 8 bytes, the allocator resizes the
 // block, and may leave the items at their address. For fewer words, it is cheaper to allocate a new
 // block.
 pub(crate) const LONG: usize = 32;
@@ -50,8 +50,8 @@ impl<T, A: Allocator> Block<T, A> {
     ghost use Rattle.thin_block.specs.Block.{IsFrom, seen};
 
     // Resizes the block to `cap` slots, and may leave the items at their address. `M` items form a
-    // word, and `K` words are as large as the header. The items must form whole words, and at least
-    // `K` of them. The call fails only if the allocator fails, and then nothing changes.
+    // word, and `K` words are as large as the header. `len` must be a multiple of `M` and at least
+    // `K * M`. The call fails only if the allocator fails. In this case, the block is unchanged.
     #[cold]
     pub(crate) fn remake_in_place<const M: usize, const K: usize>(
         &mut self,
@@ -104,11 +104,11 @@ impl<T, A: Allocator> Block<T, A> {
     // Returns this block with `cap` slots and the same items. `M` items form a word, and `K` words
     // are as large as the header. The items form `count` words, and `count` is at least `K`.
     //
-    // The items are turned into words, and the last `K` words are kept in the place of the header
-    // until the allocator returns. So the block starts with an array of `count` words, which the
-    // allocator can grow or shrink. The block has room for `held` words before the call, and for
-    // `wanted` words after the call. The call fails only if the allocator fails, and then returns
-    // the block unchanged.
+    // The items are turned into words, and the last `K` words are stored in the memory of the
+    // header until the allocator returns. So the block starts with an array of `count` words, which
+    // the allocator can grow or shrink. The block has room for `held` words before the call, and
+    // for `wanted` words after the call. The call fails only if the allocator fails, and then
+    // returns the block unchanged.
     fn resize_words<const M: usize, const K: usize>(
         self,
         alloc: &A,

@@ -1,4 +1,4 @@
-//! Returns references to the items of a block, either to one item or to a slice of adjacent items.
+//! Returns references to the items of a block: either to one item, or to a slice of adjacent items.
 ghost use Rattle.std.specs.Prelude.{◌≡◌, ℕ, ◌<◌, ◌≤◌, IsSome, length, slice_range};
 ghost use Rattle.std.specs.declared.option.Option.TheVariants.{Some};
 ghost use types.Logic.{sem};
@@ -11,8 +11,8 @@ use std::alloc::Allocator;
 impl<T, A: Allocator> Block<T, A> {
     ghost use Rattle.thin_block.specs.Lends.{LendsItem, LendsItems};
 
-    /// Returns the items in the slots `start..end` as a slice. The range may be empty, even if the
-    /// block has no allocation.
+    /// Returns the items in the slots `start..end` as a slice. The range `start..end` may be empty,
+    /// even if the block has no allocation.
     pub fn slice(&self, start: usize, end: usize) -> &[T]
         requires start_le_end { start ≤ end }
         requires in_bounds { end ≤ length self.now.slots }
@@ -38,8 +38,8 @@ impl<T, A: Allocator> Block<T, A> {
     }
 
     /// Returns the items in the slots `start..end` as a mutable slice. Values that the caller
-    /// writes to the slice replace the items in the slots. The range may be empty, even if the
-    /// block has no allocation.
+    /// writes to the slice replace the items in the slots. The range `start..end` may be empty,
+    /// even if the block has no allocation.
     pub fn slice_mut(&mut self, start: usize, end: usize) -> &mut [T]
         requires start_le_end { start ≤ end }
         requires in_bounds { end ≤ length self.old.slots }

@@ -50,7 +50,7 @@ impl<T, A: Allocator> Block<T, A> {
     ///
     /// # Errors
     ///
-    /// Fails with `OutOfMemory` if the allocator fails. Then nothing changes.
+    /// Fails with `OutOfMemory` if the allocator fails. In this case, the block is unchanged.
     #[inline(always)]
     pub fn grow(&mut self, alloc: &A, cap: usize) -> Result<(), ThinVecError>
         requires from { IsFrom self.old.alloc alloc.now }
@@ -83,8 +83,8 @@ impl<T, A: Allocator> Block<T, A> {
         } }
     {}
 
-    // Grows a block that has no allocation to `cap` slots. Nothing is copied, and nothing is freed.
-    // The call fails only if the allocator fails, and then nothing changes.
+    // Allocates `cap` slots for a block that has no allocation. Nothing is copied, and nothing is
+    // freed. The call fails only if the allocator fails. In this case, the block is unchanged.
     fn begin(&mut self, alloc: &A, cap: usize) -> Result<(), ThinVecError>
         requires none { self.old.slots ≡ [] }
         requires some { 0 < cap }
@@ -104,12 +104,12 @@ impl<T, A: Allocator> Block<T, A> {
         Ok(())
     }
 
-    /// Removes all slots except the first `cap` slots, with one request for memory. Each item is
-    /// copied at most once.
+    /// Shrinks the block to its first `cap` slots with one request for memory. Each item is copied
+    /// at most once.
     ///
     /// # Errors
     ///
-    /// Fails with `OutOfMemory` if the allocator fails. Then nothing changes.
+    /// Fails with `OutOfMemory` if the allocator fails. In this case, the block is unchanged.
     pub fn shrink(&mut self, alloc: &A, cap: usize) -> Result<(), ThinVecError>
         requires from { IsFrom self.old.alloc alloc.now }
         requires some { 0 < cap }
@@ -136,7 +136,7 @@ impl<T, A: Allocator> Block<T, A> {
 
     // Changes the number of slots to `cap`. If there are many items and they form whole words, the
     // allocator may leave the block at its address. Otherwise the items are moved to a new block.
-    // The call fails only if the allocator fails, and then nothing changes.
+    // The call fails only if the allocator fails. In this case, the block is unchanged.
     #[inline(always)]
     fn resize(&mut self, alloc: &A, cap: usize) -> Result<(), ThinVecError>
         requires from { IsFrom self.old.alloc alloc.now }
@@ -168,7 +168,7 @@ impl<T, A: Allocator> Block<T, A> {
     }
 
     // Moves the items to a new block of `cap` slots, and frees the old block. The call fails only
-    // if the allocator fails, and then nothing changes.
+    // if the allocator fails. In this case, the block is unchanged.
     fn remake(&mut self, alloc: &A, cap: usize) -> Result<(), ThinVecError>
         requires from { IsFrom self.old.alloc alloc.now }
         requires some { 0 < cap }

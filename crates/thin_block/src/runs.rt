@@ -34,9 +34,9 @@ impl<T, A: Allocator> Block<T, A> {
         }
     }
 
-    /// Moves the `k` items that start at slot `to + gap` down to the slots that start at `to`. The
-    /// `gap` slots below the items must be empty. If `gap` is a constant, LLVM turns this call into
-    /// a `memmove`.
+    /// Moves the `k` items that start at slot `to + gap` down by `gap` slots. The `gap` slots
+    /// directly below the items must be empty. If `gap` is a constant, LLVM turns this call into a
+    /// `memmove`.
     #[inline(always)]
     pub fn move_down(&mut self, to: usize, gap: usize, k: usize)
         requires in_bounds { to + gap + k ≤ length self.old.slots }
@@ -51,9 +51,9 @@ impl<T, A: Allocator> Block<T, A> {
         self.slide_run(to, gap, 0, k, false);
     }
 
-    /// Moves the `k` items that start at slot `from` up to the slots that start at `from + gap`.
-    /// The `gap` slots above the items must be empty. If `gap` is a constant, LLVM turns this call
-    /// into a `memmove`.
+    /// Moves the `k` items that start at slot `from` up by `gap` slots. The `gap` slots directly
+    /// above the items must be empty. If `gap` is a constant, LLVM turns this call into a
+    /// `memmove`.
     #[inline(always)]
     pub fn move_up(&mut self, from: usize, gap: usize, k: usize)
         requires in_bounds { from + gap + k ≤ length self.old.slots }
@@ -185,8 +185,8 @@ impl<T, A: Allocator> Block<T, A> {
     }
 
     // Moves the `k` items that start at slot `low + from` to the slots that start at `low + to`.
-    // `up` says whether the items move up. All other slots that the items pass or reach must be
-    // empty.
+    // `up` says whether the items move to higher slots. All other slots that the items pass or
+    // reach must be empty.
     //
     // Both the address of the items and the address of their new slots are computed from the
     // address of the slot `low`. So if `from` and `to` are constants, LLVM sees that the distance
@@ -234,8 +234,8 @@ impl<T, A: Allocator> Block<T, A> {
         }
     }
 
-    /// Moves the `k` items that start at slot `from` of this block to the slots of `other` that
-    /// start at `to`. The new slots must be empty.
+    /// Moves the `k` items that start at slot `from` of this block to the slots `to..to + k` of the
+    /// block `other`. These slots of `other` must be empty.
     pub fn move_run_to(&mut self, from: usize, k: usize, other: &mut Block<T, A>, to: usize)
         requires source { from + k ≤ length self.old.slots }
         requires target { to + k ≤ length other.old.slots }
@@ -252,9 +252,9 @@ impl<T, A: Allocator> Block<T, A> {
         self.move_run_charging(from, other, to, k);
     }
 
-    // Moves the `k` items that start at slot `from` of this block to the slots of `to_block` that
-    // start at `to`. The new slots must be empty. The ghost parameter `cost` is the cost of
-    // `to_block` after the call.
+    // Moves the `k` items that start at slot `from` of this block to the slots `to..to + k` of
+    // `to_block`. These slots of `to_block` must be empty. The ghost parameter `cost` is the cost
+    // of `to_block` after the call.
     pub(crate) fn move_run_charging(
         &mut self,
         from: usize,

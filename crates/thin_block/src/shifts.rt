@@ -1,10 +1,9 @@
 //! Defines the function `slide`, which moves a run of adjacent items within a block even if the old
 //! and the new slots overlap.
 //!
-//! The function does what `std::ptr::copy` does, but without the test that `copy` makes first. That
-//! test compares the two pointers, which is allowed only in the first half of the address space. An
-//! allocator does not promise where its blocks are. So the caller of `slide` says in which
-//! direction the items move.
+//! The function does what `std::ptr::copy` does, but does not first compare the two pointers. Such
+//! a comparison is allowed only in the first half of the address space, and an allocator does not
+//! promise where its blocks are. So the caller of `slide` says in which direction the items move.
 ghost use Rattle.std.specs.Prelude.{ℕ, ◌^◌, ◌<◌, List};
 ghost use Rattle.core.specs.Ptr.{array_size, memory_before_copy, memory_after_copy};
 ghost use types.Logic.{sem};

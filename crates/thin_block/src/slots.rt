@@ -61,7 +61,7 @@ impl<T, A: Allocator> Block<T, A> {
         unsafe { (at.add(HEADER_WORDS) as *mut T).add(i).read() }
     }
 
-    /// Exchanges the items in the slots `i` and `j`. These may be the same slot.
+    /// Exchanges the items in the slots `i` and `j`. The indices `i` and `j` may be equal.
     pub fn swap(&mut self, i: usize, j: usize)
         requires first { IsSome (slot self.old.slots i) }
         requires second { IsSome (slot self.old.slots j) }
@@ -82,7 +82,7 @@ impl<T, A: Allocator> Block<T, A> {
     }
 
     /// Moves the item in slot `i` to the caller, and then moves the item in slot `j` into slot `i`.
-    /// If `i` equals `j`, the slot is empty afterwards, and no move is counted.
+    /// Afterwards, slot `j` is empty. If `i` equals `j`, no move is counted.
     pub fn take_replacing(&mut self, i: usize, j: usize) -> T
         requires first { IsSome (slot self.old.slots i) }
         requires second { IsSome (slot self.old.slots j) }
@@ -133,7 +133,7 @@ impl<T, A: Allocator> Block<T, A> {
 impl<T: Copy, A: Allocator> Block<T, A> {
     ghost use Rattle.thin_block.specs.Block.{seen};
 
-    /// Copies `items` into the slots that start at `i`. The new slots must be empty.
+    /// Copies `items` into adjacent slots, starting at slot `i`. These slots must be empty.
     pub fn copy_in(&mut self, i: usize, items: &[T])
         requires in_bounds { i + length items.now ≤ length self.old.slots }
         requires empty { AreEmpty self.old.slots i (length items.now) }
@@ -152,8 +152,8 @@ impl<T: Copy, A: Allocator> Block<T, A> {
 
 // Fills `row` with copies of `items`, and returns `row`.
 //
-// A few items are copied one by one. For them, a call of `Slots::copy_in` would cost more than the
-// copies, because `Slots::copy_in` first tests whether its source and its target overlap.
+// Up to `FEW` items are copied one by one. For them, a call of `Slots::copy_in` would cost more
+// than the copies, because `Slots::copy_in` first tests whether its source and its target overlap.
 fn copied<T: Copy>(mut row: Slots<T>, items: &[T]) -> Slots<T>
     requires room { slots_len row ≡ length items.now }
     ensures cap { SamePlaces row result }

@@ -1,6 +1,6 @@
--- These lemmas are about the list of a row's entries, which is sorted by column. They say what a
--- binary search for a column returns, and how an edit of the list at the returned index changes the
--- entries.
+-- A row of a sparse table stores its entries in a list, which is sorted by column. These lemmas say
+-- what a binary search for a column returns, and how an edit of the list at the returned index
+-- changes the entries.
 use Rattle.std.proofs.Common.{◌≡◌, ℕ, zero, suc, ◌+◌, ◌<◌, ◌≤◌, ◌≢◌, Bool, true, false, cond, not, ◌&&◌, T, List, [], ◌∷◌, length, map, get_or, set, Some, None, Result, Ok, Err, IfOk, IfErr, refl, sym, ap, ◌∙◌, nat_cmp, is_lt, is_eq, Less, Equal, Greater, insert, remove, arith}
 use Rattle.std.specs.FinMap.{find, put}
 use Rattle.std.specs.FinMap.Entries.{below_all, by_order, where_key}
@@ -29,8 +29,8 @@ is_more c k more = grind (arith, nat_tests)
 less_from : (c k : ℕ) → T (is_lt (nat_cmp c k)) → c < k
 less_from c k h = grind (arith, nat_tests)
 
--- `stays c k` is true if the columns `c` and `k` differ. Removing the entry of column `c` keeps the
--- entry of column `k` if and only if `stays c k` is true.
+-- `stays c k` is true if the columns `c` and `k` differ. Removing the entry of column `c` keeps
+-- exactly the entries of such columns `k`.
 abbrev pub stays : ℕ → ℕ → Bool
 stays c k = not (eq_by_cmp nat_cmp c k)
 
@@ -91,7 +91,7 @@ module _ {V : Type 0} where
       greater = λ k d from inside. g.greater (suc k) d (omega arith) (omega arith);
     }
 
-    -- Let the columns of the entries be strictly increasing. If the entry of column `c` is not the
+    -- If the columns of the entries are strictly increasing, and the entry of column `c` is not the
     -- first entry, then the column of the first entry is less than `c`.
     before_place : (e : ℕ × V) (entries : List (ℕ × V)) (at : ℕ) → IsRising (e ∷ entries)
         → IsPlaceOf (e ∷ entries) c (suc at) → e.0 < c
@@ -189,8 +189,8 @@ module _ {V : Type 0} where
         grind (arith, nat_tests)
 
     -- If the columns of the entries are strictly increasing, a binary search for column `c` returns
-    -- the index of the entry of this column. If there is no such entry, the search returns, as an
-    -- `Err`, the index at which the entry would be inserted.
+    -- the index of the entry of this column. If there is no such entry, the search returns
+    -- `Err(i)`, and the entry would be inserted at index `i`.
     pub searched : (entries : List (ℕ × V)) → IsRising entries → (r : Result ℕ ℕ)
         → IsSearchInRange r (length entries)
         → IsBinarySearchResult (λ e. nat_cmp e.0 c) entries r

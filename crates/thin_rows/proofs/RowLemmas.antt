@@ -10,8 +10,8 @@ use Rattle.std.specs.Ordering.{eq_by_cmp}
 use Rattle.thin_rows.specs.Entries.{IsGapFor, IsPlaceOf, IsRising}
 use Rattle.thin_rows.proofs.EntriesLemmas.{find_at, find_gap, put_at, put_gap, stays, without_at, without_gap}
 
--- If the columns `q` and `k` compare as equal, then removing the entry of column `c` keeps the
--- entries of both columns or of neither column.
+-- If the columns `q` and `k` compare as equal, then removing the entry of column `c` either keeps
+-- the entries of both columns or removes the entries of both columns.
 alike : (c q k : ℕ) → nat_cmp q k ≡ Equal → stays c k ≡ stays c q
 alike c q k e = ap (stays c) (sym (ranked q k Equal (sym e)))
 

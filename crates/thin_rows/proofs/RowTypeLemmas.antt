@@ -1,5 +1,5 @@
--- These lemmas are about capacities, and about errors that a call passes on to its caller. A
--- capacity depends on a type only through the size and the alignment of the type.
+-- These lemmas say that the same capacities are chosen for two types of the same size and
+-- alignment. So a contract about capacities for one of the types also holds for the other type.
 use Rattle.std.proofs.Common.{◌≡◌, ◌↔◌, ℕ, IsErrOf, None, Option, Result, Ok, Err, ap, refl, sym, ◌∙◌}
 use Rattle.std.specs.Borrow.{RattleType}
 use Rattle.std.specs.Mem.{type_size}
@@ -25,8 +25,8 @@ pub ruled_of_same : (rule : Rule) (R S : RattleType) (c d v w : ℕ) → type_si
 unfolding ruled_capacity
 ruled_of_same rule R S c d v w size align capacity want = rw (size, align, capacity, want) refl
 
--- The result `Ok x` is not an error. So the assumption that it is the error `e` is a contradiction,
--- and implies every statement `P`.
+-- The result `Ok x` is not an error, so the assumption that it is the error `e` implies every
+-- statement `P`.
 no_error : {X E P : Type 0} {x : X} {e : E} → IsErrOf (Ok x) e → P
 no_error same = cc
 
@@ -34,10 +34,9 @@ no_error same = cc
 pub same_cause : {X E : Type 0} {d e : E} → IsErrOf {T = X} (Err d) e → d ≡ e
 same_cause same = cc
 
--- `TellsOverflowOf R w` says that an error is `CapacityOverflow` if and only if `w` items of the
--- type `R` are too large for a block. Let the operator `?` pass the error `cause` on in `result`.
--- If `cause` satisfies `TellsOverflowOf R w`, and `S` has the same size and alignment as `R`, then
--- `result` satisfies `TellsOverflowOf S w`.
+-- Suppose that the operator `?` passes the error `cause` on in `result`, and that the types `R` and
+-- `S` have the same size and alignment. If `cause` is `CapacityOverflow` if and only if `w` items
+-- of the type `R` are too large for a block, then the same is true of `result` and `S`.
 pub error_tells : {X Y : Type 0} (R S : RattleType) (w : ℕ) (cause : ThinVecError)
     (result : Result Y ThinVecError) → type_size S ≡ type_size R → type_align S ≡ type_align R
     → IsErrAnd result (λ e. e ≡ cause) → TellsOverflowOf {X = X} R w (Err cause)
@@ -51,9 +50,9 @@ error_tells R S w cause (Err e) size align passed told = record {
   );
 }
 
--- If `a` equals `b`, and `cause` is `CapacityOverflow` if and only if `b` is `None`, then a call
--- that fails with `cause` satisfies `TellsOverflow a`. This means that `cause` is
--- `CapacityOverflow` if and only if `a` is `None`.
+-- Suppose that a call fails with the error `cause`, and that `cause` is `CapacityOverflow` if and
+-- only if `b` is `None`. If `a` equals `b`, then the call satisfies `TellsOverflow a`, which says
+-- the same about `a`.
 pub failure_tells : {X Y : Type 0} {a b : Option ℕ} {cause : ThinVecError} → a ≡ b
     → IsErrOf {T = X} (Err cause) CapacityOverflow ↔ (b ≡ None)
     → TellsOverflow a (let r : Result Y ThinVecError = Err cause in r)

@@ -51,8 +51,8 @@ module _ {V : Type 0} where
   pub outside : (t : Table V) (i j : ℕ) → length t ≤ i → value_at t i j ≡ None
   outside t i j past = ap (λ r. map.get r j) (get_or_past t i map.empty past) ∙ get-empty nat_cmp j
 
-  -- If row `i` of a table is replaced by a row with the same value at column `l`, then each row
-  -- keeps its value at column `l`.
+  -- If row `i` of a table is replaced with a row that has the same value at column `l`, then each
+  -- row keeps its value at column `l`.
   other_columns : (t : Table V) (i k l : ℕ) (row : Columns V)
       → map.get row l ≡ value_at t i l → value_at (set t i row) k l ≡ value_at t k l
   other_columns t i k l row same = elim (cases_eq k i) [
@@ -66,8 +66,8 @@ module _ {V : Type 0} where
     | inr other ↦ ap (λ r. map.get r l) (get_or-set_other t i k row map.empty other)
   ]
 
-  -- If row `i` of a table is replaced by a row without a value at column `l`, then the new table
-  -- has no value at row `i` and column `l`.
+  -- If row `i` of a table is replaced with a row that has no value at column `l`, then the new
+  -- table has no value at row `i` and column `l`.
   no_value : (t : Table V) (i l : ℕ) (row : Columns V) → map.get row l ≡ None
       → value_at (set t i row) i l ≡ None
   no_value t i l row none = elim (cases_lt i (length t)) [

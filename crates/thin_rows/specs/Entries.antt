@@ -17,7 +17,7 @@ module _ {V : Type 0} where
     pub same : (d : ℕ × V) → (slice_index_or entries i d).0 ≡ column
 
   -- `IsGapFor entries column i` holds if no entry has the column `column`, and such an entry would
-  -- be inserted at index `i`. The entries before index `i` have smaller columns, and all other
+  -- be inserted at index `i`: the entries before index `i` have smaller columns, and all other
   -- entries have greater columns.
   pub record IsGapFor (entries : List (ℕ × V)) (column i : ℕ) : Type 0 where
     pub in_bounds : i ≤ length entries

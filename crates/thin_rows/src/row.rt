@@ -64,14 +64,15 @@ impl<V, A: Allocator> Row<V, A> {
         self.entries.len()
     }
 
-    // Returns whether the row owns a block. This is the case if and only if the row has an entry.
+    // Returns whether the row owns a block of memory. This is the case if and only if the row has
+    // an entry.
     pub(crate) fn owns_block(&self) -> bool
         ensures value { IsTrue result ↔ (0 < map.len self.now) }
     {
         self.entries.has_capacity()
     }
 
-    // Returns the value at `column`, or `None` if there is no entry.
+    // Returns the value at `column`, or `None` if the column has no entry.
     pub(crate) fn get(&self, column: usize) -> Option<&V>
         ensures value { option_copied result ≡ map.get self.now column }
     {
@@ -82,7 +83,7 @@ impl<V, A: Allocator> Row<V, A> {
         }
     }
 
-    // Returns a mutable reference to the value at `column`, or `None` if there is no entry.
+    // Returns a mutable reference to the value at `column`, or `None` if the column has no entry.
     pub(crate) fn get_mut(&mut self, column: usize) -> Option<&mut V>
         ensures* writes_back { sem 𝓛
             (LendsIfThere V.row A.row A.Allocator self.entry column result) }
@@ -94,8 +95,8 @@ impl<V, A: Allocator> Row<V, A> {
         }
     }
 
-    // Returns a mutable reference to the value at `column`. The entry of this column must have the
-    // index `at`.
+    // Returns a mutable reference to the value at `column`. `at` must be the index of the entry of
+    // this column.
     fn value_mut(&mut self, column: usize, at: usize) -> &mut V
         requires place { IsPlaceOf (map.entries self.old) column at }
         ensures* writes_back { sem 𝓛
@@ -105,9 +106,8 @@ impl<V, A: Allocator> Row<V, A> {
         &mut self.entries[at].1
     }
 
-    // Writes `value` at `column`, and returns the old value, if there was one. Only a new entry may
-    // need memory. If this memory cannot be allocated, the call fails, and the error contains
-    // `value`.
+    // Writes `value` at `column`, and returns the old value, if there was one. The call fails only
+    // if it needs room for a new entry and cannot get it. In this case, the error contains `value`.
     pub(crate) fn set(&mut self, column: usize, value: V) -> Result<Option<V>, Rejected<V>>
         ensures succeeds { IsSome (map.get self.old column) → IsOk result }
         ensures value { IfOk result (λ old. old ≡ map.get self.old column) }

@@ -14,7 +14,7 @@ use thin_vec::{Rejected, ThinVec, ThinVecError};
 /// A sparse table, which maps a row and a column to a value. The number of rows is fixed.
 ///
 /// A row keeps its entries in one block, in increasing order of their columns. A row without
-/// entries owns no block, and takes only the bytes of a pointer and of its allocator. Each row
+/// entries owns no block, and takes up only the space of a pointer and of its allocator. Each row
 /// number that is passed to a method must be less than the number of rows. This is a precondition,
 /// which the methods do not test at run time.
 #[derive(Drop)]
@@ -38,7 +38,7 @@ impl<V, A: Allocator + Copy> Rows<V, A> {
     ghost use Rattle.thin_vec.specs.List.Capacity.{TellsOverflowOf};
     ghost use Rattle.thin_rows.specs.RowType.{row_type};
 
-    /// Returns a table of `rows` rows without entries. The call allocates one block, or none if
+    /// Returns a table with `rows` rows and no entries. The call allocates one block, or none if
     /// `rows` is 0. The table and each row keep a copy of `alloc`.
     ///
     /// # Errors
@@ -159,7 +159,8 @@ impl<V, A: Allocator> Rows<V, A> {
         self.rows[row].entries()
     }
 
-    /// Returns whether a row owns a block. This is the case if and only if the row has an entry.
+    /// Returns whether a row owns a block of memory. This is the case if and only if the row has an
+    /// entry.
     pub fn owns_block(&self, row: usize) -> bool
         requires in_bounds { row < length self.now }
         ensures value { IsTrue result ↔ (0 < columns.len (row_of self.now row)) }

@@ -1,6 +1,6 @@
--- These lemmas are about a call of `refuses`. A shared reference to the counts satisfies its
--- precondition, and the call returns a Boolean. The lemmas assume the laws of the separation logic
--- (`Logic`).
+-- These lemmas are about a call of `refuses`. A shared reference to the counts of the allocator
+-- satisfies the precondition of the call, and the call returns a Boolean. The lemmas assume the
+-- laws of the separation logic (`Logic`).
 use Rattle.std.proofs.Common.{◌≡◌, ℕ, Bool, List, [], ◌∷◌, refl, ap}
 use seplogic.Ra.Ura.{Ura}
 use mir.Val.{Val, vbool, vptr}
@@ -30,10 +30,9 @@ module _ {M : Type 1} {𝓤 : Ura M} (𝓛 : Logic 𝓤) (at_mem : Memory → SP
   abbrev pub Asks : Contract 𝓤
   Asks = triple_of 𝓛 RF.signature (RF.spec 𝓛 at_mem run)
 
-  -- These are the ghost arguments of the contract of `refuses` for a call that passes a reference
-  -- to the counts. The counts have the address `c` and the value `k`. The reference has the
-  -- lifetime `κ`, and the call receives the fraction `q` of the token that proves that `κ` has not
-  -- ended.
+  -- `at_asks κ q c k` consists of the ghost arguments for a call of `refuses`. The call passes a
+  -- reference of the lifetime `κ` to the counts, which have the address `c` and the value `k`. It
+  -- also passes the fraction `q` of the token that proves that `κ` has not ended.
   abbrev pub at_asks : Lft → Share → ℕ × ℕ → Row.Denot → Asks.Ghost
   at_asks κ q c k = (
     (

@@ -1,6 +1,6 @@
--- These lemmas are about calls of `granted` and `returned`. A shared reference to the counts
--- satisfies the preconditions of both functions, and both functions return the unit value. The
--- lemmas assume the laws of the separation logic (`Logic`).
+-- These lemmas are about calls of `granted` and `returned`. A shared reference to the counts of the
+-- allocator satisfies the preconditions of both functions, and both functions return the unit
+-- value. The lemmas assume the laws of the separation logic (`Logic`).
 use Rattle.std.proofs.Common.{◌≡◌, ℕ, List, [], ◌∷◌, refl, ap}
 use seplogic.Ra.Ura.{Ura}
 use mir.Val.{Val, vunit, vptr}
@@ -36,10 +36,10 @@ module _ {M : Type 1} {𝓤 : Ura M} (𝓛 : Logic 𝓤) (at_mem : Memory → SP
   abbrev pub Returned : Contract 𝓤
   Returned = triple_of 𝓛 RE.signature (RE.spec 𝓛 at_mem run)
 
-  -- These are the ghost arguments of the contract of `granted` for a call that passes a reference
-  -- to the counts and an answer. The counts have the address `c` and the value `k`. The reference
-  -- has the lifetime `κ`, and the call receives the fraction `q` of the token that proves that `κ`
-  -- has not ended. The answer is `y`, and its machine value is `v`.
+  -- `at_granted κ q c k y v` consists of the ghost arguments for a call of `granted` with the
+  -- answer `y`, whose machine value is `v`. The call passes a reference of the lifetime `κ` to the
+  -- counts, which have the address `c` and the value `k`. It also passes the fraction `q` of the
+  -- token that proves that `κ` has not ended.
   abbrev pub at_granted : Lft → Share → ℕ × ℕ → Row.Denot → Answer.Denot → Val → Granted.Ghost
   at_granted κ q c k y v = (
     (
@@ -52,10 +52,9 @@ module _ {M : Type 1} {𝓤 : Ura M} (𝓛 : Logic 𝓤) (at_mem : Memory → SP
     tt,
   )
 
-  -- These are the ghost arguments of the contract of `returned` for a call that passes a reference
-  -- to the counts. The counts have the address `c` and the value `k`. The reference has the
-  -- lifetime `κ`, and the call receives the fraction `q` of the token that proves that `κ` has not
-  -- ended.
+  -- `at_returned κ q c k` consists of the ghost arguments for a call of `returned`. The call passes
+  -- a reference of the lifetime `κ` to the counts, which have the address `c` and the value `k`. It
+  -- also passes the fraction `q` of the token that proves that `κ` has not ended.
   abbrev pub at_returned : Lft → Share → ℕ × ℕ → Row.Denot → Returned.Ghost
   at_returned κ q c k =
       (((κ, tt), (q, tt), tt, (record { ref_ptr = c; now = k }, tt), (vptr c.0 c.1 ∷ [], tt)), tt)
@@ -64,9 +63,9 @@ module _ {M : Type 1} {𝓤 : Ura M} (𝓛 : Logic 𝓤) (at_mem : Memory → SP
     (κ : Lft) (q : Share) (c : ℕ × ℕ) (k : Row.Denot) where
   open 𝓛 use {H, A}
 
-  -- If the counts are shared for the lifetime `κ`, and a token proves that `κ` has not ended, then
-  -- the precondition of `granted` holds. Here `v` is the machine value of the answer `y`, an
-  -- argument of `granted`.
+  -- Suppose that the counts are shared for the lifetime `κ`, and that a token proves that `κ` has
+  -- not ended. Then the precondition of `granted` holds for each answer `y` with the machine value
+  -- `v`.
   pub Granted-goes : (y : Answer.Denot) (v : Val)
       → ent 𝓤 (emp 𝓤) (sem 𝓛 (Answer.own_val y (v ∷ [])))
       → ent 𝓤 (sep 𝓤 (sem 𝓛 (hidden_shr Row κ k c.0 c.1)) (A.lft κ q))

@@ -7,18 +7,18 @@ use Rattle.std.proofs.Common.{mul-le-mul_right, subst, arith}
 use Rattle.thin_vec.specs.Capacity.{fits}
 use Rattle.thin_vec.specs.Growth.{Rule, KeepsLaw, fitting}
 
--- The rule `multiple k` chooses `k` times the old capacity, or the number of wanted items if that
--- number is greater. It returns `None` if the result is too large for a block.
+-- The growth rule `multiple k` chooses `k` times the old capacity, or the required capacity if that
+-- is greater. It returns `None` if a block of the chosen capacity is too large to be allocated.
 unfoldable pub multiple : ℕ → Rule
 multiple k s a c w = fitting s a (max w (k * c))
 
--- The rule `fourfold` chooses four times the old capacity, or the number of wanted items if that
--- number is greater.
+-- The growth rule `fourfold` chooses four times the old capacity, or the required capacity if that
+-- is greater.
 abbrev pub fourfold : Rule
 fourfold = multiple 4
 
--- The rule `threefold` chooses three times the old capacity, or the number of wanted items if that
--- number is greater.
+-- The growth rule `threefold` chooses three times the old capacity, or the required capacity if
+-- that is greater.
 abbrev pub threefold : Rule
 threefold = multiple 3
 

@@ -7,8 +7,8 @@ ghost use Rattle.thin_testing.specs.Multiples.{multiple};
 
 use thin_vec::{Growth, fits};
 
-/// A growth rule that chooses four times the old capacity, or the number of wanted items if that
-/// number is greater.
+/// A growth rule that chooses four times the old capacity, or the required capacity if that is
+/// greater.
 pub struct Fourfold {}
 
 impl Growth for Fourfold {
@@ -23,8 +23,8 @@ impl Growth for Fourfold {
     ghost law = { fourfold_law };
 }
 
-/// A growth rule that chooses three times the old capacity, or the number of wanted items if that
-/// number is greater.
+/// A growth rule that chooses three times the old capacity, or the required capacity if that is
+/// greater.
 pub struct Threefold {}
 
 impl Growth for Threefold {
@@ -39,8 +39,8 @@ impl Growth for Threefold {
     ghost law = { threefold_law };
 }
 
-// Returns `times` times the capacity `cap`, or `want` if `want` is greater. Returns `None` if the
-// result is too large for a block.
+// Returns `times` times the capacity `cap`, or `want` if `want` is greater. Returns `None` if a
+// block of that capacity is too large to be allocated.
 fn next_multiple<T>(times: usize, cap: usize, want: usize) -> Option<usize>
     ensures value { result ≡ multiple times (type_size T.row) (type_align T.row) cap want }
 {

@@ -16,10 +16,10 @@
 use std::alloc::{AllocError, Allocator};
 use std::cell::Cell;
 
-// The counts of a `Refusing`. The field `requests` counts the requests since the allocator was
-// created or since the last call of `refuse`. The field `blocks` counts the blocks that are
-// allocated and have not been freed yet. The request with the number `refused` is refused, or none
-// if `refused` is 0.
+// The counts of an allocator `Refusing`. `requests` is the number of requests since the allocator
+// was created or since the last call of `refuse`. `blocks` is the number of blocks that are
+// allocated and have not been freed yet. The request with the number `refused` is refused. If
+// `refused` is 0, no request is refused.
 #[derive(Drop)]
 struct Counts {
     requests: Cell<u64>,

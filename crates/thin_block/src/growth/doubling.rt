@@ -8,8 +8,8 @@ use crate::growth::{Growth, fitting};
 use crate::sizes::item_size;
 
 /// A growth rule that doubles the capacity, or chooses `first_capacity` if the old capacity is 0.
-/// If more items than that need room, the new capacity is the number of these items. The Rust crate
-/// thin-vec uses the same rule.
+/// If the required capacity is greater than that, the rule chooses the required capacity. The Rust
+/// crate thin-vec uses the same rule.
 pub struct Doubling {}
 
 impl Growth for Doubling {
@@ -31,8 +31,8 @@ impl Growth for Doubling {
 }
 
 /// Returns the capacity that `Doubling` chooses for the first block of a list, unless the list
-/// needs room for more items. It is 1 for items of more than `usize::MAX / 8` bytes, and 4 for all
-/// other items.
+/// needs room for more items than that. It is 1 for items of more than `usize::MAX / 8` bytes, and
+/// 4 for all other items.
 pub fn first_capacity<T>() -> usize
     ensures value { result ≡ first (type_size T.row) }
 {

@@ -8,12 +8,11 @@ use crate::growth::doubling::Doubling;
 use crate::growth::{Growth, fitting};
 use crate::sizes::{HEADER, item_size};
 
-/// A growth rule under which each block fills a power of two bytes. Let `p` be the least power of
-/// two such that `p` bytes have room for the header and for the greater of two numbers of items:
-/// the wanted number, and twice the old capacity. The new capacity is the number of items that have
-/// room in `p` bytes after the header. If an allocator rounds requests up to powers of two, a block
-/// then wastes less than the size of one item. For items of size 0, the rule is the same as
-/// `Doubling`.
+/// A growth rule under which each block fills a power of two bytes. The rule computes the size of a
+/// block for the required number of items, or for twice the old capacity if that is greater. It
+/// rounds this size up to a power of two. The new capacity is the number of items that fit in these
+/// bytes after the header. If an allocator rounds requests up to powers of two, a block then wastes
+/// less than the size of one item. For items of size 0, the rule is the same as `Doubling`.
 ///
 /// This rule is modeled on a similar rule that the Rust crate thin-vec has for Gecko.
 pub struct PowerBytes {}

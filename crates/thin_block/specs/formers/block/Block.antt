@@ -1,6 +1,6 @@
--- This file defines the former of `Block`. The former tells the prover why a type may contain
--- blocks of values of the same type. A block is determined by the items in its slots, and by values
--- that contain no items.
+-- This file defines the type former of `Block`. The type former tells the prover why a type `T` may
+-- have a field of the type `Block<T, A>`. A block is determined by the items in its slots, and by
+-- other parts that contain no items.
 use Rattle.std.specs.Prelude.{◌≡◌, ℕ, suc, max, ◌+◌, ◌≤◌, List, [], ◌∷◌, map, length, Option}
 use Rattle.std.specs.declared.option.Option.TheVariants.{Some, None}
 use mathlib.Core.Path.{PathP, refl, sym, ap, ◌∙◌}
@@ -43,8 +43,8 @@ abbrev pub on_slot : {X Y : Type 0} → (X → Y) → Option X → Option Y
 on_slot h None = None
 on_slot h (Some x) = Some (h x)
 
--- This module builds the former of slots from the former `g` of items. The former of slots says
--- which values of a type `X` a slot contains.
+-- This module builds the type former of slots from the type former `g` of items. The former of
+-- slots says which values of a type `X` a slot contains.
 module _ (g : Former {0}) where
   -- `slot_count a n` is `n` plus the number of values in a slot of the shape `a`. The shape of a
   -- slot is the slot without its values.
@@ -111,7 +111,8 @@ module _ (g : Former {0}) where
   }
 
 module _ {g : Former {0}} (w : Weighed g) where
-  -- The depth of a filled slot is the depth of its item. The depth of an empty slot is 0.
+  -- `slot_weight` is the depth of a slot. The depth of a filled slot is the depth of its item, and
+  -- the depth of an empty slot is 0.
   abbrev pub slot_weight : (X : Type 0) → (X → ℕ) → Option (g.Of X) → ℕ
   slot_weight X μ None = 0
   slot_weight X μ (Some y) = w.weight X μ y
@@ -124,17 +125,17 @@ module _ {g : Former {0}} (w : Weighed g) where
   slot_puts X μ None n t = none_max (deepest μ n t)
   slot_puts X μ (Some y) n t = w.puts X μ y n t
 
-  -- `w_slot` is the former of slots together with the depth of a slot.
+  -- `w_slot` extends the former of slots with the depth of a slot.
   abbrev pub w_slot : Weighed (slot g)
   w_slot = record { weight = slot_weight; puts = slot_puts }
 
 module _ {X Y Z : Type 0} (d : Block X Z) where
-  -- `Fits ys` holds if the block `d` may have the slots `ys`. The number of these slots must be at
-  -- least the stored length of `d`, and it must be 0 if and only if `d` has no allocation.
+  -- `Fits ys` holds if the block `d` may have the slots `ys`: their number must be at least the
+  -- stored length of `d`, and it must be 0 if and only if `d` has no allocation.
   abbrev pub Fits : List (Option Y) → Type 0
   Fits ys = (d.len ≤ length ys) × (is_some d.alloc ≡ any ys)
 
-  -- `holding ys` is the block `d` with its slots replaced by `ys`.
+  -- `holding ys` is the block `d` with its slots replaced with `ys`.
   abbrev pub holding : (ys : List (Option Y)) → Fits ys → Block Y Z
   holding ys sound = record {
     at = d.at;
@@ -171,8 +172,8 @@ mapped h d = holding d (map (on_slot h) d.slots)
     (fits d (map (on_slot h) d.slots) (length-map d.slots (on_slot h)))
 
 module _ (g : Former {0}) (Z : Type 0) where
-  -- Let `a` be a list of shapes of slots. If slots of these shapes are taken from a row of values,
-  -- then the number of slots is the length of `a`.
+  -- If slots with the shapes in the list `a` are taken from a row of values, then the number of
+  -- these slots is the length of `a`.
   pub length_got : (X : Type 0) (a : List (Option g.Shape)) (n : Count)
       (v : Row X (list_count (slot g) a n)) → length (list_get (slot g) X a n v).0 ≡ length a
   length_got X [] n v = refl
@@ -240,7 +241,8 @@ module _ (g : Former {0}) (Z : Type 0) where
     get-map = got-map;
   }
 
--- The depth of a block is the depth of its deepest item.
+-- `the_weighed` extends the former of blocks with the depth of a block, which is the depth of its
+-- deepest item.
 abbrev pub the_weighed : {g : Former {0}} → Weighed g → (Z : Type 0) → Weighed (the_former g Z)
 the_weighed w Z = record {
   weight = λ X μ d. most (slot_weight w X μ) d.slots;
@@ -261,8 +263,8 @@ the_empty Z z = record {
   sound = (omega arith, refl);
 }
 
--- The former `this` treats each item as a value. So the values in a row of slots are the items in
--- these slots.
+-- For the former `this`, each item is itself a value. So the values in a row of slots are the items
+-- in these slots.
 pub items_listed : (X : Type 0) (xs : List (Option X))
     → listed _ (children (list (slot this)) X xs) ≡ items_in xs
 items_listed X [] = refl
@@ -273,7 +275,7 @@ items_listed X (Some x ∷ xs) = ap (λ l. x ∷ l) (items_listed X xs)
 abbrev pub the_items : (Z X : Type 0) → Block X Z → List X
 the_items Z X d = items_in d.slots
 
--- The former `this` treats each item as a value. So the values in the block `d` are its items.
+-- For the former `this`, each item is itself a value. So the values in the block `d` are its items.
 pub the_items_listed : (Z X : Type 0) (d : Block X Z)
     → listed _ (children (the_former this Z) X d) ≡ the_items Z X d
 the_items_listed Z X d = items_listed X d.slots

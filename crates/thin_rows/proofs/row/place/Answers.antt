@@ -1,5 +1,5 @@
--- The columns of the entries are strictly increasing, and the closure returns the column of an
--- entry. So the binary search finds the index of the column's entry, or the index at which such an
+-- The columns of the entries are strictly increasing, and the binary search compares them with the
+-- given column. So the search finds the index of the column's entry, or the index at which such an
 -- entry would be inserted.
 use Rattle.std.proofs.Common.{rules}
 use Rattle.std.proofs.lemmas.List.Sorted.{answers_always}

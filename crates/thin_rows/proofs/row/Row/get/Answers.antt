@@ -1,5 +1,5 @@
--- `get` returns the value of the map at the column. If the column has an entry, the value in this
--- entry is the value of the map. Otherwise the map has no value at the column.
+-- The entries of a row represent a map. If a column has an entry, the value in this entry is the
+-- value of the map at this column. Otherwise the map has no value there.
 use Rattle.std.proofs.Common.{sym}
 use Rattle.thin_rows.proofs.RowLemmas.{get_at, get_gap}
 use Rattle.thin_rows.proofs.row.Row.get.Goals as goal

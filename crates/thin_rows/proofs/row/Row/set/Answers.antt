@@ -65,8 +65,8 @@ returns-in-Err-insert-clause-succeeds g c some =
     at some
 
 -- If the insertion fails, the cause is `CapacityOverflow` if and only if the growth rule returns
--- `None` for one more entry. The list was full before the call, so its capacity was the number of
--- its entries.
+-- `None` when the row needs room for one more entry. The list was full before the call, so its
+-- capacity was the number of its entries.
 pub returns-in-Err-insert-clause-overflow : goal.returns-in-Err-insert-clause-overflow
 returns-in-Err-insert-clause-overflow g c =
     let row = c.self.inside.entries in

@@ -1,6 +1,6 @@
--- `allocate` calls `refuses`. If this request is refused, `allocate` returns an error. Otherwise it
--- passes the answer of the inner allocator to `granted`, which counts the new block, and then
--- returns this answer. The proof assumes the laws of the separation logic (`Logic`).
+-- `allocate` calls `refuses`. If `refuses` returns `true`, `allocate` returns an error. Otherwise
+-- it passes the answer of the inner allocator to `granted`, which counts the block if the answer is
+-- `Ok`. Then it returns this answer. The proof assumes the laws of the separation logic (`Logic`).
 use Rattle.std.proofs.Common.{◌≡◌, ℕ, zero, suc, ◌+◌, ◌^◌, ◌<◌, true, false, Bool, List, [], ◌∷◌, Ok, Err, refl, w64, Bor}
 use seplogic.Ra.Ura.{Ura}
 use mir.Syntax.{Ty, Args, Fn, Body, seq, skip, a_type, dnil, dcons}
@@ -139,8 +139,8 @@ module _ (Z : Al) {M : Type 1} {𝓤 : Ura M} (𝓛 : Logic 𝓤) (at_mem : Memo
         shr_dup ! Row the_row_laws.shr_laws r.now.counts c.0 c.1 κ₁ $
         keep ! (0 ∷ 7 ∷ 3 ∷ 8 ∷ 1 ∷ []) $
         -- The context now holds, in this order: [the shared counts; the token of the lifetime `κ₁`;
-        -- the inner allocator; the token of the lifetime `κ₂`; the shared counts once more]. The
-        -- proof enters the body of `allocate`.
+        -- the inner allocator; the token of the lifetime `κ₂`; the shared counts a second time].
+        -- The next step enters the body of `allocate`.
         enter ! 𝓣.C 𝓣.Λ (here Z) vs _ $
         alloc_all ! (λ l. pass_all ! refl
         ((tt, tt), ((tt, record { fits = fn }), ((tt, record { fits = fa }), tt))) $

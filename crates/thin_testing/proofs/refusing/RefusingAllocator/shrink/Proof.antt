@@ -1,4 +1,4 @@
--- `shrink` calls `refuses`. If this request is refused, `shrink` returns an error, and the block
+-- `shrink` calls `refuses`. If `refuses` returns `true`, `shrink` returns an error, and the block
 -- does not change. Otherwise it returns the result of `shrink` of the inner allocator. The proof
 -- assumes the laws of the separation logic (`Logic`).
 use Rattle.std.proofs.Common.{◌≡◌, ℕ, zero, suc, ◌+◌, ◌^◌, ◌<◌, false, Bool, List, [], ◌∷◌, refl, w64, Bor}
@@ -148,9 +148,9 @@ module _ (Z : Al) (X : RattleType) {M : Type 1} {𝓤 : Ura M} (𝓛 : Logic �
         use0 𝓛 (‵ (Answer.own_val (result_of y b' o') (answer_val y b' o' ∷ [])))
         (result_own 𝓛 y b' o') $ nothing ! $ nothing ! $ fjoin ! $ nothing ! $ fjoin ! $
         nothing ! $ fjoin ! $ nothing ! $ fjoin ! $ nothing ! $ fjoin ! $ join ! $
-        -- These steps join the following resources into the postcondition: [the result; the block;
-        -- the token of the lifetime `κ`; the token of the lifetime `κT`; the token of the lifetime
-        -- `ρ`].
+        -- These steps combine the following resources into the postcondition: [the result; the
+        -- block; the token of the lifetime `κ`; the token of the lifetime `κT`; the token of the
+        -- lifetime `ρ`].
         nothing ! $ move ! (4 ∷ 0 ∷ []) $ join ! $ move ! (4 ∷ 0 ∷ []) $ join ! $
         move ! (3 ∷ 0 ∷ []) $ join ! $ join ! $ done !
 
@@ -180,7 +180,7 @@ module _ (Z : Al) (X : RattleType) {M : Type 1} {𝓤 : Ura M} (𝓛 : Logic �
         keep ! (0 ∷ 8 ∷ 2 ∷ 10 ∷ 6 ∷ 9 ∷ []) $
         -- The context now holds, in this order: [the shared counts; the token of the lifetime `κ`;
         -- the inner allocator; the block; the token of the lifetime `κT`; the token of the lifetime
-        -- `ρ`]. The proof enters the body of `shrink`.
+        -- `ρ`]. The next step enters the body of `shrink`.
         enter ! 𝓣.C 𝓣.Λ (here Z X) (vs x) _ $
         alloc_all ! (λ l. pass_all ! refl (
           (tt, tt),
