@@ -131,7 +131,7 @@ impl Editor {
         Ok(())
     }
 
-    /// Forgets the oldest edits. At most `count` edits can be undone after the call. The text does
+    /// Forgets the oldest edits, so that at most `count` edits can still be undone. The text does
     /// not change.
     pub fn forget(&mut self, count: usize)
         ensures past { self.new.past ≡ take count self.old.past }
@@ -144,8 +144,8 @@ impl Editor {
     }
 }
 
-// Removes the last change of `from`, carries it out on `text`, and appends to `to` a change that
-// undoes it. On failure, `text` and the items of `from` and `to` do not change.
+// Removes the last change from the list `from`, carries it out on `text`, and appends to the list
+// `to` a change that undoes it. On failure, `text` and the items of both lists are unchanged.
 fn step(
     text: &mut ThinVec<char>,
     from: &mut ThinVec<Change>,
