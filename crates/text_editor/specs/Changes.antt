@@ -27,8 +27,8 @@ FitAlong [] text = Unit {0}
 FitAlong (change ∷ changes) text = Fits change text × FitAlong changes (changed change text)
 
 -- `texts_of changes text` contains the text after each change. The changes are carried out from the
--- last to the first: the last change on `text`, and each other change on the text that results from
--- the change carried out just before it.
+-- last to the first. The last change is carried out on `text`, and each other change on the text
+-- that the previous step produced.
 abbrev pub texts_of : List Change → List ℕ → List (List ℕ)
 texts_of changes text = texts_along (reverse changes) text
 
