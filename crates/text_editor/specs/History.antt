@@ -2,8 +2,8 @@
 use Rattle.std.specs.Prelude.{◌≡◌, ℕ, List, []}
 
 -- A `History` contains the current text and two lists of texts. Repeated calls of `undo` restore
--- the texts in `past`, and repeated calls of `redo` restore the texts in `future`. The next call
--- restores the first text of the list.
+-- the texts in `past`, and repeated calls of `redo` restore the texts in `future`. In each list,
+-- the first text is the one that the next call restores.
 pub record History : Type 0 where
   pub past : List (List ℕ)
   pub text : List ℕ

@@ -183,8 +183,8 @@ impl<T: Drop, A: Allocator, G: Growth> ThinVec<T, A, G> {
         iter: I,
         alloc: A,
     ) -> Result<(), SpliceRefused<T, I, A>>
-        // `block` is the block of this list. There are items after the range (`tail`), but no item
-        // of the range remains in the block (`rest`).
+        // `block` is the block that was taken out of this list. There are items after the range
+        // (`tail`), but no item of the range remains in the block (`rest`).
         requires some { 0 < length block.tail }
         requires empty { self.old.items ≡ [] }
         requires none { block.rest ≡ [] }
@@ -231,8 +231,8 @@ impl<T: Drop, A: Allocator, G: Growth> ThinVec<T, A, G> {
         iter: I,
         alloc: A,
     ) -> Result<(), SpliceRefused<T, I, A>>
-        // `block` is the block of this list. There are no items after the range (`tail`), and no
-        // item of the range remains in the block (`rest`).
+        // `block` is the block that was taken out of this list. There are no items after the range
+        // (`tail`), and no item of the range remains in the block (`rest`).
         requires no_tail { block.tail ≡ [] }
         requires within { reach block ≤ block.capacity }
         requires empty { self.old.items ≡ [] }

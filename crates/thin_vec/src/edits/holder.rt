@@ -1,7 +1,7 @@
 //! The trait `Holds`, through which `Drain`, `ExtractIf` and `Splice` own the block of a list.
 //!
 //! Each of these structs has a field with a `&mut` to the list, and a field with the block of the
-//! list, which contains a raw pointer. If a struct declares one field with a raw pointer and
+//! list. The block contains a raw pointer. If a struct declares one field with a raw pointer and
 //! another field with a `&mut`, the contract of its `drop` cannot describe the value behind the
 //! `&mut` after the call. So the type of the field with the block is a type parameter with the
 //! bound `Holds`, which hides the raw pointer.

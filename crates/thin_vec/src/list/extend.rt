@@ -152,7 +152,7 @@ impl<T, A: Allocator, G: Growth> ThinVec<T, A, G> {
         } }
 
         // If the call returns an item, the list is full, and `next` may be called on the returned
-        // iterator. This iterator can then yield fewer items than `iter`.
+        // iterator. This iterator can yield fewer items than `iter` before the call.
         ensures full { OnSome result.1 (length self.new.items ≡ self.new.capacity) }
         ensures rest { OnSome result.1 (I.can_next result.0 × IsFinite (I.remaining result.0)) }
         ensures nearer { OnSome result.1

@@ -15,8 +15,8 @@ use thin_block::{Growth, ThinVecError};
 impl<T, A: Allocator, G: Growth> ThinVec<T, A, G> {
     ghost use Rattle.thin_vec.specs.ThinVec.{HasRoomFor, IsWithin, capacity_for};
 
-    /// Inserts `value` at `index`, and moves each item from this index onward to the next higher
-    /// index. `index` must be at most the length. The list then owns `value`. If there is no spare
+    /// Inserts `value`, which the list then owns, at `index`. Each item from this index onward
+    /// moves to the next higher index. `index` must be at most the length. If there is no spare
     /// capacity, the list first grows to the capacity that the growth rule chooses.
     ///
     /// # Errors
@@ -52,8 +52,8 @@ impl<T, A: Allocator, G: Growth> ThinVec<T, A, G> {
         Ok(())
     }
 
-    /// Inserts `value` at `index`, and moves each item from this index onward to the next higher
-    /// index. `index` must be at most the length. The list then owns `value`. The list must already
+    /// Inserts `value`, which the list then owns, at `index`. Each item from this index onward
+    /// moves to the next higher index. `index` must be at most the length. The list must already
     /// have room for one more item; `reserve(1)` makes such room. So the list does not grow, and
     /// the call cannot fail.
     ///
@@ -107,9 +107,9 @@ impl<T, A: Allocator, G: Growth> ThinVec<T, A, G> {
         Ok(&mut self[len])
     }
 
-    /// Inserts `value` at `index`, and returns a mutable reference to `value` in the list. Each
-    /// item from this index onward moves to the next higher index. `index` must be at most the
-    /// length. The list then owns `value`. Writing through the reference changes the item of the
+    /// Inserts `value`, which the list then owns, at `index`, and returns a mutable reference to
+    /// `value` in the list. Each item from this index onward moves to the next higher index.
+    /// `index` must be at most the length. Writing through the reference changes the item of the
     /// list. If there is no spare capacity, the list first grows to the capacity that the growth
     /// rule chooses.
     ///

@@ -1,6 +1,6 @@
 -- `forget` removes the oldest changes of an editor, and keeps at most `count` changes. Of the texts
--- that the changes could restore before the call, the kept changes restore the first `count`, or
--- all if there were fewer.
+-- that the changes could restore before the call, the kept changes restore the first `count` texts,
+-- or all if there were fewer.
 use Rattle.std.proofs.Common.{◌≡◌, ℕ, ◌-◌, ap, arith, drop, length, rules, sym, take, ◌∙◌}
 use Rattle.std.proofs.lemmas.List.{take_all}
 use Rattle.text_editor.proofs.ChangesLemmas.{AllFit-drop, length-texts_of, texts_of-drop}
