@@ -12,25 +12,27 @@ pub record Fits (change : Change) (text : List ℕ) : Type 0 where
   pub start_le_end : change.start ≤ change.end
   pub in_bounds : change.end ≤ length text
 
--- `texts_along changes text` contains the text after each change. The changes are carried out in
--- the order of the list, beginning with `text`.
+-- `texts_along changes text` contains the text after each change. The first change is carried out
+-- on `text`, and each later change on the text that results from the previous change.
 abbrev pub texts_along : List Change → List ℕ → List (List ℕ)
 texts_along [] text = []
 texts_along (change ∷ changes) text =
     changed change text ∷ texts_along changes (changed change text)
 
--- `FitAlong changes text` holds if each change fits the text on which it is carried out. The
--- changes are carried out in the order of the list, beginning with `text`.
+-- `FitAlong changes text` holds if each change fits the text on which it is carried out. The first
+-- change is carried out on `text`, and each later change on the text that results from the previous
+-- change.
 abbrev pub FitAlong : List Change → List ℕ → Type 0
 FitAlong [] text = Unit {0}
 FitAlong (change ∷ changes) text = Fits change text × FitAlong changes (changed change text)
 
 -- `texts_of changes text` contains the text after each change. The changes are carried out from the
--- last to the first, beginning with `text`.
+-- last to the first. The last change is carried out on `text`, and each other change on the text
+-- that the previous step produced.
 abbrev pub texts_of : List Change → List ℕ → List (List ℕ)
 texts_of changes text = texts_along (reverse changes) text
 
 -- `AllFit changes text` holds if each change fits the text on which it is carried out. The changes
--- are carried out from the last to the first, beginning with `text`.
+-- are carried out from the last to the first, and the last change is carried out on `text`.
 abbrev pub AllFit : List Change → List ℕ → Type 0
 AllFit changes text = FitAlong (reverse changes) text

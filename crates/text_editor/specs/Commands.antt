@@ -5,8 +5,8 @@ use Rattle.text_editor.specs.History.{History}
 use Rattle.text_editor.specs.declared.command.Command.{Command}
 use Rattle.text_editor.specs.declared.command.Command.TheVariants.{Forget, Print, Redo, Replace, Undo}
 
--- `Does command old new` says what `command` does if it succeeds. `old` is the state of the editor
--- before the command, and `new` is its state after the command.
+-- `Does command old new` states that `command`, if it succeeds, changes the state of the editor
+-- from `old` to `new`.
 abbrev pub Does : Command → History → History → Type 0
 Does (Replace start end characters) old new =
     (new.text ≡ replace_range old.text start end characters.items)

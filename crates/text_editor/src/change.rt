@@ -20,7 +20,7 @@ impl Change {
     /// # Errors
     ///
     /// Fails if there is not enough memory for the replaced characters, for the new text, or for
-    /// one more item of `back`. On failure, neither `text` nor the items of `back` change.
+    /// one more item of `back`. On failure, `text` and the items of `back` are unchanged.
     pub fn make(
         &self,
         text: &mut ThinVec<char>,

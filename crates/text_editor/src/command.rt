@@ -9,16 +9,16 @@ use thin_vec::ThinVec;
 /// A command, which is read from one line of the input.
 #[derive(Drop)]
 pub enum Command {
-    /// Replaces the characters from the first index up to, but not including, the second index. The
-    /// third field is the new text. In the input, the command is written `insert AT TEXT`,
-    /// `delete FROM TO` or `replace FROM TO TEXT`.
+    /// Replaces the characters from the index in the first field up to, but not including, the
+    /// index in the second field. The third field contains the new characters. In the input, the
+    /// command is written `insert AT TEXT`, `delete FROM TO` or `replace FROM TO TEXT`.
     Replace(usize, usize, ThinVec<char>),
     /// Undoes the last edit that has not been undone. In the input, the command is written `undo`.
     Undo,
     /// Redoes the edit that was undone last. In the input, the command is written `redo`.
     Redo,
-    /// Forgets the oldest edits. At most COUNT edits can be undone after this. In the input, the
-    /// command is written `forget COUNT`.
+    /// Forgets the oldest edits. After this command, at most COUNT edits can be undone. In the
+    /// input, the command is written `forget COUNT`.
     Forget(usize),
     /// Prints the text. In the input, the command is written `print`.
     Print,
@@ -58,11 +58,12 @@ impl Command {
         }
     }
 
-    /// Runs the command on `editor`. `Print` does nothing here: the text is printed in `main.rt`.
+    /// Runs the command on `editor`. For `Print`, this function does nothing, because `main.rt`
+    /// prints the text.
     ///
     /// # Errors
     ///
-    /// Fails if the edit, the undo or the redo fails. On failure, the editor does not change.
+    /// Fails if the edit, the undo or the redo fails. On failure, the editor is unchanged.
     pub fn run(self, editor: &mut Editor) -> Result<(), EditError>
         ensures ok { OnOk result (Does self editor.old editor.new) }
         ensures err { OnErr result (editor.new ≡ editor.old) }

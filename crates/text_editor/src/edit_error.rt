@@ -3,7 +3,8 @@
 use thin_vec::ThinVecError;
 use thiserror::Error;
 
-/// The reason why a command was not carried out. The text and its history have not changed.
+/// The reason why a command was not carried out. Such a command leaves the text and its history
+/// unchanged.
 #[derive(Debug, Drop, Error)]
 pub enum EditError {
     /// The line is not a command.

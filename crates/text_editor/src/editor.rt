@@ -64,8 +64,8 @@ impl Editor {
     /// # Errors
     ///
     /// Returns `OutOfBounds` if `end` is less than `start` or greater than the length of the text.
-    /// Returns `NoRoom` if there is not enough memory for the edit. On failure, the editor does not
-    /// change, and `characters` is dropped.
+    /// Returns `NoRoom` if there is not enough memory for the edit. On failure, the editor is
+    /// unchanged, and `characters` is dropped.
     pub fn replace(
         &mut self,
         start: usize,
@@ -98,7 +98,7 @@ impl Editor {
     /// # Errors
     ///
     /// Returns `NothingToUndo` if there is no such edit, and `NoRoom` if there is not enough
-    /// memory. On failure, the editor does not change.
+    /// memory. On failure, the editor is unchanged.
     pub fn undo(&mut self) -> Result<(), EditError>
         ensures nothing { IsErrOf result EditError.NothingToUndo ↔ (self.old.past ≡ []) }
         ensures text { OnOk result (self.old.past ≡ self.new.text ∷ self.new.past) }
@@ -117,7 +117,7 @@ impl Editor {
     /// # Errors
     ///
     /// Returns `NothingToRedo` if there is no such edit, and `NoRoom` if there is not enough
-    /// memory. On failure, the editor does not change.
+    /// memory. On failure, the editor is unchanged.
     pub fn redo(&mut self) -> Result<(), EditError>
         ensures nothing { IsErrOf result EditError.NothingToRedo ↔ (self.old.future ≡ []) }
         ensures text { OnOk result (self.old.future ≡ self.new.text ∷ self.new.future) }
@@ -131,7 +131,7 @@ impl Editor {
         Ok(())
     }
 
-    /// Forgets the oldest edits. At most `count` edits can be undone after the call. The text does
+    /// Forgets the oldest edits, so that at most `count` edits can still be undone. The text does
     /// not change.
     pub fn forget(&mut self, count: usize)
         ensures past { self.new.past ≡ take count self.old.past }
@@ -144,8 +144,8 @@ impl Editor {
     }
 }
 
-// Removes the last change of `from`, carries it out on `text`, and appends to `to` a change that
-// undoes it. On failure, `text` and the items of `from` and `to` do not change.
+// Removes the last change from the list `from`, carries it out on `text`, and appends to the list
+// `to` a change that undoes it. On failure, `text` and the items of both lists are unchanged.
 fn step(
     text: &mut ThinVec<char>,
     from: &mut ThinVec<Change>,

@@ -26,10 +26,10 @@ pub struct Rejected<S> {
 pub struct ExtendRefused<T, I> {
     /// Says why the call failed.
     pub cause: ThinVecError,
-    /// The last item that was taken from the iterator. The list had no room for it. `in_hand` is
-    /// `None` if no item was taken, because the list could not reserve room for the size hint.
+    /// The last item that was taken from the iterator. The list had no room for this item. If no
+    /// item was taken, because room for the size hint could not be reserved, `in_hand` is `None`.
     pub in_hand: Option<T>,
-    /// The iterator. It yields the items that have not been taken from it.
+    /// The rest of the iterator: it yields the items that have not been taken yet.
     pub rest: I,
 }
 
@@ -41,10 +41,10 @@ pub struct CollectRefused<T, I, A: Allocator = Global> {
     pub list: ThinVec<T, A>,
     /// Says why the call failed.
     pub cause: ThinVecError,
-    /// The last item that was taken from the iterator. The list had no room for it. `in_hand` is
-    /// `None` if no item was taken, because the list could not reserve room for the size hint.
+    /// The last item that was taken from the iterator. The list had no room for this item. If no
+    /// item was taken, because room for the size hint could not be reserved, `in_hand` is `None`.
     pub in_hand: Option<T>,
-    /// The iterator. It yields the items that have not been taken from it.
+    /// The rest of the iterator: it yields the items that have not been taken yet.
     pub rest: I,
 }
 
@@ -57,12 +57,12 @@ pub struct SpliceRefused<T, I, A: Allocator = Global> {
     /// vector uses the allocator that was passed to `finish`.
     pub held: Vec<T, A>,
     /// The last item that was taken from the iterator, after the items in `held`. There was no room
-    /// for it. `in_hand` is `None` if the list could not reserve room for the size hint, or for the
-    /// items in `held`.
+    /// for this item. If the list could not reserve room for the size hint, or for the items in
+    /// `held`, `in_hand` is `None`.
     pub in_hand: Option<T>,
-    /// The iterator. It yields the items that have not been taken from it. If `held` is not empty
-    /// and `in_hand` is `None`, the iterator has returned `None`, and `next` must not be called on
-    /// it again. In all other cases, `next` may be called.
+    /// The rest of the iterator: it yields the items that have not been taken yet. If `held` is not
+    /// empty and `in_hand` is `None`, the iterator has returned `None`, and `next` must not be
+    /// called on it again. In all other cases, `next` may be called.
     pub rest: I,
 }
 

@@ -161,8 +161,8 @@ impl<T, A: Allocator, G: Growth> ThinVec<T, A, G> {
         ensures err { OnErr result (self.new ≡ self.old) }
         ensures value_returned { IfErr result (λ error. error.value ≡ value) }
 
-        // In every case. The new capacity, and whether the call fails, are the same as for a call
-        // of `reserve(1)`.
+        // In every case. The call changes the capacity exactly as `reserve(1)` does, and fails in
+        // the same cases.
         ensures reserves { Reserves G.rule T.row 1 self.old self.new (causes result) }
         ensures keeps { Keeps T.row self.old self.new }
     {
@@ -194,8 +194,8 @@ impl<T, A: Allocator, G: Growth> ThinVec<T, A, G> {
         self.block.slice_mut(0, len)
     }
 
-    /// Appends `value`, which the list then owns. The list does not grow: it must have room for one
-    /// more item. `reserve(1)` makes such room. So the call cannot fail, and returns no `Result`.
+    /// Appends `value`, which the list then owns. The list must already have room for one more
+    /// item; `reserve(1)` makes such room. So the list does not grow, and the call cannot fail.
     ///
     /// Rattle's `Vec` has a method of this name, but the Rust crate thin-vec does not.
     pub fn push_reserved(&mut self, value: T)
@@ -239,8 +239,8 @@ impl<T, A: Allocator, G: Growth> ThinVec<T, A, G> {
         value
     }
 
-    // Splits the list into its block and its allocator, and returns the two. The caller then owns
-    // them, and the items in the block.
+    // Splits the list into its block and its allocator, and returns both. The caller then owns the
+    // block, the items in the block, and the allocator.
     pub(crate) fn into_parts(self) -> (Block<T, A>, A)
         ensures slots { result.0.slots ≡ front self.items self.capacity }
         ensures len { result.0.len ≡ length self.items }

@@ -32,8 +32,8 @@ use thin_block::ThinVecError;
 ///
 /// # Errors
 ///
-/// On failure, no list is made. The third form then drops `x` and the clones that were already
-/// made.
+/// On failure, no list is made. In the third form, `x` and the clones that were already made are
+/// dropped.
 ///
 /// - `CapacityOverflow`: the capacity would be too large.
 /// - `OutOfMemory`: the allocator failed or, in the third form, a clone failed.
@@ -102,7 +102,7 @@ pub fn place<T, A: Allocator>(list: &mut ThinVec<T, A>, value: T)
 ///
 /// On failure, no list is made. `value` and the clones that were already made are dropped.
 ///
-/// - `CapacityOverflow`: the capacity that `Doubling` needs for `count` items would be too large.
+/// - `CapacityOverflow`: the capacity for `count` items would be too large.
 /// - `OutOfMemory`: the allocator or a clone failed.
 #[doc(hidden)]
 pub fn repeated<T: Clone, A: Allocator>(

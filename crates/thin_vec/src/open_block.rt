@@ -142,8 +142,8 @@ impl<T, A: Allocator, G: Growth> ThinVec<T, A, G> {
     }
 
     // Puts the block back into the list. If there is a gap, the items after the gap are first moved
-    // down. The code for a gap of one or two slots is inlined. If the list already has a block,
-    // that block is freed.
+    // down. The code for a gap of one or two slots is inlined. If the list has another block at
+    // this time, that other block is freed.
     #[inline(always)]
     pub(crate) fn close(&mut self, block: OpenBlock<T, A>)
         requires empty { self.old.items ≡ [] }

@@ -15,9 +15,10 @@ use thin_block::Block;
 
 /// The result of moving items of an iterator into empty slots, in order.
 pub(crate) struct Filled<I> {
-    /// The iterator. It yields the items that were not placed in a slot.
+    /// The rest of the iterator: it yields the items that have not been taken yet.
     pub(crate) rest: I,
-    /// The index of the slot after the last item that was placed.
+    /// The index of the slot directly after the last item that was placed. If no item was placed,
+    /// the index of the first empty slot.
     pub(crate) end: usize,
     /// Whether the iterator returned `None` before the slots were full.
     pub(crate) ended: bool,
@@ -34,8 +35,8 @@ pub(crate) fn drop_items<T: Drop, A: Allocator>(block: &mut Block<T, A>, len: us
     }
 }
 
-// Moves the items of the vector `items` into the empty slots from index `start` onward, in order,
-// and frees the vector. The last item is moved first.
+// Moves the items of the vector `items` into the empty slots from index `start` onward, and frees
+// the vector. The items keep their order, although the last item is moved first.
 pub(crate) fn put_vec<T, A: Allocator, B: Allocator>(
     block: &mut Block<T, A>,
     start: usize,

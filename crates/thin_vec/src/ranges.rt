@@ -10,7 +10,8 @@ use std::ops::Bound;
 /// range begins after its end, or if it ends after the end of the list.
 ///
 /// The two indices satisfy the preconditions of `drain`, `extract_if` and `splice`. Rust's
-/// `slice::range` returns the same indices, and panics if this function returns `None`.
+/// `slice::range` returns the same indices, and panics in all cases in which this function returns
+/// `None`.
 ///
 /// This function is our own: the Rust crate thin-vec has no such function.
 pub fn bounds(start: Bound<usize>, end: Bound<usize>, len: usize) -> Option<(usize, usize)>

@@ -47,8 +47,8 @@ impl<A: Allocator, G: Growth> Write for ThinVec<u8, A, G> {
 
     ghost contents = { λ list. Some list.items };
 
-    /// Appends all bytes of `buf`, and returns their number. If there is not enough spare capacity,
-    /// the list first grows to the capacity that the growth rule chooses.
+    /// Appends all bytes of `buf`, and returns the number of these bytes. If there is not enough
+    /// spare capacity, the list first grows to the capacity that the growth rule chooses.
     ///
     /// # Errors
     ///

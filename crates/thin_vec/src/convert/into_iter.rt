@@ -18,8 +18,8 @@ use thin_block::{Block, Doubling, Growth, ThinVecError};
 /// allocator of the list, and the items that have not been yielded yet. Dropping the iterator drops
 /// these items, and frees the allocation. No item is moved before it is yielded.
 ///
-/// In contracts, an `IntoIter` is treated like a list: its `items` are the items that have not been
-/// yielded yet.
+/// In contracts, an `IntoIter` has the same fields as a list. Its field `items` contains the items
+/// that have not been yielded yet.
 pub struct IntoIter<T, A: Allocator = Global, G: Growth = Doubling> {
     // The items that have not been yielded yet are in the slots `start..end` of the block. The
     // length that is stored in the block is no longer used.
@@ -182,8 +182,9 @@ impl<T: Clone, A: Allocator, G: Growth> IntoIter<T, A, G> {
     ghost use Rattle.thin_vec.specs.ThinVec.{cost_new};
 
     /// Makes a new iterator that uses the allocator `alloc`. The new iterator yields clones of the
-    /// items that this iterator has not yielded yet, in order. It has room for exactly these
-    /// clones. If there are no clones, the call allocates nothing. This iterator is unchanged.
+    /// items that this iterator has not yielded yet, in order. The allocation of the new iterator
+    /// has room for exactly these clones. If there are no clones, the call allocates nothing. This
+    /// iterator is unchanged.
     ///
     /// # Errors
     ///
@@ -206,8 +207,8 @@ impl<T: Clone, A: Allocator, G: Growth> IntoIter<T, A, G> {
         // On failure.
         ensures cause { IfErr result (λ cause. cause ≡ ThinVecError.OutOfMemory) }
     {
-        // This call is needed only for the proof: the contract of `cap` limits the capacity. So the
-        // number of items is limited, too, because it does not exceed the capacity.
+        // This call is needed only for the proof: the contract of `cap` limits the capacity, and
+        // the number of items does not exceed the capacity.
         let _room = self.block.cap();
         let list = ThinVec::from_fitting_slice(alloc, self.as_slice())?;
         Ok(list.into_iter())

@@ -1,5 +1,5 @@
 //! The methods `dedup`, `dedup_by` and `dedup_by_key`. They compare each item with the last item
-//! that was kept before it, and remove the item if the two are the same.
+//! that was kept before it, and remove the item if the two items are the same.
 ghost use Rattle.std.specs.Prelude.{◌≡◌, ◌+◌, ◌<◌, ◌≤◌, length};
 ghost use Rattle.std.specs.Fn.{CalledAtPairMut, ComparesKeys};
 ghost use Rattle.std.specs.List.{dedup};
@@ -23,7 +23,7 @@ impl<T: Drop, A: Allocator, G: Growth> ThinVec<T, A, G> {
     /// kept before it. This is the order of arguments in Rust's `Vec::dedup_by`. `same` may write
     /// to both items.
     ///
-    /// Each item that is kept after the first removed item moves once. No other item moves.
+    /// Each kept item that follows the first removed item moves once. No other item moves.
     pub fn dedup_by<F: FnMut(&mut T, &mut T) -> bool>(&mut self, same: F)
         requires callable { F.IsAlwaysCallable same }
         ensures deduped { IsDedupedBy (CalledAtPairMut F.FnMut) same self.old self.new }
@@ -63,7 +63,7 @@ impl<T: Drop, A: Allocator, G: Growth> ThinVec<T, A, G> {
     /// then with the last item that was kept before it. Rust's `Vec::dedup_by_key` makes the same
     /// calls. `key` may write to the items.
     ///
-    /// Each item that is kept after the first removed item moves once. No other item moves.
+    /// Each kept item that follows the first removed item moves once. No other item moves.
     pub fn dedup_by_key<K: PartialEq + Drop, F: FnMut(&mut T) -> K>(&mut self, key: F)
         requires callable { F.IsAlwaysCallable key }
         ensures deduped { IsDedupedBy (ComparesKeys F.FnMut K.eq) key self.old self.new }
@@ -85,7 +85,7 @@ impl<T: PartialEq + Drop, A: Allocator, G: Growth> ThinVec<T, A, G> {
     /// Removes and drops each item that is equal to the last item that was kept before it, like
     /// Rust's `Vec::dedup`. If the list is sorted, one item of each value remains.
     ///
-    /// Each item except the first is compared once. Each item that is kept after the first removed
+    /// Each item except the first is compared once. Each kept item that follows the first removed
     /// item moves once. No other item moves.
     pub fn dedup(&mut self)
         ensures items { self.new.items ≡ dedup T.eq self.old.items }

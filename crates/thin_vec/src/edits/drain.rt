@@ -19,9 +19,9 @@ use thin_block::{Doubling, Growth};
 /// An iterator that removes the items of a range from a list, and yields them from either end.
 ///
 /// Until the `Drain` is dropped, it owns the allocation of the list, and the list is empty and has
-/// capacity 0. When the `Drain` is dropped, it drops the items that were not yielded. Then the list
-/// holds the items before and after the range, in the old allocation. If a `Drain` is leaked, the
-/// list stays empty, and its old items are leaked.
+/// capacity 0. When the `Drain` is dropped, it drops the items that were not yielded. After that,
+/// the list holds the items before the range and the items after the range, in the same allocation
+/// as before. If a `Drain` is leaked, the list stays empty, and its old items are leaked.
 pub struct Drain<
     'a,
     T,
@@ -37,7 +37,7 @@ pub struct Drain<
 impl<'a, T: Drop, A: Allocator, G: Growth, H: Holds<Inner = OpenBlock<T, A>>> Drop
     for Drain<'a, T, A, G, H> {
     // Drops the items that were not yielded. Moves the items after the range down to the start of
-    // the range, and puts the block back into the list.
+    // the range, and puts the block of the list back into the list.
     #[inline(always)]
     fn drop(self)
         ensures items { self.exit.0.now.items ≡ (H.inner self.entry.holder).front
@@ -49,8 +49,8 @@ impl<'a, T: Drop, A: Allocator, G: Growth, H: Holds<Inner = OpenBlock<T, A>>> Dr
         let Drain { list, holder } = self;
         let mut block = holder.into_inner();
         block.drop_rest();
-        // The list is already empty. This call is needed only for the proof: `close` requires an
-        // empty list.
+        // The list is already empty, but this must be proved, because `close` requires an empty
+        // list. The call is needed only for this proof.
         list.clear();
         list.close(block);
     }
@@ -63,8 +63,9 @@ impl<T: Drop, A: Allocator, G: Growth> ThinVec<T, A, G> {
     /// either end. The list is borrowed until the iterator is dropped.
     ///
     /// Until the iterator is dropped, the list is empty and has capacity 0. When the iterator is
-    /// dropped, it drops the items that were not yielded. Then the list holds the items before and
-    /// after the range. If the iterator is leaked, the list stays empty.
+    /// dropped, it drops the items that were not yielded. After that, the list holds the items
+    /// before the range and the items after the range. If the iterator is leaked, the list stays
+    /// empty.
     ///
     /// Neither the call nor the drop allocates memory, and neither can fail. The call moves no
     /// item. The drop moves each item after the range once, or none if the range is empty. To check

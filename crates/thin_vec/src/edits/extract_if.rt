@@ -2,8 +2,8 @@
 //! items of a range with a closure, and removes each item for which the closure returns true.
 //!
 //! No item moves before the first item is removed. The removed items leave a gap of empty slots.
-//! When the next item is removed, or when the range ends, the items that were kept since the last
-//! removal are moved together to the start of the gap.
+//! When the next item is removed, or when all items of the range have been tested, the items that
+//! were kept since the previous removal are moved down to the start of the gap.
 ghost use Rattle.std.specs.Prelude.{◌≡◌, ◌≤◌, IfSome, Some, drop, length, not, slice_range, take};
 ghost use Rattle.std.specs.Fn.{CalledAtMut};
 ghost use Rattle.std.specs.Iterator.{UpTo, at_most};
@@ -18,14 +18,14 @@ use crate::open_block::sift::Test;
 use std::alloc::{Allocator, Global};
 use thin_block::{Doubling, Growth};
 
-/// An iterator that tests the items of a range with a closure. It removes and yields each item for
-/// which the closure returns true. The items are yielded in order, as the closure left them. The
-/// method `extract_if` returns this iterator.
+/// An iterator that tests the items of a range with a closure. It removes and yields, in order,
+/// each item for which the closure returns true. If the closure has changed an item, the changed
+/// item is yielded. The method `extract_if` returns this iterator.
 ///
 /// Until the `ExtractIf` is dropped, it owns the allocation of the list, and the list is empty and
 /// has capacity 0. After the drop, the list holds every item that was not yielded. Items that were
-/// not tested are kept, and the closure is not called for them. If an `ExtractIf` is passed to
-/// `mem::forget`, the list stays empty, and its old items are leaked.
+/// not tested are kept, and the closure is not called for them. If an `ExtractIf` is leaked, the
+/// list stays empty, and its old items are leaked.
 pub struct ExtractIf<
     'a,
     T,
@@ -62,7 +62,7 @@ impl<T, F: FnMut(&mut T) -> bool> Test<T> for Picks<F> {
 
     ghost ready = { λ s. F.IsAlwaysCallable s.pick };
 
-    // Returns whether the item is kept. This is the negation of the result of `pick`.
+    // Returns whether the item is kept, that is, whether `pick` returns false.
     fn test(&mut self, item: &mut T) -> bool {
         !(self.pick)(item)
     }
@@ -70,8 +70,9 @@ impl<T, F: FnMut(&mut T) -> bool> Test<T> for Picks<F> {
 
 impl<'a, T: Drop, F: Drop, A: Allocator, G: Growth, H: Holds<Inner = Extracting<T, F, A>>> Drop
     for ExtractIf<'a, T, F, A, G, H> {
-    // Moves the items that were not tested, and the items after the range, down to close the gap.
-    // Then puts the block back into the list, and drops the closure.
+    // Closes the gap that the removed items left: the items that were not tested and the items
+    // after the range are moved down. Then puts the block back into the list, and drops the
+    // closure.
     fn drop(self)
         ensures items { self.exit.0.now.items ≡ items_of (H.inner self.entry.holder).block }
         ensures capacity { self.exit.0.now.capacity ≡ (H.inner self.entry.holder).block.capacity }
@@ -81,8 +82,8 @@ impl<'a, T: Drop, F: Drop, A: Allocator, G: Growth, H: Holds<Inner = Extracting<
         let ExtractIf { list, holder } = self;
         let Extracting { block, picks } = holder.into_inner();
         let Picks { pick } = picks;
-        // The list is already empty. This call is needed only for the proof: `close` requires an
-        // empty list.
+        // The list is already empty, but this must be proved, because `close` requires an empty
+        // list. The call is needed only for this proof.
         list.clear();
         list.close(block);
         drop(pick);
@@ -93,9 +94,9 @@ impl<T, F: FnMut(&mut T) -> bool, A: Allocator> Extracting<T, F, A> {
     ghost use Rattle.thin_vec.specs.Edits.ExtractIf.{Extracts};
 
     // Tests the items that have not been tested yet, in order, until the closure `pick` returns
-    // true for an item. Removes that item and returns it. Returns `None` if all items are kept. If
-    // there are empty slots before the tested items, the kept items are moved down into these
-    // slots.
+    // true for one of them. Removes that item and returns it, or returns `None` if there is no such
+    // item. The other tested items are kept, and are moved down if there are empty slots before
+    // them.
     fn next_picked(&mut self) -> Option<T>
         requires callable { F.IsAlwaysCallable self.old.picks.pick }
         ensures extracts { Extracts (CalledAtMut F.FnMut) self.old result self.new }
@@ -113,17 +114,17 @@ impl<T: Drop, A: Allocator, G: Growth> ThinVec<T, A, G> {
     ghost use Rattle.thin_vec.specs.Edits.ExtractIf.{extract_alloc, extract_callee, extract_capacity, extract_cost, extract_front, extract_gone, extract_lender, extract_rest, extract_tail};
 
     /// Returns an iterator that removes the items in the range `start..end` for which `pick`
-    /// returns true. The iterator yields the removed items in order, as `pick` left them.
+    /// returns true. The iterator yields the removed items in order.
     ///
-    /// `extract_if` itself does not call `pick`. The calls of `next` call it once for each item of
-    /// the range, in order. `pick` may write to the item.
+    /// `extract_if` itself does not call `pick`. Calls of `next` test the items of the range in
+    /// order, each with one call of `pick`, which may change the item.
     ///
     /// After the `ExtractIf` is dropped, the list holds every item that was not yielded, and has
     /// its old capacity and allocator. Items that were not tested are kept, as with Rust's
     /// `Vec::extract_if`.
     ///
-    /// No memory is allocated. Each item after the first removed item moves once, unless it is
-    /// removed, too. This includes the items after the range. No other item moves.
+    /// No memory is allocated. Each kept item that follows the first removed item moves once. This
+    /// includes the items after the range. No other item moves.
     ///
     /// The function `bounds` converts a Rust range into `start` and `end`, and checks them.
     pub fn extract_if<F: FnMut(&mut T) -> bool>(
@@ -164,7 +165,7 @@ impl<T: Drop, A: Allocator, G: Growth> ThinVec<T, A, G> {
 impl<'a, T, F, A: Allocator, G: Growth> ExtractIf<'a, T, F, A, G> {
     ghost use Rattle.thin_vec.specs.Edits.ExtractIf.{extract_rest};
 
-    /// Returns a lower and an upper bound for the number of items that are still to be yielded. The
+    /// Returns a lower and an upper bound on the number of items that will still be yielded. The
     /// lower bound is 0, and the upper bound is the number of items that have not been tested yet.
     pub fn size_hint(&self) -> (usize, Option<usize>)
         ensures value { result ≡ (0, Some (length (extract_rest self.now))) }
@@ -177,8 +178,8 @@ impl<'a, T, F: FnMut(&mut T) -> bool, A: Allocator, G: Growth> ExtractIf<'a, T, 
     ghost use Rattle.thin_vec.specs.Edits.ExtractIf.{ExtractSteps, extract_callee};
 
     /// Calls the closure with the items that have not been tested yet, in order, until it returns
-    /// true for an item. Then removes that item and returns it. If the closure returns false for
-    /// all these items, this call and each later call return `None`.
+    /// true for one of them. Then removes that item and returns it. If the closure returns false
+    /// for all these items, this call and each later call return `None`.
     pub fn next(&mut self) -> Option<T>
         requires callable { F.IsAlwaysCallable (extract_callee self.old) }
         ensures steps { ExtractSteps (CalledAtMut F.FnMut) self.old result self.new }

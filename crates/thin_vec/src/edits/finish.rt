@@ -1,7 +1,7 @@
-//! The steps of `Splice::finish`, which puts the items of an iterator in the place of a removed
-//! range. First, `fill_gap` fills the empty slots of the range. Then `insert_hinted` reserves room
-//! for the lower bound of the iterator's size hint, and fills this room. Last, `insert_held`
-//! collects the remaining items in a vector, and moves them into the list.
+//! The steps of `Splice::finish`, which puts the items of an iterator in place of a removed range.
+//! First, `fill_gap` fills the empty slots of the range. Then `insert_hinted` reserves room for the
+//! lower bound of the iterator's size hint, and fills this room. Last, `insert_held` collects the
+//! remaining items in a vector, and moves them into the list.
 //!
 //! The steps are inlined into `finish`. So the list and the iterator need not be passed through
 //! memory from one step to the next.
@@ -46,9 +46,9 @@ impl<T, A: Allocator, G: Growth> ThinVec<T, A, G> {
         filled
     }
 
-    // Let `hint` be the lower bound of the size hint of `iter`. Reserves room for `hint` items,
-    // makes a gap of `hint` empty slots before the item at index `at`, and moves items of `iter`
-    // into the gap. If the room cannot be reserved, nothing changes, and the error holds `iter`.
+    // Makes a gap of empty slots before the item at index `at`, and moves items of `iter` into the
+    // gap. The number of slots is the lower bound of the size hint of `iter`. If the room for this
+    // gap cannot be reserved, the list is unchanged, and the error holds `iter`.
     #[inline(always)]
     fn insert_hinted<I: Iterator<Item = T>>(
         &mut self,
@@ -76,8 +76,8 @@ impl<T, A: Allocator, G: Growth> ThinVec<T, A, G> {
         ensures cause { IfErr result
             (λ rejected. FailsAtHint G.rule T.row self.new (I.remaining iter) rejected.cause) }
 
-        // In every case. Each item from index `at` onward moves at most twice. If the reserved room
-        // was filled, it moves at most once.
+        // In every case. Each item from index `at` onward moves at most twice. If the iterator
+        // fills the reserved room, each of these items moves at most once.
         ensures taken { HasTaken G.rule T.row self.old self.new
             (2 * (length self.old.items - at)) (I.remaining iter) }
         ensures taken_full { IfOk result (λ filled. filled.ended ≡ false
@@ -94,8 +94,8 @@ impl<T, A: Allocator, G: Growth> ThinVec<T, A, G> {
 }
 
 impl<T: Drop, A: Allocator, G: Growth> ThinVec<T, A, G> {
-    // Collects the items of `iter` in a vector that uses `alloc`, and then inserts them before the
-    // item at index `at`. If `iter` yields no item, nothing is allocated.
+    // Collects the items of `iter` in a vector that uses `alloc`, and then inserts the items into
+    // the list, before the item at index `at`. If `iter` yields no item, nothing is allocated.
     #[inline(always)]
     fn insert_held<I: Iterator<Item = T>>(
         &mut self,
@@ -174,8 +174,8 @@ impl<T: Drop, A: Allocator, G: Growth> ThinVec<T, A, G> {
     }
 
     // Fills the empty slots of the removed range with items of `iter`. If `iter` yields more items,
-    // inserts them before the items that follow the range. Room for the first of these items is
-    // reserved according to the size hint. All further items are collected in a vector first.
+    // they are inserted before the items that follow the range: first by `insert_hinted`, in room
+    // that is reserved according to the size hint, and then by `insert_held`.
     #[inline(always)]
     pub(crate) fn finish_before_tail<I: Iterator<Item = T>>(
         &mut self,
@@ -183,8 +183,8 @@ impl<T: Drop, A: Allocator, G: Growth> ThinVec<T, A, G> {
         iter: I,
         alloc: A,
     ) -> Result<(), SpliceRefused<T, I, A>>
-        // `block` was taken out of this list. There are items after the range (`tail`), and no item
-        // of the range remains (`rest`).
+        // `block` is the block that was taken out of this list. There are items after the range
+        // (`tail`), but no item of the range remains in the block (`rest`).
         requires some { 0 < length block.tail }
         requires empty { self.old.items ≡ [] }
         requires none { block.rest ≡ [] }
@@ -223,16 +223,16 @@ impl<T: Drop, A: Allocator, G: Growth> ThinVec<T, A, G> {
         }
     }
 
-    // Puts `block` back into the list, and then appends the items of `iter`, as `extend` does.
-    // There must be no items after the removed range.
+    // Puts `block` back into the list, and then appends the items of `iter`, as `extend` does. No
+    // item may follow the removed range.
     pub(crate) fn finish_at_end<I: Iterator<Item = T>>(
         &mut self,
         block: OpenBlock<T, A>,
         iter: I,
         alloc: A,
     ) -> Result<(), SpliceRefused<T, I, A>>
-        // `block` was taken out of this list. There are no items after the range (`tail`), and no
-        // item of the range remains (`rest`).
+        // `block` is the block that was taken out of this list. There are no items after the range
+        // (`tail`), and no item of the range remains in the block (`rest`).
         requires no_tail { block.tail ≡ [] }
         requires within { reach block ≤ block.capacity }
         requires empty { self.old.items ≡ [] }
@@ -273,10 +273,10 @@ impl<T: Drop, A: Allocator, G: Growth> ThinVec<T, A, G> {
 struct Drawn<T, I, A: Allocator> {
     /// The items, in order.
     held: Vec<T, A>,
-    /// The item that the iterator yielded after the items in `held`. The vector has no room for
-    /// this item. `in_hand` is `None` if the iterator has ended.
+    /// The item that the iterator yielded directly after the items in `held`, and for which the
+    /// vector has no room. If the iterator has ended, `in_hand` is `None`.
     in_hand: Option<T>,
-    /// The iterator. It yields the items that have not been taken from it.
+    /// The rest of the iterator: it yields the items that have not been taken yet.
     rest: I,
 }
 
@@ -328,8 +328,8 @@ fn draw<T, A: Allocator, I: Iterator<Item = T>>(first: T, iter: I, alloc: A) -> 
 }
 
 // Moves items of `iter` into the spare capacity of the vector `held` until the vector is full. Then
-// takes one more item of `iter`, which becomes `in_hand`. Stops earlier if `iter` returns `None`.
-// The vector is passed by value, so that its length can stay in a register.
+// takes one more item from `iter`, and returns it in `in_hand`. Stops earlier if `iter` returns
+// `None`. The vector is passed by value, so that its length can stay in a register.
 fn draw_spare<T, A: Allocator, I: Iterator<Item = T>>(held: Vec<T, A>, iter: I) -> Drawn<T, I, A>
     requires can_next { I.can_next iter }
     requires finite { IsFinite (I.remaining iter) }

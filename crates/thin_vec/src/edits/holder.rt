@@ -1,21 +1,21 @@
 //! The trait `Holds`, through which `Drain`, `ExtractIf` and `Splice` own the block of a list.
 //!
-//! Each of these structs has a `&mut` to the list, and owns the block, which contains a raw
-//! pointer. If a struct declares one field with a raw pointer and another field with a `&mut`, the
-//! contract of its `drop` cannot describe the value behind the `&mut` after the call. So the type
-//! of the field for the block is a type parameter with the bound `Holds`. The parameter hides the
-//! raw pointer.
+//! Each of these structs has a field with a `&mut` to the list, and a field with the block of the
+//! list. The block contains a raw pointer. If a struct declares one field with a raw pointer and
+//! another field with a `&mut`, the contract of its `drop` cannot describe the value behind the
+//! `&mut` after the call. So the type of the field with the block is a type parameter with the
+//! bound `Holds`, which hides the raw pointer.
 ghost use Rattle.std.specs.Prelude.{◌≡◌};
 
-/// A type that holds one value, and can be converted into this value.
+/// A type whose values each hold one inner value, and can be converted into it.
 pub trait Holds {
-    /// The type of the value that is held.
+    /// The type of the inner value.
     type Inner;
 
-    /// The value that is held.
+    /// Maps a holder to its inner value.
     ghost inner: { Self → Self.Inner };
 
-    /// Returns the value that is held. The caller owns it.
+    /// Returns the inner value of the holder. The caller then owns this value.
     fn into_inner(self) -> Self::Inner
         ensures value { result ≡ inner self };
 }

@@ -1,5 +1,5 @@
 //! The method `replace_range`, which replaces the items of a range with clones of other items. If
-//! it fails, the list keeps its old items.
+//! the call fails, the list keeps its old items.
 ghost use Rattle.std.specs.Prelude.{◌≡◌, ◌+◌, ◌-◌, ◌*◌, ◌==◌, ◌<◌, ◌≤◌, ◌++◌, All, IfErr, IsOk, OnErr, OnOk, drop, if◌then◌else◌, length, take};
 ghost use Rattle.std.specs.List.{replace_range};
 ghost use Rattle.thin_block.specs.Cost.{moving};
@@ -18,16 +18,16 @@ impl<T: Clone, A: Allocator, G: Growth> ThinVec<T, A, G> {
     ///
     /// This method is our own: neither Rust's `Vec` nor the Rust crate thin-vec has it.
     ///
-    /// A clone can fail, and then the list must still have its old items. So the clones are made in
-    /// other slots, and the old items are dropped only after the last clone is made. That is why
-    /// the call needs a capacity of at least `self.len() + items.len()`, even if the range is
-    /// longer than `items`.
+    /// Making a clone can fail, and in this case the list must keep its old items. So the clones
+    /// are made in other slots, and the old items are dropped only after the last clone is made.
+    /// That is why the call needs a capacity of at least `self.len() + items.len()`, even if the
+    /// range is longer than `items`.
     ///
-    /// The clones that will replace items of the range are made after the last item of the list. If
-    /// `items` is longer than the range, the other clones are made in a gap directly after the
-    /// range. On success, each item after the range moves at most once, and each clone at the end
-    /// of the list moves to its place in the range. On failure, each item after the range moves at
-    /// most three times: once when the gap is made, and twice while the gap is closed.
+    /// The clones that will fill the slots of the range are made at the end of the list. If `items`
+    /// is longer than the range, the other clones are made in a gap directly after the range. On
+    /// success, each item after the range moves at most once, and each clone at the end of the list
+    /// moves into the range. On failure, each item after the range moves at most three times: once
+    /// when the gap is made, and twice while the gap is closed.
     ///
     /// # Errors
     ///
@@ -73,10 +73,10 @@ impl<T: Clone, A: Allocator, G: Growth> ThinVec<T, A, G> {
         self.replace_reserved_by_clones(start, end, items)
     }
 
-    // Does what `replace_range` does, in a list that has room for all clones in addition to its
-    // items. The clones that exceed the length of the range are made first, in a gap directly after
-    // the range. Then the other clones are made after the last item of the list. After the last
-    // clone is made, the clones at the end of the list are moved into the range.
+    // Does the same as `replace_range`, in a list that has room for all clones in addition to its
+    // items. If there are more clones than items in the range, the surplus clones are made first,
+    // in a gap directly after the range. Then the other clones are made at the end of the list, and
+    // finally moved into the range.
     fn replace_reserved_by_clones(
         &mut self,
         start: usize,
@@ -165,7 +165,7 @@ impl<T: Clone, A: Allocator, G: Growth> ThinVec<T, A, G> {
 }
 
 impl<T: Drop, A: Allocator, G: Growth> ThinVec<T, A, G> {
-    // Drops the items `start..end`, and moves the items after this range down.
+    // Drops the items `start..end`, and moves the items after this range down to index `start`.
     fn drop_range(&mut self, start: usize, end: usize)
         requires start_le_end { start ≤ end }
         requires in_bounds { end ≤ length self.old.items }
@@ -181,8 +181,8 @@ impl<T: Drop, A: Allocator, G: Growth> ThinVec<T, A, G> {
         self.close(block);
     }
 
-    // Drops the items `start..end`, and moves the last `count` items of the list into the places of
-    // these items. If some of the places are not filled, the other items after the range are moved
+    // Drops the items `start..end`, and moves the last `count` items of the list into the slots of
+    // this range. If some of these slots are not filled, the other items after the range are moved
     // down to close the gap.
     fn replace_by_last(&mut self, start: usize, end: usize, count: usize)
         requires start_le_end { start ≤ end }

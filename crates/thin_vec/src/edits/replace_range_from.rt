@@ -67,7 +67,7 @@ impl<T: Copy, A: Allocator, G: Growth> ThinVec<T, A, G> {
         Ok(())
     }
 
-    // Does what `replace_range_from_copies` does, in a list that already has room for the copies.
+    // Does the same as `replace_range_from_copies`, in a list that already has room for the copies.
     fn replace_reserved_from_copies(&mut self, start: usize, end: usize, items: &[T])
         requires start_le_end { start ≤ end }
         requires in_bounds { end ≤ length self.old.items }
@@ -143,7 +143,7 @@ impl<T: Drop, A: Allocator, G: Growth> ThinVec<T, A, G> {
         Ok(())
     }
 
-    // Does what `replace_range_from_list` does, in a list that already has room for the items of
+    // Does the same as `replace_range_from_list`, in a list that already has room for the items of
     // `other`.
     fn replace_reserved_from_list(&mut self, start: usize, end: usize, other: &mut ThinVec<T, A, G>)
         requires start_le_end { start ≤ end }
@@ -168,9 +168,9 @@ impl<T: Drop, A: Allocator, G: Growth> ThinVec<T, A, G> {
         self.close(block);
     }
 
-    // Drops the items `start..end`, and takes the block out of the list, with a gap of empty slots
-    // in the place of these items. If the gap has fewer than `count` slots, the items after the gap
-    // are moved up until it has `count` slots. After the call, the list is empty and has no block.
+    // Takes the block out of the list, and drops the items `start..end`, whose slots become a gap
+    // of empty slots. If the gap has fewer than `count` slots, the items after the gap are moved up
+    // until it has `count` slots. After the call, the list is empty and has no block.
     fn open_range(&mut self, start: usize, end: usize, count: usize) -> OpenBlock<T, A>
         requires start_le_end { start ≤ end }
         requires in_bounds { end ≤ length self.old.items }

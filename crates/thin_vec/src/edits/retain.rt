@@ -1,9 +1,10 @@
-//! The methods `retain` and `retain_mut`, which keep the items for which a closure returns true.
+//! The methods `retain` and `retain_mut`, which keep the items for which a closure returns true,
+//! and drop the other items.
 //!
 //! No item moves before the first item is removed. The removed items leave a gap of empty slots.
-//! When the next item is removed, or when all items are tested, the items that were kept since the
-//! last removal are moved together to the start of the gap. The `dedup` methods work in the same
-//! way.
+//! When the next item is removed, or when all items have been tested, the items that were kept
+//! since the previous removal are moved down to the start of the gap. The `dedup` methods work in
+//! the same way.
 ghost use Rattle.std.specs.Prelude.{◌≡◌, ◌<◌, ◌≤◌, length};
 ghost use Rattle.std.specs.List.Retain.{IsFiltered};
 ghost use Rattle.std.specs.Fn.{CalledAt, CalledAtMut};
@@ -21,7 +22,7 @@ impl<T: Drop, A: Allocator, G: Growth> ThinVec<T, A, G> {
     /// Keeps the items for which `keep` returns true, in order, and drops the other items, like
     /// Rust's `Vec::retain`. `keep` is called once for each item, in order.
     ///
-    /// Each item that is kept after the first removed item moves once. No other item moves. The
+    /// Each kept item that follows the first removed item moves once. No other item moves. The
     /// capacity does not change.
     pub fn retain<F: FnMut(&T) -> bool>(&mut self, keep: F)
         requires callable { F.IsAlwaysCallable keep }
@@ -37,8 +38,8 @@ impl<T: Drop, A: Allocator, G: Growth> ThinVec<T, A, G> {
     }
 
     /// Keeps the items for which `keep` returns true, and drops the other items, like `retain`. In
-    /// contrast to the closure of `retain`, `keep` may write to the items. The kept items are in
-    /// the list as `keep` left them.
+    /// contrast to the closure of `retain`, `keep` may change the items. The kept items stay in the
+    /// list with these changes.
     pub fn retain_mut<F: FnMut(&mut T) -> bool>(&mut self, keep: F)
         requires callable { F.IsAlwaysCallable keep }
         ensures retained { IsRetained (CalledAtMut F.FnMut) keep self.old self.new }

@@ -19,9 +19,9 @@ use thin_block::{Doubling, Growth, ThinVecError};
 /// items of the range from either end. Its method `finish` puts the items of the iterator in their
 /// place.
 ///
-/// A `Splice` must be ended by a call of `finish`: a program that drops it does not compile. Until
-/// this call, the `Splice` owns the allocation of the list, and the list is empty and has capacity
-/// 0.
+/// Every `Splice` must be ended with a call of `finish`: a program that drops a `Splice` does not
+/// compile. Until this call, the `Splice` owns the allocation of the list, and the list is empty
+/// and has capacity 0.
 pub struct Splice<
     'a,
     I,
@@ -132,13 +132,14 @@ impl<
     /// iterator, and the items after the range. `next` is called on the iterator until it first
     /// returns `None`, so the iterator must not be endless.
     ///
-    /// If items follow the range, `finish` takes three steps:
+    /// If items follow the range, `finish` takes up to three steps. If the iterator ends during a
+    /// step, no further step is taken:
     ///
-    /// 1. It moves items of the iterator into the places of the range. If the iterator ends before
-    ///    the places are filled, the items after the range are moved down to close the gap.
-    /// 2. It calls `size_hint` on the iterator once, reserves room for the lower bound before the
-    ///    items after the range, and fills this room.
-    /// 3. It collects all further items in a vector that uses `alloc`, reserves room for them in
+    /// 1. It moves items of the iterator into the slots of the range. If the iterator ends before
+    ///    these slots are filled, the items after the range are moved down to close the gap.
+    /// 2. It calls `size_hint` on the iterator once, and makes room for the lower bound directly
+    ///    before the items after the range. Then it fills this room with items of the iterator.
+    /// 3. It collects the remaining items in a vector that uses `alloc`, reserves room for them in
     ///    the list, and moves them into this room.
     ///
     /// If no item follows the range, `finish` appends the items of the iterator in the same way as
@@ -149,26 +150,29 @@ impl<
     /// Each item of the iterator moves into the list once, and each item after the range moves at
     /// most twice. Steps 2 and 3 each grow the list at most once, and each growth copies the items
     /// of the list. The cost of the vector in step 3 is not counted. If the iterator cannot yield
-    /// more items than the range has places, `finish` allocates nothing.
+    /// more items than the range has slots, `finish` allocates nothing.
     ///
     /// # Errors
     ///
-    /// `finish` cannot fail if the iterator cannot yield more items than the range has places. It
+    /// `finish` cannot fail if the iterator cannot yield more items than the range has slots. It
     /// also cannot fail if no item follows the range and there is room for all items. (If items
     /// follow the range, such room does not guarantee success: `size_hint` may return a lower bound
     /// that is too low, and then step 3 allocates.)
     ///
-    /// On failure, no item is lost. The list keeps the items that were placed. The error holds the
-    /// items that were taken from the iterator after them, first in `held` and then in `in_hand`.
-    /// There are five cases:
+    /// On failure, no item is lost. The list keeps the items that were placed in it. The error
+    /// holds the items that were taken from the iterator later, first in `held` and then in
+    /// `in_hand`. There are five cases. In cases 1 and 2, no item follows the range.
     ///
-    /// | | What failed | `held` | `in_hand` | `rest` yields | The list |
-    /// |---|---|---|---|---|---|
-    /// | 1 | no items after the range: reserving | empty | `None` | all items | lost the range |
-    /// | 2 | no items after the range: a push | empty | the next item | the others | is full |
-    /// | 3 | step 2: reserving | empty | `None` | the others | has the range filled |
-    /// | 4 | step 3: collecting an item | collected items | the next item | the others | as in 3 |
-    /// | 5 | step 3: reserving | all collected items | `None` | it has ended | as in 3 |
+    /// | | What failed | `held` | `in_hand` | `rest` yields |
+    /// |---|---|---|---|---|
+    /// | 1 | reserving room for the size hint | empty | `None` | all items |
+    /// | 2 | pushing an item | empty | the next item | the remaining items |
+    /// | 3 | step 2: reserving | empty | `None` | the remaining items |
+    /// | 4 | step 3: collecting | the collected items | the next item | the remaining items |
+    /// | 5 | step 3: reserving | all collected items | `None` | nothing: it has ended |
+    ///
+    /// In case 1, the list no longer has the range. In case 2, the list is full; it holds all items
+    /// placed so far. In cases 3, 4 and 5, all slots of the range are filled.
     ///
     /// In cases 1, 2, 3 and 5, the `cause` is `CapacityOverflow` if the growth rule chooses no
     /// capacity for the required length, and `OutOfMemory` if the allocator of the list failed. In
@@ -181,8 +185,8 @@ impl<
         requires can_next { I.can_next (splice_iter self) }
         requires finite { IsFinite (I.remaining (splice_iter self)) }
 
-        // On success. `self.exit.0` is the first field of the `Splice`, which borrows the list. So
-        // `self.exit.0.now` is the list after the call.
+        // On success. The first field of the `Splice`, `self.exit.0`, is the reference to the list.
+        // So `self.exit.0.now` is the list after the call.
         ensures items { OnOk result ((xs : List T) × Drains I.next_gives (splice_iter self.entry) xs
             × (self.exit.0.now.items ≡ splice_replaced self.entry xs)) }
         ensures runs { OnOk result (WholeRun I.next_gives (splice_iter self.entry)
@@ -193,8 +197,8 @@ impl<
             → IsOk result }
 
         // On failure, every item that the iterator yielded is in the list or in the error. If items
-        // follow the range, all places of the range are filled (`before_tail`). If no item follows
-        // the range, the list lacks only the range, or is full (`without_tail`).
+        // follow the range, all slots of the range are filled (`before_tail`). If no item follows
+        // the range, either no item was placed, or the list is full (`without_tail`).
         ensures placed { IfErr result (λ error. (xs : List T)
             × (self.exit.0.now.items ≡ splice_replaced self.entry xs)
             × Stopped I.next_gives I.can_next I.remaining (splice_iter self.entry) xs error) }
@@ -217,16 +221,16 @@ impl<
         let Splice { list, holder, iter } = self;
         let mut block = holder.into_inner();
         block.drop_rest();
-        // The list is already empty. This call is needed only for the proof: `close` requires an
-        // empty list.
+        // The list is already empty, but this must be proved, because `close` requires an empty
+        // list. The call is needed only for this proof.
         list.clear();
         let answer = if block.has_tail() {
             list.finish_before_tail(block, iter, alloc)
         } else {
             list.finish_at_end(block, iter, alloc)
         };
-        // This call is needed only for the proof: by the contract of `len`, the list satisfies
-        // `IsWithin`.
+        // This call is needed only for the proof: the contract of `len` says that the list
+        // satisfies `IsWithin`.
         let _len = list.len();
         answer
     }

@@ -17,7 +17,7 @@ impl<T, A: Allocator, G: Growth> ThinVec<T, A, G> {
     ///
     /// # Errors
     ///
-    /// Fails only if there is not enough spare capacity. On failure, neither list changes.
+    /// Fails only if there is not enough spare capacity. On failure, both lists are unchanged.
     ///
     /// - `CapacityOverflow`: the new capacity would be too large.
     /// - `OutOfMemory`: the allocator failed.
@@ -30,12 +30,12 @@ impl<T, A: Allocator, G: Growth> ThinVec<T, A, G> {
         // When it must succeed.
         ensures succeeds { HasRoomFor self.old (length other.old.items) → IsOk result }
 
-        // On failure, neither list changes.
+        // On failure, both lists are unchanged.
         ensures err { OnErr result (self.new ≡ self.old) }
         ensures other_err { OnErr result (other.new ≡ other.old) }
 
-        // In every case. The new capacity, and whether the call fails, are the same as for a call
-        // of `reserve(other.len())`.
+        // In every case. The call changes the capacity exactly as `reserve(other.len())` does, and
+        // fails in the same cases.
         ensures reserves { Reserves G.rule T.row (length other.old.items) self.old self.new result }
         ensures keeps { Keeps T.row self.old self.new }
         ensures other_within { IsWithin T.row other.old × IsWithin T.row other.new }
@@ -85,8 +85,8 @@ impl<T, A: Allocator, G: Growth> ThinVec<T, A, G> {
     }
 
     /// Moves all items of `other` to the end of this list, in order. After the call, `other` is
-    /// empty, and keeps its capacity. This list does not grow: it must have room for the items.
-    /// `reserve` makes such room. So the call cannot fail, and returns no `Result`.
+    /// empty, and keeps its capacity. This list must already have room for the items; `reserve`
+    /// makes such room. So this list does not grow, and the call cannot fail.
     ///
     /// This method is our own: neither Rust's `Vec` nor the Rust crate thin-vec has it.
     pub fn append_reserved(&mut self, other: &mut ThinVec<T, A, G>)

@@ -19,7 +19,8 @@ impl<T, A: Allocator, G: Growth> ThinVec<T, A, G> {
     /// grows to the capacity that the growth rule chooses, which is at least twice the old
     /// capacity. Otherwise, nothing changes.
     ///
-    /// When a list grows, its block may be moved to another address. Then every item is copied.
+    /// When a list grows, its block may be moved to another address. In this case, every item is
+    /// copied.
     ///
     /// # Errors
     ///
@@ -55,8 +56,8 @@ impl<T, A: Allocator, G: Growth> ThinVec<T, A, G> {
     /// Reserves room for exactly `additional` more items. If there is not enough room, the capacity
     /// becomes the length plus `additional`. Otherwise, nothing changes.
     ///
-    /// If a list grows only by calls of this method, each call may copy all its items. `reserve`
-    /// avoids this: whenever it grows the list, it at least doubles the capacity.
+    /// If a list grows only through this method, each call may copy all its items. `reserve` avoids
+    /// this: whenever it grows the list, it at least doubles the capacity.
     ///
     /// # Errors
     ///
@@ -96,7 +97,7 @@ impl<T, A: Allocator, G: Growth> ThinVec<T, A, G> {
     }
 
     // Reserves room for exactly `capacity` items in a list that has no block. In contrast to
-    // `reserve_exact`, this function does not test whether there is room already.
+    // `reserve_exact`, this function does not test whether there is already room.
     #[tactic(auto, using(thin_block::proofs::CapacityLemmas::exact))]
     pub(crate) fn reserve_first(&mut self, capacity: usize) -> Result<(), ThinVecError>
         requires none { self.old.capacity ≡ 0 }
@@ -133,8 +134,8 @@ impl<T, A: Allocator, G: Growth> ThinVec<T, A, G> {
 
     // Reserves room for at least `additional` more items, with the same contract as `reserve`. This
     // function is meant for calls that add several items. If `additional` is known at compile time,
-    // such as the length of a literal, the test for room is a single comparison. (In `reserve`,
-    // this is true only for one item.)
+    // for example as the length of a literal, the test for room is a single comparison. (In
+    // `reserve`, the test is a single comparison only if `additional` is 1.)
     #[tactic(auto, using(thin_block::proofs::CapacityLemmas::ruled))]
     pub(crate) fn reserve_run(&mut self, additional: usize) -> Result<(), ThinVecError>
         // On success.
@@ -174,8 +175,8 @@ impl<T, A: Allocator, G: Growth> ThinVec<T, A, G> {
         len + additional <= cap
     }
 
-    // Grows the list to make room for `additional` more items. There must be too little room for
-    // these items before the call. This part of `reserve` is a separate function, marked as cold,
+    // Grows the list to make room for `additional` more items. The list must have too little room
+    // for these items. This part of `reserve` is a separate function, which is marked as cold,
     // because most calls of `reserve` find enough room.
     #[cold]
     fn grow_for(&mut self, additional: usize) -> Result<(), ThinVecError>
@@ -252,8 +253,9 @@ impl<T, A: Allocator, G: Growth> ThinVec<T, A, G> {
     }
 
     // Makes an empty list whose capacity is exactly `capacity`. `fits` must return true for
-    // `capacity`. If `capacity` is 0, the list has no block. Every method that makes a list of an
-    // exact capacity calls this function, except `from_iter`, which calls `reserve_first`.
+    // `capacity`. If `capacity` is 0, the list has no block. Every method that makes a list with an
+    // exact capacity calls this function. The only exception is `from_iter`, which calls
+    // `reserve_first`.
     pub(crate) fn with_fitting_capacity(
         alloc: A,
         capacity: usize,

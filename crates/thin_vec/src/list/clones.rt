@@ -1,5 +1,5 @@
 //! The methods that clone items. Room for all clones is reserved before the first clone is made. So
-//! no single clone needs a test for room.
+//! there is no need to test for room before each clone.
 ghost use Rattle.std.specs.Prelude.{◌≡◌, ◌⊎◌, ◌+◌, ◌<◌, ◌≤◌, [], ◌++◌, ◌-◌, All, HoldsAt, IfErr, IfOk, IsOk, OnErr, OnOk, length, slice_range, take};
 ghost use Rattle.std.specs.List.{AllZip, AppendsClones};
 ghost use Rattle.thin_block.specs.Capacity.{Fits};
@@ -46,8 +46,8 @@ impl<T: Clone, A: Allocator, G: Growth> ThinVec<T, A, G> {
         ensures err_cost { OnErr result ((self.new ≡ self.old)
             ⊎ CostsUpToClone T.is_infallible items.now self.old self.new) }
 
-        // In every case. The new capacity, and whether the call fails with `CapacityOverflow`, are
-        // the same as for a call of `reserve(items.len())`.
+        // In every case. The call changes the capacity exactly as `reserve(items.len())` does, and
+        // fails with `CapacityOverflow` in the same cases.
         ensures reserves { Reserves G.rule T.row (length items.now) self.old self.new result }
         ensures keeps { Keeps T.row self.old self.new }
     {
@@ -114,8 +114,8 @@ impl<T: Clone, A: Allocator, G: Growth> ThinVec<T, A, G> {
         Ok(list)
     }
 
-    /// Appends a clone of each item of `items`, in order. The list does not grow: it must have room
-    /// for the clones. `reserve` makes such room.
+    /// Appends a clone of each item of `items`, in order. The list must already have room for the
+    /// clones; `reserve` makes such room. So the list does not grow.
     ///
     /// This method is our own: neither Rust's `Vec` nor the Rust crate thin-vec has it.
     ///
@@ -212,8 +212,8 @@ impl<T: Clone, A: Allocator, G: Growth> ThinVec<T, A, G> {
             ⊎ CostsUpToClone T.is_infallible (slice_range self.old.items start end)
             self.old self.new) }
 
-        // In every case. The new capacity, and whether the call fails with `CapacityOverflow`, are
-        // the same as for a call of `reserve(end - start)`.
+        // In every case. The call changes the capacity exactly as `reserve(end - start)` does, and
+        // fails with `CapacityOverflow` in the same cases.
         ensures reserves { Reserves G.rule T.row (end - start) self.old self.new result }
         ensures keeps { Keeps T.row self.old self.new }
     {
@@ -221,9 +221,9 @@ impl<T: Clone, A: Allocator, G: Growth> ThinVec<T, A, G> {
         self.extend_from_within_reserved(start, end)
     }
 
-    // Appends clones of the items `start..end` of the list, in order. The list does not grow: it
-    // must have room for the clones. If a clone fails, the clones that were already made are
-    // dropped.
+    // Appends clones of the items `start..end` of the list, in order. The list must already have
+    // room for the clones, so it does not grow. If a clone fails, the clones that were already made
+    // are dropped.
     fn extend_from_within_reserved(&mut self, start: usize, end: usize) -> Result<(), ThinVecError>
         requires start_le_end { start ≤ end }
         requires in_bounds { end ≤ length self.old.items }
@@ -262,9 +262,8 @@ impl<T: Clone, A: Allocator, G: Growth> ThinVec<T, A, G> {
     }
 
     // Appends clones of the items `start..end` of the list, in order, until a clone fails. Returns
-    // the number of clones that were made. The list must have room for all these clones. The clones
-    // are appended to the list from which the items are read. So the stored length is updated after
-    // each clone.
+    // the number of clones that were made. The list must have room for all these clones. The stored
+    // length is updated after each clone, because the items are read from the same list.
     fn push_clones_within(&mut self, start: usize, end: usize) -> usize
         requires start_le_end { start ≤ end }
         requires in_bounds { end ≤ length self.old.items }
@@ -281,8 +280,8 @@ impl<T: Clone, A: Allocator, G: Growth> ThinVec<T, A, G> {
           cost = moving result self.old.cost;
         } }
 
-        // If `result` is less than the length of the range, then the next item of the range is an
-        // item whose clone can fail.
+        // If `result` is less than the length of the range, then cloning the next item of the range
+        // can fail.
         ensures refused { result < end - start → HoldsAt (λ x. ¬ (T.is_infallible x))
             (slice_range self.old.items start end) result }
 

@@ -34,8 +34,8 @@ impl<T: Copy, A: Allocator, G: Growth> ThinVec<T, A, G> {
         // On failure, the list is unchanged.
         ensures err { OnErr result (self.new ≡ self.old) }
 
-        // In every case. The new capacity, and whether the call fails, are the same as for a call
-        // of `reserve(items.len())`.
+        // In every case. The call changes the capacity exactly as `reserve(items.len())` does, and
+        // fails in the same cases.
         ensures reserves { Reserves G.rule T.row (length items.now) self.old self.new result }
         ensures keeps { Keeps T.row self.old self.new }
     {
@@ -77,8 +77,8 @@ impl<T: Copy, A: Allocator, G: Growth> ThinVec<T, A, G> {
         Ok(list)
     }
 
-    /// Appends a copy of each item of `items`, in order. The list does not grow: it must have room
-    /// for the items. `reserve` makes such room. So the call cannot fail, and returns no `Result`.
+    /// Appends a copy of each item of `items`, in order. The list must already have room for the
+    /// items; `reserve` makes such room. So the list does not grow, and the call cannot fail.
     ///
     /// This method is our own: neither Rust's `Vec` nor the Rust crate thin-vec has it.
     pub fn extend_from_copies_reserved(&mut self, items: &[T])

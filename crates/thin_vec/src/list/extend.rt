@@ -32,11 +32,11 @@ impl<T, A: Allocator, G: Growth> ThinVec<T, A, G> {
     /// The cause is `CapacityOverflow` if the new capacity would be too large, and `OutOfMemory` if
     /// the allocator failed. There are two cases:
     ///
-    /// - The room for the lower bound cannot be reserved. Then the list is unchanged, `in_hand` is
-    ///   `None`, and `rest` is the whole iterator.
-    /// - A further item cannot be pushed. Then the list keeps the items that were appended before,
-    ///   and is full. `in_hand` is the item that could not be pushed, and `rest` yields the items
-    ///   after it.
+    /// - The room for the lower bound cannot be reserved. In this case, the list is unchanged,
+    ///   `in_hand` is `None`, and `rest` is the whole iterator.
+    /// - A further item cannot be pushed. In this case, the list keeps the items that were appended
+    ///   before, and is full. `in_hand` is the item that could not be pushed, and `rest` yields the
+    ///   items after it.
     pub fn extend<I: Iterator<Item = T>>(&mut self, iter: I) -> Result<(), ExtendRefused<T, I>>
         requires can_next { I.can_next iter }
         requires finite { IsFinite (I.remaining iter) }
@@ -137,13 +137,13 @@ impl<T, A: Allocator, G: Growth> ThinVec<T, A, G> {
     }
 
     // Moves items of `iter` into the spare capacity until the list is full or `iter` ends. If the
-    // list is full, takes one more item from `iter`. Returns the iterator, and this item if there
-    // is one.
+    // list is full, takes one more item from `iter`. Returns the iterator, and this last item if
+    // there is one.
     fn extend_reserved<I: Iterator<Item = T>>(&mut self, iter: I) -> (I, Option<T>)
         requires can_next { I.can_next iter }
         requires finite { IsFinite (I.remaining iter) }
 
-        // The call appends the items that the iterator yielded, and counts one move for each item.
+        // The call appends items of the iterator, and each appended item counts as one move.
         ensures items { (xs : List T) × (self.new.items ≡ self.old.items ++ xs)
             × YieldsThen I.next_gives iter xs result.1 result.0 }
         ensures changes { self.new ≡ record self.old {
@@ -152,7 +152,7 @@ impl<T, A: Allocator, G: Growth> ThinVec<T, A, G> {
         } }
 
         // If the call returns an item, the list is full, and `next` may be called on the returned
-        // iterator. The returned iterator is then nearer to its end.
+        // iterator. This iterator can yield fewer items than `iter` before the call.
         ensures full { OnSome result.1 (length self.new.items ≡ self.new.capacity) }
         ensures rest { OnSome result.1 (I.can_next result.0 × IsFinite (I.remaining result.0)) }
         ensures nearer { OnSome result.1
@@ -176,8 +176,9 @@ impl<T, A: Allocator, G: Growth> ThinVec<T, A, G> {
         (rest, extra)
     }
 
-    // Moves items of `iter` into the spare capacity, until the list is full or `iter` ends. The
-    // length is stored only once. The field `end` of the result is the new length.
+    // Moves items of `iter` into the spare capacity, until the list is full or `iter` ends. The new
+    // length is stored only once, after the last item is moved. The field `end` of the result is
+    // the new length.
     fn fill_spare<I: Iterator<Item = T>>(&mut self, iter: I) -> Filled<I>
         requires can_next { I.can_next iter }
         requires finite { IsFinite (I.remaining iter) }
@@ -214,11 +215,11 @@ impl<T, A: Allocator> ThinVec<T, A> {
     /// The cause is `CapacityOverflow` if the capacity would be too large, and `OutOfMemory` if the
     /// allocator failed. There are two cases:
     ///
-    /// - The first block cannot be made. Then `list` is a new list, `in_hand` is `None`, and `rest`
-    ///   is the whole iterator.
-    /// - A further item cannot be pushed. Then `list` holds the items that were appended before,
-    ///   and is full. `in_hand` is the item that could not be pushed, and `rest` yields the items
-    ///   after it.
+    /// - The first block cannot be made. In this case, `list` is a new empty list, `in_hand` is
+    ///   `None`, and `rest` is the whole iterator.
+    /// - A further item cannot be pushed. In this case, `list` holds the items that were appended
+    ///   before, and is full. `in_hand` is the item that could not be pushed, and `rest` yields the
+    ///   items after it.
     pub fn from_iter<I: Iterator<Item = T>>(
         alloc: A,
         iter: I,

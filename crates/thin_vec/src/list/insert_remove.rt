@@ -15,8 +15,8 @@ use thin_block::{Growth, ThinVecError};
 impl<T, A: Allocator, G: Growth> ThinVec<T, A, G> {
     ghost use Rattle.thin_vec.specs.ThinVec.{HasRoomFor, IsWithin, capacity_for};
 
-    /// Inserts `value` at `index`, and moves the items from this index onward up by one place.
-    /// `index` must be at most the length. The list then owns `value`. If there is no spare
+    /// Inserts `value`, which the list then owns, at `index`. Each item from this index onward
+    /// moves to the next higher index. `index` must be at most the length. If there is no spare
     /// capacity, the list first grows to the capacity that the growth rule chooses.
     ///
     /// # Errors
@@ -40,8 +40,8 @@ impl<T, A: Allocator, G: Growth> ThinVec<T, A, G> {
         ensures err { OnErr result (self.new ≡ self.old) }
         ensures value_returned { IfErr result (λ error. error.value ≡ value) }
 
-        // In every case. The new capacity, and whether the call fails, are the same as for a call
-        // of `reserve(1)`.
+        // In every case. The call changes the capacity exactly as `reserve(1)` does, and fails in
+        // the same cases.
         ensures reserves { Reserves G.rule T.row 1 self.old self.new (causes result) }
         ensures keeps { Keeps T.row self.old self.new }
     {
@@ -52,10 +52,10 @@ impl<T, A: Allocator, G: Growth> ThinVec<T, A, G> {
         Ok(())
     }
 
-    /// Inserts `value` at `index`, and moves the items from this index onward up by one place.
-    /// `index` must be at most the length. The list then owns `value`. The list does not grow: it
-    /// must have room for one more item. `reserve(1)` makes such room. So the call cannot fail, and
-    /// returns no `Result`.
+    /// Inserts `value`, which the list then owns, at `index`. Each item from this index onward
+    /// moves to the next higher index. `index` must be at most the length. The list must already
+    /// have room for one more item; `reserve(1)` makes such room. So the list does not grow, and
+    /// the call cannot fail.
     ///
     /// This method is our own: neither Rust's `Vec` nor the Rust crate thin-vec has it.
     pub fn insert_reserved(&mut self, index: usize, value: T)
@@ -107,11 +107,11 @@ impl<T, A: Allocator, G: Growth> ThinVec<T, A, G> {
         Ok(&mut self[len])
     }
 
-    /// Inserts `value` at `index`, and returns a mutable reference to `value` in the list. The
-    /// items from this index onward are moved up by one place. `index` must be at most the length.
-    /// The list then owns `value`. Writing through the reference changes the item of the list. If
-    /// there is no spare capacity, the list first grows to the capacity that the growth rule
-    /// chooses.
+    /// Inserts `value`, which the list then owns, at `index`, and returns a mutable reference to
+    /// `value` in the list. Each item from this index onward moves to the next higher index.
+    /// `index` must be at most the length. Writing through the reference changes the item of the
+    /// list. If there is no spare capacity, the list first grows to the capacity that the growth
+    /// rule chooses.
     ///
     /// Rust's `Vec` has a method of this name, but the Rust crate thin-vec does not.
     ///
@@ -146,8 +146,8 @@ impl<T, A: Allocator, G: Growth> ThinVec<T, A, G> {
         Ok(&mut self[index])
     }
 
-    /// Removes the item at `index` and returns it. The items after `index` are moved down by one
-    /// place, in order. The capacity does not change.
+    /// Removes the item at `index` and returns it. Each later item moves to the next lower index.
+    /// The capacity does not change.
     pub fn remove(&mut self, index: usize) -> T
         requires in_bounds { index < length self.old.items }
         ensures value { slice_get self.old.items index ≡ Some result }
@@ -182,9 +182,9 @@ impl<T, A: Allocator, G: Growth> ThinVec<T, A, G> {
     }
 
     /// Calls `predicate` with the last item. If `predicate` returns true, the item is removed and
-    /// returned. Otherwise, the item stays in the list as `predicate` left it, and the call returns
-    /// `None`. If the list is empty, `predicate` is not called, and the call returns `None`. The
-    /// capacity does not change.
+    /// returned. Otherwise, the item stays in the list, with any change that `predicate` made to
+    /// it, and the call returns `None`. If the list is empty, `predicate` is not called, and the
+    /// call returns `None`. The capacity does not change.
     ///
     /// Rust's `Vec` has a method of this name, but the Rust crate thin-vec does not.
     pub fn pop_if<P: FnOnce(&mut T) -> bool>(&mut self, predicate: P) -> Option<T>

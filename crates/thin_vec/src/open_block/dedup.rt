@@ -150,10 +150,10 @@ impl<T: Drop, A: Allocator> OpenBlock<T, A> {
     }
 
     // Tests the remaining items, in order, up to the first item that is removed. Drops that item,
-    // and moves the items before it down, directly after the kept items. At least two items must
-    // remain before the call. The first of them is taken out of the block before its test: the
-    // block cannot lend this item and the last kept item at the same time, because there are empty
-    // slots between the two items.
+    // and appends the items before it to the kept items. At least two items must remain before the
+    // call. The first remaining item is taken out of the block before its test, because the block
+    // cannot lend this item and the last kept item at the same time: there are empty slots between
+    // the two.
     fn dedup_two<J: PairTest<T>>(&mut self, test: &mut J)
         requires some { 0 < length self.old.front }
         requires two { 1 < length self.old.rest }
@@ -184,8 +184,8 @@ impl<T: Drop, A: Allocator> OpenBlock<T, A> {
         }
     }
 
-    // Tests the last remaining item, if there is one. Then drops this item, or moves it down,
-    // directly after the kept items.
+    // Tests the last remaining item, if there is one. If the test keeps the item, appends it to the
+    // kept items. Otherwise, drops it.
     fn dedup_last<J: PairTest<T>>(&mut self, test: &mut J)
         requires some { 0 < length self.old.front }
         requires short { length self.old.rest ≤ 1 }

@@ -1,5 +1,5 @@
 //! Methods that put items into the gap of an open block, that is, into the empty slots in the
-//! middle of the block. The items are placed directly after the items that are before the gap.
+//! middle of the block. The new items directly follow the items before the gap.
 ghost use Rattle.std.specs.Prelude.{◌≡◌, ◌-◌, ◌<◌, ◌≤◌, [], ◌++◌, HoldsAt, List, drop, length, take};
 ghost use Rattle.std.specs.Iterator.{IsFinite};
 ghost use Rattle.std.specs.List.{AllZip};
@@ -16,7 +16,7 @@ use thin_block::{Block, Growth};
 
 impl<T, A: Allocator> OpenBlock<T, A> {
     // Moves items of `iter` into the gap of empty slots, until the gap is full or `iter` returns
-    // `None`. The field `end` of the result is the number of items that are then before the gap.
+    // `None`. The field `end` of the result is the number of items before the gap after the call.
     pub(crate) fn fill<I: Iterator<Item = T>>(&mut self, iter: I) -> Filled<I>
         requires can_next { I.can_next iter }
         requires finite { IsFinite (I.remaining iter) }

@@ -1,5 +1,5 @@
-//! The steps of `retain`, `retain_mut` and `extract_if`. They test the items of a range where they
-//! are, and then move the kept items down.
+//! The steps of `retain`, `retain_mut` and `extract_if`. They test the items of a range in place,
+//! and then move the kept items down.
 //!
 //! The front of the block contains the items that have been kept so far. After the front, there may
 //! be a gap of empty slots. After the gap, the middle run contains the remaining items.
@@ -11,8 +11,7 @@ use std::alloc::Allocator;
 use std::mem;
 use thin_block::Block;
 
-// If at least this number of items has to be moved, moving them together is faster than moving them
-// one by one.
+// If at least this many items have to be moved, it is faster to move them together than one by one.
 const MANY: usize = 8;
 
 /// A test of one item. It decides whether the item is kept, and may write to the item.
@@ -47,8 +46,8 @@ impl<T, A: Allocator> OpenBlock<T, A> {
         test.test(self.block.slot_mut(self.rest_start + k))
     }
 
-    // Adds the first `k` of the remaining items to the kept items. There must be no gap between the
-    // two, so no item is moved.
+    // Adds the first `k` of the remaining items to the kept items. There must be no gap before the
+    // remaining items, so no item is moved.
     pub(crate) fn pass(&mut self, k: usize)
         requires none { self.old.gap ≡ 0 }
         requires in_bounds { k ≤ length self.old.rest }
@@ -78,9 +77,9 @@ impl<T, A: Allocator> OpenBlock<T, A> {
         self.rest_start += 1;
     }
 
-    // Moves the first `k` of the remaining items down, directly after the kept items. If `k` is at
-    // least `MANY`, they are moved together, and otherwise one by one. Two items are moved without
-    // a loop.
+    // Moves the first `k` of the remaining items down, so that they directly follow the kept items.
+    // If `k` is at least `MANY`, the items are moved together, and otherwise one by one. If `k` is
+    // 2, no loop is used.
     #[inline(always)]
     pub(crate) fn move_down(&mut self, k: usize)
         requires in_bounds { k ≤ length self.old.rest }
@@ -105,8 +104,9 @@ impl<T, A: Allocator> OpenBlock<T, A> {
         }
     }
 
-    // Moves the first `k` of the remaining items down together, directly after the kept items. The
-    // block is passed by value, so that the other fields of the open block can stay in registers.
+    // Moves the first `k` of the remaining items down, all together, so that they directly follow
+    // the kept items. The block is passed by value, so that the other fields of the open block can
+    // stay in registers.
     #[inline(always)]
     fn move_run_down(&mut self, k: usize)
         requires in_bounds { k ≤ length self.old.rest }
@@ -126,7 +126,7 @@ impl<T, A: Allocator> OpenBlock<T, A> {
         self.rest_start += k;
     }
 
-    // Returns whether at least two items remain. There must be a gap: then `rest_end` is not 0, and
+    // Returns whether at least two items remain. There must be a gap, so `rest_end` is not 0, and
     // the subtraction cannot overflow. The comparison is written in this form so that
     // `rest_end - 1` can stay in a register during a loop.
     pub(crate) fn has_two(&self) -> bool
@@ -160,9 +160,9 @@ impl<T, A: Allocator> OpenBlock<T, A> {
 impl<T, A: Allocator> OpenBlock<T, A> {
     ghost use Rattle.thin_vec.specs.OpenBlock.Sift.{Advances};
 
-    // Tests the remaining items up to the first item that is to be removed, and returns whether
-    // there is such an item. This item is then the first of the remaining items. The items before
-    // it are added to the kept items. If there is a gap, they are moved down.
+    // Tests the remaining items, in order, up to the first item that is to be removed, and returns
+    // whether there is such an item. The items before it are added to the kept items, and moved
+    // down if there is a gap. The item itself becomes the first of the remaining items.
     pub(crate) fn advance<J: Test<T>>(&mut self, test: &mut J) -> bool
         requires ready { J.ready test.old }
         ensures advances { Advances J.tests test.old self.old test.new self.new }
@@ -193,8 +193,8 @@ impl<T, A: Allocator> OpenBlock<T, A> {
     }
 
     // Does the same as `advance`, for a block with empty slots after the kept items and at least
-    // two remaining items. The first two items are tested before the loop. So if fewer than two
-    // items are kept before a removal, no counter is needed.
+    // two remaining items. The first two items are tested before the loop, so that no counter is
+    // needed if fewer than two items are kept before a removal.
     fn advance_two<J: Test<T>>(&mut self, test: &mut J) -> bool
         requires two { 1 < length self.old.rest }
         requires gap { 0 < self.old.gap }
@@ -269,8 +269,8 @@ impl<T: Drop, A: Allocator> OpenBlock<T, A> {
     }
 
     // Tests the remaining items, in order, up to the first item that is removed. Drops that item,
-    // and moves the items before it down, directly after the kept items. At least two items must
-    // remain before the call.
+    // and appends the items before it to the kept items. At least two items must remain before the
+    // call.
     fn sift_two<J: Test<T>>(&mut self, test: &mut J)
         requires two { 1 < length self.old.rest }
         requires gap { 0 < self.old.gap }
@@ -284,8 +284,8 @@ impl<T: Drop, A: Allocator> OpenBlock<T, A> {
         }
     }
 
-    // Tests the last remaining item, if there is one. Then moves this item down, directly after the
-    // kept items, or drops it.
+    // Tests the last remaining item, if there is one. If the test keeps the item, appends it to the
+    // kept items. Otherwise, drops it.
     fn sift_last<J: Test<T>>(&mut self, test: &mut J)
         requires short { length self.old.rest ≤ 1 }
         requires gap { 0 < self.old.gap }

@@ -1,5 +1,5 @@
--- `make` carries out a change on a text, and appends a second change to the list `back`. The second
--- change fits the new text, and undoes the first change.
+-- `make` carries out a change on a text, and appends to the list `back` a change that undoes it.
+-- This proof shows that the appended change fits the new text and restores the old text.
 use Rattle.std.proofs.Common.{◌≡◌, arith}
 use Rattle.text_editor.proofs.ChangesLemmas.{AllFit-last, comes_in, takes_back, texts_of-last}
 use Rattle.text_editor.specs.Changes.{changed}

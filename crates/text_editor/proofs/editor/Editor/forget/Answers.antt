@@ -1,5 +1,6 @@
--- `forget` removes the oldest changes. Before the call, the changes produced a list of texts. The
--- remaining changes produce the first `count` of these texts, or all of them if there were fewer.
+-- `forget` removes the oldest changes of an editor, and keeps at most `count` changes. Of the texts
+-- that the changes could restore before the call, the kept changes restore the first `count` texts,
+-- or all if there were fewer.
 use Rattle.std.proofs.Common.{◌≡◌, ℕ, ◌-◌, ap, arith, drop, length, rules, sym, take, ◌∙◌}
 use Rattle.std.proofs.lemmas.List.{take_all}
 use Rattle.text_editor.proofs.ChangesLemmas.{AllFit-drop, length-texts_of, texts_of-drop}
