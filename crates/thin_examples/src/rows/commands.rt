@@ -1,5 +1,5 @@
-//! The worked row that checks `run` of the crate `thin_runner`, which carries out commands on a
-//! list. A worked row compares the results of calls with values that were worked out by hand.
+//! The worked example that checks `run` of the crate `thin_runner`, which carries out commands on a
+//! list. A worked example compares the results of calls with values that were worked out by hand.
 use crate::checks::Checks;
 use crate::rows::Outcome;
 use crate::rows::judges::Evens;
@@ -17,7 +17,7 @@ fn put<T: Drop, A: Allocator>(items: &mut Vec<T, A>, item: T) -> Result<(), Thin
 }
 
 // Makes three commands: an insert past the end of the list, a push, and a drain of one item. The
-// drain takes two steps, so the second step yields no item.
+// drain calls its iterator twice, so the second call yields no item.
 fn past_the_end<A: Allocator + Copy>(alloc: A) -> Result<Vec<Command<i32, A>, A>, ThinVecError> {
     let mut steps = Vec::new(alloc);
     put(&mut steps, Step::Back)?;
