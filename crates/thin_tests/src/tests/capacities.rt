@@ -33,13 +33,13 @@ fn assert_pushed(rt: &impl Abort, list: &mut ThinVec<i32>, items: Range<i32>, ca
     assert_same(rt, list.capacity(), capacity);
 }
 
-// Reserves room for `additional` items, and asserts that the capacity is then `capacity`.
+// Calls `reserve(additional)`, and asserts that the capacity is then `capacity`.
 fn assert_reserved(rt: &impl Abort, list: &mut ThinVec<i32>, additional: usize, capacity: usize) {
     list.reserve(additional).expect(rt, "memory");
     assert_same(rt, list.capacity(), capacity);
 }
 
-// Calls `reserve_exact` for `additional` items, and asserts that the capacity is then `capacity`.
+// Calls `reserve_exact(additional)`, and asserts that the capacity is then `capacity`.
 fn assert_reserved_exact(
     rt: &impl Abort,
     list: &mut ThinVec<i32>,

@@ -49,7 +49,7 @@ fn assert_cloned<A: Allocator>(
 }
 
 // Clones an iterator over 1, 2 and 3 before and after its first step, and asserts the items of the
-// two clones. Then takes the remaining items out of the iterator.
+// two clones. Then asserts that the iterator itself yields its remaining items.
 fn clone_between_steps<A: Allocator + Copy>(
     rt: &impl Abort,
     items: &mut IntoIter<i32, A>,

@@ -1,5 +1,5 @@
-//! Tests that public names of the crate `thin_vec` exist, and that its types implement the traits
-//! that programs rely on.
+//! Tests that the public names of the crate `thin_vec` exist, and that its types implement the
+//! traits that programs rely on.
 use crate::tests::support::assertions::assert_same;
 use std::alloc::{AllocError, Allocator, Global};
 use std::convert::AsSlice;

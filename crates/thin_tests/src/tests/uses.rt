@@ -1,4 +1,4 @@
-//! Runs example functions of the crate `thin_examples`, and checks their results.
+//! Tests that run example functions of the crate `thin_examples`, and check their results.
 use crate::tests::support::assertions::{assert_items, assert_len, assert_same};
 use crate::tests::support::items::{list_of, push, refusing_nth};
 use std::alloc::Global;
