@@ -12,8 +12,8 @@ use thin_runner::judge::Judge;
 use thin_runner::runner::run;
 use thin_vec::{Growth, ThinVec, ThinVecError};
 
-/// Carries out four commands on `list`, which push 1, 2 and 3, and then pop one item. If the list
-/// is empty before the call, it contains 1 and 2 after the call.
+/// Carries out four commands on `list`: pushes of 1, 2 and 3, and then a pop. If the list is empty
+/// before the call, it contains 1 and 2 after the call.
 ///
 /// # Errors
 ///

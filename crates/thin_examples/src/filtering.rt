@@ -76,8 +76,8 @@ pub trait Keeper<T>: Copy {
         ensures { keeps self.old item.old ≡ (result, (item.new, self.new)) };
 }
 
-/// Removes the items for which a copy of `keeper` returns false. The copy may write to the items.
-/// The call does not change `keeper` itself.
+/// Asks a copy of `keeper` about each item, and removes the items for which `keep` returns false.
+/// The copy may write to the items. The call does not change `keeper` itself.
 pub fn keep_by<T: Copy, A: Allocator, G: Growth, J: Keeper<T>>(
     list: &mut ThinVec<T, A, G>,
     keeper: &J,

@@ -1,6 +1,6 @@
-//! Example functions that use `ThinVec`, for you to copy. The crate also contains the worked
-//! examples, which the program `thin_bench` runs. A worked example compares the results of calls
-//! with values that were worked out by hand.
+//! Example functions that use `ThinVec` and are meant to be copied. The crate also contains the
+//! worked examples, which the program `thin_bench` runs. A worked example compares the results of
+//! calls with values that were worked out by hand.
 #![tactic(auto)]
 
 pub mod checks;

@@ -8,8 +8,8 @@ use thin_vec::{Growth, SpliceRefused, ThinVec};
 
 /// Replaces the items at the indices `range.0..range.1` with the items that `iter` yields.
 ///
-/// The function is generic in the type of the iterator. If the iterator of a splice borrows, such
-/// as an iterator over a slice, prove the splice by calling a generic function like this one.
+/// The function is generic in the type of the iterator. To prove a splice with an iterator that
+/// borrows, such as an iterator over a slice, call a generic function like this one.
 ///
 /// # Errors
 ///
@@ -36,8 +36,8 @@ pub fn splice_by<T: Drop, A: Allocator, G: Growth, I: Iterator<Item = T>>(
 ///
 /// # Errors
 ///
-/// Fails if there is no room for the numbers. On failure, the numbers for which there is room have
-/// replaced the range, and the other numbers are dropped.
+/// Fails if there is no room for the numbers. On failure, the range has been replaced with only the
+/// numbers that fit, and the other numbers are dropped.
 pub fn splice_numbers<A: Allocator, G: Growth>(
     list: &mut ThinVec<u32, A, G>,
     start: usize,

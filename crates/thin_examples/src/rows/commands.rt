@@ -17,7 +17,7 @@ fn put<T: Drop, A: Allocator>(items: &mut Vec<T, A>, item: T) -> Result<(), Thin
 }
 
 // Makes three commands: an insert past the end of the list, a push, and a drain of one item. The
-// drain calls its iterator twice, so the second call yields no item.
+// drain asks its iterator for an item twice, and gets `None` the second time.
 fn past_the_end<A: Allocator + Copy>(alloc: A) -> Result<Vec<Command<i32, A>, A>, ThinVecError> {
     let mut steps = Vec::new(alloc);
     put(&mut steps, Step::Back)?;
@@ -45,7 +45,7 @@ fn check_replies<A: Allocator>(checks: &mut Checks, replies: &[Reply<i32, A>]) {
 }
 
 /// Checks `run` with three commands: an insert past the end of the list, a push, and a drain of one
-/// item that takes two steps.
+/// item that asks its iterator for an item twice.
 pub fn row_41<A: Allocator + Copy>(alloc: A) -> Outcome {
     let mut checks = Checks::new();
     let mut list: ThinVec<i32, A> = ThinVec::new(alloc);

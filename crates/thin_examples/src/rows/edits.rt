@@ -23,8 +23,8 @@ fn is_even(item: i32) -> bool {
     item.wrapping_rem(2) == 0
 }
 
-/// Checks an `ExtractIf` that yields one item of a range and is then dropped. No other item must be
-/// removed from the list.
+/// Checks an `ExtractIf` that yields one item of a range and is then dropped. The drop must not
+/// remove any other item from the list.
 pub fn row_8<A: Allocator + Copy>(alloc: A) -> Outcome {
     let mut checks = Checks::new();
     let mut list = listed(alloc, [1, 2, 3, 4, 5, 6])?;

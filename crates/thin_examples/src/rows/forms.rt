@@ -23,8 +23,8 @@ pub fn row_3<A: Allocator + Copy>(alloc: A) -> Outcome {
     Ok(checks)
 }
 
-/// Checks that `into_array` returns the list if the array type has another length than the list.
-/// Also checks that the clone of an empty list has no allocation.
+/// Checks that `into_array` returns the list if the array has fewer items than the list. Also
+/// checks that the clone of an empty list has no allocation.
 pub fn row_20<A: Allocator + Copy>(alloc: A) -> Outcome {
     let mut checks = Checks::new();
     let digits = [0, 1, 2, 3, 4, 5, 6, 7, 8, 9];

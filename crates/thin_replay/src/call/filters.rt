@@ -10,7 +10,7 @@ use crate::words::count_of;
 use thin_runner::command::Command;
 
 /// Parses the words of a line as a command and a judge. A judge decides about items in place of a
-/// closure. Returns `None` if the words do not have the form of such a command.
+/// closure. Returns `None` if the words do not have the form of a command with a judge.
 pub fn parse(words: &[&str]) -> Result<Option<Call>, LineError>
     ensures says { IfOk result (λ found. IfSome found (IsCall words.now)) }
 {

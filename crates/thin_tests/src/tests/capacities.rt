@@ -77,8 +77,8 @@ fn assert_overflows<T: Drop>(rt: &impl Abort, alloc: &'static Refusing<Global>, 
     assert_same(rt, (capacity, refused), (capacity, overflow));
 }
 
-// If the capacity is too large, `with_capacity` fails with `CapacityOverflow` before it requests
-// any memory.
+// Tests that `with_capacity` fails with `CapacityOverflow`, and requests no memory, if the capacity
+// is too large.
 #[test]
 fn with_capacity_detects_overflow_before_any_request(rt: HostRuntime) {
     let refusing = refusing_nth(&rt, rt.alloc(), 0);

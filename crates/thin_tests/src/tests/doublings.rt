@@ -1,5 +1,6 @@
-//! Functions whose contracts state the capacity of a list after each of five pushes, and how many
-//! blocks are allocated and items are copied to grow the list. So all these numbers are proved.
+//! Functions whose contracts state the capacity of a list after each of five pushes. They also
+//! state how many blocks are allocated, and how many items are copied, while the list grows. So all
+//! these numbers are proved.
 ghost use Rattle.std.specs.Prelude.{◌≡◌, ◌+◌, ◌*◌, ◌<◌, [], ◌∷◌, IfOk, OnOk, length};
 ghost use Rattle.thin_vec.specs.ThinVec.{HasRoomFor};
 

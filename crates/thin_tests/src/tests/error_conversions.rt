@@ -15,7 +15,7 @@ fn convert<R, E: From<R>>(refused: R) -> Result<(), E> {
 }
 
 // Converts the error `refused` with `?`. Asserts that the conversion drops all values in the error,
-// and that there are `held` of them.
+// and that the error contained exactly `held` values.
 fn assert_conversion_drops<E: From<R> + Drop, R: Drop>(
     rt: &impl Abort,
     drops: &Cell<u32>,

@@ -36,8 +36,8 @@ where
     E: Error + Copy + Eq + From<AllocError> + From<Rejected<u8>>,
 {}
 
-// A struct that derives `Clone`. Cloning a value of this type clones each string in the list, and
-// allocates memory for each clone.
+// A struct that derives `Clone`, and contains a list of strings. Cloning a value of this type
+// clones each string, and allocates memory for each clone.
 #[derive(Clone, Drop)]
 struct Names {
     all: ThinVec<String>,

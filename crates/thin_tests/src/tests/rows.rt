@@ -10,8 +10,8 @@ use thin_vec::{ThinVec, thin_vec};
 
 // One line for each worked example: its number, how many values it compares, and how many requests
 // for memory it makes. These counts were made by hand, so they expose an example that compares too
-// few values. For example 35, the count of requests is given as 0, because `format!` of Rattle's
-// library makes requests there.
+// few values. The requests of example 35 are given as 0, because some of them are made by `format!`
+// of Rattle's library.
 const COUNTS: &str = "\
     1: 5, 0\n\
     2: 12, 2\n\

@@ -261,8 +261,9 @@ impl Numbers {
 
 type Reference = BTreeMap<(usize, usize), u32>;
 
-// Makes the same random call on the table and on `reference`, and asserts that both calls return
-// the same result. If the call on the table fails, neither the table nor `reference` changes.
+// Makes the same random call on the table and on `reference`, which is a `BTreeMap`. Asserts that
+// both calls return the same result. If the call on the table fails, neither the table nor
+// `reference` changes.
 fn call_both<A: Allocator>(
     rt: &impl Abort,
     table: &mut Rows<u32, A>,

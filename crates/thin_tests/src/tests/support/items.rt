@@ -1,4 +1,4 @@
-//! Lists, items and allocators that many tests use.
+//! Functions that many tests use to make allocators and lists, and to push items.
 ghost use Rattle.std.specs.Prelude.{◌≡◌, length};
 
 use std::alloc::{AllocError, Allocator, Global};
