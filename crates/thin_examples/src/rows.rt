@@ -1,6 +1,6 @@
-//! The worked examples. A worked example is a function that makes calls, and compares their results
-//! with values that were worked out by hand. It returns an error only if one of its calls fails
-//! unexpectedly.
+//! The worked examples, which the code calls rows. A worked example is a function that makes calls,
+//! and compares their results with values that were worked out by hand. It returns an error only if
+//! one of its calls fails unexpectedly.
 ghost use Rattle.std.specs.Prelude.{◌≡◌, IfOk};
 
 mod bulk;
