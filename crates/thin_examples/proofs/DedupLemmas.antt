@@ -1,5 +1,5 @@
--- The lemmas of this file say which items `dedup_by` keeps if its closure changes the later of two
--- items before it compares the two items.
+-- These lemmas say which items `dedup_by` keeps if its closure first changes the later of two items
+-- and then compares the two items.
 use Rattle.std.proofs.Common.{◌≡◌, Bool, true, false, List, [], ◌∷◌, ap, map, slice_index_or, slice_set, subst, ◌∙◌}
 use Rattle.std.specs.List.{dedup, dedup_from}
 use Rattle.std.specs.List.Retain.{DedupsFrom, DedupsAll}
@@ -8,8 +8,8 @@ use Rattle.thin_vec.proofs.EditLemmas.{deduped_deduped}
 use Rattle.thin_vec.specs.Edits.Dedup.{IsDedupedBy}
 use Rattle.thin_vec.specs.ThinVec.{Thin}
 
--- Let the relation `R` describe the calls of the closure. Assume that each call replaces the later
--- item `x` with `f x`, does not change the kept item `k`, and returns `same (f x) k`.
+-- The relation `R` describes the calls of the closure. This module assumes that each call replaces
+-- the later item `x` with `f x`, leaves the kept item `k` unchanged, and returns `same (f x) k`.
 module _ {S T : Type 0} (R : S → T → T → Bool → S → T → T → Type 0) (f : T → T)
     (same : T → T → Bool)
     (says : (s : S) (x k : T) (b : Bool) (t : S) (x' k' : T) → R s x k b t x' k'
@@ -19,8 +19,8 @@ module _ {S T : Type 0} (R : S → T → T → Bool → S → T → T → Type 0
   abbrev Kept : T → List T → List T → Type 0
   Kept k xs zs = zs ≡ dedup_from same k (map f xs)
 
-  -- Assume that the closure returned `b` for the item `x` and the kept item `k`. If `Kept` holds
-  -- for the items `xs` after `x`, then `Kept` holds for `x ∷ xs`.
+  -- Suppose that the closure returned `b` for the item `x` and the kept item `k`. Then `Kept` holds
+  -- for the items `x ∷ xs` if `Kept` holds for the items `xs` that follow `x`.
   one : (b : Bool) (x k x' k' : T) (xs zs : List T) → b ≡ same (f x) k → x' ≡ f x → k' ≡ k
       → MatchBool b (Kept k' xs zs) ((ys : List T) × Kept x' xs ys × (zs ≡ k' ∷ ys))
       → Kept k (x ∷ xs) zs
@@ -33,8 +33,8 @@ module _ {S T : Type 0} (R : S → T → T → Bool → S → T → T → Type 0
       ∙ ap (λ c. cond c (dedup_from same k (map f xs)) (k ∷ dedup_from same (f x) (map f xs)))
       b-is)
 
-  -- Assume that `dedup_by` keeps the item `k`, and turns `k` and the items `xs` after it into the
-  -- list `zs`. Then `Kept k xs zs` holds.
+  -- Suppose that `dedup_by` keeps the item `k`, and turns `k` and the items `xs` that follow it
+  -- into the list `zs`. Then `Kept k xs zs` holds.
   kept_from : (xs : List T) (s : S) (k : T) (zs : List T) → DedupsFrom R s k xs zs → Kept k xs zs
   kept_from [] s k zs h = h
   kept_from (x ∷ xs) s k zs h =
@@ -48,9 +48,9 @@ module _ {S T : Type 0} (R : S → T → T → Bool → S → T → T → Type 0
         | false ↦ λ m. (m.0, kept_from xs h.1 h.2 m.0 m.1, m.2)
       ]) h.5)
 
-  -- Let the items of `v` be the list `xs`, except that the first item `x` has been replaced with
-  -- `f x`. If `dedup_by` turns `v` into `w`, then the items of `w` are `dedup same (map f xs)`. The
-  -- list `xs` may be empty.
+  -- Suppose that the items of `v` are the list `xs`, but with the first item `x`, if there is one,
+  -- replaced with `f x`. If `dedup_by` turns `v` into `w`, then the items of `w` are
+  -- `dedup same (map f xs)`.
   pub deduped_mapped : {A : Type 0} {s : S} {v w : Thin T A} (xs : List T) (x : T)
       → x ≡ slice_index_or xs 0 x → v.items ≡ slice_set xs 0 (f x) → IsDedupedBy R s v w
       → w.items ≡ dedup same (map f xs)

@@ -1,5 +1,5 @@
--- The lemmas of this file say which items `retain_mut` keeps if its closure asks a keeper. A keeper
--- is a value of the trait `Keeper`. It decides for each item whether the item is kept.
+-- These lemmas say which items `retain_mut` keeps if its closure asks a keeper. A keeper is a value
+-- whose type implements the trait `Keeper`. It decides for each item whether the item is kept.
 use Rattle.std.proofs.Common.{◌≡◌, Bool, true, List, [], ◌∷◌, sym, ap, ◌∙◌}
 use Rattle.thin_vec.specs.Edits.Retain.{Asked, IsRetained, left_at}
 use Rattle.thin_vec.specs.ThinVec.{Thin}

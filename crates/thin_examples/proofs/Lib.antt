@@ -1,6 +1,5 @@
--- The modules contain lemmas about `retain` with a closure that keeps all items, about splices,
--- about syntax trees, about `retain_mut`, and about `dedup_by` with a closure that changes the
--- items.
+-- These modules contain lemmas for the example functions. The lemmas are about `retain`,
+-- `retain_mut`, `dedup_by`, splices, and syntax trees.
 mod MovesLemmas
 mod SpliceLemmas
 mod TreeLemmas

@@ -1,5 +1,5 @@
--- The modules define what the contracts of this crate use. They are about syntax trees, last
--- digits, and keepers, which decide for each item whether the item is kept.
+-- These modules define what the contracts of this crate say about syntax trees, last digits, and
+-- keepers. A keeper decides for each item of a list whether the item is kept.
 pub mod SyntaxTree
 pub mod LastDigits
 pub mod Keepers

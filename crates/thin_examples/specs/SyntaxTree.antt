@@ -7,7 +7,7 @@ use Rattle.thin_examples.specs.declared.syntax_tree.Node.{Node, out-Node}
 use Rattle.thin_examples.specs.declared.syntax_tree.Node.TheFolds.{fold-Node}
 use Rattle.thin_examples.specs.declared.syntax_tree.Node.TheOpen.{Node-F}
 
--- `kind_of node` is the kind of the node, as a number.
+-- `kind_of node` is the number that represents the kind of the node.
 abbrev pub kind_of : Node → ℕ
 kind_of node = (out-Node node).kind
 

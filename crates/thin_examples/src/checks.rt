@@ -1,10 +1,10 @@
-//! The counter that a worked row uses to count its comparisons. A worked row compares the results
-//! of calls with values that were worked out by hand.
+//! The counter that a worked example uses to count its comparisons. A worked example compares the
+//! results of calls with values that were worked out by hand.
 use std::alloc::Allocator;
 use thin_vec::{Growth, ThinVec};
 
 /// Counts how many results were compared with expected values, and how many of these results were
-/// different from the expected values.
+/// different from the expected ones.
 #[derive(Clone, Copy)]
 pub struct Checks {
     compared: u32,
@@ -12,7 +12,7 @@ pub struct Checks {
 }
 
 impl Checks {
-    /// Makes a counter that has counted no comparison yet.
+    /// Makes a counter that has not counted any comparisons yet.
     pub fn new() -> Checks {
         Checks {
             compared: 0,
@@ -30,7 +30,7 @@ impl Checks {
         self.compared > 0 && self.wrong == 0
     }
 
-    /// Counts one comparison. If `right` is false, also counts a difference.
+    /// Counts one comparison, and counts it as wrong if `right` is false.
     pub fn is(&mut self, right: bool) {
         self.compared = self.compared.saturating_add(1);
         if !right {
@@ -43,8 +43,8 @@ impl Checks {
         self.is(found == wanted);
     }
 
-    /// Compares the items of `found` with the expected items of `wanted`, one by one. Also compares
-    /// the lengths of the two slices.
+    /// Compares the items of `found` with the items of `wanted`, which are the expected ones. Also
+    /// compares the lengths of the two slices.
     pub fn items<T: PartialEq>(&mut self, found: &[T], wanted: &[T]) {
         for (found, wanted) in found.iter().zip(wanted) {
             self.is(*found == *wanted);

@@ -12,8 +12,8 @@ use thin_runner::judge::Judge;
 use thin_runner::runner::run;
 use thin_vec::{Growth, ThinVec, ThinVecError};
 
-/// Pushes 1, 2 and 3 to `list`, and then pops one item, by carrying out four commands. If the list
-/// is empty before the call, it contains 1 and 2 after the call.
+/// Carries out four commands on `list`: pushes of 1, 2 and 3, and then a pop. If the list is empty
+/// before the call, it contains 1 and 2 after the call.
 ///
 /// # Errors
 ///
@@ -58,7 +58,7 @@ pub fn carry_out<T: Clone + Eq, A: Allocator + Copy, G: Growth, J: Judge<T>>(
     }
 }
 
-// Fails if a reply reports a failed call. The error is the cause of the first failure.
+// Fails if a reply reports a failed call. The error is the cause of the first failed call.
 fn all_granted<T, A: Allocator, G: Growth>(replies: &[Reply<T, A, G>]) -> Result<(), ThinVecError>
     ensures granted { OnOk result (All IsGranted replies.now) }
 {

@@ -29,7 +29,7 @@ pub fn keep_distinct<A: Allocator, G: Growth>(list: &mut ThinVec<u32, A, G>)
 }
 
 /// Removes each number `later` with `later / 10 == kept / 10`, where `kept` is the last number that
-/// was kept before it. For example, 17 is removed after 12.
+/// was kept before it. For example, 17 is removed if it follows 12.
 pub fn keep_tens<A: Allocator, G: Growth>(list: &mut ThinVec<u32, A, G>)
     ensures items { list.new.items ≡ dedup (λ later kept. later / 10 == kept / 10) list.old.items }
     ensures capacity { list.new.capacity ≡ list.old.capacity }
@@ -37,7 +37,8 @@ pub fn keep_tens<A: Allocator, G: Growth>(list: &mut ThinVec<u32, A, G>)
     list.dedup_by_key(|number: &mut u32| *number / 10);
 }
 
-/// Removes each number that has the same last digit as the number that was kept before it.
+/// Removes each number whose last digit is also the last digit of the number that was kept before
+/// it.
 pub fn keep_last_digits<A: Allocator, G: Growth>(list: &mut ThinVec<u32, A, G>)
     ensures items { list.new.items ≡ dedup (λ later kept. later % 10 == kept % 10) list.old.items }
     ensures capacity { list.new.capacity ≡ list.old.capacity }
@@ -46,8 +47,8 @@ pub fn keep_last_digits<A: Allocator, G: Growth>(list: &mut ThinVec<u32, A, G>)
 }
 
 /// Halves each number, and then removes each half that equals the half that was kept before it. The
-/// closure of `dedup_by` halves the later of two numbers before it compares them. The first number
-/// of the list is never the later one, so it is halved before the call of `dedup_by`.
+/// closure of `dedup_by` halves only the later of the two numbers that it compares. So the first
+/// number of the list is halved before the call of `dedup_by`.
 pub fn halve_each<A: Allocator, G: Growth>(list: &mut ThinVec<u32, A, G>)
     ensures items { list.new.items
         ≡ dedup (λ later kept. later == kept) (map (λ number. number / 2) list.old.items) }
@@ -75,8 +76,8 @@ pub trait Keeper<T>: Copy {
         ensures { keeps self.old item.old ≡ (result, (item.new, self.new)) };
 }
 
-/// Removes the items for which a copy of `keeper` returns false. The copy may write to the items.
-/// The value `keeper` itself does not change.
+/// Asks a copy of `keeper` about each item, and removes the items for which `keep` returns false.
+/// The copy may write to the items. The call does not change `keeper` itself.
 pub fn keep_by<T: Copy, A: Allocator, G: Growth, J: Keeper<T>>(
     list: &mut ThinVec<T, A, G>,
     keeper: &J,

@@ -6,8 +6,8 @@ ghost use Rattle.thin_vec.specs.ThinVec.{HasRoomFor, IsCause, capacity_for};
 use std::alloc::{AllocError, Allocator};
 use thin_vec::{Growth, ThinVec, ThinVecError};
 
-/// Halves each number, rounds the result down, and returns a list of the results in the same order.
-/// Returns `None` if there is no memory for the list.
+/// Halves each number, rounding down, and returns a list of the results in the same order. Returns
+/// `None` if there is no memory for the list.
 pub fn halves<A: Allocator>(alloc: A, numbers: &[u32]) -> Option<ThinVec<u32, A>>
     ensures succeeds_empty { length numbers.now ≡ 0 → IsSome result }
     ensures items { IfSome result (λ list. list.items ≡ map (λ number. number / 2) numbers.now) }
@@ -55,7 +55,7 @@ pub fn room_for_eight<A: Allocator>(alloc: A) -> Result<ThinVec<u64, A>, ThinVec
 ///
 /// # Errors
 ///
-/// Fails only if the allocator fails. Then the list does not change. The lemma `few_more` shows
+/// Fails only if the allocator fails. On failure, the list is unchanged. The lemma `few_more` shows
 /// that the capacity of such a short list cannot overflow.
 #[tactic(auto, using(thin_vec::proofs::FewLemmas::few_more))]
 pub fn reserve_eight<A: Allocator>(list: &mut ThinVec<u64, A>) -> Result<(), ThinVecError>
@@ -71,7 +71,7 @@ pub fn reserve_eight<A: Allocator>(list: &mut ThinVec<u64, A>) -> Result<(), Thi
 ///
 /// # Errors
 ///
-/// Fails if there is no room for the numbers.
+/// Fails if there is no memory for the numbers.
 pub fn joined<A: Allocator>(
     alloc: A,
     first: &[u32],
@@ -104,9 +104,8 @@ pub fn continued<A: Allocator, G: Growth>(
     Ok(copy)
 }
 
-/// Appends the numbers in order, and returns how many of them were appended. If there is no room
-/// for one of the numbers, that number and the numbers after it are not appended. The list keeps
-/// its old items in every case.
+/// Appends the numbers in order until there is no room for the next one, and returns how many of
+/// them were appended. The list keeps its old items in every case.
 pub fn extend_by_number<A: Allocator, G: Growth>(
     list: &mut ThinVec<u32, A, G>,
     numbers: &[u32],
@@ -129,7 +128,7 @@ pub fn extend_by_number<A: Allocator, G: Growth>(
 ///
 /// # Errors
 ///
-/// Fails if there is no room for the spaces. Then neither the text nor its capacity changes.
+/// Fails if there is no room for the spaces. On failure, the text and its capacity are unchanged.
 pub fn pad<A: Allocator, G: Growth>(
     text: &mut ThinVec<u8, A, G>,
     len: usize,
@@ -147,7 +146,7 @@ pub fn pad<A: Allocator, G: Growth>(
 ///
 /// # Errors
 ///
-/// Fails if there is no room for the line. Then neither the text nor its capacity changes.
+/// Fails if there is no room for the line. On failure, the text and its capacity are unchanged.
 pub fn append_line<A: Allocator, G: Growth>(
     text: &mut ThinVec<u8, A, G>,
     line: &[u8],
@@ -166,7 +165,7 @@ pub fn append_line<A: Allocator, G: Growth>(
 /// # Errors
 ///
 /// Fails with `CapacityOverflow` if the growth rule of `list` provides no capacity for so many
-/// items, and with `OutOfMemory` if the allocator fails. In both cases, neither list changes.
+/// items, and with `OutOfMemory` if the allocator fails. On failure, both lists are unchanged.
 pub fn take_all<T, A: Allocator, G: Growth>(
     list: &mut ThinVec<T, A, G>,
     other: &mut ThinVec<T, A, G>,
@@ -179,7 +178,7 @@ pub fn take_all<T, A: Allocator, G: Growth>(
     ensures succeeds { HasRoomFor list.old (length other.old.items) → IsOk result }
     ensures succeeds_empty { other.old.items ≡ [] → IsOk result }
 
-    // On failure, the call returns the cause, and neither list changes.
+    // On failure, the call returns the cause, and both lists are unchanged.
     ensures overflow { capacity_for G.rule T.row list.old (length other.old.items) ≡ None
         → IsErrOf result ThinVecError.CapacityOverflow }
     ensures cause { IfErr result
@@ -190,7 +189,7 @@ pub fn take_all<T, A: Allocator, G: Growth>(
     list.append(other)
 }
 
-/// Subtracts `less` from the first number of the list. Returns the value that this number had
+/// Subtracts `less` from the first number of the list, and returns the value that this number had
 /// before the call.
 pub fn lower_first<A: Allocator, G: Growth>(list: &mut ThinVec<u32, A, G>, less: u32) -> u32
     requires some { 0 < length list.old.items }

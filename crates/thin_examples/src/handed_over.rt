@@ -6,12 +6,11 @@ ghost use Rattle.thin_vec.specs.ThinVec.{HasRoomFor};
 use std::alloc::Allocator;
 use thin_vec::{Growth, ThinVec, ThinVecError};
 
-/// Moves the items of `list` at the indices `start..end` to the end of `other`. If the call fails,
-/// it moves no item.
+/// Moves the items of `list` at the indices `start..end` to the end of `other`.
 ///
 /// # Errors
 ///
-/// Fails if `other` cannot reserve room for the items. Then neither list changes.
+/// Fails if `other` cannot reserve room for the items. On failure, both lists are unchanged.
 pub fn hand_over<T: Drop, A: Allocator, G: Growth>(
     list: &mut ThinVec<T, A, G>,
     start: usize,
@@ -35,12 +34,12 @@ pub fn hand_over<T: Drop, A: Allocator, G: Growth>(
     Ok(())
 }
 
-/// Moves the items of `list` at the indices `start..end` to the end of `other`, like `hand_over`.
-/// The loop calls `next` explicitly.
+/// Moves the items of `list` at the indices `start..end` to the end of `other`. This is the
+/// function `hand_over` with a loop that calls `next` explicitly.
 ///
 /// # Errors
 ///
-/// Fails if `other` cannot reserve room for the items. Then neither list changes.
+/// Fails if `other` cannot reserve room for the items. On failure, both lists are unchanged.
 pub fn hand_over_stepwise<T: Drop, A: Allocator, G: Growth>(
     list: &mut ThinVec<T, A, G>,
     start: usize,
@@ -65,11 +64,12 @@ pub fn hand_over_stepwise<T: Drop, A: Allocator, G: Growth>(
     Ok(())
 }
 
-/// Moves the odd numbers of `list` to the end of `other`. If the call fails, it moves no number.
+/// Moves the odd numbers of `list` to the end of `other`.
 ///
 /// # Errors
 ///
-/// Fails if `other` cannot reserve room for `list.len()` numbers. Then neither list changes.
+/// Fails if `other` cannot reserve room for `list.len()` numbers. On failure, both lists are
+/// unchanged.
 pub fn hand_over_odd<A: Allocator, G: Growth>(
     list: &mut ThinVec<u32, A, G>,
     other: &mut ThinVec<u32, A, G>,
@@ -92,11 +92,11 @@ pub fn hand_over_odd<A: Allocator, G: Growth>(
 }
 
 /// Moves the odd numbers of `list` to the end of `odd`, and the even numbers to the end of `even`.
-/// If the call fails, it drops all numbers of `list`, and appends none of them.
 ///
 /// # Errors
 ///
-/// Fails if `odd` or `even` cannot reserve room for `list.len()` numbers.
+/// Fails if `odd` or `even` cannot reserve room for `list.len()` numbers. On failure, all numbers
+/// of `list` are dropped, and none of them is appended.
 pub fn divide<A: Allocator, G: Growth>(
     list: ThinVec<u32, A, G>,
     odd: &mut ThinVec<u32, A, G>,
@@ -121,12 +121,12 @@ pub fn divide<A: Allocator, G: Growth>(
     Ok(())
 }
 
-/// Doubles each number of `numbers`, and appends the results to `list`, in order. If the call
-/// fails, it appends nothing. The call requests memory at most once.
+/// Doubles each number of `numbers`, and appends the results to `list`, in order. Requests memory
+/// at most once.
 ///
 /// # Errors
 ///
-/// Fails if the list cannot reserve room for the numbers. Then the list does not change.
+/// Fails if the list cannot reserve room for the numbers. On failure, the list is unchanged.
 pub fn append_doubled<A: Allocator, G: Growth>(
     list: &mut ThinVec<u64, A, G>,
     numbers: &[u32],

@@ -7,9 +7,9 @@ ghost use Rattle.thin_vec.specs.ThinVec.{IsWithin};
 use std::alloc::Allocator;
 use thin_vec::{Growth, Rejected, ThinVec};
 
-/// Returns `start + count`, the index after the `count` items that begin at `start`. The sum cannot
-/// overflow, because the precondition `within` limits the length to `isize::MAX`. The contracts of
-/// the methods of `ThinVec` ensure this limit.
+/// Returns `start + count`, the index directly after the `count` items that begin at `start`. The
+/// sum cannot overflow, because the precondition `within` limits the length to `isize::MAX`. The
+/// contracts of the methods of `ThinVec` ensure this limit.
 pub fn run_end<T, A: Allocator, G: Growth>(
     list: &ThinVec<T, A, G>,
     start: usize,
@@ -56,13 +56,13 @@ pub fn set_to_zero<A: Allocator, G: Growth>(list: &mut ThinVec<u32, A, G>)
     list.as_mut_slice().fill(0);
 }
 
-/// Inserts `value` at `index`, then removes `value` again, and returns it. The lemma `undone` shows
-/// that the list has the same items after the call as before the call.
+/// Inserts `value` at `index`, removes it from the list again, and returns it. The lemma `undone`
+/// shows that the list then has the same items as before the call.
 ///
 /// # Errors
 ///
-/// Fails if there is no room for `value`. The error holds `value`, and the items of the list do not
-/// change.
+/// Fails if there is no room for `value`. On failure, the items of the list are unchanged, and the
+/// error contains `value`.
 #[tactic(auto, using(thin_vec::proofs::UndoLemmas::undone))]
 pub fn insert_and_remove<T: Drop, A: Allocator, G: Growth>(
     list: &mut ThinVec<T, A, G>,

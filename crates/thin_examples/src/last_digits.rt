@@ -1,4 +1,4 @@
-//! Numbers that are equal if their last decimal digits are equal.
+//! A type of numbers that are equal if and only if their last decimal digits are equal.
 ghost use Rattle.std.proofs.Common.{rules};
 ghost use Rattle.std.specs.Cmp.{partial_order_from_own_ties};
 ghost use Rattle.std.specs.Cmp.Rules.{comparing, hashing};

@@ -1,5 +1,5 @@
-//! Example functions that use `ThinVec`, for you to copy. The crate also contains the worked rows,
-//! which the program `thin_bench` runs. A worked row is a function that compares the results of
+//! Example functions that use `ThinVec` and are meant to be copied. The crate also contains the
+//! worked examples, which the program `thin_bench` runs. A worked example compares the results of
 //! calls with values that were worked out by hand.
 #![tactic(auto)]
 

@@ -6,15 +6,14 @@ ghost use Rattle.thin_vec.specs.ThinVec.{HasRoomFor};
 use std::alloc::{AllocError, Allocator};
 use thin_vec::{Growth, ThinVec};
 
-/// Moves the numbers of `list` at the indices `start..end` to the end of `other`. If the call
-/// fails, it moves no number.
+/// Moves the numbers of `list` at the indices `start..end` to the end of `other`.
 ///
-/// The function keeps the `Drain` itself, and passes only a slice of the numbers to `other`. If it
-/// passed on the `Drain`, no contract would say which items `list` has afterwards.
+/// The function keeps the `Drain` itself, and passes only a slice of the numbers to `other`. If the
+/// function passed the `Drain` to `other`, no contract would say which items `list` has afterwards.
 ///
 /// # Errors
 ///
-/// Fails if `other` cannot reserve room for the numbers. Then neither list changes.
+/// Fails if `other` cannot reserve room for the numbers. On failure, both lists are unchanged.
 pub fn move_range<A: Allocator, G: Growth>(
     list: &mut ThinVec<u32, A, G>,
     start: usize,

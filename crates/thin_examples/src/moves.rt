@@ -10,7 +10,7 @@ use thin_vec::{Growth, ThinVec, thin_vec};
 ///
 /// # Errors
 ///
-/// Fails if there is no room for `value`. Then `value` is dropped.
+/// Fails if there is no room for `value`. On failure, `value` is dropped.
 pub fn inserted_second<T: Drop, A: Allocator, G: Growth>(
     list: &mut ThinVec<T, A, G>,
     value: T,
@@ -63,8 +63,9 @@ pub fn kept_all<T: Drop, A: Allocator, G: Growth>(list: &mut ThinVec<T, A, G>)
     list.retain(|_item: &T| true);
 }
 
-/// Extracts the first even number of the range `1..5`, and tests no number after it. The list
-/// contains the numbers 1 to 6, so the call extracts 2, and moves the four numbers after 2.
+/// Extracts the first even number among the numbers at the indices `1..5`, without testing the
+/// numbers after it. The list contains the numbers 1 to 6, so the call extracts 2, and moves the
+/// four numbers after 2.
 pub fn extracted_first<A: Allocator, G: Growth>(list: &mut ThinVec<u32, A, G>) -> Option<u32>
     requires to_six { list.old.items ≡ 1 ∷ 2 ∷ 3 ∷ 4 ∷ 5 ∷ 6 ∷ [] }
     ensures value { result ≡ Some 2 }
@@ -97,7 +98,7 @@ pub fn spliced_middle<A: Allocator + Copy, G: Growth>(
 }
 
 /// Makes a list, appends six items, replaces two of them with one item, extracts two items, and
-/// pops one item. Two items remain. All of this makes at most 14 moves.
+/// pops one item. Two items remain. In total, items are moved at most 14 times.
 ///
 /// # Errors
 ///

@@ -33,7 +33,7 @@ impl<S: Drop> From<Rejected<S>> for OrderError {
 /// # Errors
 ///
 /// Returns `NoPiece` if `pieces` is 0, and `NoRoom` if there is no room for the order. In both
-/// cases, `orders` does not change.
+/// cases, `orders` is unchanged.
 pub fn take_order<A: Allocator, G: Growth>(
     orders: &mut ThinVec<u32, A, G>,
     pieces: u32,
@@ -50,11 +50,12 @@ pub fn take_order<A: Allocator, G: Growth>(
     Ok(())
 }
 
-/// Moves all orders of `other` to the end of `orders`, or moves no order.
+/// Moves all orders of `other` to the end of `orders`.
 ///
 /// # Errors
 ///
-/// Returns `NoRoom` if there is no room for the orders of `other`. Then neither list changes.
+/// Returns `NoRoom` if there is no room for the orders of `other`. On failure, both lists are
+/// unchanged.
 pub fn take_orders<A: Allocator, G: Growth>(
     orders: &mut ThinVec<u32, A, G>,
     other: &mut ThinVec<u32, A, G>,

@@ -1,5 +1,5 @@
-//! Example functions that replace a range of a list with other items. If such a function fails, the
-//! list keeps its old items.
+//! Example functions that replace a range of a list with other items. If one of these functions
+//! fails, the list keeps its old items.
 ghost use Rattle.std.specs.List.{replace_range};
 ghost use Rattle.std.specs.Prelude.{◌≡◌, ◌-◌, ◌≤◌, [], IsOk, OnErr, OnOk, length};
 ghost use Rattle.thin_vec.specs.Edits.ReplaceRange.{ReplacesByClones};
@@ -12,7 +12,7 @@ use thin_vec::{Growth, ThinVec, ThinVecError};
 ///
 /// # Errors
 ///
-/// Fails if there is no room for `word`. Then nothing changes.
+/// Fails if there is no room for `word`. On failure, the list is unchanged.
 pub fn replace_word<A: Allocator, G: Growth>(
     text: &mut ThinVec<u8, A, G>,
     start: usize,
@@ -50,7 +50,7 @@ pub fn shorten_to<A: Allocator, G: Growth>(
 ///
 /// # Errors
 ///
-/// Fails if there is no room for the lines of `newer`. Then neither list changes.
+/// Fails if there is no room for the lines of `newer`. On failure, both lists are unchanged.
 pub fn replace_lines<T: Drop, A: Allocator, G: Growth>(
     lines: &mut ThinVec<T, A, G>,
     start: usize,
@@ -73,8 +73,8 @@ pub fn replace_lines<T: Drop, A: Allocator, G: Growth>(
 ///
 /// # Errors
 ///
-/// Fails if there is no room for the clones, or if a name cannot be cloned. Then the list keeps its
-/// old names, but its capacity may have grown.
+/// Fails if there is no room for the clones, or if a name cannot be cloned. On failure, the list
+/// keeps its old names, but its capacity may have grown.
 pub fn insert_names<T: Clone, A: Allocator, G: Growth>(
     list: &mut ThinVec<T, A, G>,
     at: usize,

@@ -1,5 +1,5 @@
-//! An example function that reserves room for two items. After that, it pushes the two items by
-//! calls that cannot fail.
+//! An example function that reserves room for two items, and then pushes the two items with calls
+//! that cannot fail.
 ghost use Rattle.std.specs.Prelude.{◌≡◌, ◌++◌, [], ◌∷◌, IfErr, IsErrOf, IsOk, None, OnErr, OnOk};
 ghost use Rattle.thin_vec.specs.ThinVec.{HasRoomFor, IsCause, capacity_for};
 
@@ -12,8 +12,8 @@ use thin_vec::{Growth, ThinVec, ThinVecError};
 /// # Errors
 ///
 /// Fails with `CapacityOverflow` if the growth rule of the list provides no capacity for two more
-/// items, and with `OutOfMemory` if the allocator fails. In both cases, the list does not change,
-/// and both items are dropped.
+/// items, and with `OutOfMemory` if the allocator fails. On failure, the list is unchanged, and
+/// both items are dropped.
 pub fn push_both<T: Drop, A: Allocator, G: Growth>(
     list: &mut ThinVec<T, A, G>,
     first: T,

@@ -1,6 +1,6 @@
-//! The worked rows. A worked row is a function that makes calls, and compares their results with
-//! values that were worked out by hand. It returns an error only if one of its calls fails
-//! unexpectedly.
+//! The worked examples, which the code calls rows. A worked example is a function that makes calls,
+//! and compares their results with values that were worked out by hand. It returns an error only if
+//! one of its calls fails unexpectedly.
 ghost use Rattle.std.specs.Prelude.{◌≡◌, IfOk};
 
 mod bulk;
@@ -25,21 +25,21 @@ use crate::rows::splices::{row_10, row_11, row_22, row_32};
 use std::alloc::Allocator;
 use thin_vec::{ThinVec, ThinVecError};
 
-/// The numbers of the worked rows that the program `thin_bench` runs.
+/// The numbers of the worked examples that the program `thin_bench` runs.
 pub const ROWS: [u32; 35] = [
     1, 2, 3, 4, 5, 6, 7, 8, 9, 10, 11, 13, 14, 15, 17, 18, 19, 20, 21, 22, 23, 24, 25, 27, 28, 29,
     30, 31, 32, 33, 34, 35, 36, 40, 41,
 ];
 
-/// The result of a worked row. It holds the number of comparisons, or the cause of the failure if
-/// one of the calls failed unexpectedly.
+/// The result of a worked example: the number of its comparisons and how many of them were wrong,
+/// or the cause of a call that failed unexpectedly.
 pub type Outcome = Result<Checks, ThinVecError>;
 
-/// Runs the worked row with the number `number`. If there is no such row, compares nothing.
+/// Runs the worked example with the number `number`. If there is no such example, compares nothing.
 ///
 /// # Errors
 ///
-/// Fails if one of the calls in the row fails unexpectedly.
+/// Fails if one of the calls in the example fails unexpectedly.
 pub fn row<A: Allocator + Copy>(alloc: A, number: u32) -> Outcome {
     match number {
         1 => row_1(alloc),
@@ -81,7 +81,7 @@ pub fn row<A: Allocator + Copy>(alloc: A, number: u32) -> Outcome {
     }
 }
 
-// Makes a list that holds `items` and has no spare capacity.
+// Makes a list that contains `items` and has no spare capacity.
 fn listed<T: Drop, A: Allocator, const N: usize>(
     alloc: A,
     items: [T; N],

@@ -1,4 +1,4 @@
-//! Example functions that reserve room for several items, and then append the items by calls that
+//! Example functions that reserve room for several items, and then append the items with calls that
 //! cannot fail.
 ghost use Rattle.std.specs.Prelude.{◌≡◌, ◌+◌, ◌<◌, ◌++◌, [], ◌∷◌, IsOk, OnErr, OnOk, length};
 ghost use Rattle.thin_vec.specs.ThinVec.{HasRoomFor};
@@ -10,7 +10,7 @@ use thin_vec::{Growth, ThinVec, ThinVecError};
 ///
 /// # Errors
 ///
-/// Fails if there is no room for the bytes. Then the text does not change.
+/// Fails if there is no room for the bytes. On failure, the text is unchanged.
 pub fn append_line<A: Allocator, G: Growth>(
     text: &mut ThinVec<u8, A, G>,
     line: &[u8],
@@ -26,12 +26,12 @@ pub fn append_line<A: Allocator, G: Growth>(
     Ok(())
 }
 
-/// Moves all items of `first`, and then all items of `second`, to the end of `list`, or moves no
-/// item.
+/// Moves all items of `first`, and then all items of `second`, to the end of `list`.
 ///
 /// # Errors
 ///
-/// Fails if there is no room for the items of both lists. Then none of the three lists changes.
+/// Fails if there is no room for the items of both lists. On failure, all three lists are
+/// unchanged.
 pub fn append_both<T, A: Allocator, G: Growth>(
     list: &mut ThinVec<T, A, G>,
     first: &mut ThinVec<T, A, G>,

@@ -1,11 +1,10 @@
-//! An example function that sorts the items of a list by a method of slices.
+//! An example function that sorts the items of a list with a method of slices.
 ghost use Rattle.std.specs.Prelude.{◌≡◌, IsPermutation, IsSorted};
 
 use std::alloc::Allocator;
 use thin_vec::{Growth, ThinVec};
 
-/// Sorts the items in place, by the method `sort_unstable` of slices. The list keeps its
-/// allocation.
+/// Sorts the items in place with the slice method `sort_unstable`. The list keeps its allocation.
 pub fn sort<T: Ord, A: Allocator, G: Growth>(list: &mut ThinVec<T, A, G>)
     ensures sorted { IsSorted T.cmp list.new.items }
     ensures permutation { IsPermutation list.old.items list.new.items }

@@ -27,7 +27,7 @@ pub fn for_a_week(alloc: Global) -> Result<Rows<u32>, ThinVecError>
 ///
 /// # Errors
 ///
-/// Fails if there is no room for a new entry. Then the table does not change.
+/// Fails if there is no room for a new entry. On failure, the table is unchanged.
 pub fn add<A: Allocator>(
     counts: &mut Rows<u32, A>,
     row: usize,
@@ -46,12 +46,12 @@ pub fn add<A: Allocator>(
     Ok(())
 }
 
-/// Sets the count at `row` and `column` to `count`, then reads the count again and returns it. The
-/// lemma `written` shows that the returned count is `count`.
+/// Sets the count at `row` and `column` to `count`, then reads this count from the table and
+/// returns it. The lemma `written` shows that the returned count is `count`.
 ///
 /// # Errors
 ///
-/// Fails if there is no room for a new entry. Then the table does not change.
+/// Fails if there is no room for a new entry. On failure, the table is unchanged.
 #[tactic(auto, using(thin_rows::proofs::TableLemmas::written))]
 pub fn set_and_read<A: Allocator>(
     counts: &mut Rows<u32, A>,
@@ -76,8 +76,8 @@ pub fn take<A: Allocator>(counts: &mut Rows<u32, A>, row: usize, column: usize) 
     counts.remove(row, column).unwrap_or(0)
 }
 
-/// Halves the count at `row` and `column`, and rounds the half down. If there is no count, nothing
-/// changes. The function requests no memory.
+/// Halves the count at `row` and `column`, rounding down. If there is no count, nothing changes.
+/// Requests no memory.
 pub fn halve<A: Allocator>(counts: &mut Rows<u32, A>, row: usize, column: usize)
     requires in_bounds { row < length counts.old }
     ensures none { IsNone (value_at counts.old row column) → counts.new ≡ counts.old }

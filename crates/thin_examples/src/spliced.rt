@@ -8,13 +8,13 @@ use thin_vec::{Growth, SpliceRefused, ThinVec};
 
 /// Replaces the items at the indices `range.0..range.1` with the items that `iter` yields.
 ///
-/// The function is generic in the iterator. To prove a splice with an iterator that borrows, such
-/// as an iterator over a slice, call a generic function like this one.
+/// The function is generic in the type of the iterator. To prove a splice with an iterator that
+/// borrows, such as an iterator over a slice, call a generic function like this one.
 ///
 /// # Errors
 ///
 /// Fails if there is no room for the items. The error contains the items that were taken from the
-/// iterator but were not inserted, and the iterator with the remaining items.
+/// iterator but were not inserted, and the iterator, which yields the remaining items.
 pub fn splice_by<T: Drop, A: Allocator, G: Growth, I: Iterator<Item = T>>(
     list: &mut ThinVec<T, A, G>,
     range: (usize, usize),
@@ -36,8 +36,8 @@ pub fn splice_by<T: Drop, A: Allocator, G: Growth, I: Iterator<Item = T>>(
 ///
 /// # Errors
 ///
-/// Fails if there is no room for the numbers. Then the numbers that fit have replaced the range,
-/// and the other numbers are dropped.
+/// Fails if there is no room for the numbers. On failure, the range has been replaced with only the
+/// numbers that fit, and the other numbers are dropped.
 pub fn splice_numbers<A: Allocator, G: Growth>(
     list: &mut ThinVec<u32, A, G>,
     start: usize,

@@ -27,8 +27,8 @@ pub fn doubled<A: Allocator>(alloc: A, numbers: &[u32]) -> Result<ThinVec<u64, A
 ///
 /// # Errors
 ///
-/// Fails if there is no room for the bytes. Then `bytes` keeps its old bytes, but `line` may have
-/// been appended without the newline.
+/// Fails if there is no room for the bytes. On failure, `bytes` keeps its old bytes, but `line` may
+/// have been appended without the newline.
 pub fn write_line<A: Allocator, G: Growth>(
     bytes: &mut ThinVec<u8, A, G>,
     line: &[u8],
@@ -47,7 +47,7 @@ pub fn write_line<A: Allocator, G: Growth>(
 ///
 /// # Errors
 ///
-/// Fails if there is no room for the numbers. Then the whole list is dropped.
+/// Fails if there is no room for the numbers. On failure, the whole list is dropped.
 pub fn with_numbers<A: Allocator, G: Growth>(
     mut list: ThinVec<u32, A, G>,
     more: &[u32],

@@ -1,4 +1,4 @@
-//! Example functions that use `thin_vec!` with the syntax of std's `vec!`, or use std's traits
+//! Example functions that use `thin_vec!` with the syntax of std's `vec!`, or that use std's traits
 //! `Emptied` and `MadeWith`.
 ghost use Rattle.std.specs.Prelude.{◌≡◌, [], ◌∷◌, IfOk, OnErr, OnOk, replicate};
 
@@ -35,7 +35,7 @@ pub fn zeros<A: Allocator>(alloc: A, count: usize) -> Result<ThinVec<u32, A>, Th
 ///
 /// # Errors
 ///
-/// Fails if the allocator cannot be cloned. Then the list does not change.
+/// Fails if the allocator cannot be cloned. On failure, the list is unchanged.
 pub fn take_list<T, A: Allocator + Clone, G: Growth>(
     list: &mut ThinVec<T, A, G>,
 ) -> Result<ThinVec<T, A, G>, AllocError>
@@ -46,16 +46,16 @@ pub fn take_list<T, A: Allocator + Clone, G: Growth>(
     mem::try_take(list)
 }
 
-/// Makes an empty list by the trait `MadeWith`. The method `or_default` of std's maps uses the same
-/// trait.
+/// Makes an empty list using the trait `MadeWith`. The method `or_default` of std's maps uses the
+/// same trait.
 pub fn made<A: Allocator, G: Growth>(alloc: A) -> ThinVec<u32, A, G>
     ensures items { result.items ≡ [] }
 {
     MadeWith::made_with(alloc)
 }
 
-/// Appends `number` to the list that `lists` contains for `key`. If there is no such list, a new
-/// list is inserted first.
+/// Appends `number` to the list that the map `lists` contains for `key`. If there is no such list,
+/// a new list is first inserted into the map.
 ///
 /// # Errors
 ///

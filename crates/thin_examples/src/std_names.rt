@@ -1,5 +1,5 @@
-//! Example calls of methods that `ThinVec` has in common with std's `Vec`. The Rust crate thin-vec
-//! does not have these methods.
+//! Examples of methods that `ThinVec` has in common with std's `Vec`. The Rust crate thin-vec does
+//! not have these methods.
 ghost use Rattle.std.specs.Prelude.{◌≡◌, ◌-◌, ◌≤◌, [], ◌∷◌, ◌++◌, IfNone, IfSome, IsOk, OnErr, OnOk, insert, length, max, slice_range};
 ghost use Rattle.thin_vec.specs.ThinVec.{HasRoomFor};
 
@@ -11,7 +11,7 @@ use thin_vec::{Growth, ThinVec, ThinVecError};
 ///
 /// # Errors
 ///
-/// Fails if the allocator fails. Then nothing changes.
+/// Fails if the allocator fails. On failure, nothing changes.
 pub fn trim<T, A: Allocator, G: Growth>(
     list: &mut ThinVec<T, A, G>,
     most: usize,
@@ -38,7 +38,7 @@ pub fn pop_even<A: Allocator, G: Growth>(list: &mut ThinVec<u32, A, G>) -> Optio
 ///
 /// # Errors
 ///
-/// Fails if there is no room for the zeros. Then nothing changes.
+/// Fails if there is no room for the zeros. On failure, nothing changes.
 pub fn set_length<A: Allocator, G: Growth>(
     list: &mut ThinVec<u32, A, G>,
     len: usize,
@@ -50,11 +50,12 @@ pub fn set_length<A: Allocator, G: Growth>(
     list.resize_with(len, || 0)
 }
 
-/// Appends copies of the list's own numbers at the indices `start..end`.
+/// Copies the numbers at the indices `start..end` of the list, and appends the copies to the same
+/// list.
 ///
 /// # Errors
 ///
-/// Fails if there is no room for the copies. Then nothing changes.
+/// Fails if there is no room for the copies. On failure, nothing changes.
 pub fn repeat_range<A: Allocator, G: Growth>(
     list: &mut ThinVec<u32, A, G>,
     start: usize,
@@ -70,11 +71,11 @@ pub fn repeat_range<A: Allocator, G: Growth>(
     list.extend_from_within(start, end)
 }
 
-/// Appends 0, and overwrites it with `number` through the returned reference.
+/// Appends 0, and overwrites this 0 with `number` through the reference that `push_mut` returns.
 ///
 /// # Errors
 ///
-/// Fails if there is no room for one more number. Then nothing changes.
+/// Fails if there is no room for one more number. On failure, nothing changes.
 pub fn push_set<A: Allocator, G: Growth>(
     list: &mut ThinVec<u32, A, G>,
     number: u32,
@@ -88,11 +89,12 @@ pub fn push_set<A: Allocator, G: Growth>(
     Ok(())
 }
 
-/// Inserts 0 at the front, and overwrites it with `number` through the returned reference.
+/// Inserts 0 at the front, and overwrites this 0 with `number` through the reference that
+/// `insert_mut` returns.
 ///
 /// # Errors
 ///
-/// Fails if there is no room for one more number. Then nothing changes.
+/// Fails if there is no room for one more number. On failure, nothing changes.
 pub fn insert_set<A: Allocator, G: Growth>(
     list: &mut ThinVec<u32, A, G>,
     number: u32,

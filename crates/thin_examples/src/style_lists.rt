@@ -1,4 +1,5 @@
-//! Example functions that compare and hash lists. Only the items matter, and the capacities do not.
+//! Example functions that compare and hash lists. Only the items of the lists matter, not their
+//! capacities.
 ghost use Rattle.std.specs.Prelude.{◌≡◌, ◌↔◌, IsTrue, fold};
 ghost use Rattle.std.specs.Hash as fed;
 ghost use Rattle.std.specs.Hash.DefaultHasher as sip;
@@ -18,7 +19,7 @@ pub fn same_style<A: Allocator, G: Growth>(
     one == other
 }
 
-/// Returns the hash of a style, computed by std's `DefaultHasher`. The hash depends on the rules
+/// Returns the hash of a style, which std's `DefaultHasher` computes. The hash depends on the rules
 /// alone, so equal styles have equal hashes.
 pub fn style_hash<A: Allocator, G: Growth>(style: &ThinVec<u32, A, G>) -> u64
     ensures value { result ≡ sip.finish

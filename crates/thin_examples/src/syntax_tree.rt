@@ -32,8 +32,8 @@ impl Node {
     ///
     /// # Errors
     ///
-    /// Fails if there is no room for one more child. The error holds `child` with all nodes below
-    /// it, and this node does not change.
+    /// Fails if there is no room for one more child. On failure, this node is unchanged, and the
+    /// error contains `child` with all nodes below it.
     pub fn add_child(&mut self, child: Node) -> Result<(), Rejected<Node>>
         ensures succeeds { HasRoomFor (children_of self.old) 1 → IsOk result }
         ensures kind { kind_of self.new ≡ kind_of self.old }
@@ -46,8 +46,8 @@ impl Node {
         self.children.push(child)
     }
 
-    /// Returns the number of nodes in the tree below this node, including this node. Returns
-    /// `u64::MAX` if there are more nodes than that.
+    /// Returns the number of nodes in the tree whose root is this node. Returns `u64::MAX` if there
+    /// are more nodes than that.
     pub fn count(&self) -> u64
         ensures value { result ≡ min (node_count self.now) (2 ^ 64 - 1) }
     {

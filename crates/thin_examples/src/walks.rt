@@ -28,22 +28,22 @@ pub fn least(list: ThinVec<u32, Global>, start: u32) -> u32
     least
 }
 
-/// Moves the items of `list` into a `Vec`, by `collect`.
+/// Moves the items of `list` into a `Vec`, using `collect`.
 ///
 /// # Errors
 ///
-/// Fails if the allocator fails. Then the items are dropped.
+/// Fails if the allocator fails. On failure, the items are dropped.
 pub fn collected(list: ThinVec<u32, Global>, alloc: Global) -> Result<Vec<u32>, AllocError>
     ensures items { IfOk result (λ vec. vec.items ≡ list.items) }
 {
     list.into_iter().collect(alloc)
 }
 
-/// Moves the items of `list` into a `Vec` in reverse order, by `rev` and `collect`.
+/// Moves the items of `list` into a `Vec` in reverse order, using `rev` and `collect`.
 ///
 /// # Errors
 ///
-/// Fails if the allocator fails. Then the items are dropped.
+/// Fails if the allocator fails. On failure, the items are dropped.
 pub fn reversed(list: ThinVec<u32, Global>, alloc: Global) -> Result<Vec<u32>, AllocError>
     ensures items { IfOk result (λ vec. vec.items ≡ reverse list.items) }
 {
@@ -55,7 +55,7 @@ pub fn reversed(list: ThinVec<u32, Global>, alloc: Global) -> Result<Vec<u32>, A
 ///
 /// # Errors
 ///
-/// Fails if the allocator fails. Then the items are dropped.
+/// Fails if the allocator fails. On failure, the items are dropped.
 pub fn reversed_singly<A: Allocator, G: Growth>(
     list: ThinVec<u32, A, G>,
     alloc: Global,
@@ -70,11 +70,11 @@ pub fn reversed_singly<A: Allocator, G: Growth>(
     Ok(vec)
 }
 
-/// Moves the items of `list` into a `Vec` one by one, by calls of `next`.
+/// Moves the items of `list` into a `Vec` one by one, using calls of `next`.
 ///
 /// # Errors
 ///
-/// Fails if the allocator fails. Then the items are dropped.
+/// Fails if the allocator fails. On failure, the items are dropped.
 pub fn carried_over(list: ThinVec<u32, Global>, alloc: Global) -> Result<Vec<u32>, AllocError>
     ensures succeeds_empty { list.items ≡ [] → IsOk result }
     ensures items { IfOk result (λ vec. vec.items ≡ list.items) }

@@ -1,4 +1,4 @@
--- The modules contain lemmas. `RunLemmas` is about runs of a single command, and `WordsLemmas` is
+-- These modules contain lemmas. `RunLemmas` is about runs of a single command, and `WordsLemmas` is
 -- about parsing the words of a line one by one.
 mod RunLemmas
 mod WordsLemmas

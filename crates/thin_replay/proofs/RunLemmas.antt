@@ -1,5 +1,5 @@
--- The lemmas of this file say that a run of a single command has exactly one reply, and that the
--- main theorem of `thin_runner`, `Headline`, holds for this reply.
+-- These lemmas say that a run of a single command has exactly one reply, and that `Headline`, the
+-- main theorem of `thin_runner`, holds for this reply.
 use Rattle.std.proofs.Common.{◌≡◌, List, [], ◌∷◌, ◌++◌, Option, Some, ap, arith, length, length-append, refl, subst, sym, ◌∙◌}
 use Rattle.std.specs.Option.{option_to_list}
 use Rattle.thin_vec.specs.ThinVec.{Thin}
@@ -9,13 +9,13 @@ use Rattle.thin_runner.specs.Setting.{Setting}
 use Rattle.thin_runner.specs.declared.command.Command.{Command}
 use Rattle.thin_runner.specs.declared.command.Reply.{Reply}
 
--- If the list `front ++ x ∷ []` has the length 1, then it is `x ∷ []`.
+-- If the list `front ++ x ∷ []` has length 1, then this list is `x ∷ []`.
 alone : {X : Type 0} (front : List X) (x : X) → length (front ++ x ∷ []) ≡ 1
     → front ++ x ∷ [] ≡ x ∷ []
 alone [] x one = refl
 alone (y ∷ front) x one = absurd (omega (arith, length-append front (x ∷ [])))
 
--- Assume that the list `commands` consists of the single command `command`, that there are no
+-- This module assumes that `commands` consists of the single command `command`, that there are no
 -- replies before the run, and that the main theorem `Headline` holds for the run.
 module _ {T A G J : Type 0} (here : Setting T A J) (old new : Thin T A)
     (command : Command T A G) (commands : List (Command T A G)) (before after : List (Reply T A G))
@@ -28,15 +28,15 @@ module _ {T A G J : Type 0} (here : Setting T A J) (old new : Thin T A)
   has_one (reply ∷ []) run = refl
   has_one (reply ∷ more ∷ replies) run = absurd run.1.1
 
-  -- After the run, there is exactly one reply.
+  -- The list of replies has exactly one item after the run.
   pub one_reply : length after ≡ 1
   one_reply =
       ap length (headline.appended ∙ ap (λ (l : List (Reply T A G)). l ++ headline.replies) none)
       ∙ has_one headline.replies
       (subst (λ cs. Runs here old cs headline.replies new) one headline.allowed)
 
-  -- If popping from the list `after` of replies returns `reply`, then the main theorem `Headline`
-  -- holds for the single command, with `reply` as its only reply.
+  -- Suppose that popping from `after`, the list of replies after the run, returns `reply`. Then the
+  -- main theorem `Headline` holds for the single command with the single reply `reply`.
   pub headline-one : (left : List (Reply T A G)) (popped : Option (Reply T A G))
       (reply : Reply T A G) → after ≡ left ++ option_to_list popped → popped ≡ Some reply
       → Headline here old (command ∷ []) [] (reply ∷ []) new

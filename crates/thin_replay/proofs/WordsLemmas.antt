@@ -1,5 +1,5 @@
--- The lemmas of this file are about words that are parsed one by one. The relation `R` relates each
--- word to the value that the word is parsed as.
+-- These lemmas are about words that are parsed one by one. The relation `R` relates each word to
+-- the value that the word is parsed as.
 use Rattle.std.proofs.Common.{ℕ, ◌+◌, ◌<◌, ◌≤◌, List, [], ◌∷◌, ◌++◌, get_or, length, subst, take}
 use Rattle.std.proofs.lemmas.List.{take_all, take_more}
 use Rattle.std.specs.List.{AllZip}

@@ -14,7 +14,7 @@ number_for judge x = (x + judge.offset) % 2 ^ 64
 abbrev pub counted : DivisorJudge → DivisorJudge
 counted judge = record judge { offset = (judge.offset + judge.stride) % 2 ^ 64 }
 
--- `written judge x` is the value of the item `x` after the judge has written to it.
+-- `written judge x` is the value that the judge writes to an item whose value was `x`.
 abbrev pub written : DivisorJudge → ℕ → ℕ
 written judge x = (x + judge.added) % 2 ^ 64
 
@@ -23,8 +23,8 @@ written judge x = (x + judge.added) % 2 ^ 64
 abbrev pub chooses : DivisorJudge → ℕ → Bool
 chooses judge x = number_for judge x % judge.divisor == 0
 
--- `judging` contains one function for each method of the trait `Judge`. Each function says what the
--- method returns, and what the method writes to the items.
+-- `judging` consists of one function for each method of the trait `Judge`. Each function says what
+-- the method returns, and what the method writes to the items.
 abbrev pub judging : Judging ℕ DivisorJudge
 judging = record {
   look = λ judge x. (chooses judge x, counted judge);
@@ -39,8 +39,9 @@ judging = record {
   take = λ judge x. (chooses judge x, written judge x, counted judge);
 }
 
--- `SpellsJudge` holds if the three texts spell the divisor, the stride and the addend of `judge` as
--- decimal numbers, and the judge has not made any decision yet.
+-- `SpellsJudge divisor stride added judge` holds if the texts `divisor`, `stride` and `added` spell
+-- the numbers in the fields of `judge` with the same names, and the judge has not made any decision
+-- yet.
 pub record SpellsJudge (divisor stride added : List ℕ) (judge : DivisorJudge) : Type 0 where
   pub divisor_is : Spells divisor judge.divisor
   pub stride_is : Spells stride judge.stride

@@ -20,8 +20,8 @@ abbrev pub BeginsForm : Words → List ℕ → ℕ → Type 0
 BeginsForm words name count = (count ≤ length words) × (word words 0 ≡ name)
 
 -- `Says words command` holds if the words have the form of the command, and spell the numbers,
--- items and steps of the command. If the command needs a judge to decide about items, any words may
--- describe the judge.
+-- items and steps of the command. If the command needs a judge to decide about items, the words for
+-- the judge may be arbitrary.
 abbrev pub Says : {A G : Type 0} → Words → Command ℕ A G → Type 0
 Says words (Push item) = HasForm words (codes "push") 2 × Spells (word words 1) item
 Says words Pop = HasForm words (codes "pop") 1
@@ -88,8 +88,9 @@ AsksNone command = Unit {0}
 abbrev pub SaysUnjudged : {A G : Type 0} → Words → Command ℕ A G → Type 0
 SaysUnjudged words command = Says words command × AsksNone command
 
--- `IsFilter name command` holds if the command has the name `name`, and its line consists of this
--- name and three words for the judge, which decides about items.
+-- `IsFilter name command` holds if `name` is the name of the command, and a line with this command
+-- consists of the name and three words that describe a judge. A judge decides about items in place
+-- of a closure.
 abbrev pub IsFilter : {A G : Type 0} → List ℕ → Command ℕ A G → Type 0
 IsFilter name Retain = name ≡ codes "retain"
 IsFilter name RetainMut = name ≡ codes "retain_mut"

@@ -1,5 +1,5 @@
--- This file defines the meaning of the words of a line. Words stand for numbers, items, and the
--- steps of an iterator.
+-- This file defines the meaning of the words of a line. A word stands for a number, for an item, or
+-- for steps of an iterator.
 use Rattle.std.specs.Prelude.{◌≡◌, ℕ, ◌⊎◌, List, [], codes, length, slice_index_or}
 use Rattle.std.specs.Borrow.{Bor}
 use Rattle.std.specs.List.{AllZip}

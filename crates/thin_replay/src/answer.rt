@@ -56,8 +56,8 @@ pub fn write_reply(out: &mut impl Write, reply: Reply<u64>) -> io::Result<()> {
     }
 }
 
-// Writes the list that was passed to `append`. If the call failed, first writes the cause of the
-// failure.
+// Writes the list that was passed to `append`. If the call of `append` failed, first writes the
+// cause of the failure.
 fn write_other(
     out: &mut impl Write,
     other: &ThinVec<u64>,

@@ -26,10 +26,10 @@ impl Call {
     ghost use Rattle.std.specs.Prelude.{◌≡◌, IfOk, IfSome};
     ghost use Rattle.thin_replay.specs.Lines.{IsCall};
 
-    /// Parses the words of a line as a command, and as a judge if the command needs a judge to
-    /// decide about items. Returns `None` if the words do not have the form of a command. Fails if
-    /// the words have the form of a command but one of them cannot be parsed, or if there is no
-    /// memory for the command.
+    /// Parses the words of a line as a command. If the command needs a judge to decide about items,
+    /// parses the judge, too. Returns `None` if the words do not have the form of a command. Fails
+    /// if they have this form but one of them cannot be parsed, or if there is no memory for the
+    /// command.
     pub fn parse(alloc: Global, words: &[&str]) -> Result<Option<Call>, LineError>
         ensures says { IfOk result (λ found. IfSome found (IsCall words.now)) }
     {

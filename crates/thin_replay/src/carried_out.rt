@@ -1,4 +1,4 @@
-//! Carries out a single command by a call of `run` of the crate `thin_runner`.
+//! Carries out a single command with the function `run` of the crate `thin_runner`.
 ghost use Rattle.std.specs.Prelude.{◌≡◌, [], ◌∷◌, IfErr, IfOk, OnErr};
 ghost use Rattle.thin_runner.specs.Headline.{Headline};
 ghost use Rattle.thin_runner.specs.Setting.{setting};
@@ -9,9 +9,9 @@ use thin_runner::judge::Judge;
 use thin_runner::runner::run;
 use thin_vec::{Growth, ThinVec, ThinVecError};
 
-/// Carries out a command by a call of `run`, and returns the reply to the command. Fails with
-/// `OutOfMemory` if there is no memory for the command or the reply. In that case, the list does
-/// not change.
+/// Carries out a command with the function `run`, and returns the reply to the command. Fails with
+/// `OutOfMemory` if there is no memory for the command or the reply. On failure, the list is
+/// unchanged.
 pub fn carry_out<T: Clone + Eq, A: Allocator + Copy, G: Growth, J: Judge<T>>(
     alloc: A,
     list: &mut ThinVec<T, A, G>,

@@ -1,5 +1,5 @@
-//! A judge that decides by the remainder or the quotient of a division. A judge decides about items
-//! in place of the closures that methods such as `retain` take.
+//! A judge that decides using the remainder or the quotient of a division. A judge decides about
+//! items in place of the closures that methods such as `retain` take.
 ghost use Rattle.std.specs.Prelude.{◌≡◌, ◌<◌};
 
 use crate::line_error::LineError;
@@ -9,9 +9,9 @@ use thin_runner::judge::Judge;
 /// A judge that decides about an item by dividing a number by `divisor`. The judge also counts its
 /// decisions.
 ///
-/// The number that is divided is the item plus `stride` times the number of earlier decisions.
-/// After the decision, the judge adds `added` to the item if the judge may change the item. All
-/// sums are modulo 2^64.
+/// The number that is divided is the item plus `stride` times the number of earlier decisions. If
+/// the judge may change the item, it adds `added` to the item after the decision. All sums are
+/// modulo 2^64.
 #[derive(Clone, Copy)]
 pub struct DivisorJudge {
     divisor: u64,
@@ -54,7 +54,8 @@ impl DivisorJudge {
         })
     }
 
-    // Returns the number that the judge divides to decide about `item`. Also counts this decision.
+    // Returns the number that the judge divides by `divisor` to decide about `item`. Also counts
+    // this decision.
     fn number(&mut self, item: u64) -> u64
         ensures value { result ≡ number_for self.old item }
         ensures counted { self.new ≡ counted self.old }
@@ -64,8 +65,8 @@ impl DivisorJudge {
         number
     }
 
-    // Returns whether `divisor` divides the number that `number` returns for `item`. The call
-    // counts as one decision.
+    // Returns whether the number that the judge computes for `item` is divisible by `divisor`. The
+    // call counts as one decision.
     fn divides(&mut self, item: u64) -> bool
         ensures value { result ≡ chooses self.old item }
         ensures counted { self.new ≡ counted self.old }

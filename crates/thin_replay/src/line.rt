@@ -47,7 +47,7 @@ impl Line {
 }
 
 // Returns the error for a line that has none of the forms. The error says whether the name of the
-// command or the number of words is wrong.
+// command is unknown or the number of words is wrong.
 fn wrong_form(words: &[&str]) -> LineError {
     let Some(name) = words.first() else {
         return LineError::UnknownCommand;

@@ -1,4 +1,4 @@
-//! Reads commands from standard input, one on each line, and carries them out on a `ThinVec`. After
+//! Reads commands from standard input, one per line, and carries them out on a `ThinVec`. After
 //! each command, prints the reply, the items and the capacity.
 #![tactic(auto)]
 

@@ -15,8 +15,8 @@ pub fn item_of(word: &str) -> Result<u64, LineError>
     number_of(word, "ITEM")
 }
 
-/// Parses a word as a number. Fails if the word is not a number. The error calls the word by its
-/// name `name`, such as `ITEM`.
+/// Parses a word as a number. Fails if the word is not a number. The error refers to the word as
+/// `name`, for example `ITEM`.
 pub fn number_of(word: &str, name: &'static str) -> Result<u64, LineError>
     ensures parses { ParsesUnsigned 64 10 word.now result }
 {
@@ -26,8 +26,8 @@ pub fn number_of(word: &str, name: &'static str) -> Result<u64, LineError>
     }
 }
 
-/// Parses a word as an index or a count. Fails if the word is not a number. The error calls the
-/// word by its name `name`, such as `INDEX`.
+/// Parses a word as an index or a count. Fails if the word is not a number. The error refers to the
+/// word as `name`, for example `INDEX`.
 pub fn count_of(word: &str, name: &'static str) -> Result<usize, LineError>
     ensures parses { ParsesUnsigned 64 10 word.now result }
 {
@@ -37,7 +37,7 @@ pub fn count_of(word: &str, name: &'static str) -> Result<usize, LineError>
     }
 }
 
-/// Parses each word as an item, and returns the items in order.
+/// Parses each word as an item, and returns a `Vec` of the items in order.
 pub fn items_of(alloc: Global, words: &[&str]) -> Result<Vec<u64>, LineError>
     ensures items { IfOk result (λ items. SpellAll words.now items.items) }
 {
@@ -48,7 +48,7 @@ pub fn items_of(alloc: Global, words: &[&str]) -> Result<Vec<u64>, LineError>
     Ok(items)
 }
 
-/// Parses each word as an item, and returns a list of the items in order.
+/// Parses each word as an item, and returns a `ThinVec` of the items in order.
 pub fn list_of(alloc: Global, words: &[&str]) -> Result<ThinVec<u64>, LineError>
     ensures items { IfOk result (λ list. SpellAll words.now list.items) }
 {

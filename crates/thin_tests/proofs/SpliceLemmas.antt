@@ -1,5 +1,5 @@
--- This file proves that a list has its old items again if a range is replaced and the old items of
--- the range are then put back.
+-- This file proves that a list has its old items again if a range of the list is replaced, and the
+-- old items of the range are then put back.
 use Rattle.std.proofs.Common.{◌≡◌, ℕ, ◌+◌, ◌≤◌, List, ◌++◌, ◌∙◌, ap, append_assoc, arith, drop, length, length-append, sym, take}
 use Rattle.std.proofs.lemmas.List.{drop_at, length-take-le, take_at}
 use Rattle.std.proofs.lemmas.List.Edits.{split_between}
@@ -8,8 +8,8 @@ use Rattle.std.specs.declared.result.Result.{Result}
 use Rattle.std.specs.declared.result.Result.TheVariants.{Ok, Err}
 
 module _ {T : Type 0} (old numbers : List T) (start stop : ℕ) where
-  -- Assume that `new` is the list `old`, except that the items `start..stop` have been replaced
-  -- with `numbers`. If `numbers` are then replaced with the old items again, the result is `old`.
+  -- Suppose that `new` is the list `old` in which the items `start..stop` have been replaced with
+  -- `numbers`. Then replacing these numbers in `new` with the old items yields `old` again.
   pub put_back : (new : List T) → start ≤ stop → stop ≤ length old
       → new ≡ (take start old ++ numbers) ++ drop stop old
       → (take start new ++ slice_range old start stop) ++ drop (start + length numbers) new ≡ old
@@ -29,8 +29,8 @@ module _ {T : Type 0} (old numbers : List T) (start stop : ℕ) where
       (λ i. (front i ++ gone) ++ back i)
       ∙ (append_assoc pre gone post ∙ sym (split_between old start stop order))
 
--- Assume that `P` implies `Q`. If `P` holds whenever `r` is `Ok`, then `Q` holds whenever `r` is
--- `Ok`.
+-- If `P` implies `Q`, then `OnOk r P` implies `OnOk r Q`. Here, `OnOk r P` states that `P` holds if
+-- the result `r` is `Ok`.
 pub on_ok : {X E P Q : Type 0} (r : Result X E) → (P → Q) → OnOk r P → OnOk r Q
 on_ok (Ok _) h p = h p
 on_ok (Err _) h p = p

@@ -1,4 +1,4 @@
-//! Tests of behavior that no contract states. This module also contains functions whose contracts
+//! Tests of behavior that no contract states. The submodules also contain functions whose contracts
 //! show what a caller can conclude from the contracts of `ThinVec`.
 mod allocators;
 mod arguments;

@@ -1,4 +1,4 @@
-//! The worked rows that check calls that add, move or remove many items at once. A worked row
+//! Worked examples that check calls that add, move or remove many items at once. A worked example
 //! compares the results of calls with values that were worked out by hand.
 use crate::checks::Checks;
 use crate::rows::{Outcome, listed};
@@ -6,8 +6,8 @@ use std::alloc::Allocator;
 use thin_runner::hinted::Hinted;
 use thin_vec::{ExtendRefused, ThinVec, ThinVecError};
 
-/// Makes an iterator that yields `items`. Its method `size_hint` always returns the lower bound
-/// `lower`, even if this bound is wrong.
+/// Makes an iterator that yields `items`. The lower bound of its size hint is always `lower`, even
+/// if fewer items remain.
 ///
 /// # Errors
 ///
@@ -23,8 +23,8 @@ pub fn claiming<A: Allocator, const N: usize>(
     }
 }
 
-/// Checks that `split_off` splits a list in two, that `append` joins the parts again, and that
-/// `split_off` at the end returns an empty list.
+/// Checks that `split_off` splits a list in two, that `append` puts the two parts back together,
+/// and that `split_off` at the end of a list returns an empty list.
 pub fn row_15<A: Allocator + Copy>(alloc: A) -> Outcome {
     let mut checks = Checks::new();
     let mut list = listed(alloc, [1, 2, 3, 4, 5, 6])?;
@@ -38,8 +38,8 @@ pub fn row_15<A: Allocator + Copy>(alloc: A) -> Outcome {
     Ok(checks)
 }
 
-/// Checks the items and the capacity of a list after `extend`. The iterator yields five items, and
-/// its `size_hint` returns the lower bound 0, 3, 5 or 9.
+/// Checks the items and the capacity of a list after a call of `extend` with an iterator of five
+/// items. The lower bound of the size hint is 0, 3, 5 or 9.
 pub fn row_24<A: Allocator + Copy>(alloc: A) -> Outcome {
     let mut checks = Checks::new();
     for (lower, capacity) in [(0, 8), (3, 8), (5, 5), (9, 9)] {

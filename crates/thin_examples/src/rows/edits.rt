@@ -1,5 +1,5 @@
-//! The worked rows that check `drain`, `extract_if`, `bounds` and formatting with `{:?}`. A worked
-//! row compares the results of calls with values that were worked out by hand.
+//! Worked examples that check `drain`, `extract_if`, `bounds`, and formatting with `{:?}`. A worked
+//! example compares the results of calls with values that were worked out by hand.
 use crate::checks::Checks;
 use crate::rows::{Outcome, listed};
 use std::alloc::Allocator;
@@ -23,8 +23,8 @@ fn is_even(item: i32) -> bool {
     item.wrapping_rem(2) == 0
 }
 
-/// Checks that an `ExtractIf` yields one item of a range, and that dropping the `ExtractIf`
-/// afterwards removes no other item.
+/// Checks an `ExtractIf` that yields one item of a range and is then dropped. The drop must not
+/// remove any other item from the list.
 pub fn row_8<A: Allocator + Copy>(alloc: A) -> Outcome {
     let mut checks = Checks::new();
     let mut list = listed(alloc, [1, 2, 3, 4, 5, 6])?;
@@ -53,7 +53,7 @@ pub fn row_9<A: Allocator + Copy>(alloc: A) -> Outcome {
     Ok(checks)
 }
 
-/// Checks `bounds` for a list of five items. The function must return the start and the end of the
+/// Checks `bounds` for a list of five items. This function must return the start and the end of the
 /// range that two `Bound`s describe, or `None` if the list has no such range.
 pub fn row_18<A: Allocator + Copy>(_alloc: A) -> Outcome {
     let mut checks = Checks::new();
@@ -71,7 +71,7 @@ pub fn row_18<A: Allocator + Copy>(_alloc: A) -> Outcome {
     Ok(checks)
 }
 
-/// Checks an `ExtractIf` whose method `next` is called until `next` returns `None`.
+/// Checks an `ExtractIf` on which `next` is called until it returns `None`.
 pub fn row_33<A: Allocator + Copy>(alloc: A) -> Outcome {
     let mut checks = Checks::new();
     let mut list = listed(alloc, [1, 2, 3, 4, 5, 6, 8, 9, 11, 13, 14, 15])?;

@@ -1,5 +1,5 @@
-//! The worked rows that check `retain_mut`, `dedup_by`, `dedup_by_key` and `dedup`. A worked row
-//! compares the results of calls with values that were worked out by hand.
+//! Worked examples that check `retain_mut`, `dedup_by`, `dedup_by_key` and `dedup`. A worked
+//! example compares the results of calls with values that were worked out by hand.
 use crate::checks::Checks;
 use crate::rows::{Outcome, listed};
 use std::alloc::Allocator;
@@ -14,7 +14,7 @@ pub fn row_13<A: Allocator + Copy>(alloc: A) -> Outcome {
     Ok(checks)
 }
 
-// Returns whether `later` and `kept` have the same word. If so, adds the count of `later` to the
+// Returns whether `later` and `kept` contain the same word. If so, adds the count of `later` to the
 // count of `kept`.
 fn add_count(later: &mut (&'static str, i32), kept: &mut (&'static str, i32)) -> bool {
     let same = later.0 == kept.0;

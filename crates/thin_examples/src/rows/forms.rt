@@ -1,6 +1,6 @@
-//! The worked rows that check `thin_vec!`, and that iterate over, compare, hash, write to and
-//! convert lists. A worked row compares the results of calls with values that were worked out by
-//! hand.
+//! Worked examples that check `thin_vec!`, and that iterate over, compare, hash, write to and
+//! convert lists. A worked example compares the results of calls with values that were worked out
+//! by hand.
 use crate::checks::Checks;
 use crate::rows::{Outcome, listed};
 use std::alloc::Allocator;
@@ -10,8 +10,7 @@ use std::io;
 use std::io::Write;
 use thin_vec::{ThinVec, ThinVecError, thin_vec};
 
-/// Checks `thin_vec!` with a repeated item, with items that are written one by one, and with no
-/// item.
+/// Checks `thin_vec!` with a repeated item, with a list of items, and without items.
 pub fn row_3<A: Allocator + Copy>(alloc: A) -> Outcome {
     let mut checks = Checks::new();
     let repeated = thin_vec![alloc => 7; 2]?;
@@ -24,7 +23,7 @@ pub fn row_3<A: Allocator + Copy>(alloc: A) -> Outcome {
     Ok(checks)
 }
 
-/// Checks that `into_array` returns the list if the array and the list have different lengths. Also
+/// Checks that `into_array` returns the list if the array has fewer items than the list. Also
 /// checks that the clone of an empty list has no allocation.
 pub fn row_20<A: Allocator + Copy>(alloc: A) -> Outcome {
     let mut checks = Checks::new();
@@ -62,8 +61,8 @@ fn hash_of<A: Allocator>(list: &ThinVec<i32, A>) -> u64 {
     hasher.finish()
 }
 
-// Makes a list of the items `left` and a list of the items `right`. Checks that comparing the two
-// lists with `cmp` returns `order`.
+// Makes a list of the items `left` and a list of the items `right`. Checks that `cmp` returns
+// `order` for these two lists.
 fn check_order<A: Allocator + Copy>(
     checks: &mut Checks,
     alloc: A,

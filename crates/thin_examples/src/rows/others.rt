@@ -1,4 +1,4 @@
-//! The worked rows that check the growth rule `PowerBytes` and a sparse table. A worked row
+//! Worked examples that check the growth rule `PowerBytes` and a sparse table. A worked example
 //! compares the results of calls with values that were worked out by hand.
 use crate::checks::Checks;
 use crate::rows::Outcome;
@@ -20,7 +20,7 @@ pub fn row_21<A: Allocator + Copy>(alloc: A) -> Outcome {
     Ok(checks)
 }
 
-// Sets the value at `column` of row 1, and compares the returned old value with `before`.
+// Sets the value in column `column` of row 1, and compares the old value with `before`.
 fn set<A: Allocator>(
     checks: &mut Checks,
     table: &mut Rows<char, A>,
@@ -34,7 +34,7 @@ fn set<A: Allocator>(
     Ok(())
 }
 
-// Removes the value at `column` of row 1, and compares the removed value with `value`.
+// Removes the value in column `column` of row 1, and compares the removed value with `value`.
 fn remove<A: Allocator>(
     checks: &mut Checks,
     table: &mut Rows<char, A>,
@@ -46,7 +46,7 @@ fn remove<A: Allocator>(
     }
 }
 
-// Checks that row 1 has the entries `entries`, and that the table has no other entries. Also checks
+// Checks that row 1 has the entries `entries`, and that the other rows have no entries. Also checks
 // that row 1 owns an allocation if and only if `owns_block` is true.
 fn check_entries<A: Allocator>(
     checks: &mut Checks,

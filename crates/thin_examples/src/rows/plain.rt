@@ -1,5 +1,5 @@
-//! The worked rows that check calls on single items, capacities, and items of size zero. A worked
-//! row compares the results of calls with values that were worked out by hand.
+//! Worked examples that check calls on single items, capacities, and items of size zero. A worked
+//! example compares the results of calls with values that were worked out by hand.
 use crate::checks::Checks;
 use crate::rows::{Outcome, listed};
 use std::alloc::Allocator;
@@ -66,7 +66,7 @@ pub fn row_5<A: Allocator + Copy>(alloc: A) -> Outcome {
     Ok(checks)
 }
 
-// Checks that `swap_remove` at `index` returns `word`, and that the list then contains the words
+// Checks that `swap_remove` at `index` returns `word`, and that the list then contains the words in
 // `left`.
 fn check_swapped<A: Allocator>(
     checks: &mut Checks,

@@ -1,5 +1,5 @@
-//! The worked rows that check `splice`, and the worked row that checks calls on an empty list. A
-//! worked row compares the results of calls with values that were worked out by hand.
+//! Worked examples that check `splice`, and a worked example that checks calls on an empty list. A
+//! worked example compares the results of calls with values that were worked out by hand.
 use crate::checks::Checks;
 use crate::rows::bulk::claiming;
 use crate::rows::{Outcome, listed};
@@ -9,7 +9,7 @@ use thin_runner::hinted::Hinted;
 use thin_vec::{SpliceRefused, ThinVec, ThinVecError};
 
 // Replaces two of five items with the three items of an iterator, and checks the items and the
-// capacity of the list. The size hint of the iterator claims at least `claim` items.
+// capacity of the list. The lower bound of the iterator's size hint is `claim`.
 fn check_claimed<A: Allocator + Copy>(
     checks: &mut Checks,
     alloc: A,
@@ -51,8 +51,8 @@ fn check_refused<A: Allocator>(
     checks.items(&[rest.next(), rest.next()], &[Some(12), None]);
 }
 
-/// Checks `finish` of a splice whose iterator has a size hint that is too large for any capacity.
-/// The call replaces the items of the range, inserts no further item, and fails.
+/// Checks that `finish` of a splice fails if the size hint of the iterator is too large for any
+/// capacity. The failed call replaces the items of the range, but inserts no further item.
 pub fn row_11<A: Allocator + Copy>(alloc: A) -> Outcome {
     let mut checks = Checks::new();
     let mut list = listed(alloc, [1, 2, 3, 4, 5])?;
@@ -80,7 +80,7 @@ fn check_edits_of_nothing<A: Allocator + Copy>(
     Ok(())
 }
 
-// Counts the calls that `retain` and `dedup_by` make to their closures.
+// Calls `retain` and `dedup_by` on the list, and returns how many times they call their closures.
 fn count_questions<A: Allocator>(list: &mut ThinVec<i32, A>) -> u32 {
     let mut calls = 0u32;
     list.retain(|_item| {
@@ -121,8 +121,8 @@ fn check_emptied<A: Allocator + Copy>(checks: &mut Checks, alloc: A) -> Result<(
     Ok(())
 }
 
-// Checks a `splice` that yields two of five items and inserts three items in their place. Returns
-// the list.
+// Checks a `splice` that removes and yields two of five items, and inserts three items in their
+// place. Returns the list.
 fn check_spliced<A: Allocator + Copy>(
     checks: &mut Checks,
     alloc: A,

@@ -9,8 +9,8 @@ use crate::line_error::LineError;
 use crate::words::count_of;
 use thin_runner::command::Command;
 
-/// Parses the words of a line as a command with a judge, which decides about items in place of a
-/// closure. Returns `None` if the words do not have the form of such a command.
+/// Parses the words of a line as a command and a judge. A judge decides about items in place of a
+/// closure. Returns `None` if the words do not have the form of a command with a judge.
 pub fn parse(words: &[&str]) -> Result<Option<Call>, LineError>
     ensures says { IfOk result (λ found. IfSome found (IsCall words.now)) }
 {
@@ -33,8 +33,8 @@ pub fn parse(words: &[&str]) -> Result<Option<Call>, LineError>
     }
 }
 
-// Returns the command with the name `name` if a line with this command consists of the name and
-// three words that describe a judge, which decides about items. Otherwise, returns `None`.
+// Returns the command with the name `name` if its line consists of the name and three words that
+// describe a judge. Otherwise, returns `None`. A judge decides about items in place of a closure.
 fn filter(name: &str) -> Option<Command<u64>>
     ensures filter { IfSome result (IsFilter name.now) }
 {

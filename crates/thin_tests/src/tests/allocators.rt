@@ -1,4 +1,4 @@
-//! Tests calls that take an allocator as an argument. Such a call must allocate its result with
+//! Tests of calls that take an allocator as an argument. Such a call must allocate its result with
 //! this allocator, and not with the allocator of the list, even if the list is empty.
 use crate::tests::support::assertions::{assert_counts, assert_len, assert_same};
 use crate::tests::support::claims::Claims;
@@ -36,8 +36,8 @@ fn move_into_boxed_slice<A: Allocator>(
     push_one_more(rt, boxed.into_vec(), len)
 }
 
-// Splits off all items as a second list with the allocator `alloc`. Then calls `move_into_vec` with
-// the second list.
+// Moves all items to a second list with the allocator `alloc`, using `split_off`. Then calls
+// `move_into_vec` with the second list.
 fn split_off_into_vec<A: Allocator + Copy>(
     rt: &impl Abort,
     mut list: ThinVec<i32, A>,
@@ -59,8 +59,8 @@ fn clone_into_vec<A: Allocator + Copy>(
     move_into_vec(rt, clone, alloc)
 }
 
-// Copies the list by `clone_copies` with the allocator `alloc`. Then calls `move_into_vec` with the
-// copy.
+// Copies the list with the allocator `alloc`, using `clone_copies`. Then calls `move_into_vec` with
+// the copy.
 fn copy_into_vec<A: Allocator + Copy>(
     rt: &impl Abort,
     list: ThinVec<i32, A>,
@@ -72,7 +72,7 @@ fn copy_into_vec<A: Allocator + Copy>(
 }
 
 // Converts the list to an iterator, clones the iterator with the allocator `alloc`, and extends a
-// new list by this clone. Then calls `move_into_vec` with the new list.
+// new list with the items of this clone. Then calls `move_into_vec` with the new list.
 fn clone_iter_into_vec<A: Allocator + Copy>(
     rt: &impl Abort,
     list: ThinVec<i32, A>,
@@ -86,8 +86,8 @@ fn clone_iter_into_vec<A: Allocator + Copy>(
     move_into_vec(rt, list, alloc)
 }
 
-// Moves the items of `list` into a `Vec` with the allocator `other`, by one of six functions. The
-// number `way`, from 0 to 5, selects the function.
+// Moves the items of `list` into a `Vec` with the allocator `other`, using one of six functions.
+// The number `way`, from 0 to 5, selects the function.
 fn move_by_way(
     rt: &impl Abort,
     way: u32,
@@ -104,7 +104,7 @@ fn move_by_way(
     }
 }
 
-// Moves a list of `items` to another allocator by each of the six functions that `move_by_way`
+// Moves a list of `items` to another allocator with each of the six functions that `move_by_way`
 // calls. Asserts after each move that the list's own allocator has no allocated block, and that the
 // other allocator has one allocated block.
 fn assert_each_way_moves_the_block(rt: &impl Abort, alloc: Global, items: &[i32]) {

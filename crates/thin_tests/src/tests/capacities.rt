@@ -33,13 +33,13 @@ fn assert_pushed(rt: &impl Abort, list: &mut ThinVec<i32>, items: Range<i32>, ca
     assert_same(rt, list.capacity(), capacity);
 }
 
-// Reserves room for `additional` items, and asserts that the capacity is then `capacity`.
+// Calls `reserve(additional)`, and asserts that the capacity is then `capacity`.
 fn assert_reserved(rt: &impl Abort, list: &mut ThinVec<i32>, additional: usize, capacity: usize) {
     list.reserve(additional).expect(rt, "memory");
     assert_same(rt, list.capacity(), capacity);
 }
 
-// Calls `reserve_exact` for `additional` items, and asserts that the capacity is then `capacity`.
+// Calls `reserve_exact(additional)`, and asserts that the capacity is then `capacity`.
 fn assert_reserved_exact(
     rt: &impl Abort,
     list: &mut ThinVec<i32>,
@@ -77,8 +77,8 @@ fn assert_overflows<T: Drop>(rt: &impl Abort, alloc: &'static Refusing<Global>, 
     assert_same(rt, (capacity, refused), (capacity, overflow));
 }
 
-// If the capacity is too large, `with_capacity` fails with `CapacityOverflow` before it requests
-// any memory.
+// Tests that `with_capacity` fails with `CapacityOverflow`, and requests no memory, if the capacity
+// is too large.
 #[test]
 fn with_capacity_detects_overflow_before_any_request(rt: HostRuntime) {
     let refusing = refusing_nth(&rt, rt.alloc(), 0);

@@ -44,7 +44,7 @@ fn clone_clones_boxed_items(rt: HostRuntime) {
 }
 
 // Appends clones of `items`. Asserts that the call returns `answer`, and that the list then has
-// `len` items and the capacity 4.
+// length `len` and capacity 4.
 fn assert_extended<'a>(
     rt: &impl Abort,
     list: &mut ThinVec<Scarce<'a>, Global>,
@@ -56,9 +56,9 @@ fn assert_extended<'a>(
     assert_same(rt, (list.len(), list.capacity()), (len, 4));
 }
 
-// Tries twice to append clones of three items to a list of one item. The first time, only one item
-// can be cloned, so the call fails and drops the clone. The second time, all three items can be
-// cloned.
+// Tries twice to append clones of three items to a list of one item. In the first attempt, only one
+// item can be cloned, so the call fails and drops the clone. In the second attempt, all three items
+// can be cloned.
 fn assert_extended_at_second_try(
     rt: &impl Abort,
     alloc: Global,

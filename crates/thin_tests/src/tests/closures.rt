@@ -1,5 +1,6 @@
-//! Tests that methods such as `retain` drop their closure, and the values that the closure owns,
-//! when the call ends. An `ExtractIf` drops its closure when the `ExtractIf` itself is dropped.
+//! Tests that methods such as `retain` drop their closure, together with the values that the
+//! closure owns, when the call ends. An `ExtractIf` drops its closure when the `ExtractIf` itself
+//! is dropped.
 use crate::tests::support::assertions::{assert_items, assert_len, assert_same};
 use crate::tests::support::counted::Counted;
 use crate::tests::support::items::list_of;
@@ -13,8 +14,8 @@ fn is_not_two(_owned: &Counted<'_>, item: i32) -> bool {
     item != 2
 }
 
-// Asserts that the list contains 1 and 3, and that the value that the closure owned was dropped
-// exactly once.
+// Asserts that the list contains 1 and 3, and that the value that the closure owned has been
+// dropped exactly once.
 fn assert_without_two(rt: &impl Abort, list: &ThinVec<i32>, drops: &Cell<u32>) {
     assert_items(rt, list.as_slice(), &[1, 3]);
     assert_same(rt, drops.get(), 1);
@@ -56,9 +57,9 @@ fn dedup_by_key_drops_its_closure(rt: HostRuntime) {
     assert_without_two(&rt, &list, &drops);
 }
 
-// The closure of this test owns an `Rc`. The reference count of the `Rc` shows when the closure is
-// dropped. The closure cannot own a `Counted`, because a `Counted` borrows a cell. The borrow
-// checker does not support a closure that borrows in this test.
+// In this test, the closure owns an `Rc`, whose reference count shows when the closure is dropped.
+// The closure cannot own a `Counted`, which borrows a cell, because the borrow checker does not
+// support a borrowing closure in this test.
 #[test]
 fn extract_if_drops_its_closure(rt: HostRuntime) {
     let kept = Rc::new(rt.alloc(), 2).ok().expect(&rt, "memory");

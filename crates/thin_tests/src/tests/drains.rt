@@ -44,8 +44,8 @@ pub fn drain_first<T: Drop, A: Allocator, G: Growth>(
     drain.next()
 }
 
-/// Moves the items `start..end` of `list` to the end of `other`, by one call of `extend`. This call
-/// takes the `Drain` by value, so no contract states which items `list` has afterwards. A test
+/// Moves the items `start..end` of `list` to the end of `other` with one call of `extend`. This
+/// call takes the `Drain` by value, so no contract states which items `list` has afterwards. A test
 /// checks these items.
 pub fn extend_by_range(
     list: &mut ThinVec<u32, Global>,
@@ -94,9 +94,8 @@ pub fn drain_reversed(
     list.drain(start, end).rev().collect(alloc)
 }
 
-/// Drains the range with the bounds `start` and `end`. Returns `None` if the list has no such
-/// range. As in Rust's ranges, the range may include or exclude each bound, and each bound may be
-/// missing.
+/// Drains the range with the bounds `start` and `end`. Each bound may be included, excluded or
+/// missing, like the bounds of Rust's ranges. Returns `None` if the list has no such range.
 pub fn drain_between<T: Drop, A: Allocator, G: Growth>(
     list: &mut ThinVec<T, A, G>,
     start: Bound<usize>,
@@ -109,8 +108,8 @@ pub fn drain_between<T: Drop, A: Allocator, G: Growth>(
 }
 
 // Drains `range` from the front, or from the back if `is_reverse` is true. Asserts that the `Drain`
-// yields the items in `wanted`, that the list then contains the items in `left`, and that the
-// capacity of the list does not change.
+// yields the items in `wanted`, that the list then contains the items in `left`, and that its
+// capacity is unchanged.
 fn assert_drained<T: PartialEq + std::fmt::Debug + Drop, A: Allocator>(
     rt: &impl Abort,
     mut list: ThinVec<T, A>,

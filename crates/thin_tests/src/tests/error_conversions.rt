@@ -1,5 +1,5 @@
-//! Tests that converting an error by `?` drops each value in the error exactly once. There is one
-//! test for each error type that `?` can convert to.
+//! Tests that converting an error with `?` drops each value in the error exactly once. There is one
+//! test for each error type to which `?` can convert the errors.
 use crate::tests::support::assertions::assert_same;
 use crate::tests::support::counted::{Counted, counted_list};
 use std::alloc::{AllocError, Global};
@@ -8,14 +8,14 @@ use std::io;
 use std::process::Abort;
 use thin_vec::{CollectRefused, ExtendRefused, Rejected, SpliceRefused, ThinVecError};
 
-// Converts the error `refused` by `?`, and returns the result.
+// Converts the error `refused` to the type `E` with `?`, and returns the resulting error.
 fn convert<R, E: From<R>>(refused: R) -> Result<(), E> {
     Err(refused)?;
     Ok(())
 }
 
-// Converts the error `refused` by `?`. Asserts that the conversion drops all values in the error.
-// The number of these values is `held`.
+// Converts the error `refused` with `?`. Asserts that the conversion drops all values in the error,
+// and that the error contained exactly `held` values.
 fn assert_conversion_drops<E: From<R> + Drop, R: Drop>(
     rt: &impl Abort,
     drops: &Cell<u32>,
@@ -30,7 +30,7 @@ fn assert_conversion_drops<E: From<R> + Drop, R: Drop>(
 const CAUSE: ThinVecError = ThinVecError::OutOfMemory;
 
 // Asserts that converting the error of a failed `push` or `extend` drops all values in the error.
-// In the error of `extend`, one of these values is the iterator.
+// The error of `extend` also contains the iterator, which must be dropped, too.
 fn assert_push_and_extend_errors_dropped<'a, E>(rt: &impl Abort, drops: &'a Cell<u32>)
 where
     E: From<Rejected<Counted<'a>>> + From<ExtendRefused<Counted<'a>, Counted<'a>>> + Drop,

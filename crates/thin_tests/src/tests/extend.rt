@@ -11,7 +11,7 @@ use std::ops::Range;
 use std::process::Abort;
 use thin_vec::{ExtendRefused, ThinVec, ThinVecError};
 
-// Extends a new list by one item that counts its drops, and then drops the list.
+// Extends a new list with one item that counts its drops, and then drops the list.
 fn extend_counted(rt: &impl Abort, alloc: Global, drops: &Cell<u32>) {
     let mut counted = ThinVec::new(alloc);
     counted
@@ -20,19 +20,20 @@ fn extend_counted(rt: &impl Abort, alloc: Global, drops: &Cell<u32>) {
         .expect(rt, "memory");
 }
 
-// Extends a new list by two zero-sized items, and asserts the length and the capacity of the list.
+// Extends a new list with two zero-sized items, and asserts the length and the capacity of the
+// list.
 fn extend_units(rt: &impl Abort, alloc: Global) {
     let mut units = ThinVec::new(alloc);
     units.extend((0..2).map(|_| ())).ok().expect(rt, "memory");
     assert_same(rt, (units.len(), units.capacity()), (2, 4));
 }
 
-// Extends the list by the numbers of the range.
+// Extends the list with the numbers of the range `numbers`.
 fn extend_by(rt: &impl Abort, list: &mut ThinVec<i32>, numbers: Range<i32>) {
     list.extend(numbers).ok().expect(rt, "memory");
 }
 
-// Extends the list by the items of its own clone.
+// Extends the list with the items of its own clone.
 fn extend_by_clone(rt: &impl Abort, list: &mut ThinVec<i32>, alloc: Global) {
     let clone = list.clone(alloc).expect(rt, "memory");
     list.extend(clone.as_slice().iter().copied())
@@ -92,8 +93,8 @@ fn row_26_refused_extend_returns_the_item_in_hand(rt: HostRuntime) {
     );
 }
 
-// Extends a list of three items by `count` numbers, and returns the list. The size hint of the
-// iterator has the lower bound 0.
+// Extends a list of three items with `count` numbers, and returns the list. The iterator's size
+// hint has a lower bound of 0.
 fn extended_without_hint(rt: &impl Abort, alloc: Global, count: i32) -> ThinVec<i32> {
     let mut list = list_of(rt, alloc, &[1, 2, 3]);
     let more = (0..count).filter(|_| true);

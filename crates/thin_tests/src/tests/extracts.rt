@@ -5,7 +5,7 @@ use std::alloc::Allocator;
 use thin_vec::{Growth, ThinVec};
 
 #[tactic(auto, using(std::proofs::lemmas::List::Edits::split_between))]
-/// Makes an `ExtractIf`, and drops it before any item is tested. The list does not change.
+/// Makes an `ExtractIf`, and drops it before it has tested any item. The list does not change.
 pub fn extract_nothing<T: Drop, A: Allocator, G: Growth>(
     list: &mut ThinVec<T, A, G>,
     start: usize,

@@ -13,7 +13,7 @@ fn retain_keeps_the_items_tested_true(rt: HostRuntime) {
     assert_list(&rt, &list, &[2, 4], 4);
 }
 
-// After `retain_mut`, each remaining item has the value that the closure wrote to it.
+// Tests that each item that remains after `retain_mut` has the value that the closure wrote to it.
 #[test]
 fn retain_mut_keeps_what_its_closure_writes(rt: HostRuntime) {
     let mut list = list_of(&rt, rt.alloc(), &[9, 9, 9, 9]);

@@ -1,6 +1,6 @@
 //! Tests of lists that are long enough to grow and shrink in place, with items of 1, 2, 4, 8 or 16
-//! bytes. Most tests try each change of the capacity twice. The allocator refuses the first
-//! request, and grants the second one.
+//! bytes. Most tests try each change of the capacity twice. The allocator refuses the first request
+//! and grants the second request.
 use crate::tests::support::assertions::assert_same;
 use crate::tests::support::items::push;
 use std::alloc::{Allocator, Global};
@@ -14,7 +14,7 @@ trait Numbered: Copy + PartialEq + Debug + Drop {
     fn numbered(number: usize) -> Self;
 }
 
-// The modulus is odd, so neighboring 8-byte words contain different bytes.
+// The modulus is odd. So any two neighboring 8-byte words of a list contain different bytes.
 impl Numbered for u8 {
     fn numbered(number: usize) -> u8 {
         (number % 251) as u8
@@ -57,8 +57,8 @@ impl Numbered for u128 {
     }
 }
 
-// Asserts that the list has `len` items and the capacity `capacity`, and that each item was made
-// from its index.
+// Asserts that the list has length `len` and capacity `capacity`, and that each item is the value
+// made from its own index.
 fn assert_numbered<T: Numbered, A: Allocator, G: Growth>(
     rt: &impl Abort,
     list: &ThinVec<T, A, G>,
@@ -75,15 +75,17 @@ fn assert_numbered<T: Numbered, A: Allocator, G: Growth>(
     assert_same(rt, found, (len, len, capacity));
 }
 
-// Pushes items until the list has no spare capacity. Each item is made from its index.
+// Pushes items until the list has no spare capacity. Each item is the value made from its own
+// index.
 fn fill<T: Numbered, A: Allocator, G: Growth>(rt: &impl Abort, list: &mut ThinVec<T, A, G>) {
     for number in list.len()..list.capacity() {
         push(rt, list, T::numbered(number));
     }
 }
 
-// Tries twice to push an item of `size` bytes to a full list. The first push must fail and leave
-// the list unchanged. The second push must succeed, and must grow the list as the growth rule says.
+// Tries twice to push an item of `size` bytes to a full list. Asserts that the first push fails and
+// leaves the list unchanged. Asserts that the second push succeeds, and grows the list to the
+// capacity that the growth rule provides.
 fn assert_grows<T: Numbered, B: Allocator, G: Ruled>(
     rt: &impl Abort,
     refusing: &Refusing<B>,
@@ -100,8 +102,8 @@ fn assert_grows<T: Numbered, B: Allocator, G: Ruled>(
     assert_same(rt, refusing.requests(), 2);
 }
 
-// Makes a list with the capacity `first`, and pushes items until the list has at least 600 items.
-// Checks each growth of the list by `assert_grows`.
+// Makes a list of capacity `first`, and pushes items until the list has at least 600 items. Checks
+// each growth of the list with `assert_grows`.
 fn assert_pushes<T: Numbered, B: Allocator, G: Ruled>(
     rt: &impl Abort,
     refusing: &Refusing<B>,
@@ -120,7 +122,7 @@ fn assert_pushes<T: Numbered, B: Allocator, G: Ruled>(
     assert_same(rt, (list.len() >= 600, refusing.blocks()), (true, 1));
 }
 
-// Changes the capacity of the list to `capacity`, by one request to the allocator.
+// Changes the capacity of the list to `capacity` with one request to the allocator.
 fn make_capacity<T: Drop, A: Allocator, G: Growth>(
     list: &mut ThinVec<T, A, G>,
     capacity: usize,
@@ -132,8 +134,8 @@ fn make_capacity<T: Drop, A: Allocator, G: Growth>(
     }
 }
 
-// Tries twice to change the capacity of the list to `capacity`. Asserts that the first request is
-// refused and leaves the list unchanged, and that the second request succeeds.
+// Tries twice to change the capacity of the list to `capacity`. Asserts that the first attempt
+// fails with `OutOfMemory` and leaves the list unchanged, and that the second attempt succeeds.
 fn assert_capacity_made<T: Numbered, B: Allocator>(
     rt: &impl Abort,
     refusing: &Refusing<B>,
@@ -150,9 +152,8 @@ fn assert_capacity_made<T: Numbered, B: Allocator>(
     assert_same(rt, refusing.requests(), 2);
 }
 
-// Makes a full list of `len` items, and increases its capacity by `more`, twice. Then reduces the
-// capacity by `more`, fills the list, truncates the list to `len` items, and reduces the capacity
-// by `more` again.
+// Makes a full list of `len` items, increases its capacity by `more` twice, and reduces it by
+// `more` once. Then fills the list, truncates it to `len` items, and reduces its capacity to `len`.
 fn assert_capacities<T: Numbered, B: Allocator>(
     rt: &impl Abort,
     refusing: &Refusing<B>,
@@ -174,10 +175,10 @@ fn assert_capacities<T: Numbered, B: Allocator>(
     assert_same(rt, refusing.blocks(), 1);
 }
 
-// Runs `assert_pushes` and `assert_capacities` for an item type of `size` bytes. A list can only
-// grow in place if its items take at least 256 bytes, so the items of the lists for
-// `assert_capacities` take about 256 bytes. If an item is smaller than 8 bytes, some of the tested
-// capacities fill a whole number of 8-byte words, and others do not.
+// Runs `assert_pushes` and `assert_capacities` for an item type of `size` bytes. Only lists whose
+// items take at least 256 bytes can grow in place, so `assert_capacities` is run with lists of
+// about this size. If an item is smaller than 8 bytes, some of the tested capacities fill a whole
+// number of 8-byte words, and others do not.
 fn assert_type<T: Numbered>(rt: &impl Abort, alloc: Global, size: usize) {
     let refusing = Refusing::new(alloc, 0);
     for first in [0, 5, 261] {
@@ -219,8 +220,8 @@ fn a_list_of_pairs_of_words_grows_and_shrinks_in_place(rt: HostRuntime) {
     assert_type::<u128>(&rt, rt.alloc(), 16);
 }
 
-// Pushes 3000 items to a list. Before each growth, another list allocates the memory right after
-// the allocation of this list. So the list cannot grow in place.
+// Pushes 3000 items to a list that cannot grow in place. Before each growth, another list allocates
+// the memory directly behind the allocation of this list.
 fn assert_pushes_beside_neighbours<T: Numbered>(rt: &impl Abort, alloc: Global) {
     let mut neighbours = ThinVec::<ThinVec<u8>>::new(alloc);
     let mut list = ThinVec::<T>::new(alloc);

@@ -1,5 +1,5 @@
 //! Functions that rely on two facts about every list: its length is at most its capacity, and its
-//! capacity is less than 2 ^ 63. The prover finds both facts by itself. So these functions need
+//! capacity is less than 2^63. The prover finds both facts by itself. So these functions need
 //! neither a hand-written proof nor a call of `len` that tells the prover these facts.
 ghost use Rattle.std.specs.Prelude.{◌≡◌, ◌+◌, ◌<◌, ◌≤◌, IsTrue, length, take};
 
@@ -18,8 +18,8 @@ pub fn replace_last<T: Drop, A: Allocator, G: Growth>(list: &mut ThinVec<T, A, G
     }
 }
 
-/// Replaces all items with the single item `value`, and returns whether this succeeded. Allocates
-/// no memory if the list was not empty.
+/// Replaces all items with the single item `value`, and returns whether this succeeded. If the list
+/// was not empty, allocates no memory and succeeds.
 pub fn replace_all<T: Drop, A: Allocator, G: Growth>(list: &mut ThinVec<T, A, G>, value: T) -> bool
     ensures succeeds { 0 < length list.old.items → IsTrue result }
 {

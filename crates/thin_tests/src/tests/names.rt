@@ -1,5 +1,5 @@
-//! Tests that public names of the crate `thin_vec` exist, and that its types implement the traits
-//! that programs rely on.
+//! Tests that the public names of the crate `thin_vec` exist, and that its types implement the
+//! traits that programs rely on.
 use crate::tests::support::assertions::assert_same;
 use std::alloc::{AllocError, Allocator, Global};
 use std::convert::AsSlice;
@@ -36,8 +36,8 @@ where
     E: Error + Copy + Eq + From<AllocError> + From<Rejected<u8>>,
 {}
 
-// A struct that derives `Clone`. Cloning a value of this type clones each string in the list, and
-// allocates memory for each clone.
+// A struct that derives `Clone`, and contains a list of strings. Cloning a value of this type
+// clones each string, and allocates memory for each clone.
 #[derive(Clone, Drop)]
 struct Names {
     all: ThinVec<String>,

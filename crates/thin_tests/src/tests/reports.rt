@@ -1,6 +1,6 @@
-//! Tests of the report that `thin_examples` writes about its worked rows. A worked row compares the
-//! results of calls with values that were worked out by hand. In some tests, a write fails, or a
-//! request for memory is refused.
+//! Tests of the report that `thin_examples` writes about its worked examples. A worked example
+//! compares the results of calls with values that were worked out by hand. In some tests, a write
+//! fails, or a request for memory is refused.
 use crate::tests::support::assertions::assert_text;
 use std::alloc::{Allocator, Global};
 use std::io;
@@ -12,8 +12,8 @@ use thin_examples::rows::Outcome;
 use thin_testing::Refusing;
 use thin_vec::ThinVecError;
 
-// A writer that appends the written bytes to `text`. The call of `write` with the number `failing`
-// fails. If `failing` is 0, no call fails.
+// A writer that appends the written bytes to `text`. The calls of `write` are numbered from 1, and
+// the call with the number `failing` fails. If `failing` is 0, no call fails.
 #[derive(Drop)]
 struct Failing<'a> {
     text: &'a mut String,
@@ -47,7 +47,7 @@ const REPORT: &str =
     row 36 ok\nrow 40 ok\nrow 41 ok\n\
     35 rows ok\n";
 
-// The exit codes of the program, as they are printed. Printing an `ExitCode` is the only way to
+// The exit codes of the program, as `{:?}` prints them. Printing an `ExitCode` is the only way to
 // read its value.
 const EVERY_ROW_OK: &str = "ExitCode(unix_exit_status(0))";
 
@@ -57,9 +57,9 @@ const OUT_OF_MEMORY: &str = "ExitCode(unix_exit_status(2))";
 
 const NOT_WRITTEN: &str = "ExitCode(unix_exit_status(3))";
 
-// Writes the report to `text`, and returns the number of calls of `write`. The call with the number
-// `failing` fails. If `failing` is 0, no call fails. Asserts that `report` returns the exit code
-// `end`.
+// Writes the report to `text`, asserts that `report` returns the exit code `end`, and returns the
+// number of calls of `write`. The call of `write` with the number `failing` fails. If `failing` is
+// 0, no call fails.
 fn report_into<A: Allocator + Copy, R: Abort>(
     rt: &R,
     alloc: A,
@@ -77,8 +77,8 @@ fn report_into<A: Allocator + Copy, R: Abort>(
     out.calls
 }
 
-// Writes a report with a writer that fails at the call with the number `failing`. Asserts that the
-// written text is the beginning of the whole report, and that no call is made after the failed
+// Writes a report with a writer whose call with the number `failing` fails. Asserts that the
+// written text is the beginning of the whole report, and that nothing is written after the failed
 // call.
 fn assert_written_until<R: Abort>(rt: &R, alloc: Global, failing: usize) {
     let mut text = String::new(alloc);
@@ -102,7 +102,7 @@ fn report_stops_at_a_failed_write(rt: HostRuntime) {
 
 // Writes a report with an allocator that refuses the request with the number `nth`. Asserts that
 // the written text is the beginning of the whole report, followed by the line "out of memory". Also
-// asserts that all memory is freed.
+// asserts that all memory has been freed.
 fn assert_reported_until<R: Abort>(rt: &R, alloc: Global, nth: u64) {
     let refusing = Refusing::new(alloc, nth);
     let mut text = String::new(alloc);
@@ -126,8 +126,8 @@ fn report_ends_with_out_of_memory_at_any_refused_request(rt: HostRuntime) {
     }
 }
 
-// Writes a report on the worked rows with the numbers `rows`. Asserts that the text of the report
-// is `wanted`, and that the exit code is `end`.
+// Writes a report on the worked examples whose numbers are in `rows`. Asserts that the text of the
+// report is `wanted`, and that the exit code is `end`.
 fn assert_report_of_rows(rt: &impl Abort, alloc: Global, rows: &[u32], wanted: &str, end: &str) {
     let mut text = String::new(alloc);
     {
@@ -143,7 +143,7 @@ fn assert_report_of_rows(rt: &impl Abort, alloc: Global, rows: &[u32], wanted: &
 
 #[test]
 fn report_counts_failed_rows_and_exits_with_1(rt: HostRuntime) {
-    // There is no row with the number 0, so the report says that row 0 has failed.
+    // There is no worked example with the number 0, so the report says that row 0 has failed.
     for (rows, text) in [
         ([0, 1].as_slice(), "row 0 failed\nrow 1 ok\n1 rows failed\n"),
         (
@@ -166,8 +166,8 @@ fn report_counts_failed_rows_and_exits_with_1(rt: HostRuntime) {
     );
 }
 
-// Writes the line of the report for row 7 with the outcome `outcome`. Asserts that the written line
-// is `line`, and that `write_row` returns `status`.
+// Writes the line of the report for worked example 7 with the outcome `outcome`. Asserts that the
+// written line is `line`, and that `write_row` returns `status`.
 fn assert_row<R: Abort>(rt: &R, alloc: Global, outcome: Outcome, line: &str, status: Status) {
     let mut text = String::new(alloc);
     {
@@ -182,8 +182,8 @@ fn assert_row<R: Abort>(rt: &R, alloc: Global, outcome: Outcome, line: &str, sta
     assert!(rt; text.as_str() == line, "not {line}");
 }
 
-// Returns the counter of a row that has compared one value. The value was the expected value if
-// `right` is true.
+// Returns the counter of a worked example that has compared one value. The value was the expected
+// one if `right` is true.
 fn checks_of_one_value(right: bool) -> Checks {
     let mut checks = Checks::new();
     checks.is(right);

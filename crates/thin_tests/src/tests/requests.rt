@@ -1,4 +1,4 @@
-//! Tests which requests the allocator `Refusing` refuses, and what this allocator counts.
+//! Tests of the allocator `Refusing`: which requests it refuses, and what it counts.
 use crate::tests::support::assertions::{assert_counts, assert_same};
 use crate::tests::support::items::refusing_nth;
 use std::alloc::{Allocator, Global};
@@ -21,8 +21,9 @@ fn assert_blocks(rt: &impl Abort, refusing: &Refusing<Global>, blocks: u64) {
     assert_same(rt, refusing.blocks(), blocks);
 }
 
-// Tries twice to push an item to a new `Vec`. Asserts that the first push fails, so only one block
-// is allocated. Asserts that the second push succeeds, and allocates a second block.
+// Tries twice to push an item to a new `Vec` while another `Vec` has one block. Asserts that the
+// first push fails and allocates no block, and that the second push succeeds and allocates a second
+// block.
 fn assert_blocks_by_pushes(rt: &impl Abort, refusing: &Refusing<Global>) {
     let mut other = Vec::new(refusing);
     assert_push(rt, &mut other, 2, false);

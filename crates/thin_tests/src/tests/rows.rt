@@ -1,6 +1,6 @@
-//! Tests of the worked rows. A worked row compares the results of calls with values that were
-//! worked out by hand. The tests check how many values each row compares, how many requests for
-//! memory it makes, and that each comparison detects a wrong value.
+//! Tests of the worked examples. A worked example compares the results of calls with values that
+//! were worked out by hand. The tests check how many values each example compares, how many
+//! requests for memory it makes, and that each comparison detects a wrong value.
 use std::alloc::Global;
 use std::process::Abort;
 use thin_examples::checks::Checks;
@@ -8,10 +8,10 @@ use thin_examples::rows::{ROWS, row};
 use thin_testing::Refusing;
 use thin_vec::{ThinVec, thin_vec};
 
-// One line for each worked row: its number, the number of values that it compares, and the number
-// of its requests for memory. The numbers were counted by hand, so they expose a row that compares
-// too few values. For row 35, the number of requests is given as 0, because `format!` of Rattle's
-// library makes requests in this row.
+// One line for each worked example: its number, how many values it compares, and how many requests
+// for memory it makes. These counts were made by hand, so they expose an example that compares too
+// few values. The requests of example 35 are given as 0, because some of them are made by `format!`
+// of Rattle's library.
 const COUNTS: &str = "\
     1: 5, 0\n\
     2: 12, 2\n\
@@ -49,8 +49,9 @@ const COUNTS: &str = "\
     40: 15, 2\n\
     41: 6, 5\n";
 
-// Runs the worked row with the number `number`. Asserts that the row is ok, and that all memory is
-// freed. Returns how many values the row compares, and how many requests for memory it makes.
+// Runs the worked example with the number `number`. Asserts that the example is ok, and that all
+// memory has been freed. Returns how many values the example compares, and how many requests for
+// memory it makes.
 fn run_and_count<R: Abort>(rt: &R, alloc: Global, number: u32) -> (u32, u64) {
     let refusing = Refusing::new(alloc, 0);
     let checks = row(&refusing, number).ok().expect(rt, "no refusal");
@@ -59,7 +60,7 @@ fn run_and_count<R: Abort>(rt: &R, alloc: Global, number: u32) -> (u32, u64) {
     (checks.compared(), requests)
 }
 
-// Appends to `lines` the line for the row with the number `number`.
+// Appends to `lines` the line with the counts of the worked example with the number `number`.
 fn append_counts<R: Abort>(rt: &R, alloc: Global, number: u32, lines: &mut String) {
     let (values, requests) = run_and_count(rt, alloc, number);
     let line = format!(in alloc; "{number}: {values}, {requests}\n").expect(rt, "memory");
@@ -80,8 +81,8 @@ fn assert_wrong(rt: &impl Abort, checks: Checks, values: u32) {
     assert!(rt; checks.compared() == values && !checks.is_ok());
 }
 
-// Compares a list of the numbers 1 and 2 with `items` and `capacity`. Returns the counter of these
-// comparisons.
+// Compares a list of the numbers 1 and 2 with the expected items `items` and the expected capacity
+// `capacity`. Returns the counter of these comparisons.
 fn checks_of_holds(rt: &impl Abort, alloc: Global, items: &[u32], capacity: usize) -> Checks {
     let list = thin_vec![alloc => 1, 2].expect(rt, "memory");
     let mut checks = Checks::new();

@@ -5,13 +5,13 @@ use std::alloc::Global;
 use std::process::Abort;
 use thin_vec::ThinVec;
 
-// Asserts that `has_capacity` returns `owns_block`, which is true if the list should have an
+// Asserts that `has_capacity` returns `owns_block`, which says whether the list should have an
 // allocation.
 fn assert_owns_block<T>(rt: &impl Abort, list: &ThinVec<T>, owns_block: bool) {
     assert_same(rt, list.has_capacity(), owns_block);
 }
 
-// `has_capacity` returns true if and only if the list has an allocation.
+// Tests that `has_capacity` returns true if and only if the list has an allocation.
 #[test]
 fn has_capacity_tells_whether_a_list_owns_a_block(rt: HostRuntime) {
     let alloc = rt.alloc();
@@ -32,8 +32,8 @@ fn has_capacity_tells_whether_a_list_owns_a_block(rt: HostRuntime) {
     }
 }
 
-// `u128` has the largest alignment of all types of Rattle. A list of one `u128` keeps its item when
-// the capacity grows and when the capacity shrinks again.
+// Tests that a list of one `u128` keeps its item while the capacity grows and shrinks. `u128` has
+// the largest alignment of all types of Rattle.
 #[test]
 fn reallocation_keeps_an_item_of_the_largest_alignment(rt: HostRuntime) {
     let mut list = ThinVec::new(rt.alloc());

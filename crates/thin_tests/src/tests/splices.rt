@@ -67,7 +67,8 @@ fn second_splice_undoes_the_first(rt: HostRuntime) {
 }
 
 // Asserts that the error of a failed `finish` has the contents `wanted`: the cause, the items in
-// `held`, the item in `in_hand`, and the items that the iterator `rest` still yields.
+// `held`, the item in `in_hand`, and the items that the iterator `rest` still yields, in this
+// order.
 fn assert_refused<A: Allocator>(
     rt: &impl Abort,
     refused: SpliceRefused<i32, Claims<'_>, A>,
@@ -131,8 +132,8 @@ fn row_39_refused_finish_returns_the_held_items(rt: HostRuntime) {
     assert_range_refused(&rt, refusing, &[1, 2, 3], (1, 2), iter, left, wanted);
 }
 
-// Replaces the second item of the list with `count` numbers. The size hint of the iterator has the
-// lower bound 0.
+// Replaces the second item of the list with `count` numbers. The iterator's size hint has a lower
+// bound of 0.
 fn splice_without_hint(rt: &impl Abort, list: &mut ThinVec<i32>, count: i32, alloc: Global)
     requires in_bounds { 2 ≤ length list.old.items }
 {

@@ -1,6 +1,6 @@
 //! Tests of the sparse table in the crate `thin_rows`. They check what no contract states: when
 //! memory is requested and freed, and how a table is printed. They also make many random calls, and
-//! compare the results with the results of the same calls on a `BTreeMap`.
+//! compare their results with the results of the same calls on a `BTreeMap`.
 ghost use Rattle.std.specs.Prelude.{◌<◌, length};
 
 use crate::tests::support::assertions::{assert_counts, assert_same};
@@ -14,7 +14,7 @@ use std::process::Abort;
 use thin_rows::{Rows, ThinVecError};
 use thin_testing::Refusing;
 
-// Asserts that the table has a row with the index `row`. The methods of a table require this.
+// Asserts that the table has a row with the index `row`, as the methods of the table require.
 fn assert_row<V, A: Allocator>(rt: &impl Abort, table: &Rows<V, A>, row: usize)
     ensures in_bounds { row < length table.now }
 {
@@ -34,7 +34,8 @@ fn assert_entries<A: Allocator>(
     assert_same(rt, table.owns_block(row), !entries.is_empty());
 }
 
-// Sets the value at `place`, which is a row and a column. Asserts that the old value was `old`.
+// Sets the value at `place`, which consists of a row and a column. Asserts that the old value was
+// `old`.
 fn assert_set<A: Allocator>(
     rt: &impl Abort,
     table: &mut Rows<u32, A>,
@@ -47,8 +48,8 @@ fn assert_set<A: Allocator>(
     assert_same(rt, was.expect(rt, "memory"), old);
 }
 
-// Removes the value at `place`, which is a row and a column. Asserts that the removed value is
-// `old`.
+// Removes the value at `place`, which consists of a row and a column. Asserts that the removed
+// value is `old`.
 fn assert_removed<A: Allocator>(
     rt: &impl Abort,
     table: &mut Rows<u32, A>,
@@ -59,7 +60,7 @@ fn assert_removed<A: Allocator>(
     assert_same(rt, table.remove(place.0, place.1), old);
 }
 
-// Asserts that `value` is the value at `place`, which is a row and a column.
+// Asserts that `value` is the value at `place`, which consists of a row and a column.
 fn assert_value<A: Allocator>(
     rt: &impl Abort,
     table: &Rows<u32, A>,
@@ -82,7 +83,8 @@ fn with_rows_returns_the_cause(rt: HostRuntime) {
     }
 }
 
-// In row 0, sets four values that count their drops. The fourth value replaces the second value.
+// Sets four values in row 0. Each value counts its drops, and the fourth value replaces the second
+// value.
 fn set_counted<'a>(rt: &impl Abort, table: &mut Rows<Counted<'a>>, drops: &'a Cell<u32>) {
     for column in [3, 1, 2, 1] {
         assert_row(rt, table, 0);
@@ -155,8 +157,8 @@ fn prints_a_row_of_many_entries(rt: HostRuntime) {
     );
 }
 
-// Sets `columns` entries in row 0, and `columns` entries in the last row. Fills row 0 from its last
-// column to its first, and fills the last row from its first column to its last.
+// Sets `columns` entries in row 0 and `columns` entries in the last row. The entries of row 0 are
+// set in descending order of their columns, and the entries of the last row in ascending order.
 fn fill_columns<A: Allocator>(rt: &impl Abort, table: &mut Rows<u32, A>, columns: usize) {
     for column in 0..columns {
         assert_set(rt, table, (table.rows().saturating_sub(1), column), 7, None);
@@ -164,9 +166,9 @@ fn fill_columns<A: Allocator>(rt: &impl Abort, table: &mut Rows<u32, A>, columns
     }
 }
 
-// A table with two long rows has three allocations: one for the table itself, and one for each of
-// the two rows. Each row makes 11 requests, because its capacity doubles from 4 to 4096. With the
-// request for the table itself, this makes 23 requests.
+// Tests a table with two long rows. It has three allocations: one for the table itself, and one for
+// each of the two rows. Each row makes 11 requests, because its capacity doubles from 4 to 4096.
+// With the request for the table itself, this is 23 requests.
 #[test]
 fn set_adds_thousands_of_columns_to_a_row(rt: HostRuntime) {
     let refusing = refusing_nth(&rt, rt.alloc(), 0);
@@ -218,8 +220,8 @@ fn a_cleared_row_frees_its_block_and_makes_no_request(rt: HostRuntime) {
     assert_counts(&rt, refusing, 0, 2);
 }
 
-// Makes a row of `columns` entries, and sets each entry again. Asserts that setting the entries
-// again makes no request for memory.
+// Makes a row of `columns` entries, and sets each entry a second time. Asserts that setting the
+// entries a second time makes no request for memory.
 fn assert_set_again(rt: &impl Abort, refusing: &Refusing<Global>, columns: usize) {
     let mut table = Rows::with_rows(refusing, 1).expect(rt, "memory");
     for column in 0..columns {
@@ -259,9 +261,9 @@ impl Numbers {
 
 type Reference = BTreeMap<(usize, usize), u32>;
 
-// Makes the same random call on the table and on the reference, which is a `BTreeMap`. Asserts that
-// the two calls return the same result. If the call on the table fails, neither the table nor the
-// reference changes.
+// Makes the same random call on the table and on `reference`, which is a `BTreeMap`. Asserts that
+// both calls return the same result. If the call on the table fails, neither the table nor
+// `reference` changes.
 fn call_both<A: Allocator>(
     rt: &impl Abort,
     table: &mut Rows<u32, A>,
@@ -315,8 +317,8 @@ fn set_both<A: Allocator>(
     }
 }
 
-// Asserts that the table and the reference, which is a `BTreeMap`, have the same entries. Also
-// asserts that each row has an allocation if and only if the row is not empty.
+// Asserts that the table and `reference`, a `BTreeMap`, have the same entries. Also asserts that
+// each row of the table has an allocation if and only if the row is not empty.
 fn assert_both<A: Allocator>(rt: &impl Abort, table: &Rows<u32, A>, reference: &Reference) {
     assert_same(rt, table.len(), reference.len());
     for row in 0..table.rows() {
@@ -329,7 +331,7 @@ fn assert_both<A: Allocator>(rt: &impl Abort, table: &Rows<u32, A>, reference: &
 }
 
 // Makes `calls` random calls on a table of `rows` rows, and the same calls on a `BTreeMap`.
-// Compares all entries of the table and the `BTreeMap` after every 64 calls, and at the end.
+// Compares all entries of the table and the `BTreeMap` every 64 calls, and at the end.
 fn run_both(
     rt: &impl Abort,
     refusing: &Refusing<Global>,

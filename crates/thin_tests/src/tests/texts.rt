@@ -1,5 +1,5 @@
 //! Tests how lists, iterators over lists, and errors are printed: on one line, on several lines,
-//! and with a width.
+//! and with a minimum width for the items.
 use crate::tests::support::assertions::{assert_len, assert_same, assert_text};
 use crate::tests::support::items::list_of;
 use std::alloc::Global;
@@ -90,8 +90,8 @@ fn assert_prints_cause<E: Debug + Display>(
     assert_same(rt, told.as_str(), wanted.as_str());
 }
 
-// Calls `assert_prints_cause` for one error of each error type that holds values. All these errors
-// have the cause `cause`.
+// Calls `assert_prints_cause` with one error of each error type that contains values. All these
+// errors have the cause `cause`.
 fn assert_all_print_cause(rt: &impl Abort, alloc: Global, cause: ThinVecError) {
     let (value, in_hand, rest) = (1, Some(1), 2);
     let rejected = Rejected { value, cause };

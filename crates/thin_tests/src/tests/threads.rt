@@ -1,5 +1,5 @@
 //! Tests that lists, and values made from lists, can be passed to functions with the bounds `Send`
-//! and `Sync`. No thread is started, because the calls only have to compile and to be proved.
+//! and `Sync`. No thread is started, because it suffices that the calls compile and are proved.
 ghost use Rattle.std.specs.Prelude.{◌≡◌};
 
 use crate::tests::support::assertions::assert_same;
@@ -24,7 +24,7 @@ fn needs_send<X: Send>(value: X) -> X
 }
 
 // Returns `value`. The type `X` must be `Sync`, which means that several threads can have
-// references to the same value.
+// references to the same value of this type.
 fn needs_sync<X: Sync>(value: &X) -> &X
     ensures value { result.now ≡ value.now }
 {

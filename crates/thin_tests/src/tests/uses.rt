@@ -1,4 +1,4 @@
-//! Runs example functions of the crate `thin_examples`, and checks their results.
+//! Tests that run example functions of the crate `thin_examples`, and check their results.
 use crate::tests::support::assertions::{assert_items, assert_len, assert_same};
 use crate::tests::support::items::{list_of, push, refusing_nth};
 use std::alloc::Global;
@@ -130,7 +130,7 @@ fn move_range_moves_a_range_to_another_list(rt: HostRuntime) {
     assert_items(&rt, other.as_slice(), &[9, 2, 3]);
 }
 
-// Asserts that `spliced_middle` replaces the middle of a list of five items.
+// Asserts that `spliced_middle` replaces the third and the fourth item of a list of five items.
 fn assert_spliced(rt: &impl Abort, alloc: Global) {
     let mut five = list_of(rt, alloc, &[1, 2, 3, 4, 5]);
     spliced_middle(&mut five, alloc).expect(rt, "memory");

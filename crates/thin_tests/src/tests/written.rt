@@ -1,4 +1,4 @@
-//! Two functions that are generic in the item type. The function `three` makes a list by
+//! Two functions that are generic in the item type. The function `three` makes a list with
 //! `thin_vec!`, and `pair` moves the items out of a list. The only bound on the item type is
 //! `T: Drop`.
 ghost use Rattle.std.specs.Mem.{type_size};
@@ -7,7 +7,8 @@ ghost use Rattle.std.specs.Prelude.{◌≡◌, ◌*◌, ◌^◌, ◌<◌, [], �
 use std::alloc::Allocator;
 use thin_vec::{ThinVec, ThinVecError, thin_vec};
 
-/// Makes a list of three items of any type. The function needs no condition on the size of an item.
+/// Makes a list of three items of any type. The contract states no condition on the size of an
+/// item.
 pub fn three<T: Drop, A: Allocator>(
     alloc: A,
     first: T,

@@ -1,7 +1,6 @@
--- In the loop of `divide`, the list `odd` contains its old items, followed by the odd numbers that
--- have been yielded so far. The list `even` contains its old items, followed by the even numbers
--- that have been yielded so far. Each of the two lists has room for all numbers that have not been
--- yielded yet.
+-- In the loop of `divide`, the odd numbers that have been yielded so far have been appended to
+-- `odd`, and the even numbers to `even`. Each of the two lists has room for all numbers that have
+-- not been yielded yet.
 use Rattle.std.proofs.Common.{◌≡◌, ◌+◌, ◌%◌, ◌==◌, ◌++◌, ◌≤◌, length}
 use Rattle.std.specs.Prelude.{filter, not}
 use Rattle.thin_examples.proofs.handed_over.divide.Given as goal

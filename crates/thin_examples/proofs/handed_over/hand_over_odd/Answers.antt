@@ -1,6 +1,6 @@
--- In `hand_over_odd`, each call of `next` extracts an odd number from `list`, and this number is
--- then pushed to `other`. After `next` has returned `None`, all odd numbers have been pushed to
--- `other`, and `list` contains the other numbers.
+-- In `hand_over_odd`, the calls of `next` extract the odd numbers from `list` one by one, and each
+-- of them is pushed to `other`. When `next` returns `None`, all odd numbers have been pushed, and
+-- `list` contains the even numbers.
 use Rattle.std.proofs.Common.{◌≡◌, ℕ, ◌-◌, ◌%◌, ◌==◌, ◌++◌, Bool, List, ap, arith, length, rules, take, ◌∙◌}
 use Rattle.std.proofs.Math.Seq.{take-length}
 use Rattle.std.proofs.lemmas.List.{append-nil, drop_all}

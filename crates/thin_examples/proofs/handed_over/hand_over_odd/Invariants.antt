@@ -1,6 +1,6 @@
 -- In the loop of `hand_over_odd`, exactly the numbers that have been extracted so far have been
--- appended to `other`. The capacity of `other` is enough for its old items and all numbers of the
--- range.
+-- appended to `other`. The capacity of `other` suffices for its old items and all numbers of
+-- `list`.
 use Rattle.std.proofs.Common.{◌+◌, ◌%◌, ◌==◌, ◌≤◌, length}
 use Rattle.thin_vec.specs.Edits.ExtractIf.{extract_rest}
 use Rattle.thin_vec.proofs.EditLemmas.{IsExtracting}

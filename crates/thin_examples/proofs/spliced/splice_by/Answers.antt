@@ -1,5 +1,5 @@
--- The splice in `splice_by` borrows the list. So when `splice_by` returns, the list has the value
--- that `finish` gave it.
+-- The splice in `splice_by` borrows the list mutably. So when `splice_by` returns, the list has the
+-- value that `finish` wrote through this borrow.
 use Rattle.std.proofs.Common.{◌≡◌, ◌++◌, drop, rules, subst, take}
 use Rattle.std.specs.Iterator.Runs.{WholeRun}
 use Rattle.std.specs.Prelude.{OnOk}

@@ -4,7 +4,8 @@ use Rattle.std.proofs.Common.{◌≡◌, [], ◌∷◌, ap, arith, ◌++◌, ◌
 use Rattle.thin_replay.proofs.RunLemmas.{headline-one, one_reply}
 use Rattle.thin_replay.proofs.carried_out.carry_out.Goals as goal
 
--- There is exactly one reply. So `pop` returns `Some`, and the precondition of `unwrap` holds.
+-- There is exactly one reply. So `pop` returns `Some`, and the precondition of the following
+-- `unwrap` holds.
 pub unwrap-requires : goal.unwrap-requires
 unwrap-requires g c =
     let one : c.push.new.self.items ≡ c.args.command ∷ [] =

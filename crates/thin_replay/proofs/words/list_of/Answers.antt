@@ -5,13 +5,13 @@ use Rattle.thin_replay.proofs.WordsLemmas.{zip-all, zip-next}
 use Rattle.thin_replay.specs.Words.{Spells}
 use Rattle.thin_replay.proofs.words.list_of.Goals as goal
 
--- The loop invariant holds before the first iteration, because no word has been parsed, and there
--- are no items.
+-- The loop invariant holds before the first iteration, because no word has been parsed yet, and
+-- there are no items yet.
 pub loop-word-init : goal.loop-word-init
 loop-word-init c = rw c.new-list.ensures.new.items tt
 
--- Each iteration preserves the loop invariant, because it parses the next word, and pushes the
--- number that it has parsed.
+-- Each iteration preserves the loop invariant, because it parses the next word and pushes the
+-- resulting number.
 pub loop-word-preserved : goal.loop-word-preserved
 loop-word-preserved c =
     let grown : c.push.new.self.items ≡ c.loop-word.list.items ++ c.in_ok-item_of.field-0 ∷ [] =

@@ -5,13 +5,13 @@ use Rattle.thin_replay.proofs.WordsLemmas.{zip-all, zip-next}
 use Rattle.thin_replay.specs.Words.{IsStep}
 use Rattle.thin_replay.proofs.words.steps_of.Goals as goal
 
--- The loop invariant holds before the first iteration, because no letter has been parsed, and there
--- are no steps.
+-- The loop invariant holds before the first iteration, because no letter has been parsed yet, and
+-- there are no steps yet.
 pub loop-letter-init : goal.loop-letter-init
 loop-letter-init c = rw c.new-steps.ensures.items tt
 
--- Each iteration preserves the loop invariant, because it parses the next letter, and pushes the
--- step that it has parsed.
+-- Each iteration preserves the loop invariant, because it parses the next letter and pushes the
+-- resulting step.
 pub loop-letter-preserved : goal.loop-letter-preserved
 loop-letter-preserved c =
     rw c.in_ok-push.ensures.items
@@ -19,7 +19,7 @@ loop-letter-preserved c =
     c.loop-letter.steps.items c.in_ok-step_of.field-0 c.loop-letter-test.true
     c.loop-letter.invariant (search rules))
 
--- After the loop, all letters have been parsed. So there is one step for each letter.
+-- After the loop, all letters have been parsed. So each letter has become one step.
 pub returns : goal.returns
 returns c = record {
   steps = inr (rw (← c.as_bytes-letters.ensures.value)

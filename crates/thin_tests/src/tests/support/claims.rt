@@ -3,7 +3,7 @@ ghost use Rattle.std.specs.Prelude.{◌+◌, length};
 ghost use Rattle.std.specs.Iterator.{at_most};
 
 /// An iterator over a slice. It yields the items in order, and then `None` forever. Its size hint
-/// is always `(lower, None)`, however many items are left.
+/// is always `(lower, None)`, no matter how many items remain.
 #[derive(Drop)]
 pub struct Claims<'a> {
     items: &'a [i32],
@@ -11,7 +11,7 @@ pub struct Claims<'a> {
 }
 
 impl<'a> Claims<'a> {
-    /// Returns an iterator over `items` whose size hint has the lower bound `lower`.
+    /// Returns an iterator over `items` whose size hint has a lower bound of `lower`.
     pub fn new(items: &'a [i32], lower: usize) -> Claims<'a> {
         Claims { items, lower }
     }

@@ -1,4 +1,4 @@
-//! An item that counts its drops, and a list of such items.
+//! An item type whose values count their drops, and a function that makes a list of such items.
 use crate::tests::support::items::push;
 use std::alloc::Global;
 use std::cell::Cell;

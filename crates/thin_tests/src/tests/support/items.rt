@@ -1,4 +1,4 @@
-//! Lists, items and allocators that many tests use.
+//! Functions that many tests use to make allocators and lists, and to push items.
 ghost use Rattle.std.specs.Prelude.{◌≡◌, length};
 
 use std::alloc::{AllocError, Allocator, Global};
@@ -8,7 +8,7 @@ use thin_testing::Refusing;
 use thin_vec::{Growth, ThinVec};
 
 /// Returns an allocator that refuses the request with the number `number`, or no request if
-/// `number` is 0. The allocator is leaked, so that tests can hold a `'static` reference to it.
+/// `number` is 0. The allocator is leaked so that tests can hold a `'static` reference to it.
 pub fn refusing_nth(rt: &impl Abort, alloc: Global, number: u64) -> &'static Refusing<Global> {
     let refusing = Refusing::new(alloc, number);
     Box::leak(Box::new(alloc, refusing).ok().expect(rt, "memory"))
@@ -45,7 +45,7 @@ pub fn push_all<A: Allocator, G: Growth>(
     }
 }
 
-/// Returns a list of boxes. Each box holds one of the items.
+/// Returns a list of boxes, each of which contains one of the items.
 pub fn boxes_of(
     alloc: Global,
     items: &[i32],

@@ -1,10 +1,10 @@
-//! An item that can be cloned only a limited number of times.
+//! An item type whose values can be cloned only a limited number of times.
 use crate::tests::support::counted::Counted;
 use std::alloc::AllocError;
 use std::cell::Cell;
 
 /// An item that adds 1 to the cell `drops` when it is dropped. Each clone subtracts 1 from the
-/// number in the cell `granted`. If this number is 0, cloning fails.
+/// number in the cell `granted`. While this number is 0, cloning fails.
 #[derive(Drop)]
 pub struct Scarce<'a> {
     drops: &'a Cell<u32>,

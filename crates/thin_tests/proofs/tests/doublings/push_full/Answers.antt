@@ -1,5 +1,5 @@
 -- This file proves the contract of `push_full`. The new capacity follows from the growth rule, and
--- the cost of the growth follows from the new capacity.
+-- the number of copied items and allocated blocks follows from the new capacity.
 use Rattle.std.proofs.Common.{arith}
 use Rattle.thin_block.proofs.CapacityLemmas.{doubling_first, doubling_next}
 use Rattle.thin_vec.proofs.ThinVecLemmas.{costs}
