@@ -17,8 +17,8 @@ module _ {T A E : Type 0} where
   if_ok (Ok v) implies p = implies v p
   if_ok (Err e) implies p = p
 
-  -- If the iterator yields exactly the items `all`, and `collect` returns a `ThinVec`, then `all`
-  -- are the items of this `ThinVec`. (std: `items_from_collect`)
+  -- If the iterator yields exactly the items `all`, and `collect` returns a `ThinVec`, then this
+  -- `ThinVec` contains exactly the items `all`. (std: `items_from_collect`)
   pub items_from_collect : {S : Type 0} {steps : S → Option T → S → Type 0} {s : S} {all : List T}
       (R : RattleType) (r : Result (Thin T A) E)
       → IfOk r (λ v. (xs : List T) × DrainsIf steps ⊤ s xs × IsMadeOf R xs v)

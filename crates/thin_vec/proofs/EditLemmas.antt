@@ -21,8 +21,9 @@ use Rattle.thin_vec.specs.declared.edits.holder.Holds.{Ghosts as HoldsGhosts}
 -- In this module, `R` describes the calls of a closure that compares two items. For each call, `R`
 -- relates the arguments, the result, the new state of the closure, and both items after the call.
 module _ {S T : Type 0} (R : S → T → T → Bool → S → T → T → Type 0) where
-  -- Let the items `xs` follow the kept item `k`. If each item of `xs` was compared with the last
-  -- item kept before it, then std's `DedupsFrom` holds for `k`, `xs` and the kept items `ys`.
+  -- Suppose that the items `xs` follow the kept item `k`, and that each of them was compared with
+  -- the last item kept before it. Then std's `DedupsFrom` holds for `k`, `xs` and the kept items
+  -- `ys`.
   dedups_from : (xs : List T) (s : S) (k : T) (stays : List Bool) (ys : List T) (t : S)
       → AskedLast R s k xs stays ys t → DedupsFrom R s k xs ys
   dedups_from [] s k stays ys t h = h.1
@@ -116,7 +117,7 @@ module _ {T : Type 0} (test : T → Bool) where
           ended = then.ended;
         }
 
-    -- Let `xs` be the items that have not been tested before a call of `next`. If the closure
+    -- Suppose that the items `xs` have not been tested when `next` is called. If the closure
     -- changes no item and always returns the result of `test`, then `Parts` describes this call.
     pub parts : (s : S) (xs : List T) (item : Option T) (t : S) (kept rest : List T)
         → ExtractsNext R s xs item t kept rest → Parts xs item kept rest
@@ -134,9 +135,9 @@ module _ {T : Type 0} (test : T → Bool) where
 -- `extract_if` returns.
 module _ {T F A G : Type 0} {g : Ghosts G}
     {h : HoldsGhosts (Holder (Extracting T F A)) (Extracting T F A)} (test : T → Bool) where
-  -- This is the invariant of a loop that appends each item yielded by an `ExtractIf` to a list.
-  -- When the loop began, the `ExtractIf` was `start` and the list was `old`. Now the `ExtractIf` is
-  -- `now` and the list is `held`.
+  -- `IsExtracting` is the invariant of a loop that appends each item yielded by an `ExtractIf` to a
+  -- list. When the loop began, the `ExtractIf` was `start` and the list was `old`. Now the
+  -- `ExtractIf` is `now` and the list is `held`.
   pub record IsExtracting (start now : ExtractIf T F A G (Holder (Extracting T F A)) g h)
       (old held : List T) : Type 0 where
     pub gone : held ++ filter test (extract_rest now) ≡ old ++ filter test (extract_rest start)

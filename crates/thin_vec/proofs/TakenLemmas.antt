@@ -6,8 +6,8 @@ use Rattle.thin_vec.specs.Convert.IntoIter.{rest}
 use Rattle.thin_vec.specs.ThinVec.{Thin}
 
 module _ {T A : Type 0} where
-  -- If calls of `next` have yielded the items `xs`, then the items that the iterator `s` held
-  -- before these calls are `xs`, followed by the items that the iterator `t` holds after them.
+  -- If calls of `next` on the iterator `s` yielded the items `xs` and turned `s` into the iterator
+  -- `t`, then the items of `s` are `xs`, followed by the items of `t`.
   pub taken_front : (s : Thin T A) (xs : List T) (t : Thin T A) → Yields (YieldsFirst rest) s xs t
       → s.items ≡ xs ++ t.items
   taken_front s [] t y = ap (λ v. v.items) y
