@@ -35,7 +35,8 @@ moving-zero c = ap (λ m. let d : Cost = record c { moves = m } in d)
     (let e : c.moves ≡ c.moves + 0 = omega arith in e)
 
 -- Suppose that `n` items were placed into the gap of the open block `v`, which became the open
--- block `w`. Closing `w` moves each tail item at most once. It moves no item if the gap is full.
+-- block `w`. Then closing `w` moves each tail item at most once, and it moves no item if the gap is
+-- full.
 pub closed-moves : {T A : Type 0} (v w : Open T A) (n : ℕ) → w.cost ≡ moving (v.gap - w.gap)
     v.cost → w.rest ≡ [] → w.tail ≡ v.tail → n ≡ v.gap - w.gap
     → (m : ℕ) × (cost_closed w ≡ moving (n + m) v.cost) × (m ≤ length v.tail)
@@ -70,8 +71,9 @@ closed-moves v w n paid none same count = go (eqb w.gap 0) refl
         false-true : false ≡ true → ⊥
         false-true h = cc
 
--- Suppose that `n` items are moved up, unless `count` is 0. Then `k` items are placed, and `m`
--- items are moved. The total number of moves is `k` for the placed items, plus at most `n + m`.
+-- Suppose that `n` items are moved up, unless `count` is 0, and that `k` items are placed and `m`
+-- items are moved afterwards. Then the total number of moves is `k` for the placed items, plus at
+-- most `n + m`.
 pub run-moves : (count n k m : ℕ) (c d : Cost) → d ≡ (if eqb count 0 then c else moving n c)
     → (x : ℕ) × (moving (k + m) d ≡ moving (k + x) c) × (x ≤ n + m)
 run-moves count n k m c d e = go (eqb count 0) e
@@ -147,7 +149,7 @@ pub any-err : {X E : Type 0} {Q : E → Type 0} (r : Result X E) → ((e : E) �
 any-err (Ok _) h = tt
 any-err (Err e) h = h e
 
--- Inserting the list `ys` into the list `xs` yields a list of the length `length xs + length ys`.
+-- Inserting the list `ys` into the list `xs` yields a list of length `length xs + length ys`.
 pub inserted-long : {T : Type 0} (xs ys : List T) (at : ℕ) → at ≤ length xs
     → length ((take at xs ++ ys) ++ drop at xs) ≡ length xs + length ys
 inserted-long xs ys at in_bounds =
@@ -292,7 +294,7 @@ module _ {T A : Type 0} where
       }
 
   -- Suppose that `us` are the items of the open block `v` with `xs` in place of its middle items.
-  -- Inserting `ys` directly after `xs` yields the items of `v` with `xs ++ ys` in place of its
+  -- Then inserting `ys` directly after `xs` yields the items of `v` with `xs ++ ys` in place of its
   -- middle items.
   pub between-more : (v : Open T A) (us xs ys : List T) (end : ℕ) → us ≡ with_between v xs
       → end ≡ length v.front + length xs
@@ -312,7 +314,7 @@ module _ {T A : Type 0} where
       omega (arith, length-append (v.front ++ xs) v.tail, length-append v.front xs)
 
   -- If the open block `v` has no tail items, then appending `xs` to its front items is the same as
-  -- replacing its middle items by `xs`.
+  -- replacing its middle items with `xs`.
   pub after-items : (v : Open T A) (xs : List T) → v.tail ≡ []
       → (v.front ++ v.tail) ++ xs ≡ with_between v xs
   after-items v xs none =
