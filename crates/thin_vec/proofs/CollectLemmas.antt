@@ -10,8 +10,9 @@ use Rattle.thin_vec.specs.List.Extend.{IsMadeOf}
 use Rattle.thin_vec.specs.ThinVec.{Thin}
 
 module _ {T A E : Type 0} where
-  -- If the property `P` of a list implies the property `Q`, and the list in the result `r`
-  -- satisfies `P`, then this list also satisfies `Q`. If `r` is an error, the lemma claims nothing.
+  -- Suppose that every list with the property `P` also has the property `Q`. If the list in the
+  -- result `r` has the property `P`, then it also has the property `Q`. If `r` is an error, the
+  -- lemma claims nothing.
   if_ok : {P Q : Thin T A → Type 0} (r : Result (Thin T A) E) → ((v : Thin T A) → P v → Q v)
       → IfOk r P → IfOk r Q
   if_ok (Ok v) implies p = implies v p

@@ -101,8 +101,8 @@ first_most : (s : ℕ) → first s ≤ 4
 unfolding first
 first_most s = either_most (nat_lt (2 ^ 61 - 1) s)
 
--- If `w` is greater than the old capacity `c`, then each capacity that the growth rule `doubling`
--- may choose, `first s` or `2 * c`, is at most `max 4 (2 * w)`.
+-- If the old capacity `c` is less than `w`, then the capacities that the growth rule `doubling` may
+-- choose are at most `max 4 (2 * w)`. These capacities are `first s` and `2 * c`.
 twice-most : (b : Bool) (s c w : ℕ) → c < w → (if b then first s else 2 * c) ≤ max 4 (2 * w)
 twice-most true s c w more = omega (arith, first_most s)
 twice-most false s c w more = omega (arith, more)

@@ -283,7 +283,7 @@ module _ {T A : Type 0} where
   thin-filled b a i t h = rw (thin-slot b a i t h) (get-some (items_in b.slots) i h)
 
   -- If the first slots of a list's block, up to the stored length, hold exactly the items `xs`,
-  -- then `xs` are the items of the list.
+  -- then the items of the list are `xs`.
   pub thin-run : (b : Block T A) (a : A) (xs : List T) (n : ℕ) → IsThin b a → n ≡ b.len
       → full xs ≡ slice_range b.slots 0 n → xs ≡ items_in b.slots
   thin-run b a xs n t len run =

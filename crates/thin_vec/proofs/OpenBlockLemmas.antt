@@ -230,8 +230,8 @@ module _ {T A : Type 0} where
         (omega (arith, length-full v.front, s.front))
         (omega (arith, length-full v.front, s.front, s.gap))
 
-  -- If the slots `rest_start..rest_end` hold exactly the items `xs`, then `xs` are the middle
-  -- items.
+  -- If the slots `rest_start..rest_end` hold exactly the items `xs`, then the middle items are
+  -- `xs`.
   pub rest-run : (h : Inside T A) (xs : List T) → full xs
       ≡ slice_range h.block.slots h.rest_start h.rest_end
       → xs ≡ (open_of h).rest
@@ -247,7 +247,7 @@ module _ {T A : Type 0} where
     abbrev v : Open T A
     v = open_of h
 
-    -- `first-left` is the open block after its first middle item was removed, as it is stored.
+    -- `first-left` is the open block after its first middle item was removed.
     abbrev pub first-left : Inside T A
     first-left = record {
       block = b;
@@ -317,7 +317,7 @@ module _ {T A : Type 0} where
               (ap (λ (z : Seen T A). z.cost) now),
         )
 
-    -- `last-left` is the open block after its last middle item was removed, as it is stored.
+    -- `last-left` is the open block after its last middle item was removed.
     abbrev pub last-left : Inside T A
     last-left = record {
       block = b;
@@ -717,7 +717,7 @@ module _ {T A : Type 0} where
     }
 
     -- `widened-seen` is the open block `widened` as it appears in contracts. The gap before the
-    -- tail items has `count` more slots than before.
+    -- tail items is `count` slots longer than before the move.
     abbrev pub widened-seen : Open T A
     widened-seen =
         let v : Open T A = open_of h in

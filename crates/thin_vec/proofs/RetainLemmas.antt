@@ -414,8 +414,8 @@ module _ {S T : Type 0} (R : S → T → Bool → S → T → Type 0) where
               );
         }
 
-    -- If no item follows the kept items, then no item was tested after them, and the state of the
-    -- closure did not change again.
+    -- If no item follows the kept items, then the tests ended with the last kept item, and the
+    -- state of the closure did not change afterward.
     pub stop-ends : (u : S) (b e : List T) → Stops R u b t e → e ≡ [] → (b ≡ []) × (t ≡ u)
     stop-ends u [] e h k = (refl, h.1)
     stop-ends u (x ∷ b) e h k = absurd (cons-not-nil (sym h.2 ∙ k))
@@ -653,8 +653,8 @@ module _ {J S T : Type 0} (R : S → T → Bool → S → T → Type 0) (inside 
 -- In this module, `R` describes the calls of a closure that only reads the item.
 module _ {S T : Type 0} (R : S → T → Bool → S → Type 0) where
   -- Suppose that the items `xs` were tested by a closure that only reads them. Then the closure
-  -- returned one Boolean flag for each item, in order. The kept items are the items of `xs` with
-  -- the flag true.
+  -- returned one Boolean flag for each item, in order. The kept items are the items of `xs` whose
+  -- flag is true.
   told : (xs : List T) (s t : S) (a : Verdicts T) → Asked (Looks R) s xs a t
       → (length (flags_of a) ≡ length xs) × ReturnsInTurn R s (flags_of a) xs t
       × (left_at true a ≡ items_where_true (flags_of a) xs)
@@ -670,17 +670,18 @@ module _ {S T : Type 0} (R : S → T → Bool → S → Type 0) where
       let left : y ≡ x = ap (λ (p : Bool × T). p.1) same ∙ h.4.1 in
       (ap suc rest.0, (h.2, answer, rest.1), first b y x a xs left rest.2)
     where
-      -- This is the induction step for the kept items. If the kept items of `xs` are the items with
-      -- the flag true, and the test left the item `x` unchanged, then the same holds for `x ∷ xs`.
+      -- This is the induction step of the lemma `told`. If the kept items of `xs` are the items
+      -- whose flag is true, and the test left the item `x` unchanged, then the same holds for
+      -- `x ∷ xs`.
       first : (b : Bool) (y x : T) (a : Verdicts T) (xs : List T) → y ≡ x
           → left_at true a ≡ items_where_true (flags_of a) xs
           → left_at true ((b, y) ∷ a) ≡ items_where_true (b ∷ flags_of a) (x ∷ xs)
       first true y x a xs e f = λ i. e i ∷ f i
       first false y x a xs e f = f
 
-  -- If `retain` with a closure that only reads the items turned the list `v` into the list `w`,
-  -- then std's `IsFiltered` holds for the items of `v` and `w`. Lemmas about `IsFiltered` are in
-  -- the file `lemmas/Fn` of std's proofs.
+  -- Suppose that `retain` was called with a closure that only reads the items, and that it turned
+  -- the list `v` into the list `w`. Then std's `IsFiltered` holds for the items of `v` and the
+  -- items of `w`. Lemmas about `IsFiltered` are in the file `lemmas/Fn` of std's proofs.
   pub retained_filtered : {A : Type 0} (s : S) (v w : Thin T A) → IsRetained (Looks R) s v w
       → IsFiltered R s v.items w.items
   retained_filtered s v w h =

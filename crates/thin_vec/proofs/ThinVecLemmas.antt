@@ -17,8 +17,8 @@ use Rattle.thin_vec.specs.Cheap.{IsCheap, IsCheapAt}
 use Rattle.thin_vec.specs.ThinVec.{IsThin, IsWithin, Thin, capacity_for, cost_at, thin_of}
 
 module _ {T A : Type 0} (R : RattleType) (b : Block T A) (a : A) where
-  -- If `b` is the block of the list `v`, and a block of this size is small enough to be allocated,
-  -- then `v` satisfies `IsWithin`: its length and its capacity are within their bounds.
+  -- If the block `b` of the list `v` is small enough to be allocated, then `v` satisfies
+  -- `IsWithin`: its length and its capacity are within their bounds.
   pub within-of : (v : Thin T A) → IsThin b a → thin_of b a ≡ v
       → Fits R (length b.slots) → IsWithin R v
   within-of v thin is fits =
@@ -96,8 +96,8 @@ module _ {T A : Type 0} (v : Thin T A) (c : ℕ) where
       go true = refl
       go false = refl
 
--- These rewrite rules compute the cost of a growth. They are for callers that know the capacities
--- before and after the growth.
+-- These rewrite rules compute the cost of growing a list. They are for callers that know the
+-- capacities before and after the growth.
 pub ruleset costs = (cost_at-same, cost_at-more)
 
 -- Suppose that a cost is within the bound `IsCheapAt` for the capacity `c`, and that at most `c`
@@ -130,8 +130,8 @@ module _ {T A : Type 0} (rule : Rule) (R : RattleType) (law : KeepsLaw rule)
   pub cap-kept : length v.items + k ≤ v.capacity → capacity_for rule R v k ≡ Some c → c ≡ v.capacity
   cap-kept room e = some-same (sym e ∙ ruled-same rule R v.capacity (length v.items + k) room)
 
-  -- If the list `v` has room for `k` more items, then reserving room for them does not change its
-  -- cost.
+  -- If the list `v` has room for `k` more items, then reserving this room does not change the cost
+  -- of the list.
   pub cost_at-kept : length v.items + k ≤ v.capacity
       → capacity_for rule R v k ≡ Some c → cost_at v c ≡ v.cost
   cost_at-kept room e = cost_at-same v c (cap-kept room e)

@@ -20,7 +20,7 @@ use Rattle.thin_vec.proofs.LendsLemmas.{over-front}
 use Rattle.thin_vec.proofs.ListLemmas.{from-same, full-same, get-some, items-empty, items-full, length-empty, length-full, slot-get}
 
 module _ {T : Type 0} where
-  -- Adding empty slots before the slots `s` does not change the items.
+  -- Adding empty slots before the slots `s` does not change which items the slots contain.
   items-after : (k : ℕ) (s : List (Option T)) → items_in (empty k ++ s) ≡ items_in s
   items-after zero s = refl
   items-after (suc k) s = items-after k s
@@ -45,8 +45,7 @@ module _ {T : Type 0} where
       (append_assoc (full xs) (Some x ∷ []) (empty k))
       ∙ sym (append_assoc (empty start) (full xs) (Some x ∷ empty k)))
 
-  -- The total number of slots in `start` empty slots and the slots of the items `xs` is
-  -- `start + length xs`.
+  -- The list of slots `empty start ++ full xs` consists of `start + length xs` slots.
   before-last : (start : ℕ) (xs : List T) → length (empty start ++ full xs) ≡ start + length xs
   before-last start xs =
       omega (arith, length-append (empty start) (full xs), length-empty T start, length-full xs)
@@ -157,7 +156,7 @@ module _ {T A : Type 0} where
       low ∙ slot-get xs after (i - start) within))
       (get-some xs (i - start) within)
 
-  -- If the slots `start..end` hold exactly the items `ys`, then `ys` are the items of the iterator.
+  -- If the slots `start..end` hold exactly the items `ys`, then the items of the iterator are `ys`.
   pub walked-run : (b : Block T A) (a : A) (start end : ℕ) (ys : List T) → IsWalked b a start end
       → full ys ≡ slice_range b.slots start end → ys ≡ items_in b.slots
   walked-run b a start end ys t run =

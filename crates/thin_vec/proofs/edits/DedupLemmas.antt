@@ -72,7 +72,8 @@ after-first [] zs k l e some = let n = ap length e in absurd (omega (arith, n, s
 after-first (a ∷ p) zs k l e some = (p, sym (cons-tail e), ap (λ z. z ∷ p) (cons-head e))
 
 module _ {S T : Type 0} (R : OnPairs S T) where
-  -- If the items `xs` were tested after the kept item `k`, then at least one item is kept.
+  -- If the items `xs` were tested after the kept item `k`, then the list of the kept items, which
+  -- includes `k`, is not empty.
   pub last-some : (xs : List T) (s t : S) (k : T) (stays : List Bool) (ys : List T)
       → AskedLast R s k xs stays ys t → 0 < length ys
   last-some [] s t k stays ys h = omega (arith, ap length h.1)
@@ -142,8 +143,8 @@ module _ {S T : Type 0} (R : OnPairs S T) where
     pub kept : suc (length pre) ≡ m
     pub now : ys ≡ pre ++ last ∷ after
 
-  -- Before any test, `PairStays` holds for the first item of a non-empty list: this item is kept
-  -- without a test.
+  -- Before any test, `PairStays` holds for the first item of a non-empty list, because this item is
+  -- kept without a test.
   pub pair-start : (s : S) (xs : List T) → 0 < length xs → PairStays 1 s xs s xs
   pair-start s [] some = absurd (omega arith)
   pair-start s (x ∷ xs) some =
@@ -160,8 +161,8 @@ module _ {S T : Type 0} (R : OnPairs S T) where
       }
 
   module _ (m : ℕ) (s : S) (xs : List T) (t : S) (ys : List T) (h : PairStays m s xs t ys) where
-    -- `NextPair` states that `a` is the next test: it compared the first untested item with the
-    -- last kept item.
+    -- `NextPair` states that the test `a` is the next test: it compared the first untested item
+    -- with the last kept item.
     pub record NextPair (b : Bool) (u : S) (zs : List T)
         (a : IsPairAskedAt R m t ys b u zs) : Type 0 where
       pub front : a.before ≡ h.pre
@@ -186,14 +187,14 @@ module _ {S T : Type 0} (R : OnPairs S T) where
         ∙ drop_at a.before (a.kept ∷ a.later ∷ a.after) (length h.pre) n) in
         record { front = sym fronts; last = sym (cons-head rests); after = cons-tail rests }
 
-    -- The test `a` tested the later of its two items against the last kept item.
+    -- The test `a` compared the later of its two items with the last kept item.
     next-asked : (b : Bool) (u : S) (zs : List T) (a : IsPairAskedAt R m t ys b u zs)
         → R t a.later h.last b u a.later_left a.kept_left
     next-asked b u zs a = subst (λ (k : T). R t a.later k b u a.later_left a.kept_left)
         (next-pair b u zs a).last a.asked
 
-    -- The list `xs` consists of its first item, the items tested before the test `a`, the item that
-    -- `a` tested, and the items that have not been tested yet.
+    -- The list `xs` consists of its first item, the items that were tested before the test `a`, the
+    -- item that `a` tested, and the items that have not been tested yet.
     next-was : (b : Bool) (u : S) (zs : List T) (a : IsPairAskedAt R m t ys b u zs)
         → xs ≡ h.first ∷ ((h.done ++ a.later ∷ []) ++ a.after)
     next-was b u zs a = h.was ∙ ap (λ (l : List T). h.first ∷ l)
@@ -306,12 +307,12 @@ module _ {S T : Type 0} (R : OnPairs S T) where
 
   module _ {A : Type 0} (v w : Open T A) where
     -- `Moved front cost` holds if the open block `w` is the open block `v` with these front items
-    -- and this cost, except that the gap and the middle items may also differ.
+    -- and this cost. The gap and the middle items of `w` may also differ from `v`.
     abbrev Moved : List T → Cost → Type 0
     Moved front cost = w ≡ record v
         { front = front; gap = w.gap; rest = w.rest; cost = cost }
 
-    -- Replacing the front items and the cost of an open block by equal ones yields an equal open
+    -- Replacing the front items and the cost of an open block with equal ones yields an equal open
     -- block.
     moved : {f f' : List T} {k k' : Cost} → f ≡ f' → k ≡ k'
         → record v { front = f; gap = w.gap; rest = w.rest; cost = k }
@@ -638,7 +639,7 @@ module _ {S T : Type 0} (R : OnPairs S T) where
       one true m few = let f = few h.2 ys m in omega (arith, f)
       one false m few = let f = few h.1 m.0 m.1 in omega (arith, f, ap length m.2)
 
-  -- The number of kept items is at most the length of the list `xs`.
+  -- The number of kept items is at most the length of the tested list `xs`.
   few-pairs : (xs : List T) (s t : S) (stays : List Bool) (ys : List T)
       → AskedPairs R s xs stays ys t → length ys ≤ length xs
   few-pairs [] s t stays ys h = omega (arith, ap length h.1)

@@ -131,9 +131,9 @@ module _ {S T A : Type 0} {steps : S → Option T → S → Type 0} {can : S →
       nearer = p.nearer;
     }
 
-    -- If `HasTaken` holds for the earlier steps with the bound `m` on the moves of old items, and
-    -- for the later steps with the bound `n`, then it holds for all steps together with each bound
-    -- `k` that is at least `m + n`.
+    -- If `HasTaken` holds for the earlier steps of `finish` with the bound `m` on the moves of old
+    -- items, and for the later steps with the bound `n`, then it holds for all steps together with
+    -- each bound `k` that is at least `m + n`.
     pub reached-taken : (rule : Rule) (R : RattleType) → KeepsLaw rule → (a : A) (w : Thin T A)
         (m n k : ℕ) → m + n ≤ k → HasTaken rule R (left_of v a) u m (remaining s)
         → HasTaken rule R u w n (remaining t) → HasTaken rule R (left_of v a) w k (remaining s)
@@ -144,8 +144,9 @@ module _ {S T A : Type 0} {steps : S → Option T → S → Type 0} {can : S →
         (λ fit same. omega (arith, fit, same, ap length p.items, long, left, p.nearer))
         before now
 
-    -- Suppose that the earlier steps did not change the capacity. If the later steps satisfy
-    -- `IsExtended` with the new capacity `d`, then all steps together also satisfy it with `d`.
+    -- Suppose that the earlier steps of `finish` did not change the capacity. If the later steps
+    -- satisfy `IsExtended` with the new capacity `d`, then all steps together also satisfy it with
+    -- `d`.
     pub reached-extended : (rule : Rule) (R : RattleType) (a : A) (d n : ℕ)
         → u.capacity ≡ v.capacity → IsExtended rule R u d n (remaining t)
         → IsExtended rule R (left_of v a) d n (remaining s)

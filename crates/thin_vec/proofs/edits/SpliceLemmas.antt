@@ -1,5 +1,5 @@
--- These lemmas are about splices. They state how many items a splice moves, what the splice costs,
--- which items its iterator has yielded, and why `finish` failed.
+-- These lemmas are about splices. They state how many items a splice moves, what it costs, which
+-- items its iterator has yielded, and why `finish` failed.
 use Rattle.std.proofs.Common.{if◌then◌else◌, inl, inr, Option, Some, None, append_assoc, drop, take, subst, ◌≡◌, ℕ, ◌+◌, ◌-◌, ◌*◌, ◌^◌, ◌<◌, ◌≤◌, Bool, true, false, eqb, List, [], ◌∷◌, ◌++◌, ap, arith, length, length-append, refl, sym, ◌∙◌}
 use Rattle.std.proofs.lemmas.List.{append-nil, drop_at, length-drop, length-take-le, take_at}
 use Rattle.std.specs.Borrow.{RattleType}
@@ -228,7 +228,7 @@ module _ {S T A : Type 0} (rule : Rule) (R : RattleType) (v : Thin T A) (tail : 
   }
 
   -- Suppose that items follow the range, that the error contains at least one item, and that its
-  -- cause is the one that `IsStopCause` requires in this case. Then `IsStopCause` holds.
+  -- cause satisfies the clause of `IsStopCause` for this case. Then `IsStopCause` holds.
   pub stop-at-held : 0 < length tail → (error.in_hand ≡ None → 0 < length error.held.items)
       → (error.in_hand ≡ None → (error.cause ≡ CapacityOverflow)
       ↔ (capacity_for rule R v (length error.held.items) ≡ None))
@@ -306,8 +306,8 @@ module _ {T A : Type 0} where
       ∙ ((λ i. (take_at pre v.tail end here i ++ ys) ++ drop_at pre v.tail end here i)
       ∙ ap (λ l. l ++ v.tail) (append_assoc v.front xs ys))
 
-  -- If `xs` replaces the middle items of an open block, then the new number of items is the number
-  -- of front items, plus the length of `xs`, plus the number of tail items.
+  -- If the items `xs` replace the middle items of an open block, then the new number of items is
+  -- the number of front items and tail items, plus the length of `xs`.
   pub between-length : (v : Open T A) (xs : List T)
       → length (with_between v xs) ≡ length v.front + length xs + length v.tail
   between-length v xs =

@@ -60,7 +60,7 @@ module _ {T : Type 0} where
   module _ (s : List (Option T)) (i : ℕ) (all a b : List T) (within : i + 2 ≤ length s)
       (lent : full all ≡ slice_range s i (i + 2)) (cut : all ≡ a ++ b) (one : length a ≡ 1) where
     -- Suppose that the slice `a` consists of the item `k`, and the slice `b` of the item `x`. Then
-    -- `Neighbours` holds. Writing `k'` into `a` and `x'` into `b` puts `k'` into slot `i` and `x'`
+    -- `Neighbours` holds: writing `k'` into `a` and `x'` into `b` puts `k'` into slot `i` and `x'`
     -- into slot `i + 1`.
     pub parts-of : {k x : T} (k' x' : T) → k ≡ get_or a 0 k → x ≡ get_or b 0 x
         → Neighbours s i k x k' x'
@@ -92,8 +92,8 @@ module _ {T A : Type 0} where
   -- Section: open blocks
 
   -- `WrittenTwo` states that the middle items `x` and `y`, at the indices `k` and `k + 1`, were
-  -- overwritten with `x'` and `y'`. The new block `b` appears in contracts as `h` with these two
-  -- items replaced.
+  -- overwritten with `x'` and `y'`. With the new block `b`, the open block `h` appears in contracts
+  -- with these two items replaced.
   pub record WrittenTwo (h : Inside T A) (o : IsOpen h) (k : ℕ) (b : Block T A)
       (x y x' y' : T) : Type 0 where
     pub pre : List T
@@ -168,8 +168,8 @@ module _ {T A : Type 0} where
           };
         }
 
-  -- `WrittenLast` states that the last front item `x` was overwritten with `y`. The new block `b`
-  -- appears in contracts as the open block `h` with `y` in place of `x`.
+  -- `WrittenLast` states that the last front item `x` was overwritten with `y`. With the new block
+  -- `b`, the open block `h` appears in contracts with `y` in place of `x`.
   pub record WrittenLast (h : Inside T A) (b : Block T A) (x y : T) : Type 0 where
     pub pre : List T
     pub was : (open_of h).front ≡ pre ++ x ∷ []

@@ -29,8 +29,9 @@ split-at (x ∷ xs) (suc k) low =
     (x ∷ p.0, p.1, p.2, ap suc p.3, ap (λ l. x ∷ l) p.4)
 
 module _ {T : Type 0} where
-  -- If a list of slots contains the items `pre`, the item `x` and the items `post`, then it
-  -- consists of the slots before `x`, the slot of `x`, and the slots after `x`.
+  -- Suppose that the slots `a` are followed by the items `pre`, the item `x`, the items `post`, and
+  -- the slots `z`. Then all these slots consist of the slots before `x`, the slot of `x`, and the
+  -- slots after `x`.
   pub row-at : (a : List (Option T)) (pre : List T) (x : T) (post : List T) (z : List (Option T))
       → a ++ (full (pre ++ x ∷ post) ++ z) ≡ (a ++ full pre) ++ (Some x ∷ (full post ++ z))
   row-at a pre x post z =
@@ -63,7 +64,7 @@ module _ {T A : Type 0} where
     }
 
     -- `written-seen ys` is the open block after the item was overwritten, as it appears in
-    -- contracts, if its middle items are then `ys`.
+    -- contracts. Its middle items are `ys`.
     abbrev pub written-seen : List T → Open T A
     written-seen ys = record v { rest = ys }
 
@@ -143,7 +144,7 @@ module _ {T A : Type 0} where
     u = open_of h
 
     -- `moved_run b` is the open block after its first middle items became front items. Its slots
-    -- are in the block `b`.
+    -- are the slots of the block `b`.
     abbrev pub moved_run : Block T A → Inside T A
     moved_run b = record {
       block = b;

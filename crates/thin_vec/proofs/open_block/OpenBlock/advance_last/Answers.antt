@@ -1,5 +1,6 @@
--- The open block has at most one middle item. The clause `advances` holds in each of three cases:
--- there is no middle item, the item is kept and becomes a front item, or the item is to be removed.
+-- The open block has at most one middle item, that is, at most one untested item. The clause
+-- `advances` holds in each of three cases: there is no middle item, the item is kept and becomes a
+-- front item, or the item is to be removed.
 use Rattle.std.proofs.Common.{◌++◌, ◌∙◌, ap, arith, drop, rules, sym, take}
 use Rattle.std.proofs.lemmas.List.{append-nil}
 use Rattle.thin_block.specs.Cost.{moving}

@@ -1,6 +1,6 @@
--- The open block has at most one middle item. The clause `dedups` holds in each of three cases:
--- there is no middle item, the item is removed, or the item is kept. In each case, no item remains
--- to be tested.
+-- The open block has at most one middle item, that is, at most one untested item. The clause
+-- `dedups` holds in each of three cases: there is no middle item, the item is removed, or the item
+-- is kept. In each case, no item remains to be tested.
 use Rattle.std.proofs.Common.{rules}
 use Rattle.thin_vec.proofs.edits.DedupLemmas.{dedups-goes, dedups-stays, dedups-start}
 use Rattle.thin_vec.proofs.open_block.OpenBlock.dedup_last.Goals as goal

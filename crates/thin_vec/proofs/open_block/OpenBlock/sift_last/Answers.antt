@@ -1,6 +1,6 @@
--- The open block has at most one middle item. The clause `sifts` holds in each of three cases:
--- there is no middle item, the item is kept, or the item is removed. In each case, no item remains
--- to be tested.
+-- The open block has at most one middle item, that is, at most one untested item. The clause
+-- `sifts` holds in each of three cases: there is no middle item, the item is kept, or the item is
+-- removed. In each case, no item remains to be tested.
 use Rattle.std.proofs.Common.{◌∙◌, ap, arith, length, sym}
 use Rattle.std.proofs.lemmas.Bool.{false≢true}
 use Rattle.std.proofs.lemmas.List.{nil_from_length}
