@@ -204,9 +204,9 @@ module _ {S T A : Type 0} {steps : S → Option T → S → Type 0} {can : S →
       cause = tt;
     }
 
-    -- Suppose that the items `xs` were placed before at least one tail item, and that the later
-    -- steps returned the result `r`. Then `IsFinished` holds for the whole call of `finish` with
-    -- the result `r`.
+    -- Suppose that at least one tail item follows the placed items `xs`, and that the later steps
+    -- returned the result `r`. Then `IsFinished` holds for the whole call of `finish` with the
+    -- result `r`.
     pub finished-from : {t : S} {u : Thin T A} {xs : List T} {end : ℕ}
         (r : Result (Unit {0}) (SpliceRefused T S A))
         → IsReached steps can remaining v s u xs end t → 0 < length v.tail

@@ -71,9 +71,8 @@ closed-moves v w n paid none same count = go (eqb w.gap 0) refl
         false-true : false ≡ true → ⊥
         false-true h = cc
 
--- Suppose that `n` items are moved up, unless `count` is 0, and that `k` items are placed and `m`
--- items are moved afterwards. Then the total number of moves is `k` for the placed items, plus at
--- most `n + m`.
+-- Suppose that `n` items are moved up, unless `count` is 0, and that `k` items are then placed into
+-- the gap and `m` items are moved. Then the total number of moves is `k`, plus at most `n + m`.
 pub run-moves : (count n k m : ℕ) (c d : Cost) → d ≡ (if eqb count 0 then c else moving n c)
     → (x : ℕ) × (moving (k + m) d ≡ moving (k + x) c) × (x ≤ n + m)
 run-moves count n k m c d e = go (eqb count 0) e
@@ -173,8 +172,8 @@ module _ {S X : Type 0} (steps : S → Option X → S → Type 0) where
 module _ {S X A : Type 0} (steps : S → Option X → S → Type 0) (can : S → Type 0)
     (remaining : S → Count) where
   -- Suppose that calls of `next` yielded the items `xs`, and that `Stopped` holds for the later
-  -- calls without any placed items. Then `Stopped` holds for all calls together, with `xs` as the
-  -- placed items.
+  -- calls with an empty list of placed items. Then `Stopped` holds for all calls together, with
+  -- `xs` as the list of placed items.
   pub stopped-more : (s t : S) (xs : List X) (error : SpliceRefused X S A) → Yields steps s xs t
       → Stopped steps can remaining t [] error → Stopped steps can remaining s xs error
   stopped-more s t xs error before (inl now) =
@@ -195,9 +194,9 @@ module _ {S X A : Type 0} (steps : S → Option X → S → Type 0) (can : S →
         (now.2.0, yields-join steps s t now.2.0 xs error.held.items before now.2.1, now.2.2),
       )
 
-  -- Suppose that the list `held` in the error is empty, and that calls of `next` yielded the placed
-  -- items and then the item `in_hand` of the error, if there is one. Then `Stopped` holds for these
-  -- calls.
+  -- Suppose that the list `held` in the error is empty. Suppose also that calls of `next` yielded
+  -- the items that were placed in the list, and then the item `in_hand` of the error, if there is
+  -- one. Then `Stopped` holds for these calls.
   pub stopped-now : (s : S) (xs : List X) (error : SpliceRefused X S A) → error.held.items ≡ []
       → PausedAfter steps can remaining s (xs ++ option_to_list error.in_hand) error.rest
       → Stopped steps can remaining s xs error
@@ -216,8 +215,8 @@ module _ {S X A : Type 0} (steps : S → Option X → S → Type 0) (can : S →
 -- failure. `left` is an upper bound on the number of items that the iterator may still yield.
 module _ {S T A : Type 0} (rule : Rule) (R : RattleType) (v : Thin T A) (tail : List T)
     (left : Count) (error : SpliceRefused T S A) where
-  -- Suppose that items follow the range, that the error contains no items, and that room for the
-  -- size hint of the iterator could not be reserved. Then `IsStopCause` holds.
+  -- Suppose that items follow the range, that the error contains no items, and that the list could
+  -- not reserve room for the size hint of the iterator. Then `IsStopCause` holds.
   pub stop-at-hint : 0 < length tail → error.held.items ≡ [] → error.in_hand ≡ None
       → FailsAtHint rule R v left error.cause → IsStopCause rule R v tail left error
   stop-at-hint some none empty fails = record {
