@@ -19,10 +19,12 @@ use Rattle.thin_vec.specs.declared.edits.holder.Holds.{Ghosts as HoldsGhosts}
 -- Section: `dedup_by` and `dedup_by_key`
 
 -- In this module, `R` describes the calls of a closure that compares two items. For each call, `R`
--- relates the arguments, the result, the new state of the closure, and both items after the call.
+-- relates the old state of the closure, the two items, the result, the new state, and the two items
+-- after the call.
 module _ {S T : Type 0} (R : S → T → T → Bool → S → T → T → Type 0) where
-  -- Let the items `xs` follow the kept item `k`. If each item of `xs` was compared with the last
-  -- item kept before it, then std's `DedupsFrom` holds for `k`, `xs` and the kept items `ys`.
+  -- Suppose that the items `xs` follow the kept item `k`, and that each of them was compared with
+  -- the last item kept before it. Then std's `DedupsFrom` holds for `k`, `xs` and the kept items
+  -- `ys`.
   dedups_from : (xs : List T) (s : S) (k : T) (stays : List Bool) (ys : List T) (t : S)
       → AskedLast R s k xs stays ys t → DedupsFrom R s k xs ys
   dedups_from [] s k stays ys t h = h.1
@@ -50,16 +52,16 @@ module _ {S T : Type 0} (R : S → T → T → Bool → S → T → T → Type 0
   dedups_all (x ∷ xs) s stays ys t h = dedups_from xs s x stays ys t h
 
   -- If `dedup_by` or `dedup_by_key` turned the list `v` into the list `w`, then std's `IsDeduped`
-  -- holds for the items of `v` and `w`. Lemmas about `IsDeduped` are in the file `lemmas/Fn` of
-  -- std's proofs.
+  -- holds for the items of `v` and the items of `w`. Lemmas about `IsDeduped` are in the file
+  -- `lemmas/Fn` of std's proofs.
   pub deduped_deduped : {A : Type 0} (s : S) (v w : Thin T A) → IsDedupedBy R s v w
       → IsDeduped R s v.items w.items
   deduped_deduped s v w h =
       record { told = dedups_all v.items s h.1.stays w.items h.0 h.1.asked }
 
-  -- Suppose that the closure changes neither an item nor its own state, and that it returns
-  -- `same x y` for an item `x` and the last kept item `y`. If `dedup_by` with this closure turned
-  -- the list `v` into the list `w`, then `w.items` is `dedup same v.items`.
+  -- Suppose that the closure changes neither an item nor its own state. Suppose also that it
+  -- returns `same x y` if it compares an item `x` with the last kept item `y`. If `dedup_by` with
+  -- this closure turned the list `v` into the list `w`, then `w.items` is `dedup same v.items`.
   pub deduped_dedup : {A : Type 0} (same : T → T → Bool) {s : S} {v w : Thin T A}
       → ((x y : T) (b : Bool) (t : S) (x' y' : T) → R s x y b t x' y'
       → (b ≡ same x y) × (t ≡ s) × (x' ≡ x) × (y' ≡ y))
@@ -74,8 +76,8 @@ module _ {T : Type 0} (test : T → Bool) where
   abbrev pub others : List T → List T
   others xs = filter (λ x. not (test x)) xs
 
-  -- `Parts` describes one call of `next`, which tests the items of the list `xs` in order until one
-  -- of them passes. The call yields this item as `item`, or yields `None`. The items `kept` were
+  -- `Parts` describes one call of `next`, which tests the items of the list `xs`, in order, until
+  -- one of them passes. `item` is this item, or `None` if no item passes. The items `kept` were
   -- tested but not yielded, and the items `rest` were not tested.
   pub record Parts (xs : List T) (item : Option T) (kept rest : List T) : Type 0 where
     pub gone : filter test xs ≡ option_to_list item ++ filter test rest
@@ -116,7 +118,7 @@ module _ {T : Type 0} (test : T → Bool) where
           ended = then.ended;
         }
 
-    -- Let `xs` be the items that have not been tested before a call of `next`. If the closure
+    -- Suppose that the items `xs` have not been tested when `next` is called. If the closure
     -- changes no item and always returns the result of `test`, then `Parts` describes this call.
     pub parts : (s : S) (xs : List T) (item : Option T) (t : S) (kept rest : List T)
         → ExtractsNext R s xs item t kept rest → Parts xs item kept rest
@@ -134,9 +136,9 @@ module _ {T : Type 0} (test : T → Bool) where
 -- `extract_if` returns.
 module _ {T F A G : Type 0} {g : Ghosts G}
     {h : HoldsGhosts (Holder (Extracting T F A)) (Extracting T F A)} (test : T → Bool) where
-  -- This is the invariant of a loop that appends each item yielded by an `ExtractIf` to a list.
-  -- When the loop began, the `ExtractIf` was `start` and the list was `old`. Now the `ExtractIf` is
-  -- `now` and the list is `held`.
+  -- `IsExtracting` is the invariant of a loop that appends each item yielded by an `ExtractIf` to a
+  -- list. When the loop began, the `ExtractIf` was `start` and the list was `old`. Now the
+  -- `ExtractIf` is `now` and the list is `held`.
   pub record IsExtracting (start now : ExtractIf T F A G (Holder (Extracting T F A)) g h)
       (old held : List T) : Type 0 where
     pub gone : held ++ filter test (extract_rest now) ≡ old ++ filter test (extract_rest start)

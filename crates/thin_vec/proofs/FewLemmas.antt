@@ -27,8 +27,8 @@ exact-few R (suc n) few small =
 none_some : {A B : Type 0} (x : A) → None ≡ Some x → B
 none_some x e = cc
 
--- Suppose that `cause` can be `CapacityOverflow` only if no capacity could be chosen. If a capacity
--- was chosen, then `cause` is `OutOfMemory`.
+-- Suppose that the error `cause` is `CapacityOverflow` only if no capacity could be chosen. If a
+-- capacity was chosen, then `cause` is `OutOfMemory`.
 cause-named : (named : Option ℕ) (n : ℕ) (cause : ThinVecError) → named ≡ Some n
     → IsCause named cause → cause ≡ OutOfMemory
 cause-named named n OutOfMemory here told = refl
@@ -56,8 +56,9 @@ first_few : (s : ℕ) → first s < 2 ^ 31
 unfolding first
 first_few s = either_few (nat_lt (2 ^ 61 - 1) s) 1 4 (omega arith) (omega arith)
 
--- If a list needs room for `w` items, `w` is less than `2 ^ 30`, and the size of an item in bytes
--- is less than `2 ^ 31`, then the growth rule `doubling` chooses a capacity without an overflow.
+-- Suppose that a list needs room for `w` items. If `w` is less than `2 ^ 30`, and the size of an
+-- item in bytes is less than `2 ^ 31`, then the growth rule `doubling` chooses a capacity that does
+-- not overflow.
 pub doubling-few : (R : RattleType) (c w : ℕ) → w < 2 ^ 30 → type_size R < 2 ^ 31
     → (n : ℕ) × (ruled_capacity doubling R c w ≡ Some n)
 unfolding doubling fitting
@@ -100,8 +101,8 @@ first_most : (s : ℕ) → first s ≤ 4
 unfolding first
 first_most s = either_most (nat_lt (2 ^ 61 - 1) s)
 
--- If `w` is greater than the old capacity `c`, then each capacity that the growth rule `doubling`
--- may choose, `first s` or `2 * c`, is at most `max 4 (2 * w)`.
+-- If the old capacity `c` is less than `w`, then the capacities that the growth rule `doubling` may
+-- choose are at most `max 4 (2 * w)`. These capacities are `first s` and `2 * c`.
 twice-most : (b : Bool) (s c w : ℕ) → c < w → (if b then first s else 2 * c) ≤ max 4 (2 * w)
 twice-most true s c w more = omega (arith, first_most s)
 twice-most false s c w more = omega (arith, more)

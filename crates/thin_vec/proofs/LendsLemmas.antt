@@ -14,7 +14,7 @@ use Rattle.thin_vec.proofs.list.InsertRemoveLemmas.{full-set}
 use Rattle.thin_vec.proofs.ListLemmas.{IsWritten, Settled, settle-front, thin-room}
 
 module _ {T : Type 0} where
-  -- If the items `ws` are written over slots that hold the items `xs`, then `ws` replaces the first
+  -- If the items `ws` are written over slots that hold the items `xs`, then they replace the first
   -- items of `xs`. Items of `ws` beyond the length of `xs` are ignored. The `k` empty slots after
   -- `xs` do not change.
   pub over-front : (xs : List T) (k : ℕ) (ws : List T) → over (full xs ++ empty k) 0 ws ≡ full
@@ -26,8 +26,8 @@ module _ {T : Type 0} where
 
 module _ {T A : Type 0} where
   -- If the items `ws` are written over the first items in the block `b` of a list, then the new
-  -- block `b'` is the block of a list of the same length. In this list, `ws` replaces the first
-  -- items.
+  -- block `b'` is the block of a list of the same length. In this list, the items `ws` replace the
+  -- first items.
   pub settle-over : {b : Block T A} {a : A} → IsThin b a → (b' : Block T A) (ws : List T)
       {k : Cost} → IsWritten b b' (over b.slots 0 ws) b.len k
       → Settled b' a (refill (length (items_in b.slots)) (items_in b.slots) ws) (length b.slots)
@@ -40,8 +40,8 @@ module _ {T A : Type 0} where
       ∙ ap (λ n. full (refill (length xs) xs ws) ++ empty (length b.slots - n)) (sym same)))
       (t.packed.len ∙ sym same) (omega (arith, same, thin-room b a t))
 
-  -- If the items `ws` are written over the items in the block `b` of a list, then contracts see
-  -- `ws` written over the items of the list.
+  -- If the items `ws` are written over the items in the block `b` of a list, then the list appears
+  -- in contracts with `ws` written over its items.
   pub view-with_items : (b : Block T A) (a : A) (ws : List T) → IsThin b a
       → thin_of (block_with_items b 0 ws) a ≡ with_items (thin_of b a) ws
   view-with_items b a ws t =
@@ -62,8 +62,8 @@ module _ {T A : Type 0} where
       ∙ ap (λ n. full (set xs i v) ++ empty (length b.slots - n)) (sym same)))
       (t.packed.len ∙ sym same) (omega (arith, same, thin-room b a t))
 
-  -- If the item `w` is written into slot `i` of the block of a list, then contracts see the list
-  -- with `w` in place of its item at index `i`.
+  -- If the item `w` is written into slot `i` of the block of a list, then the list appears in
+  -- contracts with `w` in place of its item at index `i`.
   pub view-with_item : (b : Block T A) (a : A) (i : ℕ) (w : T) → IsThin b a
       → i < length (items_in b.slots) → thin_of (block_with_item b i w)
       a ≡ with_item (thin_of b a) i w

@@ -1,5 +1,5 @@
 -- These lemmas state what the block of a list contains after each operation on the block. The items
--- of a list are in the first slots of its block, and all later slots are empty.
+-- of a list fill its block from slot 0 onward, without a gap. All later slots are empty.
 use Rattle.std.proofs.Common.{◌≡◌, ◌≢◌, ℕ, zero, suc, ◌+◌, ◌-◌, ◌<◌, ◌≤◌, List, [], ◌∷◌, ◌++◌, length, take, drop, Option, Some, None, refl, sym, ap, ◌∙◌, arith, get_or, length-append, append_assoc}
 use Rattle.std.proofs.lemmas.List.{length-replicate, length-map, take-append-drop, replicate-append-replicate, set_at, get_or_append_left, get_or-map, map_push, append-nil, length-take-le, drop_more, length_push, get_or-set_other}
 use Rattle.std.proofs.Math.Seq.{drop-length, take-append_seam}
@@ -27,7 +27,8 @@ module _ {T : Type 0} where
   items-full [] s = refl
   items-full (x ∷ xs) s = ap (λ (ys : List T). x ∷ ys) (items-full xs s)
 
-  -- The items in the slots `full xs` are the items `xs`.
+  -- `full xs` is a list of slots that hold the items `xs`. The items in these slots are exactly
+  -- `xs`.
   pub items-full-alone : (xs : List T) → items_in (full xs) ≡ xs
   items-full-alone [] = refl
   items-full-alone (x ∷ xs) = ap (λ (ys : List T). x ∷ ys) (items-full-alone xs)
@@ -66,7 +67,7 @@ module _ {T : Type 0} where
       get_or_append_left (full xs) s None i n ∙ get_or-map (λ (x : T). Some x) xs i d None h
 
   -- Suppose that a list of `c` slots begins with the items `xs`, and that its other slots are
-  -- empty. Writing `v` into the first empty slot appends `v` to the items.
+  -- empty. Then writing `v` into the first empty slot appends `v` to the items.
   pub front-push : (xs : List T) (c : ℕ) (v : T) → length xs < c → set (front xs c) (length xs)
       (Some v) ≡ front (xs ++ v ∷ []) c
   front-push xs c v h =
@@ -80,9 +81,9 @@ module _ {T : Type 0} where
       (sym (map_push (λ (x : T). Some x) xs v))
       ∙ ap (λ (n : ℕ). full (xs ++ v ∷ []) ++ replicate n None) m)))
 
-  -- Let `i` be less than the length of `xs`. If slot `i` of `full xs ++ s` is emptied, the new
-  -- slots are, in this order: the items before index `i`, one empty slot, the items after index
-  -- `i`, and the slots `s`.
+  -- Suppose that `i` is less than the length of `xs`, and that slot `i` of `full xs ++ s` is
+  -- emptied. Then the new slots are, in this order: the slots of the items before index `i`, one
+  -- empty slot, the slots of the items after index `i`, and the slots `s`.
   pub full-take : (xs : List T) (s : List (Option T)) (i : ℕ) (d : T) → i < length xs
       → set (full xs ++ s) i None ≡ full (take i xs) ++ (None ∷ (full (drop (suc i) xs) ++ s))
   full-take [] s i d h = absurd (omega arith)
@@ -91,7 +92,7 @@ module _ {T : Type 0} where
       ap (λ (r : List (Option T)). Some x ∷ r) (full-take xs s i d l)
 
   -- Suppose that a list of `c` slots begins with the items `xs` and then `v`, and that its other
-  -- slots are empty. Emptying the slot of `v` removes `v` from the items.
+  -- slots are empty. Then emptying the slot of `v` removes `v` from the items.
   pub front-pop : (xs : List T) (c : ℕ) (v : T) → length (xs ++ v ∷ []) ≤ c
       → set (front (xs ++ v ∷ []) c) (length xs) None ≡ front xs c
   front-pop xs c v h =
@@ -159,8 +160,9 @@ module _ {T A : Type 0} where
         cap = l;
       }
 
-  -- If the new block `b'` has `c` slots, the items `xs` and the cost `k`, then contracts see it as
-  -- the old list `v` with the new capacity `c`, the new items `xs` and the new cost `k`.
+  -- If the new block `b'` has `c` slots, the items `xs` and the cost `k`, then it appears in
+  -- contracts as the old list `v` with the new capacity `c`, the new items `xs` and the new cost
+  -- `k`.
   pub thin_of-becomes : {w v : Thin T A} → w ≡ v → (b' : Block T A) {xs : List T} {c : ℕ} {k : Cost}
       → length b'.slots ≡ c → items_in b'.slots ≡ xs → b'.cost ≡ k
       → thin_of b' w.alloc ≡ record v { items = xs; capacity = c; cost = k }
@@ -171,8 +173,8 @@ module _ {T A : Type 0} where
     cost = cost i;
   }
 
-  -- If the new block `b'` has the old number of slots, the items `xs` and the cost `k`, then
-  -- contracts see it as the old list `v` with the new items `xs` and the new cost `k`.
+  -- If the new block `b'` has the old number of slots, the items `xs` and the cost `k`, then it
+  -- appears in contracts as the old list `v` with the new items `xs` and the new cost `k`.
   pub thin_of-keeps : {w v : Thin T A} → w ≡ v → (b' : Block T A) {xs : List T} {k : Cost}
       → length b'.slots ≡ w.capacity → items_in b'.slots ≡ xs → b'.cost ≡ k
       → thin_of b' w.alloc ≡ record v { items = xs; cost = k }
@@ -212,8 +214,8 @@ module _ {T A : Type 0} where
   settle-front {b} {a} t b' xs c w e n h = settled b' a xs c (ap (λ v. v.slots) w ∙ e)
       (ap (λ v. v.len) w ∙ n) h (from-same b b' a t.from (ap (λ v. v.alloc) w))
 
-  -- If `v` was written into the slot after the last item, and the stored length was incremented,
-  -- then the new block is the block of the list with `v` appended.
+  -- If `v` was written into the slot directly after the last item, and the stored length was
+  -- incremented, then the new block is the block of the list with `v` appended.
   pub settle-push : {b : Block T A} {a : A} → IsThin b a → (b' : Block T A) (v : T) (i : ℕ)
       {k : Cost} → i ≡ b.len → i < length b.slots
       → IsWritten b b' (set b.slots i (Some v)) (i + 1) k
@@ -281,7 +283,7 @@ module _ {T A : Type 0} where
   thin-filled b a i t h = rw (thin-slot b a i t h) (get-some (items_in b.slots) i h)
 
   -- If the first slots of a list's block, up to the stored length, hold exactly the items `xs`,
-  -- then `xs` are the items of the list.
+  -- then the items of the list are `xs`.
   pub thin-run : (b : Block T A) (a : A) (xs : List T) (n : ℕ) → IsThin b a → n ≡ b.len
       → full xs ≡ slice_range b.slots 0 n → xs ≡ items_in b.slots
   thin-run b a xs n t len run =
@@ -298,8 +300,8 @@ module _ {T A : Type 0} where
       → slice_get (items_in b.slots) i ≡ Some v
   thin-get b a i v t h e = sym (thin-slot b a i t h) ∙ e
 
-  -- If slot `i` of the block of a list is emptied, then the slot of each later item is still
-  -- filled.
+  -- If slot `i` of the block of a list is emptied, then the slots of all items after index `i` are
+  -- still filled.
   pub kept-filled : (b : Block T A) (a : A) (i j : ℕ) (s : List (Option T)) → IsThin b a → i < j
       → j < length (items_in b.slots) → s ≡ set b.slots i None → IsSome (slot s j)
   kept-filled b a i j s t n h e = let ne : j ≢ i = omega arith in

@@ -1,6 +1,6 @@
 -- An open block is the block of a list during an edit. It holds front items, middle items and tail
--- items, with gaps of empty slots between these groups. These lemmas state how contracts see an
--- open block `h` after each operation on it.
+-- items, with gaps of empty slots between these groups. These lemmas state how an open block `h`
+-- appears in contracts after each operation on it.
 use Rattle.std.proofs.Common.{◌≡◌, ℕ, suc, ◌+◌, ◌-◌, ◌<◌, ◌≤◌, List, [], ◌∷◌, ◌++◌, Option, Some, None, length, take, drop, refl, sym, ap, ◌∙◌, subst, arith, length-append, append_assoc}
 use Rattle.std.proofs.lemmas.List.{drop_at, get_or-append_right, get_or-replicate, get_or_append_left, get_or_at, length-drop, length-take, length-take-le, length_push, map_push, replicate-append-replicate, set_at, take_at}
 use Rattle.std.proofs.lemmas.List.Edits.{split_between}
@@ -55,34 +55,36 @@ module _ {T : Type 0} where
       (replicate-append-replicate g 1 None)
 
 module _ {T A : Type 0} where
-  -- `Found h v` holds if `h` is a valid open block, and contracts see it as `v`.
+  -- `Found h v` holds if `h` is a valid open block that appears in contracts as `v`.
   pub record Found (h : Inside T A) (v : Open T A) : Type 0 where
     pub lies : IsOpen h
     pub view : open_of h ≡ v
 
-  -- These are the slots of an open block before its middle items: the front items and the first
-  -- gap.
+  -- `to_rest v` is the list of the slots before the middle items of the open block `v`: the slots
+  -- of its front items, and the empty slots of its first gap.
   abbrev pub to_rest : Open T A → List (Option T)
   to_rest v = full v.front ++ empty v.gap
 
-  -- These are the slots of an open block from the first slot to the last middle item.
+  -- `to_after v` is the list of the slots of the open block `v` from the first slot to the slot of
+  -- the last middle item.
   abbrev to_after : Open T A → List (Option T)
   to_after v = to_rest v ++ full v.rest
 
-  -- These are all slots of an open block before its tail items.
+  -- `to_tail v` is the list of all slots before the tail items of the open block `v`.
   abbrev to_tail : Open T A → List (Option T)
   to_tail v = to_after v ++ empty v.gap_after
 
-  -- These are the slots of an open block after its tail items. They are empty.
+  -- `past_tail v` is the list of the slots after the tail items of the open block `v`. All of these
+  -- slots are empty.
   abbrev pub past_tail : Open T A → List (Option T)
   past_tail v = empty (v.capacity - reach v)
 
-  -- These are the slots of an open block from the first tail item onward.
+  -- `past_after v` is the list of the slots of the open block `v` from the first tail item onward.
   abbrev pub past_after : Open T A → List (Option T)
   past_after v = full v.tail ++ past_tail v
 
-  -- These are the slots of an open block after its middle items: the second gap, the tail items,
-  -- and the empty slots at the end.
+  -- `past_rest v` is the list of the slots after the middle items of the open block `v`: its second
+  -- gap, the slots of its tail items, and the empty slots at the end.
   abbrev pub past_rest : Open T A → List (Option T)
   past_rest v = empty v.gap_after ++ past_after v
 
@@ -93,7 +95,7 @@ module _ {T A : Type 0} where
     by_rest = s.row ∙ sym
         (append_assoc (full v.front) (empty v.gap) (full v.rest ++ past_rest v))
 
-    -- The slots of `h` are the slots up to the last middle item, followed by the slots after it.
+    -- The slots of `h` are the slots up to the last middle item, followed by all later slots.
     by_after : h.block.slots ≡ to_after v ++ past_rest v
     by_after = by_rest ∙ sym (append_assoc (to_rest v) (full v.rest) (past_rest v))
 
@@ -113,7 +115,7 @@ module _ {T A : Type 0} where
       s.gap,
     )
 
-    -- The number of slots up to the last middle item is `h.rest_end`.
+    -- The number of slots up to and including the last middle item is `h.rest_end`.
     at_after : length (to_after v) ≡ h.rest_end
     at_after = omega (
       arith,
@@ -133,11 +135,11 @@ module _ {T A : Type 0} where
       s.gap_after,
     )
 
-    -- The number of slots up to the last tail item is `h.len`.
+    -- The number of slots up to and including the last tail item is `h.len`.
     pub reached : reach v ≡ h.len
     reached = omega (arith, s.front, s.gap, s.rest, s.gap_after, s.tail)
 
-    -- The number of slots of the open block `h` is the capacity that contracts see.
+    -- The number of slots of the open block `h` is `v.capacity`, its capacity in contracts.
     shown-cap : length h.block.slots ≡ v.capacity
     shown-cap =
         omega (
@@ -153,7 +155,8 @@ module _ {T A : Type 0} where
           s.room,
         )
 
-    -- The items in the slots before index `front_end` are the front items of `v`.
+    -- The items in the slots before index `front_end` are `v.front`, the front items of the open
+    -- block.
     shown-front : items_in (take h.front_end h.block.slots) ≡ v.front
     shown-front =
         ap items_in (ap (take h.front_end) s.row
@@ -161,7 +164,8 @@ module _ {T A : Type 0} where
         (length-full v.front ∙ s.front))
         ∙ items-full-alone v.front
 
-    -- The items in the slots `rest_start..rest_end` are the middle items of `v`.
+    -- The items in the slots `rest_start..rest_end` are `v.rest`, the middle items of the open
+    -- block.
     shown-rest : items_in (slice_range h.block.slots h.rest_start h.rest_end) ≡ v.rest
     shown-rest =
         let count : length (full v.rest) ≡ h.rest_end - h.rest_start =
@@ -173,7 +177,8 @@ module _ {T A : Type 0} where
         ∙ take_at (full v.rest) (past_rest v) (h.rest_end - h.rest_start) count))
         ∙ items-full-alone v.rest
 
-    -- The items in the slots from index `tail_start` onward are the tail items of `v`.
+    -- The items in the slots from index `tail_start` onward are `v.tail`, the tail items of the
+    -- open block.
     shown-tail : items_in (drop h.tail_start h.block.slots) ≡ v.tail
     shown-tail =
         let some : length v.tail + (v.capacity - reach v) - length v.tail ≡ v.capacity - reach v =
@@ -184,7 +189,7 @@ module _ {T A : Type 0} where
         ∙ items-front v.tail (length v.tail + (v.capacity - reach v))
 
     -- If `h` and `v` agree on the slots and the indices (`Shows`), on the allocator and on the
-    -- cost, then contracts see `h` as `v`.
+    -- cost, then `h` appears in contracts as `v`.
     pub found : h.block.alloc ≡ v.alloc → h.block.cost ≡ v.cost → Found h v
     found alloc cost =
         let gap : h.rest_start - h.front_end ≡ v.gap = omega (arith, s.gap) in
@@ -225,23 +230,24 @@ module _ {T A : Type 0} where
         (omega (arith, length-full v.front, s.front))
         (omega (arith, length-full v.front, s.front, s.gap))
 
-  -- If the slots `rest_start..rest_end` hold exactly the items `xs`, then `xs` are the middle
-  -- items.
+  -- If the slots `rest_start..rest_end` hold exactly the items `xs`, then the middle items are
+  -- `xs`.
   pub rest-run : (h : Inside T A) (xs : List T) → full xs
       ≡ slice_range h.block.slots h.rest_start h.rest_end
       → xs ≡ (open_of h).rest
   rest-run h xs e = sym (items-full-alone xs) ∙ ap items_in e
 
-  -- Section: steps. For each step, two definitions describe the open block after the step: as it is
-  -- stored, and as contracts see it. A lemma proves that the two descriptions agree.
+  -- Section: the steps of an edit. For each step, two definitions describe the open block after the
+  -- step: as it is stored, and as it appears in contracts. A lemma proves that the two descriptions
+  -- agree.
 
   module _ (h : Inside T A) (o : IsOpen h) (b : Block T A)
       (some : 0 < length (open_of h).rest) where
-    -- `v` is the open block before the step, as contracts see it.
+    -- `v` is the open block before the step, as it appears in contracts.
     abbrev v : Open T A
     v = open_of h
 
-    -- This is the open block after its first middle item was removed.
+    -- `first-left` is the open block after its first middle item was removed.
     abbrev pub first-left : Inside T A
     first-left = record {
       block = b;
@@ -252,8 +258,8 @@ module _ {T A : Type 0} where
       len = h.len;
     }
 
-    -- `first-seen ys` is the open block as contracts see it after its first middle item was
-    -- removed. The list `ys` contains the remaining middle items, and the gap before them has one
+    -- `first-seen ys` is the open block after its first middle item was removed, as it appears in
+    -- contracts. The list `ys` contains the remaining middle items, and the gap before them has one
     -- more slot.
     abbrev pub first-seen : List T → Open T A
     first-seen ys = record {
@@ -267,8 +273,9 @@ module _ {T A : Type 0} where
       cost = v.cost;
     }
 
-    -- If the slot of the first middle item held `x` and was emptied, then the middle items were
-    -- `x`, followed by a list `ys`. Contracts see the new open block as `first-seen ys`.
+    -- Suppose that the slot of the first middle item held `x` and was emptied. Then the middle
+    -- items were `x`, followed by a list `ys`, and the new open block appears in contracts as
+    -- `first-seen ys`.
     pub first-step : (x : T) → slot h.block.slots h.rest_start ≡ Some x
         → seen b ≡ record (seen h.block) { slots = set h.block.slots h.rest_start None }
         → (ys : List T) × (v.rest ≡ x ∷ ys) × Found first-left (first-seen ys)
@@ -310,7 +317,7 @@ module _ {T A : Type 0} where
               (ap (λ (z : Seen T A). z.cost) now),
         )
 
-    -- This is the open block after its last middle item was removed.
+    -- `last-left` is the open block after its last middle item was removed.
     abbrev pub last-left : Inside T A
     last-left = record {
       block = b;
@@ -321,8 +328,9 @@ module _ {T A : Type 0} where
       len = h.len;
     }
 
-    -- `last-seen ys` is the open block as contracts see it after its last middle item was removed.
-    -- The list `ys` contains the remaining middle items, and the gap after them has one more slot.
+    -- `last-seen ys` is the open block after its last middle item was removed, as it appears in
+    -- contracts. The list `ys` contains the remaining middle items, and the gap after them has one
+    -- more slot.
     abbrev pub last-seen : List T → Open T A
     last-seen ys = record {
       front = v.front;
@@ -335,8 +343,9 @@ module _ {T A : Type 0} where
       cost = v.cost;
     }
 
-    -- If the slot of the last middle item held `x` and was emptied, then the middle items were a
-    -- list `ys`, followed by `x`. Contracts see the new open block as `last-seen ys`.
+    -- Suppose that the slot of the last middle item held `x` and was emptied. Then the middle items
+    -- were a list `ys`, followed by `x`, and the new open block appears in contracts as
+    -- `last-seen ys`.
     pub last-step : (x : T) → slot h.block.slots (h.rest_end - 1) ≡ Some x
         → seen b ≡ record (seen h.block) { slots = set h.block.slots (h.rest_end - 1) None }
         → (ys : List T) × (v.rest ≡ ys ++ x ∷ []) × Found last-left (last-seen ys)
@@ -394,10 +403,11 @@ module _ {T A : Type 0} where
               (ap (λ (z : Seen T A). z.cost) now),
         )
 
-  -- This module is about two steps. If there are no middle items, the two gaps around them are
-  -- joined. If there is no gap before the tail items, the open block can be closed.
+  -- This module is about two steps: joining the two gaps of an open block that has no middle items,
+  -- and closing an open block that has no gap before its tail items.
   module _ (h : Inside T A) (o : IsOpen h) where
-    -- This is the open block `h` after its two gaps were joined into one gap after the front items.
+    -- `joined` is the open block `h` after its two gaps were joined into one gap after the front
+    -- items.
     abbrev pub joined : Inside T A
     joined = record {
       block = h.block;
@@ -408,8 +418,8 @@ module _ {T A : Type 0} where
       len = h.len;
     }
 
-    -- `joined-seen` is the open block `joined` as contracts see it. Its first gap contains the
-    -- slots of both gaps of `h`, and its second gap is empty.
+    -- `joined-seen` is the open block `joined` as it appears in contracts. Its first gap contains
+    -- the slots of both gaps of `h`, and its second gap is empty.
     abbrev pub joined-seen : Open T A
     joined-seen = let w : Open T A = open_of h in
         record {
@@ -423,7 +433,8 @@ module _ {T A : Type 0} where
           cost = w.cost;
         }
 
-    -- If there are no middle items, contracts see the open block `joined` as `joined-seen`.
+    -- If there are no middle items, then the open block `joined` appears in contracts as
+    -- `joined-seen`.
     pub join-step : (open_of h).rest ≡ [] → Found joined joined-seen
     join-step none =
         let w : Open T A = open_of h in
@@ -450,7 +461,7 @@ module _ {T A : Type 0} where
         } in
         found joined joined-seen shows refl refl
 
-    -- These are the middle items, followed by the tail items.
+    -- `all-after` is the list of the middle items, followed by the tail items.
     abbrev all-after : List T
     all-after = (open_of h).rest ++ (open_of h).tail
 
@@ -492,7 +503,8 @@ module _ {T A : Type 0} where
     count-all = omega (arith, length-append (open_of h).front all-after, o.front)
 
     -- Suppose that there is no gap before the tail items. If the middle items and the tail items
-    -- are moved to the slots directly after the front items, then all items are in the first slots.
+    -- are moved to the slots directly after the front items, then all items fill the block from
+    -- slot 0 onward, and all other slots are empty.
     pub close-row : (open_of h).gap_after ≡ 0
         → moved h.rest_start h.front_end (h.len - h.rest_start) h.block.slots ≡ front
         (items_of (open_of h)) (length h.block.slots)
@@ -522,7 +534,8 @@ module _ {T A : Type 0} where
         (replicate-append-replicate w.gap (w.capacity - reach w) None
         ∙ ap (λ (k : ℕ). empty k) left))))
 
-    -- If an open block has no gap between its items, then all its items are in the first slots.
+    -- If an open block has no gap between its items, then its slots are the slots of all its items,
+    -- followed by empty slots.
     pub closed-row : (open_of h).gap_after ≡ 0 → h.front_end ≡ h.rest_start
         → h.block.slots ≡ front (items_of (open_of h)) (length h.block.slots)
     closed-row none here =
@@ -563,7 +576,7 @@ module _ {T A : Type 0} where
           len = len;
         }
 
-    -- `opened-seen` is the open block `opened len` as contracts see it.
+    -- `opened-seen` is the open block `opened len` as it appears in contracts.
     abbrev pub opened-seen : Open T A
     opened-seen = let xs : List T = items_in b.slots in
         record {
@@ -577,7 +590,8 @@ module _ {T A : Type 0} where
           cost = b.cost;
         }
 
-    -- If `len` is the number of items, contracts see the open block `opened len` as `opened-seen`.
+    -- If `len` is the number of items, then the open block `opened len` appears in contracts as
+    -- `opened-seen`.
     pub open-step : (len : ℕ) → len ≡ length (items_in b.slots) → Found (opened len) opened-seen
     open-step len all =
         let xs : List T = items_in b.slots in
@@ -612,10 +626,10 @@ module _ {T A : Type 0} where
         }) refl refl
 
   -- In this module, the items `xs` are written into the gap after the front items. `end` is the
-  -- index of the slot after the last of the written items.
+  -- index of the slot directly after the last written item.
   module _ (h : Inside T A) (o : IsOpen h) (b : Block T A) (xs : List T) (end : ℕ)
       (ends : end ≡ h.front_end + length xs) (fits : end ≤ h.rest_start) where
-    -- This is the open block after the new items were written into the gap.
+    -- `filled` is the open block after the new items were written into the gap.
     abbrev pub filled : Inside T A
     filled =
         record {
@@ -627,8 +641,8 @@ module _ {T A : Type 0} where
           len = h.len;
         }
 
-    -- `filled-seen` is the open block `filled` as contracts see it. The new items have become the
-    -- last front items, and the gap after them is shorter by their number.
+    -- `filled-seen` is the open block `filled` as it appears in contracts. The new items have
+    -- become the last front items, and each of them has shortened the gap by one slot.
     abbrev pub filled-seen : Open T A
     filled-seen =
         let v : Open T A = open_of h in
@@ -643,8 +657,8 @@ module _ {T A : Type 0} where
           cost = b.cost;
         }
 
-    -- If the items `xs` were written into the slots directly after the front items, then contracts
-    -- see the open block `filled` as `filled-seen`.
+    -- If the items `xs` were written into the slots directly after the front items, then the open
+    -- block `filled` appears in contracts as `filled-seen`.
     pub fill-step : b.slots ≡ laid h.front_end (full xs) h.block.slots → Found filled filled-seen
     fill-step now =
         let v : Open T A = open_of h in
@@ -691,7 +705,7 @@ module _ {T A : Type 0} where
   -- `count` empty slots follow the tail items.
   module _ (h : Inside T A) (o : IsOpen h) (b : Block T A) (count : ℕ)
       (room : h.len + count ≤ (open_of h).capacity) where
-    -- This is the open block after the tail items were moved up.
+    -- `widened` is the open block after the tail items were moved up.
     abbrev pub widened : Inside T A
     widened = record {
       block = b;
@@ -702,8 +716,8 @@ module _ {T A : Type 0} where
       len = h.len + count;
     }
 
-    -- `widened-seen` is the open block `widened` as contracts see it. The gap before the tail items
-    -- has `count` more slots than before.
+    -- `widened-seen` is the open block `widened` as it appears in contracts. The gap before the
+    -- tail items is `count` slots longer than before the move.
     abbrev pub widened-seen : Open T A
     widened-seen =
         let v : Open T A = open_of h in
@@ -749,8 +763,8 @@ module _ {T A : Type 0} where
         (spare ∙ sym (append_assoc (to_tail v) (full v.tail) (empty count ++ end)))
         ∙ slot-in-empty before count end j (omega (arith, long)) (omega (arith, long))
 
-    -- If the slots of the tail items were moved up by `count` slots, then contracts see the open
-    -- block `widened` as `widened-seen`.
+    -- If the tail items were moved up by `count` slots, then the open block `widened` appears in
+    -- contracts as `widened-seen`.
     pub widen-step : b.slots ≡ moved h.tail_start (h.tail_start + count)
         (h.len - h.tail_start) h.block.slots
         → Found widened widened-seen

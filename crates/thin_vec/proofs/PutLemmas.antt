@@ -1,4 +1,4 @@
--- These lemmas bound the number of items that are put into slots from an iterator. They also state
+-- These lemmas bound the number of items of an iterator that are put into slots. They also state
 -- what a block contains while the items of a `Vec` are moved into its slots, beginning with the
 -- last item.
 use Rattle.std.proofs.Common.{◌≡◌, ℕ, ◌+◌, ◌<◌, ◌≤◌, List, [], ◌∷◌, ◌++◌, length, take, drop, Option, Some, None, sym, ap, ◌∙◌, append_assoc, arith, get_or, length-append}
@@ -13,8 +13,8 @@ use Rattle.thin_vec.specs.declared.put.Filled.{Filled}
 
 module _ {S X : Type 0} {steps : S → Option X → S → Type 0} {can : S → Type 0}
     {remaining : S → Count} {s : S} {f : Filled S} where
-  -- If items of an iterator were put into `room` empty slots, at most `room` items were put
-  -- there.
+  -- If items of an iterator were put into `room` empty slots, then the number of these items is at
+  -- most `room`.
   pub filled-fits : {room : ℕ} (by : IsFilledBy steps can remaining room s f)
       → length by.items ≤ room
   filled-fits {room} by = go f.ended by.full by.short
@@ -52,9 +52,9 @@ module _ {T : Type 0} where
       ∙ (set_at (take i s) (get_or s i None) (ys ++ rest) y i (length-take-le i s (omega arith))
       ∙ ap (λ (n : ℕ). take i s ++ (y ∷ (ys ++ drop n s))) past))
 
-  -- This is the invariant of a loop that moves the items `xs` into the slots from index `start`
-  -- onward, beginning with the last item. The items `left` have not been moved yet. The moves of
-  -- the other items of `xs` have turned the slots `r` into the slots `s`.
+  -- `IsMoving` is the invariant of a loop that moves the items `xs` into the slots from index
+  -- `start` onward, beginning with the last item. The items `left` have not been moved yet. The
+  -- moves of the other items of `xs` have turned the slots `r` into the slots `s`.
   pub record IsMoving (xs left : List T) (start : ℕ) (r s : List (Option T)) : Type 0 where
     pub rest : List T
     pub parts : xs ≡ left ++ rest
@@ -70,8 +70,9 @@ module _ {T : Type 0} where
         row = sym (laid-none (start + length xs) s);
       }
 
-  -- Let `v` be the last of the items that have not been moved yet. If `v` is moved into its slot,
-  -- then `IsMoving` holds again, and only the items `left` before `v` have not been moved yet.
+  -- Suppose that `IsMoving` holds, and that `v` is the last item that has not been moved yet. If
+  -- `v` is moved into its slot, then `IsMoving` holds again, with only the items `left` before `v`
+  -- still to be moved.
   pub moving-next : {xs : List T} (left : List T) {start : ℕ} (i : ℕ) (v : T)
       {r s : List (Option T)} → IsMoving xs (left ++ v ∷ []) start r s → i ≡ start + length left
       → start + length xs ≤ length r → IsMoving xs left start r (set s i (Some v))

@@ -1,6 +1,7 @@
--- These lemmas state which items are kept after a closure tested them, and how the results of
--- consecutive tests combine. In this file, `R` describes the calls of the closure, and `s`, `t` and
--- `u` are states of the closure. An item is tested if the closure is called with it.
+-- These lemmas state which items are kept when a closure tests the items of a list, and how the
+-- results of consecutive tests combine. In this file, `R` describes the calls of the closure, and
+-- `s`, `t` and `u` are states of the closure. To test an item is to call the closure with this
+-- item.
 use Rattle.std.proofs.Common.{◌≡◌, ℕ, zero, suc, ◌+◌, ◌<◌, ◌≤◌, Bool, true, false, List, [], ◌∷◌, ◌++◌, length, take, drop, refl, sym, ap, subst, ◌∙◌, arith, length-append, append_assoc}
 use Rattle.std.proofs.lemmas.Bool.{ne_eqb}
 use Rattle.std.proofs.lemmas.List.{append-nil, drop_at, length-drop, length-take-le, map-append, map_push, nil_from_length, take-append-drop, take_at}
@@ -31,8 +32,7 @@ moving-after gap k c some =
     ap (λ (b : Bool). if b then c else moving k c)
     (ne_eqb gap 0 (λ (e : gap ≡ 0). omega (arith, e)))
 
--- If there is no gap of empty slots, then `k` items need not be moved, and the cost does not
--- change.
+-- If there is no gap of empty slots, then no item has to be moved, and the cost does not change.
 pub moving-before : (gap k : ℕ) (c : Cost) → (0 < gap → ⊥)
     → (if gap == 0 then c else moving k c) ≡ c
 moving-before zero k c none = refl
@@ -62,13 +62,14 @@ none-left [] none = refl
 none-left (x ∷ xs) none = absurd (none (omega arith))
 
 module _ {T : Type 0} where
-  -- The test results `a ++ b` keep the items that `a` keeps, followed by the items that `b` keeps.
+  -- The kept items of the test results `a ++ b` are the kept items of `a`, followed by the kept
+  -- items of `b`.
   pub left_at-append : (a b : Verdicts T) → left_at true (a ++ b) ≡ left_at true a ++ left_at true b
   left_at-append [] b = refl
   left_at-append ((true, x) ∷ a) b = ap (λ (l : List T). x ∷ l) (left_at-append a b)
   left_at-append ((false, x) ∷ a) b = left_at-append a b
 
-  -- The number of items that the test results `a ++ b` keep is the sum of the numbers for `a` and
+  -- The number of kept items of the test results `a ++ b` is the sum of the numbers for `a` and
   -- `b`.
   pub trues-append : (a b : Verdicts T) → trues (flags_of (a ++ b)) ≡ trues
       (flags_of a) + trues (flags_of b)
@@ -86,20 +87,20 @@ module _ {T : Type 0} where
   trues-stay [] = refl
   trues-stay (x ∷ xs) = ap suc (trues-stay xs)
 
-  -- Only items after the first removed item are moved. If all items of `xs` are kept, then none of
-  -- them is moved, and the number of moved items depends only on the test results `a` for the later
-  -- items.
+  -- Only items after the first removed item are moved down. So if all items of `xs` are kept, the
+  -- number of moved items depends only on the test results `a` for the items after `xs`.
   pub moved_down-stay : (xs : List T) (a : Verdicts T) → moved_down (flags_of (stay xs ++ a))
       ≡ moved_down (flags_of a)
   moved_down-stay [] a = refl
   moved_down-stay (x ∷ xs) a = moved_down-stay xs a
 
 module _ {S T : Type 0} (R : S → T → Bool → S → T → Type 0) where
-  -- In this module, the items `ys` were tested with the results `b`. The tests led from the state
-  -- `t` of the closure to the state `u`.
+  -- In this module, the items `ys` were tested with the results `b`. The tests changed the state of
+  -- the closure from `t` to `u`.
   module _ (t u : S) (ys : List T) (b : Verdicts T) (k : Asked R t ys b u) where
-    -- If the tests of the items `xs` led from the state `s` of the closure to the state `t`, and
-    -- the tests of `ys` led from `t` to `u`, then the tests of `xs ++ ys` led from `s` to `u`.
+    -- If the tests of the items `xs` changed the state of the closure from `s` to `t`, and the
+    -- tests of `ys` changed it from `t` to `u`, then the tests of `xs ++ ys` changed it from `s` to
+    -- `u`.
     asked-append : (xs : List T) (s : S) (a : Verdicts T) → Asked R s xs a t
         → Asked R s (xs ++ ys) (a ++ b) u
     asked-append [] s a h = subst (λ (c : Verdicts T). Asked R s ys (c ++ b) u) (sym h.0)
@@ -118,11 +119,11 @@ module _ {S T : Type 0} (R : S → T → Bool → S → T → Type 0) where
   pub asked-one : (s t : S) (x y : T) (b : Bool) → R s x b t y → Asked R s (x ∷ []) ((b, y) ∷ []) t
   asked-one s t x y b h = (b, y, t, [], h, (refl, refl), refl)
 
-  -- Section: runs of items that are all kept
+  -- Section: sequences of adjacent items that are all kept
 
-  -- The items `k..m` of the list `xs` were tested, and all of them are kept. The tests led from the
-  -- state `s` of the closure to the state `t`. `ys` is `xs` with the tested items as the closure
-  -- left them.
+  -- `Stays` states that the items `k..m` of the list `xs` were tested and are all kept, and that
+  -- the tests changed the state of the closure from `s` to `t`. `ys` is `xs` with the tested items
+  -- as the closure left them.
   pub record Stays (k m : ℕ) (s : S) (xs : List T) (t : S) (ys : List T) : Type 0 where
     pub before : List T
     pub run : List T
@@ -134,7 +135,7 @@ module _ {S T : Type 0} (R : S → T → Bool → S → T → Type 0) where
     pub asked : Asked R s run (stay left) t
     pub now : ys ≡ before ++ (left ++ more)
 
-  -- `Stays` holds before the first test, for the empty range `k..k`. The state of the closure and
+  -- `Stays` holds before the first test, for the empty range `k..k`: the state of the closure and
   -- the items are unchanged.
   pub stays-start : (k : ℕ) (s : S) (xs : List T) → k ≤ length xs → Stays k k s xs s xs
   stays-start k s xs low =
@@ -151,7 +152,8 @@ module _ {S T : Type 0} (R : S → T → Bool → S → T → Type 0) where
       }
 
   module _ (k m : ℕ) (s : S) (xs : List T) (t : S) (ys : List T) (h : Stays k m s xs t ys) where
-    -- These are the items before the next item to be tested, as the earlier tests left them.
+    -- `asked-part` is the list of the items before the next item to be tested, as the earlier tests
+    -- left them.
     abbrev asked-part : List T
     asked-part = h.before ++ h.left
 
@@ -164,7 +166,7 @@ module _ {S T : Type 0} (R : S → T → Bool → S → T → Type 0) where
     parted = h.now ∙ sym (append_assoc h.before h.left h.more)
 
     -- Suppose that the item at index `m` is tested next. Then the items before it are `asked-part`,
-    -- and it is the first item that has not been tested yet.
+    -- and the item at index `m` is the first item that has not been tested yet.
     next-parts : (b : Bool) (u : S) (zs : List T) (a : IsAskedAt R m t ys b u zs)
         → (a.before ≡ asked-part) × (h.more ≡ a.item ∷ a.after)
     next-parts b u zs a =
@@ -205,8 +207,8 @@ module _ {S T : Type 0} (R : S → T → Bool → S → T → Type 0) where
               (sym (append_assoc h.left (a.left ∷ []) a.after));
         }
 
-    -- If the test of the item at index `m` says that the item is removed, then the tests stopped at
-    -- index `m` (`AskedUpTo`).
+    -- If the test decides that the item at index `m` is removed, then the tests stop at index `m`,
+    -- as `AskedUpTo` states.
     pub stays-goes : (u : S) (zs : List T) → IsAskedAt R m t ys false u zs
         → AskedUpTo R k m s xs u zs
     stays-goes u zs a =
@@ -225,7 +227,7 @@ module _ {S T : Type 0} (R : S → T → Bool → S → T → Type 0) where
           now = next-now false u zs a;
         }
 
-    -- If there is no item at index `m`, then the tests stopped at index `m` (`AskedUpTo`).
+    -- If there is no item at index `m`, then the tests stop at index `m`, as `AskedUpTo` states.
     pub stays-end : length ys ≤ m → AskedUpTo R k m s xs t ys
     stays-end short =
         let none : h.more ≡ [] =
@@ -269,12 +271,13 @@ module _ {S T : Type 0} (R : S → T → Bool → S → T → Type 0) where
       ap suc (stay-count xs h.2 t ys
       (subst (λ (a : Verdicts T). Asked R h.2 xs a t) (sym (cons-tail h.6)) h.5))
 
-  -- The test that ends a run of kept items does not change the number of items.
+  -- Stopping at an item to be removed, or at the end of the list, does not change the number of
+  -- items.
   stop-count : (u : S) (b : List T) (t : S) (e : List T) → Stops R u b t e → length e ≡ length b
   stop-count u [] t e h = ap length h.0
   stop-count u (x ∷ b) t e h = ap length h.2
 
-  -- The tests of a run of items do not change the number of items.
+  -- Testing the items up to the first item to be removed does not change the number of items.
   pub runs-count : (k m : ℕ) (s : S) (xs : List T) (t : S) (ys : List T) → AskedUpTo R k m s xs t ys
       → length ys ≡ length xs
   runs-count k m s xs t ys r =
@@ -302,7 +305,7 @@ module _ {S T : Type 0} (R : S → T → Bool → S → T → Type 0) where
 
   module _ (m n : ℕ) where
     -- If all items before index `m` were tested and are kept, and the tests from index `m` onward
-    -- stopped at index `n`, then the tests from index 0 onward also stopped at index `n`.
+    -- stopped at index `n`, then all tests from index 0 onward stopped at index `n`.
     pub runs-join : (s : S) (xs : List T) (t : S) (ys : List T) (u : S) (zs : List T)
         → Stays 0 m s xs t ys → AskedUpTo R m n t ys u zs → AskedUpTo R 0 n s xs u zs
     runs-join s xs t ys u zs h r =
@@ -336,11 +339,11 @@ module _ {S T : Type 0} (R : S → T → Bool → S → T → Type 0) where
               ∙ sym (append_assoc h.left r.left r.end));
         }
 
-  -- Section: the items kept by the tests of a run
+  -- Section: the kept items before the first item to be removed
 
-  -- The items of the list `xs` before `rest` were tested, and `m` of them are kept. `kept` contains
-  -- the kept items as the closure left them. The tests led from the state `s` of the closure to the
-  -- state `t`.
+  -- `Part` states that the items of the list `xs` before `rest` were tested, and that `m` of them
+  -- are kept. `kept` contains the kept items as the closure left them. The tests changed the state
+  -- of the closure from `s` to `t`.
   pub record Part (m : ℕ) (s : S) (xs : List T) (t : S) (kept rest : List T) : Type 0 where
     pub done : List T
     pub verdicts : Verdicts T
@@ -350,32 +353,32 @@ module _ {S T : Type 0} (R : S → T → Bool → S → T → Type 0) where
     pub count : trues (flags_of verdicts) ≡ m
 
   module _ (m : ℕ) (s : S) (xs : List T) (t : S) (ys : List T) (r : AskedUpTo R 0 m s xs t ys) where
-    -- There are no items before the run of kept items, since the run begins at index 0.
+    -- No items precede the kept items, because the tests began at index 0.
     run-none : r.before ≡ []
     run-none = nil_from_length r.before r.place
 
-    -- The run of kept items contains `m` items.
+    -- The number of kept items is `m`.
     run-long : length r.left ≡ m
     run-long = omega (arith, r.reached)
 
-    -- After the tests, the list `ys` consists of the run of kept items and the items after the run.
+    -- After the tests, the list `ys` consists of the kept items and the items after them.
     run-now : ys ≡ r.left ++ r.end
     run-now = r.now ∙ ap (λ (l : List T). l ++ (r.left ++ r.end)) run-none
 
-    -- Before the tests, the list `xs` consisted of the same run of items and the items after the
-    -- run.
+    -- Before the tests, the list `xs` consisted of the items that the tests then kept, and the
+    -- items after them.
     pub run-was : xs ≡ r.run ++ r.after
     run-was = r.was ∙ ap (λ (l : List T). l ++ (r.run ++ r.after)) run-none
 
-    -- The first `m` items of the list `ys` are the run of kept items, as the closure left them.
+    -- The first `m` items of the list `ys` are the kept items, as the closure left them.
     pub run-kept : take m ys ≡ r.left
     run-kept = ap (take m) run-now ∙ take_at r.left r.end m run-long
 
-    -- The items of the list `ys` from index `m` onward are the items after the run of kept items.
+    -- The items of the list `ys` from index `m` onward are the items after the kept items.
     pub run-end : drop m ys ≡ r.end
     run-end = ap (drop m) run-now ∙ drop_at r.left r.end m run-long
 
-    -- If an item `v` follows the run of kept items, then it was tested, and the closure returned
+    -- If an item `v` follows the kept items, then this item was tested, and the closure returned
     -- false.
     pub stop-goes : (u : S) (b e : List T) (v : T) (rest : List T) → Stops R u b t e → e ≡ v ∷ rest
         → (x : T) × (b ≡ x ∷ rest) × R u x false t v
@@ -387,8 +390,8 @@ module _ {S T : Type 0} (R : S → T → Bool → S → T → Type 0) where
           subst (λ (y : T). R u x false t y) (cons-head same) h.1,
         )
 
-    -- If an item `v` follows the run of kept items, then `v` is not kept, and the items `rest`
-    -- after `v` have not been tested yet.
+    -- If an item `v` follows the kept items, then `v` is to be removed, and the items `rest` after
+    -- `v` have not been tested yet.
     pub part-goes : (v : T) (rest : List T) → drop m ys ≡ v ∷ rest → Part m s xs t (take m ys) rest
     part-goes v rest k =
         let g = stop-goes r.between r.after r.end v rest r.stops (sym run-end ∙ k) in
@@ -411,13 +414,13 @@ module _ {S T : Type 0} (R : S → T → Bool → S → T → Type 0) where
               );
         }
 
-    -- If no item follows the run of kept items, then no further item was tested, and the state of
-    -- the closure did not change.
+    -- If no item follows the kept items, then the tests ended with the last kept item, and the
+    -- state of the closure did not change afterward.
     pub stop-ends : (u : S) (b e : List T) → Stops R u b t e → e ≡ [] → (b ≡ []) × (t ≡ u)
     stop-ends u [] e h k = (refl, h.1)
     stop-ends u (x ∷ b) e h k = absurd (cons-not-nil (sym h.2 ∙ k))
 
-    -- If no item follows the run of kept items, then all items were tested and all are kept.
+    -- If no item follows the kept items, then all items were tested and all are kept.
     pub part-ends : drop m ys ≡ [] → Part m s xs t (take m ys) []
     part-ends k =
         let g = stop-ends r.between r.after r.end r.stops (sym run-end ∙ k) in
@@ -433,9 +436,9 @@ module _ {S T : Type 0} (R : S → T → Bool → S → T → Type 0) where
   -- Section: open blocks
 
   module _ {A : Type 0} (v w : Open T A) where
-    -- Suppose that some middle items of the open block `v` were tested, and that `m` of them were
-    -- moved to the end of the front items, each at the cost of one move. Then `Sifts` holds for `v`
-    -- and the new open block `w`.
+    -- Suppose that the first middle items of the open block `v` were tested, and that the `m` kept
+    -- items were moved to the end of the front items, at the cost of one move each. Then `Sifts`
+    -- holds for `v` and the new open block `w`.
     pub sifts-of : (m : ℕ) (s t : S) (kept : List T) → Part m s v.rest t kept w.rest
         → 0 < w.gap → w ≡ record v {
           front = v.front ++ kept;
@@ -463,7 +466,7 @@ module _ {S T : Type 0} (R : S → T → Bool → S → T → Type 0) where
   -- the tests is `w`.
   module _ {A : Type 0} (s t : S) (v w : Open T A) (gap : 0 < v.gap)
       (h : Advances R s v t w) where
-    -- These are the tested items that are kept, as the closure left them.
+    -- `kept` is the list of the tested items that are kept, as the closure left them.
     abbrev kept : List T
     kept = take h.count h.left
 
@@ -503,8 +506,8 @@ module _ {S T : Type 0} (R : S → T → Bool → S → T → Type 0) where
       runs-count 0 h.count s v.rest t h.left h.run,
     )
 
-  -- Before the first test, `Sifts` holds for an open block and itself if the open block has a gap
-  -- of empty slots.
+  -- If an open block has a gap of empty slots, then `Sifts` holds for this open block and itself
+  -- before the first test.
   pub sifts-start : {A : Type 0} (s : S) (v : Open T A) → 0 < v.gap → Sifts R s v s v
   sifts-start s v gap =
       record {
@@ -548,14 +551,14 @@ module _ {S T : Type 0} (R : S → T → Bool → S → T → Type 0) where
 
   module _ {A : Type 0} (v w : Open T A) (m : ℕ) (s t : S) (ys : List T)
       (run : AskedUpTo R 0 m s v.rest t ys) where
-    -- `Passed` holds if the kept items were appended to the front items of the open block `v`
-    -- without a move. Apart from this, the new open block `w` may differ from `v` only in the gap
+    -- `Passed` holds if the kept items became the last front items of the open block `v` and stayed
+    -- in their slots. Apart from this, the new open block `w` may differ from `v` only in the gap
     -- and the middle items.
     abbrev Passed : Type 0
     Passed = w ≡ record v
         { front = v.front ++ take m ys; gap = w.gap; rest = w.rest }
 
-    -- Suppose that `value`, the item after the run of kept items, is removed, and that all later
+    -- Suppose that `value`, the first item after the kept items, is removed, and that all later
     -- items were tested. Then `IsSifted` holds for `v`, the open block before all tests, and `z`,
     -- the open block after them.
     pub sifted-goes : (value : T) (u : S) (z : Open T A) → Passed → drop m ys ≡ value ∷ w.rest
@@ -594,7 +597,7 @@ module _ {S T : Type 0} (R : S → T → Bool → S → T → Type 0) where
               }));
         }
 
-    -- If no item follows the run of kept items, then all items are kept, and `IsSifted` holds for
+    -- If the tests found no item to be removed, then all items are kept, and `IsSifted` holds for
     -- the open blocks `v` and `w`.
     pub sifted-ends : Passed → drop m ys ≡ [] → w.rest ≡ [] → IsSifted R s v t w
     unfolding part-ends
@@ -631,8 +634,8 @@ module _ {J S T : Type 0} (R : S → T → Bool → S → T → Type 0) (inside 
   asked-through (x ∷ xs) s t a h =
       (h.0, h.1, inside h.2, h.3, h.4, asked-through xs h.2 t h.3 h.5, h.6)
 
-  -- If the results of the test turned the list `v` into the list `w`, then the results of its
-  -- closure also turned `v` into `w`.
+  -- If the list `w` contains exactly the items of the list `v` that the test keeps, then it
+  -- contains exactly the items that the closure of the test keeps.
   pub retained-through : {A : Type 0} (s : J) (v w : Thin T A) (t : J)
       → IsRetainedTo through s v w t → IsRetained R (inside s) v w
   retained-through s v w t h = (
@@ -650,8 +653,8 @@ module _ {J S T : Type 0} (R : S → T → Bool → S → T → Type 0) (inside 
 -- In this module, `R` describes the calls of a closure that only reads the item.
 module _ {S T : Type 0} (R : S → T → Bool → S → Type 0) where
   -- Suppose that the items `xs` were tested by a closure that only reads them. Then the closure
-  -- returned one Boolean flag for each item, in order. The kept items are the items of `xs` with
-  -- the flag true.
+  -- returned one Boolean flag for each item, in order. The kept items are the items of `xs` whose
+  -- flag is true.
   told : (xs : List T) (s t : S) (a : Verdicts T) → Asked (Looks R) s xs a t
       → (length (flags_of a) ≡ length xs) × ReturnsInTurn R s (flags_of a) xs t
       × (left_at true a ≡ items_where_true (flags_of a) xs)
@@ -667,17 +670,18 @@ module _ {S T : Type 0} (R : S → T → Bool → S → Type 0) where
       let left : y ≡ x = ap (λ (p : Bool × T). p.1) same ∙ h.4.1 in
       (ap suc rest.0, (h.2, answer, rest.1), first b y x a xs left rest.2)
     where
-      -- This is the induction step for the kept items. If the kept items of `xs` are the items with
-      -- the flag true, and the test left the item `x` unchanged, then the same holds for `x ∷ xs`.
+      -- This is the induction step of the lemma `told`. If the kept items of `xs` are the items
+      -- whose flag is true, and the test left the item `x` unchanged, then the same holds for
+      -- `x ∷ xs`.
       first : (b : Bool) (y x : T) (a : Verdicts T) (xs : List T) → y ≡ x
           → left_at true a ≡ items_where_true (flags_of a) xs
           → left_at true ((b, y) ∷ a) ≡ items_where_true (b ∷ flags_of a) (x ∷ xs)
       first true y x a xs e f = λ i. e i ∷ f i
       first false y x a xs e f = f
 
-  -- If `retain` with a closure that only reads the items turned the list `v` into the list `w`,
-  -- then std's `IsFiltered` holds for the items of `v` and `w`. Lemmas about `IsFiltered` are in
-  -- the file `lemmas/Fn` of std's proofs.
+  -- Suppose that `retain` was called with a closure that only reads the items, and that it turned
+  -- the list `v` into the list `w`. Then std's `IsFiltered` holds for the items of `v` and the
+  -- items of `w`. Lemmas about `IsFiltered` are in the file `lemmas/Fn` of std's proofs.
   pub retained_filtered : {A : Type 0} (s : S) (v w : Thin T A) → IsRetained (Looks R) s v w
       → IsFiltered R s v.items w.items
   retained_filtered s v w h =

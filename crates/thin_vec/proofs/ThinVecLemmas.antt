@@ -1,5 +1,6 @@
 -- These lemmas are about the capacity of a list and about the cost of its growth. They are for this
--- crate and for its callers. The definitions are in `specs/ThinVec.antt` and `specs/Cheap.antt`.
+-- crate and for its callers. The definitions that they use are in `specs/ThinVec.antt` and
+-- `specs/Cheap.antt`.
 use Rattle.thin_block.proofs.Outcomes.{some-same}
 use Rattle.std.proofs.Common.{if◌then◌else◌, Bool, ◌≡◌, ℕ, zero, suc, ◌+◌, ◌*◌, ◌^◌, ◌<◌, ◌≤◌, true, false, Some, ap, List, [], arith, eqb, inl, inr, length, refl, subst, sym, ◌∙◌}
 use Rattle.std.specs.Borrow.{RattleType}
@@ -16,8 +17,8 @@ use Rattle.thin_vec.specs.Cheap.{IsCheap, IsCheapAt}
 use Rattle.thin_vec.specs.ThinVec.{IsThin, IsWithin, Thin, capacity_for, cost_at, thin_of}
 
 module _ {T A : Type 0} (R : RattleType) (b : Block T A) (a : A) where
-  -- If `b` is the block of the list `v`, and a block of this size is small enough to be allocated,
-  -- then `v` satisfies `IsWithin`: its length and its capacity are within their bounds.
+  -- If the block `b` of the list `v` is small enough to be allocated, then `v` satisfies
+  -- `IsWithin`: its length and its capacity are within their bounds.
   pub within-of : (v : Thin T A) → IsThin b a → thin_of b a ≡ v
       → Fits R (length b.slots) → IsWithin R v
   within-of v thin is fits =
@@ -27,8 +28,7 @@ module _ {T A : Type 0} (R : RattleType) (b : Block T A) (a : A) where
       subst (IsWithin R) is here
 
   -- Suppose that an operation changed the items of a list to `xs` and its capacity to `c`. If a
-  -- block of the capacity `c` is small enough to be allocated, then the new list satisfies
-  -- `IsWithin`.
+  -- block of capacity `c` is small enough to be allocated, then the new list satisfies `IsWithin`.
   pub within-settled : (xs : List T) (c : ℕ) → Fits R c → Settled b a xs c
       → IsWithin R (thin_of b a)
   within-settled xs c fits after =
@@ -59,7 +59,7 @@ module _ {T A : Type 0} (R : RattleType) (b : Block T A) (a : A) where
   )
 
 module _ {T A : Type 0} (R : RattleType) (w : Thin T A) where
-  -- A list without items and with the capacity 0 satisfies `IsWithin`.
+  -- A list that has no items and a capacity of 0 satisfies `IsWithin`.
   pub within-none : w.items ≡ [] → w.capacity ≡ 0 → IsWithin R w
   within-none none nothing = record {
     room = omega (arith, ap length none);
@@ -88,7 +88,7 @@ module _ {T A : Type 0} (v : Thin T A) (c : ℕ) where
   pub cost_at-more : v.capacity < c → cost_at v c ≡ growing (length v.items) v.cost
   cost_at-more e = let t : eqb c v.capacity ≡ false = grind (arith, nat_tests) in rw t refl
 
-  -- A change of the capacity does not change the counted number of moves.
+  -- A change of the capacity does not change the number of counted moves.
   pub cost_at-moves : (cost_at v c).moves ≡ v.cost.moves
   cost_at-moves = go (eqb c v.capacity)
     where
@@ -96,13 +96,13 @@ module _ {T A : Type 0} (v : Thin T A) (c : ℕ) where
       go true = refl
       go false = refl
 
--- These rewrite rules compute the cost of a growth. They are for callers that know the capacities
--- before and after the growth.
+-- These rewrite rules compute the cost of growing a list. They are for callers that know the
+-- capacities before and after the growth.
 pub ruleset costs = (cost_at-same, cost_at-more)
 
 -- Suppose that a cost is within the bound `IsCheapAt` for the capacity `c`, and that at most `c`
--- items are copied into a new block of the capacity `c'`. If `c < c'` and `2 * c ≤ c'`, then the
--- new cost is within the bound for `c'`.
+-- items are copied into a new block of capacity `c'`. If `c < c'` and `2 * c ≤ c'`, then the new
+-- cost is within the bound for `c'`.
 cheap-growing : {c : ℕ} {k : Cost} (n c' : ℕ) → IsCheapAt c k → n ≤ c → c < c' → 2 * c ≤ c'
     → IsCheapAt c' (growing n k)
 cheap-growing {c = zero} {k} n c' h le larger doubled =
@@ -130,15 +130,15 @@ module _ {T A : Type 0} (rule : Rule) (R : RattleType) (law : KeepsLaw rule)
   pub cap-kept : length v.items + k ≤ v.capacity → capacity_for rule R v k ≡ Some c → c ≡ v.capacity
   cap-kept room e = some-same (sym e ∙ ruled-same rule R v.capacity (length v.items + k) room)
 
-  -- If the list `v` has room for `k` more items, then reserving room for them does not change its
-  -- cost.
+  -- If the list `v` has room for `k` more items, then reserving this room does not change the cost
+  -- of the list.
   pub cost_at-kept : length v.items + k ≤ v.capacity
       → capacity_for rule R v k ≡ Some c → cost_at v c ≡ v.cost
   cost_at-kept room e = cost_at-same v c (cap-kept room e)
 
   -- Suppose that the list `v` has no room for `k` more items, and that the growth rule chooses the
-  -- capacity `c`. Then `c` is enough for the old items and `k` more, and at least twice the old
-  -- capacity.
+  -- capacity `c`. Then `c` is at least twice the old capacity, and it is enough for the old items
+  -- and `k` more items.
   pub cap-grown : v.capacity < length v.items + k → capacity_for rule R v k ≡ Some c
       → (length v.items + k ≤ c) × (2 * v.capacity ≤ c)
   cap-grown more e = let g = ruled-grows rule R v.capacity (length v.items + k) c law more e in

@@ -20,7 +20,7 @@ use Rattle.thin_vec.proofs.LendsLemmas.{over-front}
 use Rattle.thin_vec.proofs.ListLemmas.{from-same, full-same, get-some, items-empty, items-full, length-empty, length-full, slot-get}
 
 module _ {T : Type 0} where
-  -- Adding empty slots before the slots `s` does not change the items.
+  -- Adding empty slots before the slots `s` does not change which items the slots contain.
   items-after : (k : ℕ) (s : List (Option T)) → items_in (empty k ++ s) ≡ items_in s
   items-after zero s = refl
   items-after (suc k) s = items-after k s
@@ -34,8 +34,9 @@ module _ {T : Type 0} where
       ∙ ap (λ (s : List (Option T)). s ++ (full xs ++ empty k))
       (replicate-append-replicate start 1 None))
 
-  -- Slots that hold the items `xs` and then `x` consist of three parts: the slots before `x`, the
-  -- slot of `x`, and the `k` empty slots after `x`.
+  -- Suppose that the slots are, in this order: `start` empty slots, the items `xs`, the item `x`,
+  -- and `k` empty slots. Then they consist of the slots before `x`, the slot of `x`, and the empty
+  -- slots after `x`.
   row-last : (start k : ℕ) (xs : List T) (x : T) → empty start ++ (full (xs ++ x ∷ []) ++ empty k)
       ≡ (empty start ++ full xs) ++ (Some x ∷ empty k)
   row-last start k xs x =
@@ -44,7 +45,7 @@ module _ {T : Type 0} where
       (append_assoc (full xs) (Some x ∷ []) (empty k))
       ∙ sym (append_assoc (empty start) (full xs) (Some x ∷ empty k)))
 
-  -- `start` empty slots and the slots of the items `xs` are `start + length xs` slots in total.
+  -- The list of slots `empty start ++ full xs` consists of `start + length xs` slots.
   before-last : (start : ℕ) (xs : List T) → length (empty start ++ full xs) ≡ start + length xs
   before-last start xs =
       omega (arith, length-append (empty start) (full xs), length-empty T start, length-full xs)
@@ -78,16 +79,17 @@ module _ {T : Type 0} where
       all : (ys : List T) (n : ℕ) → n ≡ length ys → take n ys ≡ ys
       all ys n same = ap (take n) (sym (append-nil ys)) ∙ take_at ys [] n (sym same)
 
-  -- Suppose that `start` empty slots are followed by the slots `s`. Writing the items `ws` from
-  -- slot `start` onward is the same as writing `ws` over the items of `s`.
+  -- Suppose that `start` empty slots are followed by the slots `s`. Then writing the items `ws`
+  -- from slot `start` onward is the same as writing `ws` over the items of `s`.
   over-after : (start : ℕ) (s : List (Option T)) (ws : List T)
       → over (empty start ++ s) start ws ≡ empty start ++ over s 0 ws
   over-after zero s ws = refl
   over-after (suc start) s ws = ap (λ (r : List (Option T)). None ∷ r) (over-after start s ws)
 
 module _ {T A : Type 0} where
-  -- `Walking` holds if the block `b` belongs to an iterator with the items `xs`, which are in the
-  -- slots `start..end`. The block has `c` slots, and its memory came from the allocator `a`.
+  -- `Walking` states that the block `b` belongs to an iterator whose items `xs` are in the slots
+  -- `start..end`. It also states that `b` has `c` slots, and that its memory came from the
+  -- allocator `a`.
   pub record Walking (b : Block T A) (a : A) (xs : List T) (start end c : ℕ) : Type 0 where
     pub walked : IsWalked b a start end
     pub items : items_in b.slots ≡ xs
@@ -154,7 +156,7 @@ module _ {T A : Type 0} where
       low ∙ slot-get xs after (i - start) within))
       (get-some xs (i - start) within)
 
-  -- If the slots `start..end` hold exactly the items `ys`, then `ys` are the items of the iterator.
+  -- If the slots `start..end` hold exactly the items `ys`, then the items of the iterator are `ys`.
   pub walked-run : (b : Block T A) (a : A) (start end : ℕ) (ys : List T) → IsWalked b a start end
       → full ys ≡ slice_range b.slots start end → ys ≡ items_in b.slots
   walked-run b a start end ys t run =
@@ -168,11 +170,11 @@ module _ {T A : Type 0} where
 
   module _ (b b' : Block T A) (a : A) (start end : ℕ) (v : T) (t : IsWalked b a start end)
       (some : start < end) where
-    -- These are the items that have not been yielded yet.
+    -- `xs` is the list of the items that have not been yielded yet.
     abbrev xs : List T
     xs = items_in b.slots
 
-    -- This is the number of empty slots after the items.
+    -- `gap` is the number of empty slots after the items.
     abbrev gap : ℕ
     gap = length b.slots - end
 
@@ -215,7 +217,7 @@ module _ {T A : Type 0} where
         (omega (arith, t.len, ap length (first e).0)) (walked-room b a start end t)
         (from-same b b' a t.from (ap (λ v. v.alloc) w))
 
-    -- These are all items except the last one.
+    -- `most` is the list of all items except the last one.
     abbrev most : List T
     most = take (end - 1 - start) xs
 
@@ -257,8 +259,8 @@ module _ {T A : Type 0} where
         (from-same b b' a t.from (ap (λ v. v.alloc) w))
 
   -- If the items `ws` were written over the items from slot `start` onward, then the new block `b'`
-  -- belongs to an iterator with the same number of items. In this iterator, `ws` replaces the first
-  -- items.
+  -- belongs to an iterator with the same number of items. In this iterator, the items `ws` replace
+  -- the first items.
   pub settle-written : (b b' : Block T A) (a : A) (start end : ℕ) (ws : List T)
       → IsWalked b a start end → seen b' ≡ record (seen b) { slots = over b.slots start ws }
       → Walking b' a (refill (length (items_in b.slots)) (items_in b.slots) ws)
@@ -273,8 +275,8 @@ module _ {T A : Type 0} where
       (omega (arith, t.len, length_refill (length xs) xs ws refl)) (walked-room b a start end t)
       (from-same b b' a t.from (ap (λ v. v.alloc) w))
 
-  -- If the items `ws` are written into the block from slot `start` onward, then contracts see `ws`
-  -- written over the items of the iterator.
+  -- If the items `ws` are written into the block from slot `start` onward, then the iterator
+  -- appears in contracts with `ws` written over its items.
   pub view-written : (b : Block T A) (a : A) (start end : ℕ) (ws : List T) → IsWalked b a start end
       → thin_of (block_with_items b start ws) a ≡ with_items (thin_of b a) ws
   view-written b a start end ws t =

@@ -14,9 +14,9 @@ use Rattle.thin_vec.specs.ThinVec.{Thin}
 use Rattle.thin_vec.proofs.RetainLemmas.{cons-head, cons-not-nil, cons-tail, moving-more, moving-none, single}
 use Rattle.thin_vec.proofs.OpenBlockLemmas.{last-of}
 
--- This is the type of relations for a test of two items. Such a relation has seven arguments: the
--- state before the test, the later item, the last kept item, whether the later item is removed, the
--- state after the test, and the two items after the test.
+-- `OnPairs S T` is the type of the relations that describe a test of two items. Such a relation has
+-- seven arguments: the state before the test, the later item, the last kept item, whether the later
+-- item is removed, the state after the test, and the two items after the test.
 abbrev OnPairs : Type 0 → Type 0 → Type 1
 OnPairs S T = S → T → T → Bool → S → T → T → Type 0
 
@@ -64,15 +64,16 @@ map-answer : (b : Bool) {P Q P' Q' : Type 0} → (P → P') → (Q → Q') → M
 map-answer true f g m = f m
 map-answer false f g m = g m
 
--- Suppose that a list of at least two items begins with `k` and ends with `l`. Without its first
--- item, it still ends with `l`. Without its last item, it still begins with `k`.
+-- Suppose that a list of at least two items begins with `k` and ends with `l`. Then it still ends
+-- with `l` without its first item, and it still begins with `k` without its last item.
 after-first : {X : Type 0} (pre zs : List X) (k l : X) → pre ++ l ∷ [] ≡ k ∷ zs → 0 < length zs
     → (p : List X) × (zs ≡ p ++ l ∷ []) × (pre ≡ k ∷ p)
 after-first [] zs k l e some = let n = ap length e in absurd (omega (arith, n, some))
 after-first (a ∷ p) zs k l e some = (p, sym (cons-tail e), ap (λ z. z ∷ p) (cons-head e))
 
 module _ {S T : Type 0} (R : OnPairs S T) where
-  -- If the items `xs` were tested after the kept item `k`, then at least one item is kept.
+  -- If the items `xs` were tested after the kept item `k`, then the list of the kept items, which
+  -- includes `k`, is not empty.
   pub last-some : (xs : List T) (s t : S) (k : T) (stays : List Bool) (ys : List T)
       → AskedLast R s k xs stays ys t → 0 < length ys
   last-some [] s t k stays ys h = omega (arith, ap length h.1)
@@ -92,11 +93,11 @@ module _ {S T : Type 0} (R : OnPairs S T) where
       → AskedLast R s k (x ∷ []) (true ∷ []) (k' ∷ x' ∷ []) t
   last-stays s t k x x' k' h = (false, x', k', t, [], h, refl, (x' ∷ [], (refl, refl, refl), refl))
 
-  -- In this module, the items `zs` were tested after the kept item `l`. The tests led from the
-  -- state `t` of the closure to the state `u`.
+  -- In this module, the items `zs` were tested after the kept item `l`. The tests changed the state
+  -- of the closure from `t` to `u`.
   module _ (t u : S) (l : T) (g : List Bool) (ws zs : List T) (m : AskedLast R t l zs g ws u) where
-    -- If the tests of the items `xs` led from the state `s` of the closure to the state `t`, and
-    -- the tests of the items `zs` led from `t` to `u`, then the tests of `xs ++ zs` led from `s` to
+    -- If the tests of the items `xs` changed the state of the closure from `s` to `t`, and the
+    -- tests of `zs` changed it from `t` to `u`, then the tests of `xs ++ zs` changed it from `s` to
     -- `u`.
     last-append : (xs : List T) (s : S) (k : T) (f : List Bool) (pre : List T)
         → AskedLast R s k xs f (pre ++ l ∷ []) t → AskedLast R s k (xs ++ zs) (f ++ g) (pre ++ ws) u
@@ -126,10 +127,11 @@ module _ {S T : Type 0} (R : OnPairs S T) where
           h.7,
     )
 
-  -- Section: runs of items that are all kept
+  -- Section: sequences of adjacent items that are all kept
 
-  -- The first `m` items of the list `xs` are kept. The first item was not tested, and each later
-  -- one was tested. The tests turned `xs` into `ys`, and the state `s` of the closure into `t`.
+  -- `PairStays` states that the first `m` items of the list `xs` are kept: the first item without a
+  -- test, and the others after a test. The tests turned `xs` into `ys`, and changed the state of
+  -- the closure from `s` to `t`.
   pub record PairStays (m : ℕ) (s : S) (xs : List T) (t : S) (ys : List T) : Type 0 where
     pub first : T
     pub done : List T
@@ -141,8 +143,8 @@ module _ {S T : Type 0} (R : OnPairs S T) where
     pub kept : suc (length pre) ≡ m
     pub now : ys ≡ pre ++ last ∷ after
 
-  -- Before any test, `PairStays` holds for the first item of a non-empty list: this item is kept
-  -- without a test.
+  -- Before any test, `PairStays` holds for the first item of a non-empty list, because this item is
+  -- kept without a test.
   pub pair-start : (s : S) (xs : List T) → 0 < length xs → PairStays 1 s xs s xs
   pair-start s [] some = absurd (omega arith)
   pair-start s (x ∷ xs) some =
@@ -159,16 +161,16 @@ module _ {S T : Type 0} (R : OnPairs S T) where
       }
 
   module _ (m : ℕ) (s : S) (xs : List T) (t : S) (ys : List T) (h : PairStays m s xs t ys) where
-    -- `NextPair` holds if `a` is the next test: it compared the first untested item with the last
-    -- kept item.
+    -- `NextPair` states that the test `a` is the next test: it compared the first untested item
+    -- with the last kept item.
     pub record NextPair (b : Bool) (u : S) (zs : List T)
         (a : IsPairAskedAt R m t ys b u zs) : Type 0 where
       pub front : a.before ≡ h.pre
       pub last : a.kept ≡ h.last
       pub after : h.after ≡ a.later ∷ a.after
 
-    -- If the test `a` tested the item at index `m` against the item before it, then `a` is the next
-    -- test (`NextPair`).
+    -- If the test `a` compared the item at index `m` with the item before it, then `a` is the next
+    -- test, as `NextPair` states.
     next-pair : (b : Bool) (u : S) (zs : List T) (a : IsPairAskedAt R m t ys b u zs)
         → NextPair b u zs a
     next-pair b u zs a =
@@ -185,14 +187,14 @@ module _ {S T : Type 0} (R : OnPairs S T) where
         ∙ drop_at a.before (a.kept ∷ a.later ∷ a.after) (length h.pre) n) in
         record { front = sym fronts; last = sym (cons-head rests); after = cons-tail rests }
 
-    -- The test `a` tested the later of its two items against the last kept item.
+    -- The test `a` compared the later of its two items with the last kept item.
     next-asked : (b : Bool) (u : S) (zs : List T) (a : IsPairAskedAt R m t ys b u zs)
         → R t a.later h.last b u a.later_left a.kept_left
     next-asked b u zs a = subst (λ (k : T). R t a.later k b u a.later_left a.kept_left)
         (next-pair b u zs a).last a.asked
 
-    -- The list `xs` consists of its first item, the items tested before the test `a`, the item that
-    -- `a` tested, and the items that have not been tested yet.
+    -- The list `xs` consists of its first item, the items that were tested before the test `a`, the
+    -- item that `a` tested, and the items that have not been tested yet.
     next-was : (b : Bool) (u : S) (zs : List T) (a : IsPairAskedAt R m t ys b u zs)
         → xs ≡ h.first ∷ ((h.done ++ a.later ∷ []) ++ a.after)
     next-was b u zs a = h.was ∙ ap (λ (l : List T). h.first ∷ l)
@@ -237,8 +239,8 @@ module _ {S T : Type 0} (R : OnPairs S T) where
           now = next-now false u zs a;
         }
 
-    -- If the item at index `m` was tested and is to be removed, then the tests stopped there, and
-    -- `m` items are kept (`PairsAskedUpTo`).
+    -- If the item at index `m` was tested and is to be removed, then the tests stop at this item,
+    -- and `m` items are kept, as `PairsAskedUpTo` states.
     pub pair-goes : (u : S) (zs : List T) → IsPairAskedAt R m t ys true u zs
         → PairsAskedUpTo R m s xs u zs
     pair-goes u zs a =
@@ -260,7 +262,7 @@ module _ {S T : Type 0} (R : OnPairs S T) where
           stops = inl (refl, refl);
         }
 
-  -- Section: the items that the tests of a run kept
+  -- Section: the kept items before the first item to be removed
 
   module _ (m : ℕ) (s : S) (xs : List T) (t : S) (ys : List T)
       (r : PairsAskedUpTo R m s xs t ys) where
@@ -305,12 +307,12 @@ module _ {S T : Type 0} (R : OnPairs S T) where
 
   module _ {A : Type 0} (v w : Open T A) where
     -- `Moved front cost` holds if the open block `w` is the open block `v` with these front items
-    -- and this cost. Apart from this, `w` may differ from `v` only in the gap and the middle items.
+    -- and this cost. The gap and the middle items of `w` may also differ from `v`.
     abbrev Moved : List T → Cost → Type 0
     Moved front cost = w ≡ record v
         { front = front; gap = w.gap; rest = w.rest; cost = cost }
 
-    -- Replacing the front items and the cost of an open block by equal ones yields an equal open
+    -- Replacing the front items and the cost of an open block with equal ones yields an equal open
     -- block.
     moved : {f f' : List T} {k k' : Cost} → f ≡ f' → k ≡ k'
         → record v { front = f; gap = w.gap; rest = w.rest; cost = k }
@@ -319,7 +321,8 @@ module _ {S T : Type 0} (R : OnPairs S T) where
 
     module _ (s t : S) where
       -- Suppose that the items `done` were tested after the last front item, and that the kept
-      -- items were moved to the end of the front items. Then `Dedups` holds.
+      -- items were moved to the end of the front items. Then `Dedups` holds for the open blocks
+      -- before and after these tests.
       dedups-of : (before : List T) (first : T) (done : List T) (stays : List Bool) (kept : List T)
           → v.front ≡ before ++ first ∷ [] → v.rest ≡ done ++ w.rest
           → AskedLast R s first done stays kept t → 0 < w.gap
@@ -338,7 +341,8 @@ module _ {S T : Type 0} (R : OnPairs S T) where
             now = now;
           }
 
-    -- If the next item `x` was tested and removed, then `Dedups` holds.
+    -- If the next item `x` was tested and removed, then `Dedups` holds for the open blocks before
+    -- and after this step.
     pub dedups-goes : {s t : S} (x y : T) (front : List T)
         → IsLastAsked R s x v.front true t y front → v.rest ≡ x ∷ w.rest → 0 < w.gap
         → Moved front v.cost → Dedups R s v t w
@@ -348,7 +352,7 @@ module _ {S T : Type 0} (R : OnPairs S T) where
         (now ∙ moved (λ i. a.now i) (sym (moving-none v.cost)))
 
     -- If the next item `x` was tested, is kept, and was moved to the end of the front items at the
-    -- cost of one move, then `Dedups` holds.
+    -- cost of one move, then `Dedups` holds for the open blocks before and after this step.
     pub dedups-stays : {s t : S} (x y : T) (front : List T)
         → IsLastAsked R s x v.front false t y front → v.rest ≡ x ∷ w.rest
         → 0 < w.gap → Moved (front ++ y ∷ []) (moving 1 v.cost) → Dedups R s v t w
@@ -368,7 +372,8 @@ module _ {S T : Type 0} (R : OnPairs S T) where
       two-front = ap (λ (l : List T). l ++ z ∷ []) a.now
           ∙ append_assoc a.before (a.kept_left ∷ []) (z ∷ [])
 
-      -- If the next item is kept, and the item after it is removed, then `Dedups` holds.
+      -- If the next item is kept, and the item after it is removed, then `Dedups` holds for the
+      -- open blocks before and after these two tests.
       pub dedups-two : b ≡ true → (value : T) → zs ≡ value ∷ w.rest → 0 < w.gap
           → Moved (front ++ z ∷ []) (moving 1 v.cost) → Dedups R s v u w
       dedups-two e value rest gap now =
@@ -382,8 +387,9 @@ module _ {S T : Type 0} (R : OnPairs S T) where
           (a.kept_left ∷ z ∷ []) a.was (whole ∙ ap (λ (l : List T). x ∷ l)
           (n.was ∙ ap (λ (l : List T). n.later ∷ l) same)) asked gap (now ∙ moved two-front refl)
 
-      -- If the next item and then a run of `m` items are kept, and the item after the run, if there
-      -- is one, is removed, then `Dedups` holds.
+      -- Suppose that the next item and the `m` items after it are kept, and that the item after
+      -- them, if there is one, is removed. Then `Dedups` holds for the open blocks before and after
+      -- these tests.
       pub dedups-run : b ≡ false → (m : ℕ) (q : S) (ws : List T) (r : PairsAskedUpTo R m u zs q ws)
           → r.after ≡ w.rest → suc (trues r.stays) ≡ m
           → 0 < w.gap → Moved ((front ++ z ∷ []) ++ take m ws) (moving m (moving 1 v.cost))
@@ -412,8 +418,8 @@ module _ {S T : Type 0} (R : OnPairs S T) where
           ∙ append_assoc a.before (a.kept_left ∷ z ∷ []) r.left)
           (moving-more m 1 v.cost ∙ ap (λ (k : ℕ). moving k v.cost) paid))
 
-  -- If no item was tested, then `Dedups` holds for an open block and itself. The open block must
-  -- have a gap and at least one front item.
+  -- If an open block has a gap and at least one front item, then `Dedups` holds for this open block
+  -- and itself before the first test.
   pub dedups-start : {A : Type 0} (s : S) (v : Open T A) → 0 < length v.front
       → 0 < v.gap → Dedups R s v s v
   dedups-start s v some gap =
@@ -476,7 +482,7 @@ module _ {S T : Type 0} (R : OnPairs S T) where
     abbrev RunPassed : Type 0
     RunPassed = Moved v w (take m ys) v.cost
 
-    -- Suppose that the item after the run of kept items is removed, and that all later items were
+    -- Suppose that the first item after the kept items is removed, and that all later items were
     -- tested. Then `IsDeduped` holds for `v`, the open block before all tests, and `z`, the open
     -- block after them.
     pub deduped-goes : (value : T) (u : S) (z : Open T A) → RunPassed → drop m ys ≡ value ∷ w.rest
@@ -511,7 +517,7 @@ module _ {S T : Type 0} (R : OnPairs S T) where
           });
         }
 
-    -- If no item follows the run of kept items, then all items are kept, and `IsDeduped` holds for
+    -- If the tests found no item to be removed, then all items are kept, and `IsDeduped` holds for
     -- the open blocks `v` and `w`.
     pub deduped-ends : RunPassed → drop m ys ≡ [] → w.rest ≡ [] → IsDeduped R s v t w
     deduped-ends p k none =
@@ -541,8 +547,8 @@ module _ {J S T : Type 0} (R : OnPairs S T) (inside : J → S) where
   abbrev through : OnPairs J T
   through s x k b t y l = R (inside s) x k b (inside t) y l
 
-  -- If the test tested the items `xs` after the kept item `k`, then its closure tested the same
-  -- items with the same results.
+  -- If the test was applied to the items `xs` after the kept item `k`, then its closure was called
+  -- with the same items and returned the same results.
   last-through : (xs : List T) (s t : J) (k : T) (f : List Bool) (ys : List T)
       → AskedLast through s k xs f ys t → AskedLast R (inside s) k xs f ys (inside t)
   last-through [] s t k f ys h = (h.0, h.1, ap inside h.2)
@@ -558,15 +564,15 @@ module _ {J S T : Type 0} (R : OnPairs S T) (inside : J → S) where
         (λ q. (q.0, last-through xs h.3 t h.1 h.4 q.0 q.1, q.2)) h.7,
   )
 
-  -- If the test tested the items `xs`, then its closure tested the same items with the same
-  -- results.
+  -- If the test was applied to the items `xs`, then its closure was called with the same items and
+  -- returned the same results.
   pairs-through : (xs : List T) (s t : J) (f : List Bool) (ys : List T)
       → AskedPairs through s xs f ys t → AskedPairs R (inside s) xs f ys (inside t)
   pairs-through [] s t f ys h = (h.0, h.1, ap inside h.2)
   pairs-through (x ∷ xs) s t f ys h = last-through xs s t x f ys h
 
-  -- If the results of the test turned the list `v` into the list `w`, then the results of its
-  -- closure also turned `v` into `w`.
+  -- If the list `w` contains exactly the items of the list `v` that the test keeps, then it
+  -- contains exactly the items that the closure of the test keeps.
   pub deduped-through : {A : Type 0} (s : J) (v w : Thin T A) (t : J) → IsDedupedTo through s v w t
       → IsDedupedBy R (inside s) v w
   deduped-through s v w t h = (
@@ -579,11 +585,11 @@ module _ {J S T : Type 0} (R : OnPairs S T) (inside : J → S) where
     },
   )
 
--- In this module, the test `E` has no state. So the two items alone decide whether the later item
--- is kept.
+-- In this module, the test is the function `E`, which has no state. Whether an item is kept depends
+-- only on this item and the last kept item.
 module _ {S T : Type 0} (E : T → T → Bool) where
-  -- If the items `xs` were tested after the kept item `k`, then `unlike_from E k xs` are the flags
-  -- that say which of them are kept. The kept items are `dedup_from E k xs`.
+  -- If the items `xs` were tested after the kept item `k`, then the flags `unlike_from E k xs` say
+  -- which of them are kept. The kept items, including `k`, are `dedup_from E k xs`.
   last-compares : (xs : List T) (s t : S) (k : T) (f : List Bool) (ys : List T)
       → AskedLast (Compares E) s k xs f ys t → (f ≡ unlike_from E k xs) × (ys ≡ dedup_from E k xs)
   last-compares [] s t k f ys h = (h.0, h.1)
@@ -609,8 +615,8 @@ module _ {S T : Type 0} (E : T → T → Bool) where
       ]
       h.5.0 h.6 h.7
 
-  -- If the items `xs` were tested, then `unlike E xs` are the flags that say which items after the
-  -- first are kept. The kept items are `dedup E xs`.
+  -- If the items `xs` were tested, then the flags `unlike E xs` say which items after the first are
+  -- kept. The kept items, including the first item, are `dedup E xs`.
   pub pairs-compare : (xs : List T) (s t : S) (f : List Bool) (ys : List T)
       → AskedPairs (Compares E) s xs f ys t → (f ≡ unlike E xs) × (ys ≡ dedup E xs)
   pairs-compare [] s t f ys h = (h.0, h.1)
@@ -633,7 +639,7 @@ module _ {S T : Type 0} (R : OnPairs S T) where
       one true m few = let f = few h.2 ys m in omega (arith, f)
       one false m few = let f = few h.1 m.0 m.1 in omega (arith, f, ap length m.2)
 
-  -- The number of kept items is at most the length of the list `xs`.
+  -- The number of kept items is at most the length of the tested list `xs`.
   few-pairs : (xs : List T) (s t : S) (stays : List Bool) (ys : List T)
       → AskedPairs R s xs stays ys t → length ys ≤ length xs
   few-pairs [] s t stays ys h = omega (arith, ap length h.1)

@@ -52,8 +52,9 @@ module _ {F T : Type 0} (R : F → T → Bool → F → T → Type 0) where
     -- `between`. It extracts the first of these items, unless there are none.
     module _ (between : S) (after : List T) (item : Option T) (t : F) (rest : List T)
         (e : ExtractsNext R (of between) after item t [] rest) where
-      -- Suppose that all items of a run are kept, and that the items `after` follow the run. Then
-      -- the closure keeps the run and extracts the first item of `after`, if there is one.
+      -- Suppose that all items of the list `run` are kept, and that the items `after` follow them.
+      -- Then the closure keeps the items of `run` and extracts the first item of `after`, if there
+      -- is one.
       picked-after : (s : S) (run left : List T) → Asked J s run (stay left) between
           → ExtractsNext R (of s) (run ++ after) item t left rest
       picked-after s [] [] a =
@@ -88,29 +89,28 @@ module _ {F T : Type 0} (R : F → T → Bool → F → T → Type 0) where
 
     module _ (m : ℕ) (s : S) (xs : List T) (t : S) (ys : List T)
         (h : AskedUpTo J 0 m s xs t ys) where
-      -- There are no items before the run of kept items.
+      -- No items precede the kept items, because the tests began at index 0.
       none-before : h.before ≡ []
       none-before = nil_from_length h.before h.place
 
-      -- Before the tests, the list `xs` consisted of the run of kept items and the items after the
-      -- run.
+      -- Before the tests, the list `xs` consisted of the items that the tests then kept, and the
+      -- items after them.
       was : xs ≡ h.run ++ h.after
       was = h.was ∙ ap (λ (l : List T). l ++ (h.run ++ h.after)) none-before
 
-      -- After the tests, the list `ys` consists of the run of kept items and the items after the
-      -- run.
+      -- After the tests, the list `ys` consists of the kept items and the items after them.
       now : ys ≡ h.left ++ h.end
       now = h.now ∙ ap (λ (l : List T). l ++ (h.left ++ h.end)) none-before
 
-      -- The run of kept items contains `m` items.
+      -- The number of kept items is `m`.
       reached : length h.left ≡ m
       reached = omega (arith, h.reached)
 
-      -- The first `m` items of the list `ys` are the run of kept items, as the closure left them.
+      -- The first `m` items of the list `ys` are the kept items, as the closure left them.
       left-is : take m ys ≡ h.left
       left-is = ap (take m) now ∙ take_at h.left h.end m reached
 
-      -- The items of the list `ys` from index `m` onward are the items after the run of kept items.
+      -- The items of the list `ys` from index `m` onward are the items after the kept items.
       end-is : drop m ys ≡ h.end
       end-is = ap (drop m) now ∙ drop_at h.left h.end m reached
 
@@ -118,8 +118,8 @@ module _ {F T : Type 0} (R : F → T → Bool → F → T → Type 0) where
       pub picked-room : m ≤ length ys
       picked-room = omega (arith, reached, ap length now, length-append h.left h.end)
 
-      -- Suppose that the closure keeps a run of items and then extracts `item` from the items after
-      -- the run. Then `item` is also what the closure extracts from the whole list.
+      -- Suppose that the closure keeps the first `m` items and then extracts `item` from the items
+      -- after them. Then `item` is also what the closure extracts from the whole list.
       whole : (item : Option T) (rest : List T) → ExtractsNext R (of h.between) h.after item (of t)
           [] rest → ExtractsNext R (of s) xs item (of t) (take m ys) rest
       whole item rest e =
@@ -128,7 +128,7 @@ module _ {F T : Type 0} (R : F → T → Bool → F → T → Type 0) where
           (sym left-is)
           (picked-after h.between h.after item (of t) rest e s h.run h.left h.asked))
 
-      -- If no item follows the run of kept items, then the closure extracted nothing.
+      -- If no item follows the kept items, then the closure extracted nothing.
       pub picked-none : drop m ys ≡ [] → ExtractsNext R (of s) xs None (of t)
           (take m ys) (drop m ys)
       picked-none none =
@@ -136,7 +136,7 @@ module _ {F T : Type 0} (R : F → T → Bool → F → T → Type 0) where
           (subst (λ (l : List T). ExtractsNext R (of h.between) h.after None (of t) [] l)
           (sym end-is) (stops-at-end h.between t h.after h.end h.stops (sym end-is ∙ none)))
 
-      -- If the first item after the run of kept items is `v`, then the closure extracted `v`.
+      -- If the first item after the kept items is `v`, then the closure extracted `v`.
       pub picked-some : (v : T) (zs : List T) → drop m ys ≡ v ∷ zs
           → ExtractsNext R (of s) xs (Some v) (of t) (take m ys) zs
       picked-some v zs some =

@@ -21,9 +21,9 @@ use Rattle.thin_vec.proofs.list.ExtendLemmas.{yields-join}
 use Rattle.thin_vec.proofs.edits.SpliceLemmas.{between-length, between-more, drains-more, run-moves, stopped-more, taken-join, taken-spare}
 
 module _ {T A : Type 0} where
-  -- `IsWide` holds if the open block `b` is the list `u` with a gap of `count` slots before the
-  -- item at index `at`. To open this gap, the items from index `at` onward were moved up, unless
-  -- `count` is 0.
+  -- `IsWide` describes the open block `b` after a gap of `count` slots was made in the list `u`
+  -- before the item at index `at`. Unless `count` is 0, the items from index `at` onward were moved
+  -- up to make this gap.
   pub record IsWide (b : Open T A) (u : Thin T A) (at count : ℕ) : Type 0 where
     pub in_bounds : at ≤ length u.items
     pub front : b.front ≡ take at u.items
@@ -33,17 +33,18 @@ module _ {T A : Type 0} where
 
 module _ {S T A : Type 0} (steps : S → Option T → S → Type 0) (can : S → Type 0)
     (remaining : S → Count) where
-  -- `FillsGap v a s w f` holds if items of the iterator `s` were put into the gap of the open block
-  -- `v` until the gap was full or the iterator ended, and `v` then became the block of the list `w`
-  -- with the allocator `a`. `f` contains the rest of the iterator.
+  -- `FillsGap v a s w f` states that items of the iterator `s` were put into the gap of the open
+  -- block `v`, until the gap was full or the iterator ended. `v` was then closed and became the
+  -- block of the list `w`, which has the allocator `a`. `f` contains the rest of the iterator.
   abbrev pub FillsGap : Open T A → A → S → Thin T A → Filled S → Type 0
   FillsGap v a s w f =
       (by : IsFilledBy steps can remaining v.gap s f) × IsClosedWith v by.items a w
       × (f.end ≡ length v.front + length by.items)
 
-  -- The list `u` consists of the front items of the open block `v`, the items `xs`, and the tail
-  -- items of `v`. The items `xs` fill the gap of `v` and end before slot `end`. They were yielded
-  -- by calls of `next` on the iterator `s`, which led to the iterator `t`.
+  -- `IsReached` states that the list `u` consists of the front items of the open block `v`, the
+  -- items `xs`, and the tail items of `v`. The items `xs` fill the gap of `v` and end before slot
+  -- `end`. Calls of `next` on the iterator `s` yielded these items, and the rest of the iterator is
+  -- `t`.
   pub record IsReached (v : Open T A) (s : S) (u : Thin T A) (xs : List T) (end : ℕ)
       (t : S) : Type 0 where
     pub items : u.items ≡ with_between v xs
@@ -58,12 +59,13 @@ module _ {S T A : Type 0} {steps : S → Option T → S → Type 0} {can : S →
     {remaining : S → Count} where
   module _ {v : Open T A} {a : A} {s : S} {w : Thin T A} {f : Filled S}
       (p : FillsGap steps can remaining v a s w f) where
-    -- After items were put into the gap, the length of the list is the number of front items plus
-    -- the number of tail items plus the number of these items.
+    -- After items were put into the gap, the length of the list is the total number of front items,
+    -- tail items and inserted items.
     pub filled-long : length w.items ≡ length v.front + length v.tail + length p.0.items
     filled-long = omega (arith, ap length p.1.items, between-length v p.0.items)
 
-    -- If the gap was filled and the iterator has not ended yet, then `IsReached` holds.
+    -- If the gap was filled and the iterator has not ended yet, then `IsReached` holds for the list
+    -- and the inserted items.
     pub filled-reached : f.ended ≡ false
         → IsReached steps can remaining v s w p.0.items f.end f.rest
     filled-reached more = record {
@@ -76,7 +78,7 @@ module _ {S T A : Type 0} {steps : S → Option T → S → Type 0} {can : S →
       nearer = p.0.nearer more;
     }
 
-    -- If the iterator has ended, then the placed items are all items that it yields.
+    -- If the iterator has ended, then the inserted items are all items that it yields.
     pub filled-drains : f.ended ≡ true → Drains steps s p.0.items
     filled-drains done = (f.rest, subst (λ b. Gives steps s p.0.items b f.rest) done p.0.gave)
 
@@ -115,8 +117,8 @@ module _ {S T A : Type 0} {steps : S → Option T → S → Type 0} {can : S →
     pub reached-long : length u.items ≡ end + length v.tail
     reached-long = omega (arith, ap length p.items, between-length v xs, p.ends)
 
-    -- If the list `u` grows to the list `w` with the same items, then `IsReached` also holds for
-    -- `w`.
+    -- If the list `u` grows and becomes the list `w` with the same items, then `IsReached` also
+    -- holds for `w`.
     pub reached-grown : (w : Thin T A) → w.items ≡ u.items
         → IsReached steps can remaining v s w xs end t
     reached-grown w same = record {
@@ -129,9 +131,9 @@ module _ {S T A : Type 0} {steps : S → Option T → S → Type 0} {can : S →
       nearer = p.nearer;
     }
 
-    -- If `HasTaken` holds for the earlier steps with the bound `m` on the moves of old items, and
-    -- for the later steps with the bound `n`, then it holds for all steps together with each bound
-    -- `k` that is at least `m + n`.
+    -- If `HasTaken` holds for the earlier steps of `finish` with the bound `m` on the moves of old
+    -- items, and for the later steps with the bound `n`, then it holds for all steps together with
+    -- each bound `k` that is at least `m + n`.
     pub reached-taken : (rule : Rule) (R : RattleType) → KeepsLaw rule → (a : A) (w : Thin T A)
         (m n k : ℕ) → m + n ≤ k → HasTaken rule R (left_of v a) u m (remaining s)
         → HasTaken rule R u w n (remaining t) → HasTaken rule R (left_of v a) w k (remaining s)
@@ -142,8 +144,9 @@ module _ {S T A : Type 0} {steps : S → Option T → S → Type 0} {can : S →
         (λ fit same. omega (arith, fit, same, ap length p.items, long, left, p.nearer))
         before now
 
-    -- Suppose that the earlier steps did not change the capacity. If the later steps satisfy
-    -- `IsExtended` with the new capacity `d`, then all steps together also satisfy it with `d`.
+    -- Suppose that the earlier steps of `finish` did not change the capacity. If the later steps
+    -- satisfy `IsExtended` with the new capacity `d`, then all steps together also satisfy it with
+    -- `d`.
     pub reached-extended : (rule : Rule) (R : RattleType) (a : A) (d n : ℕ)
         → u.capacity ≡ v.capacity → IsExtended rule R u d n (remaining t)
         → IsExtended rule R (left_of v a) d n (remaining s)
@@ -201,9 +204,9 @@ module _ {S T A : Type 0} {steps : S → Option T → S → Type 0} {can : S →
       cause = tt;
     }
 
-    -- Suppose that the items `xs` were placed before at least one tail item, and that the later
-    -- steps returned the result `r`. Then `IsFinished` holds for the whole call of `finish` with
-    -- the result `r`.
+    -- Suppose that at least one tail item follows the placed items `xs`, and that the later steps
+    -- returned the result `r`. Then `IsFinished` holds for the whole call of `finish` with the
+    -- result `r`.
     pub finished-from : {t : S} {u : Thin T A} {xs : List T} {end : ℕ}
         (r : Result (Unit {0}) (SpliceRefused T S A))
         → IsReached steps can remaining v s u xs end t → 0 < length v.tail

@@ -1,5 +1,6 @@
--- These lemmas are about replacing a range of a list by clones. They state what the list contains
--- before the clones are moved into the range, and how contracts see the block after this move.
+-- These lemmas are about replacing a range of a list with clones. They state what the list contains
+-- before the clones are moved into the range, and how the open block appears in contracts after
+-- this move.
 use Rattle.std.proofs.Common.{if◌then◌else◌, inl, inr, eqb, min, Bool, true, false, ◌≡◌, ℕ, zero, suc, ◌+◌, ◌-◌, ◌≤◌, List, [], ◌∷◌, ◌++◌, None, Option, append_assoc, ap, arith, drop, length, length-append, refl, sym, take, ◌∙◌}
 use Rattle.std.proofs.lemmas.List.{drop_at, length-drop, length-take-le, replicate-append-replicate, take-append-drop, take-append-le, take_at}
 use Rattle.std.proofs.lemmas.Bool.{cases_lt}
@@ -51,9 +52,9 @@ module _ {T : Type 0} where
       (λ m. front m ++ past m) ∙ take-append-drop i xs
 
 module _ {T : Type 0} (xs : List T) (i j : ℕ) (order : i ≤ j) (within : j ≤ length xs) where
-  -- Suppose that `zs` was inserted into the list `xs` at index `j`, and that `ys` was appended. If
-  -- `ys` is then moved from the end to index `i` and replaces the items `i..j`, the result is `xs`
-  -- with `ys ++ zs` in place of the items `i..j`.
+  -- Suppose that the items `zs` were inserted into the list `xs` at index `j`, and that the items
+  -- `ys` were appended. If the items `ys` are then moved from the end to index `i` and replace the
+  -- items `i..j`, the result is `xs` with `ys ++ zs` in place of the items `i..j`.
   pub brought-in : (ys zs : List T) {w : List T} {n : ℕ} → length ys ≡ n
       → w ≡ replace_range xs j j zs ++ ys
       → (take i w ++ drop (length w - n) w) ++ take (length w - n - j) (drop j w)
@@ -91,11 +92,12 @@ module _ {T : Type 0} (xs : List T) (i j : ℕ) (order : i ≤ j) (within : j �
 
 module _ {T A : Type 0} (h : Inside T A) (o : IsOpen h) (b : Block T A) (k : ℕ)
     (few : k ≤ length (open_of h).tail) (room : k ≤ (open_of h).gap) where
-  -- `v` is the open block as contracts see it before the move.
+  -- `v` is the open block before the move, as it appears in contracts.
   abbrev v : Open T A
   v = open_of h
 
-  -- This is the open block after its last `k` tail items were moved to the end of its front items.
+  -- `brought` is the open block after its last `k` tail items were moved to the end of its front
+  -- items.
   abbrev pub brought : Inside T A
   brought = record {
     block = b;
@@ -106,8 +108,8 @@ module _ {T A : Type 0} (h : Inside T A) (o : IsOpen h) (b : Block T A) (k : ℕ
     len = h.len - k;
   }
 
-  -- `brought-seen` is the open block `brought` as contracts see it. The last `k` tail items have
-  -- become the last front items.
+  -- `brought-seen` is the open block `brought` as it appears in contracts. The last `k` tail items
+  -- have become the last front items.
   abbrev pub brought-seen : Open T A
   brought-seen = record {
     front = v.front ++ drop (length v.tail - k) v.tail;
@@ -120,8 +122,8 @@ module _ {T A : Type 0} (h : Inside T A) (o : IsOpen h) (b : Block T A) (k : ℕ
     cost = b.cost;
   }
 
-  -- If the last `k` tail items were moved to the slots directly after the front items, then
-  -- contracts see the open block `brought` as `brought-seen`.
+  -- If the last `k` tail items were moved to the slots directly after the front items, then the
+  -- open block `brought` appears in contracts as `brought-seen`.
   pub bring-step : b.slots ≡ moved (h.len - k) h.front_end k h.block.slots
       → Found brought brought-seen
   bring-step now =
@@ -267,8 +269,8 @@ pub if-le : (b : Bool) (k n : ℕ) → k + (if b then 0 else n) ≤ k + n
 if-le true k n = omega arith
 if-le false k n = omega arith
 
--- Suppose that `k` clones replace a range of `r` items. The first `k1` clones replace old items,
--- and the other `k2` clones need additional slots.
+-- `IsParted` describes how `k` clones replace a range of `r` items. The first `k1` clones replace
+-- old items, and the other `k2` clones need additional slots.
 pub record IsParted (k r k1 k2 : ℕ) : Type 0 where
   -- `k1` is the smaller of the number of clones and the length of the range.
   pub first : k1 ≡ min k r
@@ -277,7 +279,7 @@ pub record IsParted (k r k1 k2 : ℕ) : Type 0 where
 
 -- Suppose that `t` items follow the range, that `k2` clones are inserted after the range, and that
 -- `k1` clones are appended to the list and then moved into the range. Then the number of moves is
--- the number for a plain replacement, plus one move for each of the `k1` clones.
+-- the number that a replacement with existing items takes, plus one for each of the `k1` clones.
 pub cloning-moves : {k r k1 k2 : ℕ} → IsParted k r k1 k2 → (t : ℕ) {z u : ℕ} → z ≡ 0 → u ≡ t + k2
     → ((k2 + (if eqb k2 z then 0 else t)) + k1) + (k1 + (if eqb k1 r then 0 else u))
     ≡ (k + (if eqb k r then 0 else t)) + min k r

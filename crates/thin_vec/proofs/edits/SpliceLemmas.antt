@@ -1,5 +1,5 @@
--- These lemmas are about splices. They state how many items a splice moves, what the splice costs,
--- which items its iterator has yielded, and why `finish` failed.
+-- These lemmas are about splices. They state how many items a splice moves, what it costs, which
+-- items its iterator has yielded, and why `finish` failed.
 use Rattle.std.proofs.Common.{if◌then◌else◌, inl, inr, Option, Some, None, append_assoc, drop, take, subst, ◌≡◌, ℕ, ◌+◌, ◌-◌, ◌*◌, ◌^◌, ◌<◌, ◌≤◌, Bool, true, false, eqb, List, [], ◌∷◌, ◌++◌, ap, arith, length, length-append, refl, sym, ◌∙◌}
 use Rattle.std.proofs.lemmas.List.{append-nil, drop_at, length-drop, length-take-le, take_at}
 use Rattle.std.specs.Borrow.{RattleType}
@@ -35,7 +35,8 @@ moving-zero c = ap (λ m. let d : Cost = record c { moves = m } in d)
     (let e : c.moves ≡ c.moves + 0 = omega arith in e)
 
 -- Suppose that `n` items were placed into the gap of the open block `v`, which became the open
--- block `w`. Closing `w` moves each tail item at most once. It moves no item if the gap is full.
+-- block `w`. Then closing `w` moves each tail item at most once, and it moves no item if the gap is
+-- full.
 pub closed-moves : {T A : Type 0} (v w : Open T A) (n : ℕ) → w.cost ≡ moving (v.gap - w.gap)
     v.cost → w.rest ≡ [] → w.tail ≡ v.tail → n ≡ v.gap - w.gap
     → (m : ℕ) × (cost_closed w ≡ moving (n + m) v.cost) × (m ≤ length v.tail)
@@ -70,8 +71,8 @@ closed-moves v w n paid none same count = go (eqb w.gap 0) refl
         false-true : false ≡ true → ⊥
         false-true h = cc
 
--- Suppose that `n` items are moved up, unless `count` is 0. Then `k` items are placed, and `m`
--- items are moved. The total number of moves is `k` for the placed items, plus at most `n + m`.
+-- Suppose that `n` items are moved up, unless `count` is 0, and that `k` items are then placed into
+-- the gap and `m` items are moved. Then the total number of moves is `k`, plus at most `n + m`.
 pub run-moves : (count n k m : ℕ) (c d : Cost) → d ≡ (if eqb count 0 then c else moving n c)
     → (x : ℕ) × (moving (k + m) d ≡ moving (k + x) c) × (x ≤ n + m)
 run-moves count n k m c d e = go (eqb count 0) e
@@ -147,7 +148,7 @@ pub any-err : {X E : Type 0} {Q : E → Type 0} (r : Result X E) → ((e : E) �
 any-err (Ok _) h = tt
 any-err (Err e) h = h e
 
--- Inserting the list `ys` into the list `xs` yields a list of the length `length xs + length ys`.
+-- Inserting the list `ys` into the list `xs` yields a list of length `length xs + length ys`.
 pub inserted-long : {T : Type 0} (xs ys : List T) (at : ℕ) → at ≤ length xs
     → length ((take at xs ++ ys) ++ drop at xs) ≡ length xs + length ys
 inserted-long xs ys at in_bounds =
@@ -171,8 +172,8 @@ module _ {S X : Type 0} (steps : S → Option X → S → Type 0) where
 module _ {S X A : Type 0} (steps : S → Option X → S → Type 0) (can : S → Type 0)
     (remaining : S → Count) where
   -- Suppose that calls of `next` yielded the items `xs`, and that `Stopped` holds for the later
-  -- calls without any placed items. Then `Stopped` holds for all calls together, with `xs` as the
-  -- placed items.
+  -- calls with an empty list of placed items. Then `Stopped` holds for all calls together, with
+  -- `xs` as the list of placed items.
   pub stopped-more : (s t : S) (xs : List X) (error : SpliceRefused X S A) → Yields steps s xs t
       → Stopped steps can remaining t [] error → Stopped steps can remaining s xs error
   stopped-more s t xs error before (inl now) =
@@ -193,9 +194,9 @@ module _ {S X A : Type 0} (steps : S → Option X → S → Type 0) (can : S →
         (now.2.0, yields-join steps s t now.2.0 xs error.held.items before now.2.1, now.2.2),
       )
 
-  -- Suppose that the list `held` in the error is empty, and that calls of `next` yielded the placed
-  -- items and then the item `in_hand` of the error, if there is one. Then `Stopped` holds for these
-  -- calls.
+  -- Suppose that the list `held` in the error is empty. Suppose also that calls of `next` yielded
+  -- the items that were placed in the list, and then the item `in_hand` of the error, if there is
+  -- one. Then `Stopped` holds for these calls.
   pub stopped-now : (s : S) (xs : List X) (error : SpliceRefused X S A) → error.held.items ≡ []
       → PausedAfter steps can remaining s (xs ++ option_to_list error.in_hand) error.rest
       → Stopped steps can remaining s xs error
@@ -214,8 +215,8 @@ module _ {S X A : Type 0} (steps : S → Option X → S → Type 0) (can : S →
 -- failure. `left` is an upper bound on the number of items that the iterator may still yield.
 module _ {S T A : Type 0} (rule : Rule) (R : RattleType) (v : Thin T A) (tail : List T)
     (left : Count) (error : SpliceRefused T S A) where
-  -- Suppose that items follow the range, that the error contains no items, and that room for the
-  -- size hint of the iterator could not be reserved. Then `IsStopCause` holds.
+  -- Suppose that items follow the range, that the error contains no items, and that the list could
+  -- not reserve room for the size hint of the iterator. Then `IsStopCause` holds.
   pub stop-at-hint : 0 < length tail → error.held.items ≡ [] → error.in_hand ≡ None
       → FailsAtHint rule R v left error.cause → IsStopCause rule R v tail left error
   stop-at-hint some none empty fails = record {
@@ -226,7 +227,7 @@ module _ {S T A : Type 0} (rule : Rule) (R : RattleType) (v : Thin T A) (tail : 
   }
 
   -- Suppose that items follow the range, that the error contains at least one item, and that its
-  -- cause is the one that `IsStopCause` requires in this case. Then `IsStopCause` holds.
+  -- cause satisfies the clause of `IsStopCause` for this case. Then `IsStopCause` holds.
   pub stop-at-held : 0 < length tail → (error.in_hand ≡ None → 0 < length error.held.items)
       → (error.in_hand ≡ None → (error.cause ≡ CapacityOverflow)
       ↔ (capacity_for rule R v (length error.held.items) ≡ None))
@@ -292,7 +293,7 @@ module _ {T A : Type 0} where
       }
 
   -- Suppose that `us` are the items of the open block `v` with `xs` in place of its middle items.
-  -- Inserting `ys` directly after `xs` yields the items of `v` with `xs ++ ys` in place of its
+  -- Then inserting `ys` directly after `xs` yields the items of `v` with `xs ++ ys` in place of its
   -- middle items.
   pub between-more : (v : Open T A) (us xs ys : List T) (end : ℕ) → us ≡ with_between v xs
       → end ≡ length v.front + length xs
@@ -304,15 +305,15 @@ module _ {T A : Type 0} where
       ∙ ((λ i. (take_at pre v.tail end here i ++ ys) ++ drop_at pre v.tail end here i)
       ∙ ap (λ l. l ++ v.tail) (append_assoc v.front xs ys))
 
-  -- If `xs` replaces the middle items of an open block, then the new number of items is the number
-  -- of front items, plus the length of `xs`, plus the number of tail items.
+  -- If the items `xs` replace the middle items of an open block, then the new number of items is
+  -- the number of front items and tail items, plus the length of `xs`.
   pub between-length : (v : Open T A) (xs : List T)
       → length (with_between v xs) ≡ length v.front + length xs + length v.tail
   between-length v xs =
       omega (arith, length-append (v.front ++ xs) v.tail, length-append v.front xs)
 
   -- If the open block `v` has no tail items, then appending `xs` to its front items is the same as
-  -- replacing its middle items by `xs`.
+  -- replacing its middle items with `xs`.
   pub after-items : (v : Open T A) (xs : List T) → v.tail ≡ []
       → (v.front ++ v.tail) ++ xs ≡ with_between v xs
   after-items v xs none =

@@ -1,5 +1,5 @@
--- These lemmas state how contracts see an open block while one of its items is tested against
--- another item. Each lemma is about one step of such a test.
+-- These lemmas state how an open block appears in contracts while one of its items is tested
+-- against another item. Each lemma is about one step of such a test.
 use Rattle.std.proofs.Common.{◌≡◌, ◌≢◌, ℕ, zero, suc, ◌+◌, ◌-◌, ◌<◌, ◌≤◌, List, [], ◌∷◌, ◌++◌, Option, Some, None, length, take, drop, refl, sym, ap, ◌∙◌, arith, length-append, append_assoc, get_or}
 use Rattle.std.proofs.lemmas.List.{drop_at, get_or_at, get_or-set_other, length-drop, length-take-le, length_push, set_at, take_at}
 use Rattle.std.specs.Prelude.{IsSome, slice_range}
@@ -28,8 +28,8 @@ module _ {T : Type 0} where
   over-none (None ∷ s) = refl
   over-none (Some x ∷ s) = refl
 
-  -- The slots `i` and `i + 1` hold the items `k` and `x`. Writing `k'` and `x'` over these items
-  -- puts `k'` into slot `i` and `x'` into slot `i + 1`.
+  -- `Neighbours` states that the slots `i` and `i + 1` hold the items `k` and `x`, and that writing
+  -- `k'` and `x'` over these items puts `k'` into slot `i` and `x'` into slot `i + 1`.
   pub record Neighbours (s : List (Option T)) (i : ℕ) (k x k' x' : T) : Type 0 where
     pub first : slot s i ≡ Some k
     pub second : slot s (suc i) ≡ Some x
@@ -60,7 +60,7 @@ module _ {T : Type 0} where
   module _ (s : List (Option T)) (i : ℕ) (all a b : List T) (within : i + 2 ≤ length s)
       (lent : full all ≡ slice_range s i (i + 2)) (cut : all ≡ a ++ b) (one : length a ≡ 1) where
     -- Suppose that the slice `a` consists of the item `k`, and the slice `b` of the item `x`. Then
-    -- `Neighbours` holds. Writing `k'` into `a` and `x'` into `b` puts `k'` into slot `i` and `x'`
+    -- `Neighbours` holds: writing `k'` into `a` and `x'` into `b` puts `k'` into slot `i` and `x'`
     -- into slot `i + 1`.
     pub parts-of : {k x : T} (k' x' : T) → k ≡ get_or a 0 k → x ≡ get_or b 0 x
         → Neighbours s i k x k' x'
@@ -91,8 +91,9 @@ module _ {T : Type 0} where
 module _ {T A : Type 0} where
   -- Section: open blocks
 
-  -- The middle items `x` and `y`, at the indices `k` and `k + 1`, were overwritten by `x'` and
-  -- `y'`. Contracts see the new block `b` as `h` with these two items replaced.
+  -- `WrittenTwo` states that the middle items `x` and `y`, at the indices `k` and `k + 1`, were
+  -- overwritten with `x'` and `y'`. With the new block `b`, the open block `h` appears in contracts
+  -- with these two items replaced.
   pub record WrittenTwo (h : Inside T A) (o : IsOpen h) (k : ℕ) (b : Block T A)
       (x y x' y' : T) : Type 0 where
     pub pre : List T
@@ -110,8 +111,8 @@ module _ {T A : Type 0} where
 
   module _ (h : Inside T A) (o : IsOpen h) (b : Block T A)
       (kept : seen b ≡ record (seen h.block) { slots = b.slots }) where
-    -- If two neighboring middle items were overwritten, then `WrittenTwo` holds: nothing else has
-    -- changed.
+    -- If two neighboring middle items were overwritten, then `WrittenTwo` holds, because nothing
+    -- else has changed.
     pub write-two-step : (k : ℕ) {x y : T} (x' y' : T) → suc k < length (open_of h).rest
         → slot h.block.slots (h.rest_start + k) ≡ Some x
         → slot h.block.slots (suc (h.rest_start + k)) ≡ Some y
@@ -167,8 +168,8 @@ module _ {T A : Type 0} where
           };
         }
 
-  -- The last front item `x` was overwritten by `y`. Contracts see the new block `b` as the open
-  -- block `h` with `y` in place of `x`.
+  -- `WrittenLast` states that the last front item `x` was overwritten with `y`. With the new block
+  -- `b`, the open block `h` appears in contracts with `y` in place of `x`.
   pub record WrittenLast (h : Inside T A) (b : Block T A) (x y : T) : Type 0 where
     pub pre : List T
     pub was : (open_of h).front ≡ pre ++ x ∷ []
@@ -181,7 +182,8 @@ module _ {T A : Type 0} where
       len = h.len;
     }) (record (open_of h) { front = pre ++ y ∷ [] })
 
-  -- If the last front item was overwritten, then `WrittenLast` holds: nothing else has changed.
+  -- If the last front item was overwritten, then `WrittenLast` holds, because nothing else has
+  -- changed.
   pub write-last-step : (h : Inside T A) (o : IsOpen h) (b : Block T A) {x : T} (y : T)
       → 0 < length (open_of h).front → slot h.block.slots (h.front_end - 1) ≡ Some x
       → seen b ≡ record (seen h.block) { slots = set h.block.slots (h.front_end - 1) (Some y) }
@@ -234,8 +236,8 @@ module _ {T A : Type 0} where
             (ap (λ (z : Seen T A). z.cost) now);
       }
 
-  -- If the item `x` was written into the first slot of the gap, then contracts see the block with
-  -- `x` as the last front item and with a gap that is shorter by one slot.
+  -- If the item `x` was written into the first slot of the gap, then the block appears in contracts
+  -- with `x` as the last front item and with a gap that is shorter by one slot.
   pub put-step : (h : Inside T A) (o : IsOpen h) (b : Block T A) (x : T) {c : Cost}
       → 0 < (open_of h).gap
       → seen b ≡ record (seen h.block)

@@ -1,11 +1,12 @@
--- If there is no gap after the front items, then the items before the first item to be removed
--- become front items without a move.
+-- If there is no gap after the front items (the items kept so far), then the items before the first
+-- item to be removed become front items and stay in their slots.
 use Rattle.std.proofs.Common.{◌≡◌, ◌<◌, ◌++◌, ◌∙◌, ap, drop, sym, take}
 use Rattle.std.proofs.lemmas.Bool.{false≢true}
 use Rattle.thin_vec.proofs.RetainLemmas.{moving-before}
 use Rattle.thin_vec.proofs.open_block.OpenBlock.advance.Goals as goal
 
--- The clause `advances` holds if there is no gap: no move is counted.
+-- The clause `advances` holds if there is no gap, because then no item is moved and no move is
+-- counted.
 pub returns-clause-advances : goal.returns-clause-advances
 returns-clause-advances g c =
     let v = c.args.self.now in

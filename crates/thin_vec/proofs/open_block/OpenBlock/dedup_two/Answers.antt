@@ -1,20 +1,21 @@
 -- A call of `dedup_two` ends after it has removed one item, or when no item remains to be tested.
--- The clause `dedups` holds in each of four cases, which differ in the item that is removed first.
+-- The clause `dedups` holds in each of four cases: the first item is removed, the second item is
+-- removed, a later item is removed, or no item is removed.
 use Rattle.std.proofs.Common.{◌≡◌, ◌∷◌, [], ap, false, refl, sym, ◌∙◌, arith, rules}
 use Rattle.std.proofs.lemmas.List.{append-nil, nil_from_length}
 use Rattle.thin_vec.proofs.edits.DedupLemmas.{run-count, run-ends, run-goes, dedups-goes, dedups-run, dedups-two}
 use Rattle.std.proofs.lemmas.Grind.{common_steps}
 use Rattle.thin_vec.proofs.open_block.OpenBlock.dedup_two.Goals as goal
 
--- The clause `dedups` holds if the next item is to be removed: this item is dropped.
+-- The clause `dedups` holds if the next item is to be removed, because this item is then dropped.
 pub returns-then-test_last-clause-dedups : goal.returns-then-test_last-clause-dedups
 returns-then-test_last-clause-dedups g c =
     dedups-goes g.J.PairTest.tests c.args.self.now c.test_last.new.self
     c.take_first-later.result c.test_last.new.later c.test_last.new.self.front
     (search rules) (search rules) (search rules) (search rules)
 
--- The clause `dedups` holds if the next item is kept and the item after it is to be removed. The
--- kept item is appended to the front items, and the other item is dropped.
+-- The clause `dedups` holds if the next item is kept and the item after it is to be removed. In
+-- this case, the kept item is appended to the front items, and the other item is dropped.
 pub returns-then-goes-clause-dedups : goal.returns-then-goes-clause-dedups
 returns-then-goes-clause-dedups g c =
     dedups-two g.J.PairTest.tests c.args.self.now c.take_first.new.self c.args.test.now
@@ -25,8 +26,8 @@ returns-then-goes-clause-dedups g c =
     c.test_next-goes.result c.test_next-goes.ensures.asked (search rules)
     c.if-goes.true c.take_first.result (search rules) (search rules) (search rules)
 
--- The clause `dedups` holds if the next two items are kept and a later item is to be removed. All
--- items before the removed item are moved to the end of the front items.
+-- The clause `dedups` holds if the next two items are kept and a later item is to be removed. In
+-- this case, all items before the removed item are moved to the end of the front items.
 pub returns-then-rest_len-gt0-clause-dedups : goal.returns-then-rest_len-gt0-clause-dedups
 returns-then-rest_len-gt0-clause-dedups g c =
     let R = g.J.PairTest.tests in
@@ -45,7 +46,8 @@ returns-then-rest_len-gt0-clause-dedups g c =
     c.test_pairs-kept.new.self.rest r goes.0 (run-count R _ _ _ _ _ r (false ∷ []) refl goes.1)
     (search rules) (search rules)
 
--- The clause `dedups` holds if all items are kept: they are moved to the end of the front items.
+-- The clause `dedups` holds if all items are kept, because all of them are then appended to the
+-- front items.
 pub returns-else-rest_len-gt0-clause-dedups : goal.returns-else-rest_len-gt0-clause-dedups
 returns-else-rest_len-gt0-clause-dedups g c =
     let R = g.J.PairTest.tests in

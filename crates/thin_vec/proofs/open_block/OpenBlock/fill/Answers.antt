@@ -1,5 +1,6 @@
--- `put_iter` puts the items that the iterator yields into the empty slots directly after the front
--- items. So these items become front items, and each of them shortens the gap by one slot.
+-- `put_iter` puts the items that the iterator yields into the gap: the empty slots directly after
+-- the front items. So these items become front items, and each of them shortens the gap by one
+-- slot.
 use Rattle.std.proofs.Common.{◌≡◌, ◌-◌, ◌++◌, ◌≤◌, ◌∙◌, ap, arith, length, sym}
 use Rattle.thin_block.proofs.BlockLemmas.{slots-are}
 use Rattle.thin_block.specs.Block.{seen}
@@ -9,8 +10,8 @@ use Rattle.thin_vec.proofs.OpenBlockLemmas.{fill-step}
 use Rattle.thin_vec.proofs.PutLemmas.{filled-fits, filled-room}
 use Rattle.thin_vec.proofs.open_block.OpenBlock.fill.Goals as goal
 
--- The block after the call is the old block with the yielded items in the slots after the front
--- items.
+-- The block after the call is the old block with the yielded items in the slots directly after the
+-- front items.
 stored : (g : _) (c : goal.After-self-1 g) → seen c.replace-none.new.dest
     ≡ record (seen c.self.inside.block) {
       slots = laid c.self.inside.front_end (full c.put_iter-block.ensures.filled.0.items)

@@ -1,6 +1,6 @@
--- `move_run_to` moves the items of the list `other` into the empty slots directly after the front
--- items of the open block. So these items become front items, and all slots of `other` are empty
--- afterwards.
+-- `move_run_to` moves the items of the list `other` into the gap of the open block: the empty slots
+-- directly after the front items. So these items become front items, and all slots of `other` are
+-- then empty.
 use Rattle.thin_block.proofs.BlockLemmas.{then-len}
 use Rattle.thin_block.specs.Cost.{moving}
 use Rattle.thin_block.specs.Slots.{full, items_in, laid, run}

@@ -1,4 +1,4 @@
--- Since there are no middle items, no item is between the two gaps, and they form one gap.
+-- Since there are no middle items, no item separates the two gaps, so they form one gap.
 use Rattle.std.proofs.Common.{◌+◌, ap, sym, ◌∙◌}
 use Rattle.thin_vec.proofs.OpenBlockLemmas.{Found, join-step, joined, joined-seen}
 use Rattle.thin_vec.proofs.open_block.OpenBlock.join.Goals as goal

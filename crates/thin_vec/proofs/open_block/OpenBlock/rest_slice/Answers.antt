@@ -1,4 +1,5 @@
--- The slots in the range `rest_start..rest_end` are all filled, and they hold the middle items.
+-- The slots in the range `rest_start..rest_end` are all filled. They hold the middle items, which
+-- are the remaining items of the range.
 use Rattle.std.proofs.Common.{ap, ◌∙◌}
 use Rattle.thin_vec.specs.OpenBlock.{open_of}
 use Rattle.thin_vec.proofs.OpenBlockLemmas.{rest-filled, rest-run}

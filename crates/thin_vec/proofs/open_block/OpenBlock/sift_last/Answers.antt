@@ -1,20 +1,21 @@
--- The open block has at most one middle item. The clause `sifts` holds in each of three cases:
--- there is no middle item, the item is kept, or the item is removed. No item remains to be tested.
+-- The open block has at most one middle item, that is, at most one untested item. The clause
+-- `sifts` holds in each of three cases: there is no middle item, the item is kept, or the item is
+-- removed. In each case, no item remains to be tested.
 use Rattle.std.proofs.Common.{◌∙◌, ap, arith, length, sym}
 use Rattle.std.proofs.lemmas.Bool.{false≢true}
 use Rattle.std.proofs.lemmas.List.{nil_from_length}
 use Rattle.thin_vec.proofs.RetainLemmas.{advanced-count, advanced-ends, advanced-goes, none-left}
 use Rattle.thin_vec.proofs.open_block.OpenBlock.sift_last.Goals as goal
 
--- The clause `sifts` holds if `advance_last` returns true: the next item is removed.
+-- The clause `sifts` holds if `advance_last` returns true, because the next item is then removed.
 pub returns-then-advance_last-clause-sifts : goal.returns-then-advance_last-clause-sifts
 returns-then-advance_last-clause-sifts g c =
     advanced-goes g.J.Test.tests c.args.test.now c.advance_last.new.test c.args.self.now
     c.advance_last.new.self c.requires.gap c.advance_last.ensures.advances c.take_first.result
     c.take_first.new.self c.take_first.ensures.rest c.take_first.ensures.changes
 
--- The clause `sifts` holds if `advance_last` returns false: no item is removed, and no item remains
--- to be tested.
+-- The clause `sifts` holds if `advance_last` returns false, because then no item is removed and no
+-- item remains to be tested.
 pub returns-else-advance_last-clause-sifts : goal.returns-else-advance_last-clause-sifts
 returns-else-advance_last-clause-sifts g c =
     advanced-ends g.J.Test.tests c.args.test.now c.advance_last.new.test c.args.self.now

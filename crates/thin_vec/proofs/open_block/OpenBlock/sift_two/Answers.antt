@@ -5,15 +5,15 @@ use Rattle.std.proofs.lemmas.Bool.{false≢true}
 use Rattle.thin_vec.proofs.RetainLemmas.{advanced-count, advanced-ends, advanced-goes, none-left}
 use Rattle.thin_vec.proofs.open_block.OpenBlock.sift_two.Goals as goal
 
--- The clause `sifts` holds if `advance_two` returns true: the next item is removed.
+-- The clause `sifts` holds if `advance_two` returns true, because the next item is then removed.
 pub returns-then-advance_two-clause-sifts : goal.returns-then-advance_two-clause-sifts
 returns-then-advance_two-clause-sifts g c =
     advanced-goes g.J.Test.tests c.args.test.now c.advance_two.new.test c.args.self.now
     c.advance_two.new.self c.requires.gap c.advance_two.ensures.advances c.take_first.result
     c.take_first.new.self c.take_first.ensures.rest c.take_first.ensures.changes
 
--- The clause `sifts` holds if `advance_two` returns false: no item is removed, and no item remains
--- to be tested.
+-- The clause `sifts` holds if `advance_two` returns false, because then no item is removed and no
+-- item remains to be tested.
 pub returns-else-advance_two-clause-sifts : goal.returns-else-advance_two-clause-sifts
 returns-else-advance_two-clause-sifts g c =
     advanced-ends g.J.Test.tests c.args.test.now c.advance_two.new.test c.args.self.now
@@ -28,8 +28,8 @@ returns-then-advance_two-clause-less g c =
     c.advance_two.new.self c.requires.gap c.advance_two.ensures.advances in
     omega (arith, few, ap length c.take_first.ensures.rest)
 
--- If no item is removed, then no item remains to be tested. Before the call, there were at least
--- two untested items.
+-- If no item is removed, then no item remains to be tested. Before the call, at least two items
+-- remained to be tested, so their number has decreased.
 pub returns-else-advance_two-clause-less : goal.returns-else-advance_two-clause-less
 returns-else-advance_two-clause-less g c =
     let none = none-left c.advance_two.new.self.rest

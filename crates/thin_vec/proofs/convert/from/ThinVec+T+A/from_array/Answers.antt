@@ -1,5 +1,5 @@
 -- The items of the array become the items of the new list. This holds because the new list has no
--- items, and `put_array` puts the items of the array into its first slots.
+-- items, and `put_array` puts the items of the array into its slots from slot 0 onward.
 use Rattle.std.proofs.lemmas.Grind.{common_steps}
 use Rattle.std.proofs.Common.{◌++◌, ap, arith, length, sym, ◌∙◌}
 use Rattle.thin_block.proofs.BlockLemmas.{then-len}

@@ -1,4 +1,4 @@
--- The call requests a capacity that is equal to the number of items in the vector. It fails with
+-- `from_vec` requests a capacity that is equal to the number of items in the vector. It fails with
 -- `CapacityOverflow` if and only if a block of this capacity is too large to be allocated.
 use Rattle.std.proofs.Common.{◌∙◌, ap}
 use denote.Param.{param}

@@ -1,5 +1,5 @@
--- The test calls the closure for the later item and then for the last kept item. It returns whether
--- the two keys are equal.
+-- The test calls the closure for the later item and then for the last kept item, and returns
+-- whether the two resulting keys are equal.
 use Rattle.std.proofs.Common.{rules}
 use Rattle.thin_vec.proofs.edits.dedup.KeyingPairTest.test.Goals as goal
 

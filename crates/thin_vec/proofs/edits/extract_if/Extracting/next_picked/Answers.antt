@@ -7,7 +7,7 @@ use Rattle.thin_vec.proofs.edits.ExtractIfLemmas.{cost-of, picked-count, picked-
 use Rattle.thin_vec.proofs.RetainLemmas.{none-left}
 use Rattle.thin_vec.proofs.edits.extract_if.Extracting.next_picked.Goals as goal
 
--- The clause `extracts` holds if `advance` returns true: the next item is extracted.
+-- The clause `extracts` holds if `advance` returns true, because the next item is then extracted.
 pub returns-then-advance-clause-extracts : goal.returns-then-advance-clause-extracts
 returns-then-advance-clause-extracts g c =
     let R = CalledAtMut g.F.FnMut in
@@ -32,7 +32,7 @@ returns-then-advance-clause-extracts g c =
           (picked-room R (λ s. s.pick) a.count v.picks v.block.rest t a.left a.run));
     }
 
--- The clause `extracts` holds if `advance` returns false: no item is extracted.
+-- The clause `extracts` holds if `advance` returns false, because there is no item to be extracted.
 pub returns-else-advance-clause-extracts : goal.returns-else-advance-clause-extracts
 returns-else-advance-clause-extracts g c =
     let R = CalledAtMut g.F.FnMut in

@@ -5,7 +5,7 @@ use Rattle.std.specs.Fn.{CalledAtMut}
 use Rattle.thin_vec.proofs.edits.ExtractIfLemmas.{not-not}
 use Rattle.thin_vec.proofs.edits.extract_if.PicksTest.test.Goals as goal
 
--- Negating the result of the closure twice yields the same result.
+-- The clause `asked` holds because negating the result of the closure twice yields the same result.
 pub returns-clause-asked : goal.returns-clause-asked
 returns-clause-asked g c =
     let called : CalledAtMut g.F.FnMut c.args.self.now.pick c.args.item.now c.pick.result
