@@ -36,8 +36,8 @@ module _ {S X : Type 0} (steps : S → Option X → S → Type 0) where
   yields-more s t u [] x e now = (u, subst (λ r. steps r (Some x) u) (sym e) now, λ _. u)
   yields-more s t u (y ∷ ys) x e now = (e.0, e.1, yields-more e.0 t u ys x e.2 now)
 
-  -- If calls of `next` yielded the items `xs`, and the calls after them yielded the items `ys`,
-  -- then the whole sequence of calls yielded `xs ++ ys`.
+  -- If calls of `next` yielded the items `xs`, and the following calls yielded the items `ys`, then
+  -- the whole sequence of calls yielded `xs ++ ys`.
   pub yields-join : (s t u : S) (xs ys : List X) → Yields steps s xs t → Yields steps t ys u
       → Yields steps s (xs ++ ys) u
   yields-join s t u [] ys e more = subst (λ r. Yields steps r ys u) (sym e) more

@@ -47,8 +47,8 @@ module _ {T : Type 0} where
   -- for a new item at index `i`.
   module _ (xs : List T) (c i : ℕ) {j k : ℕ} (h : i ≤ length xs) (l : length xs < c) (e : j ≡ i + 1)
       (n : k ≡ length xs - i) where
-    -- The slots after slot `i`. The items from index `i` onward have already been moved up by one
-    -- slot.
+    -- `after` is the row of slots after slot `i`, at the point where the items from index `i`
+    -- onward have just been moved up by one slot.
     after : List (Option T)
     after = full (drop i xs) ++ replicate (c - length xs - 1) None
 
@@ -141,8 +141,8 @@ module _ {T A : Type 0} {b : Block T A} {a : A} (t : IsThin b a) where
 
 module _ {T : Type 0} where
   -- `emptying xs k i c` is the row of slots `front xs c` after the slots `k..i` were emptied. The
-  -- first slots of `front xs c` hold the items `xs`, and its other slots, up to `c` slots in total,
-  -- are empty.
+  -- row `front xs c` has `c` slots: the first slots hold the items `xs`, and all other slots are
+  -- empty.
   abbrev pub emptying : List T → ℕ → ℕ → ℕ → List (Option T)
   emptying xs k i c =
       full (take k xs) ++ (empty (i - k) ++ (full (drop i xs) ++ empty (c - length xs)))

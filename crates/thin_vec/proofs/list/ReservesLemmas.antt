@@ -12,8 +12,8 @@ use Rattle.thin_vec.specs.Cheap.{IsCheap}
 use Rattle.thin_vec.specs.List.Capacity.{Keeps, Reserves, TellsOverflow, TellsOverflowOf}
 use Rattle.thin_vec.specs.ThinVec.{HasRoomFor, IsWithin, Thin, capacity_for}
 
--- If the required capacity `named` is not `None`, which would mean that it is too large, then
--- `TellsOverflow named (Ok x)` holds.
+-- The capacity `named` that a call needs is `None` if it is too large. If `named` is not `None`,
+-- then `TellsOverflow named (Ok x)` holds.
 pub tells-ok : {X : Type 0} (x : X) (named : Option ℕ) (n : ℕ) → named ≡ Some n
     → TellsOverflow named (Ok x)
 tells-ok x named n is = record {
@@ -77,7 +77,7 @@ module _ {T A : Type 0} (R : RattleType) (v : Thin T A) where
 
   module _ (rule : Rule) where
     -- If the list `v` has room for `k` more items, then every call that returns `Ok` and does not
-    -- change the capacity satisfies `Reserves`.
+    -- change the capacity satisfies `Reserves` for `k` items.
     pub reserves-room : {X : Type 0} {x : X} (k : ℕ) (w : Thin T A) → HasRoomFor v k
         → w.capacity ≡ v.capacity → Reserves rule R k v w (Ok x)
     reserves-room {x = x} k w room capacity =
@@ -90,9 +90,9 @@ module _ {T A : Type 0} (R : RattleType) (v : Thin T A) where
           overflow = (λ e. ok-err x CapacityOverflow e, λ none. absurd (none-some none named));
         }
 
-    -- Suppose that the first step of a call returns `Ok` and satisfies `Reserves`. If the second
-    -- step keeps the capacity and fails only with `OutOfMemory`, then the whole call satisfies
-    -- `Reserves`. Its item type may be another type `S` if the growth rule chooses the same
+    -- Suppose that the first step of a call returns `Ok` and satisfies `Reserves`, and that the
+    -- second step keeps the capacity and fails only with `OutOfMemory`. Then the whole call
+    -- satisfies `Reserves`, also for items of another type `S` if the growth rule chooses the same
     -- capacity for `S`.
     pub reserves-then : {X Y : Type 0} {x : X} (S : RattleType) (k l : ℕ) (u w : Thin T A)
         (r : Result Y ThinVecError) → l ≡ k
@@ -119,8 +119,8 @@ module _ {T A : Type 0} (R : RattleType) (v : Thin T A) where
           );
         }
 
-    -- Suppose that a call fails without changing the list, and satisfies `Reserves`. Then every
-    -- call that fails with the same error satisfies `Reserves`. Its item type may be another type
+    -- Suppose that a call fails without changing the list, and satisfies `Reserves`. Then another
+    -- call that fails with the same error also satisfies `Reserves`, even for items of another type
     -- `S` if the growth rule chooses the same capacity for `S`.
     pub reserves-failed : {X Y : Type 0} (S : RattleType) (k l : ℕ) (w : Thin T A)
         (cause : ThinVecError) → l ≡ k

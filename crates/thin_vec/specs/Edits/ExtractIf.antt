@@ -17,7 +17,8 @@ module _ {T F A : Type 0} (R : F → T → Bool → F → T → Type 0) where
   -- `Extracts old item new` states that a call of `next` changed `old` to `new` and returned
   -- `item`. The closure was called with the untested items of the range, in order, until it
   -- returned true for `item` or no item was left. It returned false for the items `kept`, which
-  -- remain in the list. Each of them counts as one move if an item was extracted before.
+  -- remain in the list. Each of these items counts as one move if an item had been extracted before
+  -- the call.
   pub record Extracts (old : Extracting T F A) (item : Option T)
       (new : Extracting T F A) : Type 0 where
     pub kept : List T

@@ -40,8 +40,8 @@ module _ {T A : Type 0} where
 module _ {S T A : Type 0} (steps : S → Option T → S → Type 0) (can : S → Type 0)
     (remaining : S → Count) where
   -- `IsFinished` describes a call that inserted items of the iterator `s` into the open block `v`
-  -- and returned `result`. After the call, `v` is the block of the list `w` with the allocator `a`.
-  -- The clauses of `Splice::finish` follow from these facts.
+  -- and returned `result`. After the call, the list is `w`, and its allocator is `a`. The clauses
+  -- of `Splice::finish` follow from the clauses below.
   pub record IsFinished (rule : Rule) (R : RattleType) (v : Open T A) (a : A) (s : S)
       (w : Thin T A) (result : Result (Unit {0}) (SpliceRefused T S A)) : Type 0 where
     pub succeeds : size (remaining s) ≤ v.gap → IsOk result

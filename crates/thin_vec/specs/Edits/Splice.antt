@@ -124,8 +124,8 @@ module _ {I T A G H : Type 0} {g : Ghosts G} {h : HoldsGhosts H (Open T A)} wher
       (most ≤ splice_range s)
       ⊎ (((splice_block s).tail ≡ []) × HasRoomFor (splice_left s) most)
 
-  -- `SpliceKeeps old new` states that `old` and `new` borrow the same list and own the same
-  -- iterator. They differ only in which items of the range have already been yielded.
+  -- `SpliceKeeps old new` states that `old` and `new` borrow the same list, own the same iterator,
+  -- and differ only in which items of the range have already been yielded.
   pub record SpliceKeeps (old new : Splice I T A G H g h) : Type 0 where
     pub lender : splice_lender new ≡ splice_lender old
     pub iter : splice_iter new ≡ splice_iter old

@@ -45,8 +45,8 @@ module _ {T A : Type 0} where
   abbrev pub Costs : ℕ → Thin T A → Thin T A → Type 0
   Costs n v w = w.cost ≡ moving n (cost_at v w.capacity)
 
-  -- Every call that needs room for `k` more items guarantees these clauses. They determine the
-  -- capacity after the call, and the error if the call fails.
+  -- Every call that needs room for `k` more items guarantees these clauses. They are about the
+  -- capacity after the call, and about the error if the call fails.
   pub record Reserves (rule : Rule) (R : RattleType) (k : ℕ) (v w : Thin T A)
       {X : Type 0} (r : Result X ThinVecError) : Type 0 where
     -- If `v` has room for `k` more items, the capacity does not change.

@@ -42,9 +42,9 @@ abbrev pub IsKeptOrRuled : Rule → RattleType → ℕ → ℕ → ℕ → Type 
 IsKeptOrRuled rule R c d n = (d ≡ c) ⊎ IsRuled rule R d n
 
 -- `IsExtended rule R v d n left` restricts the capacity `d` after the list `v` was extended to `n`
--- items. There are three cases: `d` is the old capacity, or the growth rule chooses `d` for some
--- block that must grow to hold at most `n` items, or `d` is `capacity_for rule R v h` for a
--- possible size hint `h` of the iterator.
+-- items. Either `d` is the old capacity or was chosen by the growth rule for at most `n` items
+-- (`IsKeptOrRuled`), or `d` is `capacity_for rule R v h` for a possible size hint `h` of the
+-- iterator.
 abbrev pub IsExtended : {T A : Type 0} → Rule → RattleType → Thin T A → ℕ → ℕ → Count → Type 0
 IsExtended rule R v d n left =
     IsKeptOrRuled rule R v.capacity d n
@@ -52,7 +52,7 @@ IsExtended rule R v d n left =
 
 -- `IsCollected rule R d n left` restricts the capacity `d` of a new list of `n` items. Either the
 -- growth rule chooses `d` for some block that must grow to hold at most `n` items, or `d` is
--- exactly a size hint that the iterator may have.
+-- exactly the capacity for a possible size hint of the iterator.
 abbrev pub IsCollected : Rule → RattleType → ℕ → ℕ → Count → Type 0
 IsCollected rule R d n left =
     IsRuled rule R d n ⊎ ((h : ℕ) × IsWithinCount h left × (exact_capacity R 0 h ≡ Some d))
@@ -66,8 +66,8 @@ module _ {T A : Type 0} where
     -- Either the capacity does not change, or it becomes at least a capacity that the growth rule
     -- chooses. So if it changes, it at least doubles.
     pub loose : IsLoose rule R v.capacity w.capacity
-    -- Either the capacity does not change, or the growth rule chooses it for at most the final
-    -- number of items, or the growth rule chooses it for a possible size hint of the iterator.
+    -- Either the capacity does not change, or the growth rule chooses it. The rule chooses it
+    -- either for at most the final number of items, or for a possible size hint of the iterator.
     pub ruled : IsExtended rule R v w.capacity (length w.items) left
 
   -- These clauses bound the cost of adding items to the list `v`, which became `w`. Each added item
@@ -94,8 +94,8 @@ module _ {T A : Type 0} where
       : Type 0 where
     -- If the iterator cannot yield any item, the list has the capacity 0.
     pub none : size left ≡ 0 → w.capacity ≡ 0
-    -- Either the growth rule chooses the capacity for at most the final number of items, or the
-    -- capacity is exactly a size hint that the iterator may have.
+    -- The capacity is chosen by the growth rule for at most the final number of items, or it is
+    -- exactly the capacity for a possible size hint of the iterator.
     pub ruled : IsCollected rule R w.capacity (length w.items) left
     -- Each item was moved exactly once.
     pub moves : w.cost.moves ≡ length w.items

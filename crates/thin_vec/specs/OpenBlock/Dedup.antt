@@ -87,10 +87,10 @@ module _ {S T : Type 0} (R : S → T → T → Bool → S → T → T → Type 0
     pub stops : ((length over ≡ 1) × (stays ≡ replicate more true ++ false ∷ []))
         ⊎ ((over ≡ []) × ((after ≡ []) × (stays ≡ replicate more true)))
 
-  -- `Dedups s v t w` states that the open block `v` became `w` when some of its middle items were
-  -- tested in order, each against the last item kept before it. The kept items were moved to the
-  -- end of the front, at the cost of one move each, and the other tested items were removed. The
-  -- test changed its state from `s` to `t`.
+  -- `Dedups s v t w` states that the open block `v` became `w` when some of its untested items (its
+  -- middle items) were tested in order, each against the last item kept before it. The kept items
+  -- were moved to the end of the front, at the cost of one move each, and the other tested items
+  -- were removed. The test changed its state from `s` to `t`.
   pub record Dedups {A : Type 0} (s : S) (v : Open T A) (t : S) (w : Open T A) : Type 0 where
     pub before : List T
     pub first : T
@@ -108,10 +108,10 @@ module _ {S T : Type 0} (R : S → T → T → Bool → S → T → T → Type 0
       cost = moving (trues stays) v.cost;
     }
 
-  -- `IsDeduped s v t w` states that all middle items of the open block `v` except the first were
-  -- tested, each against the last item kept before it. The kept items became the front of the open
-  -- block `w`, whose middle run is empty. Each item that was kept after the first removed item
-  -- counts as one move. The test changed its state from `s` to `t`.
+  -- `IsDeduped s v t w` states that all untested items (middle items) of the open block `v` except
+  -- the first were tested, each against the last item kept before it. The kept items became the
+  -- front of the open block `w`, whose middle run is empty. Each item that was kept after the first
+  -- removed item counts as one move. The test changed its state from `s` to `t`.
   pub record IsDeduped {A : Type 0} (s : S) (v : Open T A) (t : S) (w : Open T A) : Type 0 where
     pub stays : List Bool
     pub asked : AskedPairs R s v.rest stays w.front t

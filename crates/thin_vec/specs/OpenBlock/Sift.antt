@@ -46,10 +46,11 @@ module _ {S T : Type 0} (R : S → T → Bool → S → T → Type 0) where
     pub stops : Stops between after t end
     pub now : ys ≡ before ++ (left ++ end)
 
-  -- `Advances s v t w` states that the middle items of the open block `v` were tested in order,
-  -- until an item was to be removed or all were tested. In the open block `w`, the kept items are
-  -- front items, and an item to be removed is the first middle item. Each kept item counts as one
-  -- move if `v` has a gap. The test changed its state from `s` to `t`.
+  -- `Advances s v t w` states that the untested items (middle items) of the open block `v` were
+  -- tested in order, until an item was to be removed or no untested item was left. In the open
+  -- block `w`, the kept items are the last front items, and an item to be removed is the first
+  -- middle item. Each kept item counts as one move if `v` has a gap. The test changed its state
+  -- from `s` to `t`.
   pub record Advances {A : Type 0} (s : S) (v : Open T A) (t : S) (w : Open T A) : Type 0 where
     pub count : ℕ
     pub left : List T
@@ -60,9 +61,10 @@ module _ {S T : Type 0} (R : S → T → Bool → S → T → Type 0) where
       cost = if v.gap == 0 then v.cost else moving count v.cost;
     }
 
-  -- `Sifts s v t w` states that the open block `v` became `w` when some of its middle items were
-  -- tested in order. The kept items were moved to the end of the front, at the cost of one move
-  -- each, and the other tested items were removed. The test changed its state from `s` to `t`.
+  -- `Sifts s v t w` states that the open block `v` became `w` when some of its untested items (its
+  -- middle items) were tested in order. The kept items were moved to the end of the front, at the
+  -- cost of one move each, and the other tested items were removed. The test changed its state from
+  -- `s` to `t`.
   pub record Sifts {A : Type 0} (s : S) (v : Open T A) (t : S) (w : Open T A) : Type 0 where
     pub done : List T
     pub verdicts : Verdicts T
@@ -76,10 +78,10 @@ module _ {S T : Type 0} (R : S → T → Bool → S → T → Type 0) where
       cost = moving (trues (flags_of verdicts)) v.cost;
     }
 
-  -- `IsSifted s v t w` states that all middle items of the open block `v` were tested in order. The
-  -- kept items became the last front items of the open block `w`, whose middle run is empty. Each
-  -- item that was kept after the first removed item counts as one move. The test changed its state
-  -- from `s` to `t`.
+  -- `IsSifted s v t w` states that all untested items (middle items) of the open block `v` were
+  -- tested in order. The kept items became the last front items of the open block `w`, whose middle
+  -- run is empty. Each item that was kept after the first removed item counts as one move. The test
+  -- changed its state from `s` to `t`.
   pub record IsSifted {A : Type 0} (s : S) (v : Open T A) (t : S) (w : Open T A) : Type 0 where
     pub verdicts : Verdicts T
     pub asked : Asked R s v.rest verdicts t

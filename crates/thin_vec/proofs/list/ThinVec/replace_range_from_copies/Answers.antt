@@ -1,7 +1,6 @@
--- `replace_range_from_copies` calls `reserve` with the number of new items minus the length of the
--- range (or 0). Both contracts depend only on the size and the alignment of an item. So they name
--- the same capacity and the same error, although only one of them requires the item type to be
--- `Copy`.
+-- `replace_range_from_copies` calls `reserve`. Both contracts depend only on the size and the
+-- alignment of an item. So they name the same capacity and the same error, although only
+-- `replace_range_from_copies` requires the item type to be `Copy`.
 use Rattle.std.proofs.Common.{◌≡◌, ◌+◌, ◌-◌, ◌∙◌, Ok, ap, arith, length, refl}
 use denote.Param.{copied}
 use Rattle.thin_block.proofs.CapacityLemmas.{ruled-at}
