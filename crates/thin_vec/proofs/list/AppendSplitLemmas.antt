@@ -51,7 +51,7 @@ module _ {T : Type 0} where
     within = omega (arith, count, length-full (drop i ys), length-drop i ys)
 
     -- The row of slots `front ys c` begins with the items `ys`. Its `k` slots from index `i` onward
-    -- hold the items of `ys` from index `i` onward, where `k` is `length ys - i`.
+    -- hold the items `drop i ys`, where `k` is `length ys - i`.
     pub front-run : run i k (front ys c) ≡ full (drop i ys)
     front-run = ap (λ (s : List (Option T)). run i k s) parted ∙ run-at i k (full (take i ys))
         (full (drop i ys)) (empty (c - length ys)) before within

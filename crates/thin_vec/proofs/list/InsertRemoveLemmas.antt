@@ -18,7 +18,7 @@ use Rattle.thin_block.proofs.SlotsLemmas.{same_or_not, the_item, moved_left, mov
 use lib.Seq.{set-set, take-set-le}
 use mathlib.Core.Logic.{⊎_elim}
 
--- Section: moving consecutive items by one slot
+-- Section: moves of adjacent items by one slot
 
 module _ {T : Type 0} where
   -- Suppose that the first slots of a row hold the items `xs`, and that all other slots are empty.

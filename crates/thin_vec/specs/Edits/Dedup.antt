@@ -9,10 +9,10 @@ use Rattle.thin_vec.specs.Edits.Retain.{moved_down}
 -- item `k`, and `b` is true if `x` is to be removed. The call changes the state of the test from
 -- `s` to `t`, the item from `x` to `y`, and the kept item from `k` to `l`.
 module _ {S T : Type 0} (R : S → T → T → Bool → S → T → T → Type 0) where
-  -- `AskedLast s k xs stays ys t` states that each item of `xs` was tested once, in order, against
-  -- the last item kept before it. The first of these tests was against the item `k`. The flags
-  -- `stays` say which items of `xs` were kept, and `ys` is `k`, followed by the kept items, as the
-  -- test left them. The test changed its state from `s` to `t`.
+  -- `AskedLast s k xs stays ys t` states that the items of `xs` were tested in order, each against
+  -- the last item kept before it (at first against the item `k`). The tests changed the state from
+  -- `s` to `t`. The flags `stays` say which items of `xs` were kept, and `ys` is `k`, followed by
+  -- the kept items, as the tests left them.
   abbrev pub AskedLast : S → T → List T → List Bool → List T → S → Type 0
   AskedLast s k [] stays ys t = (stays ≡ []) × (ys ≡ k ∷ []) × (t ≡ s)
   AskedLast s k (x ∷ xs) stays ys t =
@@ -21,10 +21,10 @@ module _ {S T : Type 0} (R : S → T → T → Bool → S → T → T → Type 0
       × MatchBool b (AskedLast u k' xs rest ys t)
       ((zs : List T) × AskedLast u x' xs rest zs t × (ys ≡ k' ∷ zs))
 
-  -- `AskedPairs s xs stays ys t` states that each item of `xs` except the first, which is always
-  -- kept, was tested once, in order, against the last item kept before it. The flags `stays` say
-  -- which of the tested items were kept, and `ys` contains all kept items, as the test left them.
-  -- The test changed its state from `s` to `t`.
+  -- `AskedPairs s xs stays ys t` states that all items of `xs` except the first were tested in
+  -- order, each against the last item kept before it. The tests changed the state from `s` to `t`.
+  -- The flags `stays` say which of the tested items were kept, and `ys` contains the first item and
+  -- the kept items, as the tests left them.
   abbrev pub AskedPairs : S → List T → List Bool → List T → S → Type 0
   AskedPairs s [] stays ys t = (stays ≡ []) × (ys ≡ []) × (t ≡ s)
   AskedPairs s (x ∷ xs) stays ys t = AskedLast s x xs stays ys t
