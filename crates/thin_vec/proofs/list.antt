@@ -1,5 +1,5 @@
--- The modules of lemmas for the code in `src/list/`. Rattle adds the module `list` by itself, so
--- `Lib.antt` does not list it.
+-- These modules contain the lemmas for the code in `src/list/`. Rattle adds the module `list`
+-- automatically, so `Lib.antt` does not name it.
 pub mod AppendSplitLemmas
 pub mod CapacityLemmas
 pub mod ClonesLemmas

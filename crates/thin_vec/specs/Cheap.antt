@@ -4,17 +4,17 @@ use Rattle.std.specs.Prelude.{◌≡◌, ℕ, ◌*◌, ◌^◌, ◌<◌, ◌≤�
 use Rattle.thin_block.specs.Cost.{Cost}
 use Rattle.thin_vec.specs.ThinVec.{Thin}
 
--- This record bounds the cost of growing a list to the capacity `cap`. If `cap` is 0, the cost
--- counts no request for memory and no copied item. Otherwise the cost counts fewer than `cap`
--- copied items, and the number of counted requests for memory is at most the number of binary
--- digits of `cap`.
+-- `IsCheapAt cap cost` states a bound on the cost of growing a list to the capacity `cap`. If `cap`
+-- is 0, there was no request for memory, and no item was copied. Otherwise fewer than `cap` items
+-- were copied, and the number of requests for memory is at most the number of binary digits of
+-- `cap`.
 pub record IsCheapAt (cap : ℕ) (cost : Cost) : Type 0 where
   pub none : cap ≡ 0 → (cost.blocks ≡ 0) × (cost.grown ≡ 0)
   pub grown : 0 < cap → cost.grown < cap
   pub blocks : 0 < cap → 2 ^ cost.blocks ≤ 2 * cap
 
--- `IsCheap v` says that the cost of growing the list `v` is within the bound `IsCheapAt`. A new
--- list is within the bound. Every call except `reserve_exact`, `shrink_to` and `shrink_to_fit`
--- promises to preserve the bound.
+-- `IsCheap v` states that the cost of growing the list `v` is within the bound `IsCheapAt`. A new
+-- list is within this bound, and every call except `reserve_exact`, `shrink_to` and `shrink_to_fit`
+-- preserves the bound.
 abbrev pub IsCheap : {T A : Type 0} → Thin T A → Type 0
 IsCheap v = IsCheapAt v.capacity v.cost

@@ -11,39 +11,39 @@ use Rattle.thin_vec.specs.contracts.convert.into_iter.IntoIter.{the_row as itera
 use Rattle.thin_vec.specs.contracts.list.ThinVec.{the_row}
 
 module _ {T A : Type 0} where
-  -- `with_items v ws` is the list `v` after its first items were replaced by the items `ws`. The
+  -- `with_items v ws` is the list `v` after its first items were replaced with the items `ws`. The
   -- length does not change, so items of `ws` beyond the length of `v` are ignored.
   abbrev pub with_items : Thin T A → List T → Thin T A
   with_items v ws = record v { items = refill (length v.items) v.items ws }
 
-  -- `with_item v i w` is the list `v` after the item at index `i` was replaced by `w`.
+  -- `with_item v i w` is the list `v` after the item at index `i` was replaced with `w`.
   abbrev pub with_item : Thin T A → ℕ → T → Thin T A
   with_item v i w = record v { items = slice_set v.items i w }
 
 module _ (T A G : RattleType) (a : AllocatorGhosts A.Denot) (g : GrowthGhosts G.Denot)
     (v : MutBor (Thin T.Denot A.Denot)) where
-  -- The reference `r` borrows all items of the list `v`. When the borrow ends, the list contains
-  -- the items that were written through `r`.
+  -- `LendsItems r` states that the reference `r` borrows all items of the list `v`. When the borrow
+  -- ends, the list contains the items that were written through `r`.
   abbrev pub LendsItems : MutBor (List T.Denot) → Fml
   LendsItems r = Lends (the_row T A G a g) (Array T 0) v r (with_items v.now)
 
-  -- The reference `r` borrows the item at index `i` of the list `v`. When the borrow ends, the item
-  -- at this index is the value that was written through `r`.
+  -- `LendsItem i r` states that the reference `r` borrows the item at index `i` of the list `v`.
+  -- When the borrow ends, the item at this index is the value that was written through `r`.
   abbrev pub LendsItem : ℕ → MutBor T.Denot → Fml
   LendsItem i r = Lends (the_row T A G a g) T v r (with_item v.now i)
 
-  -- If `r` is `Some`, the reference in `r` borrows the item at index `i` of the list `v`, as in
-  -- `LendsItem`. If `r` is `None`, the list does not change.
+  -- `LendsGet i r` states that, if `r` is `Some`, the reference in `r` borrows the item at index
+  -- `i` of the list `v`, as in `LendsItem`. If `r` is `None`, the list does not change.
   abbrev pub LendsGet : ℕ → Option (MutBor T.Denot) → Fml
   LendsGet i r = LendsIf (the_row T A G a g) T v r (with_item v.now i) v.now
 
-  -- The iterator `it` borrows all items of the list `v`. When the borrow ends, the list contains
-  -- the items that were written through the references that `it` yielded.
+  -- `LendsIter it` states that the iterator `it` borrows all items of the list `v`. When the borrow
+  -- ends, the list contains the items that were written through the references that `it` yielded.
   abbrev pub LendsIter : IterMut T.Denot → Fml
   LendsIter it = follows (the_row T A G a g) (Array T 0) v.ghost_name
       (iter_mut_name it) (with_items v.now)
 
-  -- `v` is an iterator that was made from a list, and `r` borrows the items that `v` has not
+  -- `LendsRest r` states that the reference `r` borrows the items that the iterator `v` has not
   -- yielded yet. When the borrow ends, these items of `v` are the items that were written through
   -- `r`.
   abbrev pub LendsRest : MutBor (List T.Denot) → Fml

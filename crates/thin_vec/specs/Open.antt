@@ -6,26 +6,27 @@ use Rattle.std.specs.Coded.{Coded, code_by, coded×, coded_ℕ, coded_list, code
 use Rattle.thin_block.specs.Cost.{Cost, cost_code, moving}
 use Rattle.thin_block.specs.Slots.{empty, full}
 
--- An open block, which is the block of a list during an edit, as contracts see it.
+-- An open block (the block of a list during an edit) as it appears in contracts.
 pub record Open (T A : Type 0) : Type 0 where
-  -- The items of the front: the items before the range of the edit, and the items that were kept or
+  -- The front items: the items before the edited range, and the items that have been kept or
   -- inserted so far.
   pub front : List T
   -- The number of empty slots between the front and the middle run, which are the first and the
   -- second part of the block.
   pub gap : ℕ
-  -- The items of the middle run: the items of the range that have not been yielded or tested yet.
+  -- The middle items: the items of the edited range that have not been yielded or tested yet.
   pub rest : List T
   -- The number of empty slots between the middle run and the tail, which are the second and the
   -- third part of the block.
   pub gap_after : ℕ
-  -- The items of the tail: the items after the range of the edit.
+  -- The tail items: the items after the edited range.
   pub tail : List T
   -- The number of slots of the block.
   pub capacity : ℕ
   -- The allocator of the block, or `None` if the block has no memory.
   pub alloc : Option A
-  -- The cost of the block so far: its requests for memory, and its copied and moved items.
+  -- The cost of the block so far: the numbers of requests for memory, of copied items and of moved
+  -- items.
   pub cost : Cost
 
 -- A value of type `Open` is encoded as the tuple of its eight fields.
@@ -78,13 +79,13 @@ module _ {T A : Type 0} where
   abbrev pub items_of : Open T A → List T
   items_of v = v.front ++ (v.rest ++ v.tail)
 
-  -- The cost of an open block after the gap between its front and its middle run was closed. If the
-  -- gap has at least one slot, each item of the middle run and of the tail is moved once.
+  -- The cost of an open block after the gap between its front and its middle run has been closed.
+  -- If the gap has at least one slot, each item of the middle run and of the tail is moved once.
   abbrev pub cost_closed : Open T A → Cost
   cost_closed v = if v.gap == 0 then v.cost else moving (length v.rest + length v.tail) v.cost
 
-  -- The cost of an open block after the items of its middle run were removed and its tail was moved
-  -- down to the front. If there is at least one slot between the front and the tail, each item of
-  -- the tail is moved once.
+  -- The cost of an open block after its middle items have been removed and its tail items have been
+  -- moved down to the front. If there is at least one slot between the front and the tail, each
+  -- tail item is moved once.
   abbrev pub cost_drained : Open T A → Cost
   cost_drained v = if range_len v == 0 then v.cost else moving (length v.tail) v.cost

@@ -1,5 +1,5 @@
--- The layout of the slots of an open block, which is the block of a list during an edit. Contracts
--- see an open block as a value of type `Open`.
+-- The layout of the slots of an open block, which is the block of a list during an edit. In
+-- contracts, an open block is a value of type `Open`.
 pub mod Dedup
 pub mod Sift
 use Rattle.std.specs.Prelude.{◌≡◌, ◌+◌, ◌-◌, ◌≤◌, drop, length, slice_range, take}
@@ -8,7 +8,7 @@ use Rattle.thin_vec.specs.Open.{Open, row_of}
 use Rattle.thin_vec.specs.declared.open_block.OpenBlock.TheInside.{Inside}
 
 module _ {T A : Type 0} where
-  -- `open_of h` is the open block `h` as contracts see it.
+  -- `open_of h` is the open block `h` as it appears in contracts.
   abbrev pub open_of : Inside T A → Open T A
   open_of h =
       record {
@@ -22,9 +22,9 @@ module _ {T A : Type 0} where
         cost = h.block.cost;
       }
 
-  -- The open block `h` has the layout that `v` describes. The slots of `h` hold the parts of `v` in
-  -- order, and the indices in `h` say where each part begins and ends. The last part ends within
-  -- the slots.
+  -- `Shows h v` states that the open block `h` has the layout that `v` describes: the slots of `h`
+  -- hold the parts of `v` in order, and the indices in `h` say where each part begins and ends. The
+  -- last part must end within the slots.
   pub record Shows (h : Inside T A) (v : Open T A) : Type 0 where
     pub row : h.block.slots ≡ row_of v
     pub front : length v.front ≡ h.front_end
@@ -34,7 +34,8 @@ module _ {T A : Type 0} where
     pub tail : h.tail_start + length v.tail ≡ h.len
     pub room : h.len ≤ v.capacity
 
-  -- The slots of the front, the middle run and the tail of an open block hold items, and all its
-  -- other slots are empty. This is the invariant of the type `OpenBlock`.
+  -- `IsOpen h` is the invariant of the type `OpenBlock`. It states that all slots in the front, the
+  -- middle run and the tail of the open block `h` hold items, and that all its other slots are
+  -- empty.
   abbrev pub IsOpen : Inside T A → Type 0
   IsOpen h = Shows h (open_of h)

@@ -4,14 +4,14 @@ use Rattle.std.specs.Iterator.{Count, IsFinite, Yields, YieldsThen, size}
 use Rattle.std.specs.declared.option.Option.TheVariants.{None}
 use Rattle.thin_vec.specs.declared.put.Filled.{Filled}
 
--- `Gives steps s xs ended t` says that calls of `next` on the iterator `s` yielded the items `xs`
+-- `Gives steps s xs ended t` states that calls of `next` on the iterator `s` yielded the items `xs`
 -- and changed the iterator to `t`. If `ended` is true, one more call of `next` returned `None`.
 abbrev pub Gives : {S X : Type 0} → (S → Option X → S → Type 0) → S → List X → Bool → S → Type 0
 Gives steps s xs true t = YieldsThen steps s xs None t
 Gives steps s xs false t = Yields steps s xs t
 
--- Items of the iterator `s` were put into `room` empty slots, until the slots were full or the
--- iterator ended. The result `f` contains the rest of the iterator.
+-- `IsFilledBy` states that items of the iterator `s` were put into `room` empty slots, until the
+-- slots were full or the iterator ended. The result `f` contains the rest of the iterator.
 pub record IsFilledBy {S X : Type 0} (steps : S → Option X → S → Type 0) (can : S → Type 0)
     (remaining : S → Count) (room : ℕ) (s : S) (f : Filled S) : Type 0 where
   -- The items that were put into the slots, in the order in which the iterator yielded them.

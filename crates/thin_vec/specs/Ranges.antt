@@ -1,12 +1,13 @@
--- A definition that says which items of a list a range selects. (std: `slice::range`)
+-- This file defines which items of a list a range selects. (std: `slice::range`)
 use Rattle.std.specs.Prelude.{ℕ, ◌&&◌, Option, if◌then◌else◌, nat_le}
 use Rattle.std.specs.Range.Bound.{end_index, start_index}
 use Rattle.std.specs.declared.option.Option.TheVariants.{None, Some}
 use Rattle.std.specs.declared.ops.Bound.{Bound}
 
--- The first index of the range from `start` to `end` in a list of `len` items, and the index after
--- the last item of the range. The result is `None` if the range starts after its end, or ends after
--- the end of the list. The indices are natural numbers of any size, so nothing overflows.
+-- `range_between start end len` contains the first index of a range in a list of `len` items, and
+-- the index directly after the last item of the range. It is `None` if the range starts after its
+-- end, or ends after the end of the list. The indices are natural numbers of any size, so nothing
+-- overflows.
 abbrev pub range_between : Bound ℕ → Bound ℕ → ℕ → Option (ℕ × ℕ)
 range_between start end len =
     if nat_le (start_index start) (end_index end len) && nat_le (end_index end len) len

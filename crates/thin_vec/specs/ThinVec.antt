@@ -1,5 +1,5 @@
--- Contracts see a `ThinVec` as a list of items, a capacity, an allocator and a cost. (std: `Vec`,
--- "Guarantees")
+-- In contracts, a `ThinVec` consists of a list of items, a capacity, an allocator and a cost. (std:
+-- `Vec`, "Guarantees")
 use Rattle.std.specs.Prelude.{◌≡◌, ℕ, ◌+◌, ◌^◌, ◌<◌, ◌≤◌, ◌==◌, List, [], Option, if◌then◌else◌, length, refl}
 use Rattle.std.specs.declared.option.Option.TheVariants.{None}
 use Rattle.thin_block.specs.declared.errors.ThinVecError.{ThinVecError}
@@ -13,8 +13,8 @@ use Rattle.thin_block.specs.Growth.{Rule, exact_capacity, ruled_capacity}
 use Rattle.thin_block.specs.Slots.{IsPacked, items_in}
 use Rattle.thin_block.specs.declared.block.Block.{Block}
 
--- A `ThinVec` as contracts see it: the items in order, the capacity, the allocator, and the cost so
--- far. The cost counts the requests for memory, and the copied and moved items.
+-- A `ThinVec` as it appears in contracts: the items in order, the capacity, the allocator, and the
+-- cost so far. The cost counts the requests for memory, the copied items and the moved items.
 pub record Thin (T A : Type 0) : Type 0 where
   pub items : List T
   pub capacity : ℕ
@@ -30,14 +30,13 @@ thin_code {T} {A} t a =
     (λ p. record { items = p.0; capacity = p.1.0; alloc = p.1.1.0; cost = p.1.1.1 }) (λ _. refl)
 
 module _ {T A : Type 0} where
-  -- The block `b` is the block of a list with the allocator `a`. The items are in the first slots,
-  -- the stored length is the number of items, and the memory came from `a`.
+  -- `IsThin b a` states that `b` is the block of a list with the allocator `a`: the items are in
+  -- the first slots, the stored length is the number of items, and the memory came from `a`.
   pub record IsThin (b : Block T A) (a : A) : Type 0 where
     pub packed : IsPacked b.slots b.len
     pub from : IsFrom b.alloc a
 
-  -- `thin_of b a` is the list that contracts see if the list has the block `b` and the allocator
-  -- `a`.
+  -- `thin_of b a` is the list with the block `b` and the allocator `a`, as it appears in contracts.
   abbrev pub thin_of : Block T A → A → Thin T A
   thin_of b a = record {
     items = items_in b.slots;
@@ -46,7 +45,8 @@ module _ {T A : Type 0} where
     cost = b.cost;
   }
 
-  -- `v` is a new list with the allocator `a`. It has no items, the capacity 0, and the cost 0.
+  -- `IsNew v a` states that `v` is a new list with the allocator `a`: it has no items, and its
+  -- capacity and its cost are 0.
   pub record IsNew (v : Thin T A) (a : A) : Type 0 where
     pub items : v.items ≡ []
     pub capacity : v.capacity ≡ 0
@@ -61,11 +61,11 @@ module _ {T A : Type 0} where
     pub small : v.capacity < 2 ^ 63
     pub fits : Fits R v.capacity
 
-  -- `HasRoomFor v k` says that the list `v` has room for `k` more items without growing.
+  -- `HasRoomFor v k` states that the list `v` has room for `k` more items without growing.
   abbrev pub HasRoomFor : Thin T A → ℕ → Type 0
   HasRoomFor v k = length v.items + k ≤ v.capacity
 
-  -- `capacity_for rule R v k` is the capacity that the list `v` gets by the growth rule if it needs
+  -- `capacity_for rule R v k` is the capacity that the growth rule determines if the list `v` needs
   -- room for `k` more items of the type `R`. It is `None` if this capacity is too large.
   abbrev pub capacity_for : Rule → RattleType → Thin T A → ℕ → Option ℕ
   capacity_for rule R v k = ruled_capacity rule R v.capacity (length v.items + k)
@@ -81,9 +81,9 @@ module _ {T A : Type 0} where
   cost_at v c = if c == v.capacity then v.cost else growing (length v.items) v.cost
 
   -- `cost_shrunk_to v c` is the cost of the list `v` after its capacity shrank to `c`. If the
-  -- capacity does not change, the cost does not change. If it changes to 0, the block is freed, and
-  -- the cost becomes 0. If it changes to another number, the cost includes one more reallocation,
-  -- which copied all items.
+  -- capacity does not change, the cost does not change. Otherwise, if `c` is 0, the block is freed,
+  -- and the cost becomes 0. In all other cases, the cost includes one more reallocation, which
+  -- copied all items.
   abbrev pub cost_shrunk_to : Thin T A → ℕ → Cost
   cost_shrunk_to v c = if c == v.capacity then v.cost else
       (if c == 0 then no_cost else growing (length v.items) v.cost)
@@ -92,7 +92,7 @@ module _ {T A : Type 0} where
   abbrev pub cost_shrunk : Thin T A → Cost
   cost_shrunk v = cost_shrunk_to v (length v.items)
 
--- `IsCause named cause` says that the error `cause` is `CapacityOverflow` only if `named` is
+-- `IsCause named cause` states that the error `cause` is `CapacityOverflow` only if `named` is
 -- `None`. `named` is the capacity that a call needs, or `None` if this capacity is too large.
 abbrev pub IsCause : Option ℕ → ThinVecError → Type 0
 IsCause named cause = cause ≡ CapacityOverflow → named ≡ None

@@ -50,8 +50,8 @@ module _ {T : Type 0} where
     within : k ≡ length (full (drop i ys))
     within = omega (arith, count, length-full (drop i ys), length-drop i ys)
 
-    -- In the row of slots `front ys c`, which begins with the items `ys`, the `k` slots from index
-    -- `i` onward hold the last `k` items of `ys`. Here `k` is `length ys - i`.
+    -- The row of slots `front ys c` begins with the items `ys`. Its `k` slots from index `i` onward
+    -- hold the items `drop i ys`, where `k` is `length ys - i`.
     pub front-run : run i k (front ys c) ≡ full (drop i ys)
     front-run = ap (λ (s : List (Option T)). run i k s) parted ∙ run-at i k (full (take i ys))
         (full (drop i ys)) (empty (c - length ys)) before within
@@ -71,9 +71,9 @@ module _ {T : Type 0} where
         (replicate-append-replicate k (c - length ys) None ∙ ap (λ (m : ℕ). empty m) bare))
 
 module _ {T A : Type 0} where
-  -- Let the items `xs` be written directly after the last item of a list, and let the stored length
-  -- grow by the length of `xs`. Then the new block `b'` is the block of the list with `xs`
-  -- appended.
+  -- Suppose that the items `xs` are written directly after the last item of a list, and that the
+  -- stored length grows by the length of `xs`. Then the new block `b'` is the block of the list
+  -- with `xs` appended.
   pub settle-more : {b : Block T A} {a : A} → IsThin b a → (b' : Block T A) (xs : List T) (n : ℕ)
       → n ≡ b.len → n + length xs ≤ length b.slots → {l : ℕ} {k : Cost} → l ≡ n + length xs
       → IsWritten b b' (laid n (full xs) b.slots) l k
@@ -87,9 +87,9 @@ module _ {T A : Type 0} where
       (omega (arith, new, end, length-append ys xs)) (omega (arith, room, end, length-append ys xs))
 
   module _ {b o : Block T A} {a p : A} (t : IsThin b a) (u : IsThin o p) where
-    -- If the items of a second list from index `i` onward are written after the last item of a
-    -- first list, and the stored length is updated, then the new block `b'` is the block of the
-    -- first list with these items appended.
+    -- Suppose that the items of a second list from index `i` onward are written directly after the
+    -- last item of a first list, and that the stored length is updated. Then the new block `b'` is
+    -- the block of the first list with these items appended.
     pub settle-joined : (b' : Block T A) (i : ℕ) {k n : ℕ} → i ≤ length (items_in o.slots)
         → k ≡ o.len - i → n ≡ b.len → n + k ≤ length b.slots
         → {m : Cost} → IsWritten b b' (laid n (run i k o.slots) b.slots) (n + k) m

@@ -1,5 +1,5 @@
 -- These lemmas say which capacities a growth rule may choose, and what the block of a list contains
--- after the capacity of the list changed.
+-- after a change of the capacity.
 use Rattle.std.proofs.Common.{◌≡◌, ℕ, ◌^◌, ◌<◌, ◌≤◌, Err, Ok, Result, Some, None, arith, refl, subst, sym, ◌-◌, List, [], ◌++◌, length, take, Option, ap, ◌∙◌}
 use Rattle.std.specs.Align.{type_align}
 use Rattle.std.specs.Borrow.{RattleType}
@@ -33,14 +33,14 @@ module _ (rule : Rule) (law : KeepsLaw rule) (R : RattleType) where
       }
 
 module _ {T : Type 0} where
-  -- The slots of an empty list of capacity `c` are `c` empty slots.
+  -- `empty c` is `front [] c`: the slots of an empty list of capacity `c` are `c` empty slots.
   pub front-none : (c : ℕ) → empty {T = T} c ≡ front [] c
   front-none c = let same : c ≡ c - 0 = omega arith in ap (λ (m : ℕ). empty m) same
 
 module _ {T A : Type 0} {b : Block T A} {a : A} (t : IsThin b a) where
-  -- Let the block of a list become a block `b'` of `c` slots. If the first slots of `b'` hold the
-  -- items of the list in order, and all other slots are empty, then `b'` is the block of a list
-  -- with the same items and the capacity `c`.
+  -- Suppose that the block of a list becomes a block `b'` of `c` slots, whose first slots hold the
+  -- same items in order, and whose other slots are empty. Then `b'` is the block of a list with the
+  -- same items and the capacity `c`.
   settle-remade : (b' : Block T A) (c : ℕ) {s : List (Option T)} {k : Cost}
       → seen b' ≡ record (seen b) { slots = s; alloc = Some a; cost = k }
       → s ≡ front (items_in b.slots) c → length (items_in b.slots) ≤ c
@@ -73,8 +73,9 @@ module _ {T A : Type 0} {b : Block T A} {a : A} (t : IsThin b a) where
     omega (arith, ap (λ (q : Block T A). length q.slots) same),
   )
 
-  -- Let the first `k` slots of a block hold all items of a list. If the block shrinks to these
-  -- slots, the new block `b'` is the block of a list with the same items and the capacity `k`.
+  -- Suppose that the first `k` slots of a block hold all items of its list. If the block shrinks to
+  -- these slots, then the new block `b'` is the block of a list with the same items and the
+  -- capacity `k`.
   pub settle-shrink : (b' : Block T A) (k : ℕ) {m : Cost} → length (items_in b.slots) ≤ k
       → k ≤ length b.slots
       → seen b' ≡ record (seen b) { slots = take k b.slots; alloc = Some a; cost = m }

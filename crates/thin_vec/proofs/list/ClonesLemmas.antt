@@ -23,8 +23,8 @@ module _ {T : Type 0} {clones : T → T → Type 0} {sources : List T} {n i : �
   length-copies few = sym (length_all_zip clones (take n sources) lays.copies lays.cloned)
       ∙ length-take-le n sources few
 
-  -- Let consecutive slots hold clones of the first `n` items of `sources`. If a clone `y` of the
-  -- next item is written into the next slot, then consecutive slots hold clones of the first
+  -- Suppose that consecutive slots hold clones of the first `n` items of `sources`. If a clone `y`
+  -- of the next item is written into the next slot, then consecutive slots hold clones of the first
   -- `n + 1` items.
   pub lays-more : (y : T) {x : T} {s'' : List (Option T)} → n < length sources
       → i + length sources ≤ length s → x ≡ get_or sources n x → clones x y
@@ -59,8 +59,8 @@ all-repeated {T} clones x n m ys cloned = All-from_recursion (clones x) ys (each
     each (suc n) (suc m) (y ∷ ys) e = (e.0, each n m ys e.1)
 
 module _ {T : Type 0} (clones : T → T → Type 0) where
-  -- Let every clone of `x` equal `x`. If `zs` is the list `xs`, followed by `n` clones of `x` and
-  -- then by `x` itself, then `zs` is `xs ++ replicate (n + 1) x`.
+  -- Suppose that every clone of `x` equals `x`. If `zs` consists of the list `xs`, `n` clones of
+  -- `x`, and finally `x` itself, then `zs` is `xs ++ replicate (n + 1) x`.
   pub equal-repeated : (n m : ℕ) {x : T} {xs ys zs : List T} → CloneEquals clones x
       → AppendsRepeats clones x n xs ys → zs ≡ ys ++ x ∷ [] → m ≡ n + 1 → zs ≡ xs ++ replicate m x
   equal-repeated n m {x} {xs} equal repeats last one =
@@ -79,7 +79,7 @@ module _ {T : Type 0} (clones : T → T → Type 0) where
       each [] e = refl
       each (y ∷ ys) e = λ i. equal y e.0 i ∷ each ys e.1 i
 
--- A new list `v` has no items and the capacity 0. So the capacity that `v` gets by the growth rule
+-- A new list `v` has no items and a capacity of 0. So the capacity that the growth rule determines
 -- for a length of `k` is `ruled_capacity rule R 0 k`.
 pub capacity-new : {T A : Type 0} (rule : Rule) (R : RattleType) (v : Thin T A) (a : A) (k : ℕ)
     → IsNew v a → capacity_for rule R v (k - length v.items) ≡ ruled_capacity rule R 0 k

@@ -29,15 +29,15 @@ use Rattle.thin_vec.proofs.ListLemmas.{length-full}
 use Rattle.thin_vec.proofs.ThinVecLemmas.{cap-kept, cost_at-more, cost_at-moves, cost_at-same}
 
 module _ {S X : Type 0} (steps : S → Option X → S → Type 0) where
-  -- If calls of `next` yielded the items `xs`, and one more call yielded `x`, then all these calls
-  -- together yielded `xs ++ x ∷ []`.
+  -- If calls of `next` yielded the items `xs`, and one more call yielded `x`, then the whole
+  -- sequence of calls yielded `xs ++ x ∷ []`.
   pub yields-more : (s t u : S) (xs : List X) (x : X) → Yields steps s xs t → steps t (Some x) u
       → Yields steps s (xs ++ x ∷ []) u
   yields-more s t u [] x e now = (u, subst (λ r. steps r (Some x) u) (sym e) now, λ _. u)
   yields-more s t u (y ∷ ys) x e now = (e.0, e.1, yields-more e.0 t u ys x e.2 now)
 
-  -- If calls of `next` yielded the items `xs`, and later calls yielded the items `ys`, then all
-  -- these calls together yielded `xs ++ ys`.
+  -- If calls of `next` yielded the items `xs`, and the following calls yielded the items `ys`, then
+  -- the whole sequence of calls yielded `xs ++ ys`.
   pub yields-join : (s t u : S) (xs ys : List X) → Yields steps s xs t → Yields steps t ys u
       → Yields steps s (xs ++ ys) u
   yields-join s t u [] ys e more = subst (λ r. Yields steps r ys u) (sym e) more
@@ -50,15 +50,16 @@ module _ {S X : Type 0} (steps : S → Option X → S → Type 0) where
   yields-first s u (x ∷ xs) ys e =
       let rest = yields-first e.0 u xs ys e.2 in (rest.0, (e.0, e.1, rest.1))
 
-  -- If calls of `next` yielded the items `xs` and then `None`, these calls are a complete run of
-  -- the iterator (`WholeRun`). If `P` holds for `xs`, the items of this run satisfy `P`.
+  -- Suppose that calls of `next` yielded the items `xs` and then returned `None`, and that `xs`
+  -- satisfies the predicate `P`. Then these calls form a complete run of the iterator (`WholeRun`),
+  -- and the items of this run satisfy `P`.
   pub run_of : (s : S) (P : List X → Type 0) → (xs : List X) × Drains steps s xs × P xs
       → WholeRun steps s (λ p. P p.items)
   run_of s P all = (run steps s all.0 true (to_end steps s all.0 all.1), refl, refl, all.2)
 
-  -- Let the result `r` be `Ok`. If calls of `next` yielded items that satisfy `P`, and then `None`,
-  -- these calls are a complete run of the iterator (`WholeRun`), and the items of this run satisfy
-  -- `P`.
+  -- Suppose that the result `r` is `Ok`, and that calls of `next` yielded items that satisfy `P`
+  -- and then returned `None`. Then these calls form a complete run of the iterator (`WholeRun`),
+  -- and the items of this run satisfy `P`.
   pub run_of_ok : {E : Type 0} (s : S) (P : List X → Type 0) (r : Result (Unit {0}) E)
       → OnOk r ((xs : List X) × Drains steps s xs × P xs)
       → OnOk r (WholeRun steps s (λ p. P p.items))
@@ -66,17 +67,18 @@ module _ {S X : Type 0} (steps : S → Option X → S → Type 0) where
   run_of_ok s P (Err _) all = tt
 
 module _ {S X : Type 0} (steps : S → Option X → S → Type 0) (s : S) where
-  -- Let calls of `next` yield the items `xs`, and then the item in the option `o`, if `o` is
-  -- `Some`. Then these calls are a run of the iterator that need not be complete (`SomeRun`).
+  -- Suppose that calls of `next` yielded the items `xs`, and then the item in the option `o` if `o`
+  -- is `Some`. If the list of all these items satisfies `P`, then the calls form a run (`SomeRun`)
+  -- whose items satisfy `P`. This run may be incomplete.
   pub run_given : (xs : List X) (o : Option X) (t : S) (P : List X → Type 0)
       → Yields steps s (xs ++ option_to_list o) t → P (xs ++ option_to_list o)
       → SomeRun steps s (λ p. P p.items)
   run_given xs o t P gave h =
       (run steps s (xs ++ option_to_list o) false (t, gave, λ e. absurd (false≢true e)), refl, h)
 
-  -- Let the result `r` be an error. If calls of `next` yielded the items `xs`, and then the item
-  -- that the error returns, if there is one, these calls are a run of the iterator that need not be
-  -- complete (`SomeRun`).
+  -- Suppose that the result `r` is an error, and that calls of `next` yielded the items `xs` and
+  -- then the item that the error returns (if there is one). Then these calls form a run of the
+  -- iterator (`SomeRun`), which may be incomplete.
   pub run_given_err : {E : Type 0} (can : S → Type 0) (remaining : S → Count)
       (hand : E → Option X) (rest : E → S) (P : List X → Type 0) (r : Result (Unit {0}) E)
       → IfErr r (λ e. (xs : List X) × P xs
@@ -100,8 +102,9 @@ match-some P Q None some p = absurd (false≢true some)
 pub hand-empty : {X : Type 0} {o : Option X} → IsSome o → o ≡ None → ⊥
 hand-empty some none = false≢true (subst IsSome none some)
 
--- Let the result `r` be an error whose field `in_hand` is `Some`. If the statement `P` holds, then
--- `MatchOption error.in_hand (Q error) (λ _. P)` holds, where `Q error` is the case for `None`.
+-- Suppose that the result `r` is an error whose field `in_hand` is `Some`. If the statement `P`
+-- holds, then `MatchOption error.in_hand (Q error) (λ _. P)` holds, where `Q error` is the case for
+-- `None`.
 pub full-in-hand : {T S : Type 0} (P : Type 0) (Q : ExtendRefused T S → Type 0)
     (r : Result (Unit {0}) (ExtendRefused T S)) → IfErr r (λ error. IsSome error.in_hand)
     → OnErr r P → IfErr r (λ error. MatchOption error.in_hand (Q error) (λ _. P))
@@ -111,8 +114,8 @@ full-in-hand P Q (Err error) some at_capacity =
 
 module _ {T : Type 0} where
   module _ (s s' r : List (Option T)) where
-    -- Let the items `xs` be written into the slots from index `i` onward. If `x` is then written
-    -- into the next slot, the result is the same as writing `xs ++ x ∷ []` from index `i` onward.
+    -- Writing the items `xs` into the slots from index `i` onward, and then `x` into the next slot,
+    -- is the same as writing `xs ++ x ∷ []` into the slots from index `i` onward.
     pub laid-more : (i k : ℕ) (xs : List T) (x : T) → s ≡ laid i (full xs) r → k ≡ i + length xs
         → k < length r → s' ≡ set s k (Some x) → s' ≡ laid i (full (xs ++ x ∷ [])) r
     laid-more i k xs x e at within e' =
@@ -128,9 +131,9 @@ module _ {T A : Type 0} where
   put-none v n none = λ i. record v
       { cost = (sym (moving-none v.cost) ∙ ap (λ (k : ℕ). moving k v.cost) (sym none)) i }
 
-  -- Let the block `v` be the block `u` with other slots and with `n` more moves in the cost. If one
-  -- more item is put into `v`, the resulting block `w` is `u` with other slots and with `n + 1`
-  -- more moves in the cost.
+  -- Suppose that the block `v` differs from the block `u` only in its slots and in `n` additional
+  -- moves in its cost. If one more item is put into `v`, then the resulting block `w` differs from
+  -- `u` only in its slots and in `n + 1` additional moves.
   pub put-more : (u : Seen T A) {v w : Seen T A} {s : List (Option T)} (n k : ℕ) → k ≡ n + 1
       → w ≡ record v { slots = s; cost = moving 1 v.cost }
       → v ≡ record u { slots = v.slots; cost = moving n u.cost }
@@ -144,8 +147,9 @@ module _ {T A : Type 0} where
         ∙ (moving-more 1 n u.cost ∙ ap (λ (m : ℕ). moving m u.cost) (sym one)))) i;
   }
 
--- Let `w` be the list `v` after the items `xs` were appended at the cost of one move each. Then `w`
--- is `v` with other items, and with `length w.items - length v.items` more moves in the cost.
+-- Suppose that appending the items `xs` to the list `v`, at the cost of one move for each item,
+-- resulted in the list `w`. Then `w` differs from `v` only in its items and in `length w.items -
+-- length v.items` additional moves.
 pub spare-kept : {T A : Type 0} (v w : Thin T A) (xs : List T)
     → w ≡ record v { items = v.items ++ xs; cost = moving (length xs) v.cost }
     → w ≡ record v
@@ -156,7 +160,7 @@ spare-kept v w xs is =
     omega (arith, ap length items, length-append v.items xs) in
     is ∙ (λ i. record v { items = sym items i; cost = moving (many i) v.cost })
 
--- Section: how a capacity grows over several calls
+-- Section: growth of a capacity over several calls
 
 module _ (rule : Rule) (R : RattleType) (law : KeepsLaw rule) where
   -- If `IsLoose rule R c d` holds for the old capacity `c` and the new capacity `d`, then `c ≤ d`.
@@ -178,24 +182,24 @@ module _ (rule : Rule) (R : RattleType) (law : KeepsLaw rule) where
   ruled-more c n m same more (inr p) =
       inr (p.0, p.1, p.2, omega (arith, p.3, more), p.4 ∙ ap Some (sym same))
 
-  -- Let `IsKeptOrRuled` hold for the old capacity `d` and the new capacity `e`, and let `e ≡ d`
-  -- imply `P`. Then `P` holds, or `IsKeptOrRuled` holds for any old capacity `c` and the new
-  -- capacity `e`.
+  -- Suppose that `IsKeptOrRuled` holds for the old capacity `d` and the new capacity `e`, and that
+  -- `e ≡ d` implies `P`. Then `P` holds, or `IsKeptOrRuled` holds for the old capacity `c` and the
+  -- new capacity `e`, whatever `c` is.
   pub ruled-after : (c d e n : ℕ) (P : Type 0) → IsKeptOrRuled rule R d e n → (e ≡ d → P)
       → IsKeptOrRuled rule R c e n ⊎ P
   ruled-after c d e n P (inl same) f = inr (f same)
   ruled-after c d e n P (inr p) f = inl (inr p)
 
-  -- Let a new list first get exactly the capacity `c` that a size hint `h` asks for, and then the
-  -- capacity `d`. If `IsKeptOrRuled` holds for the change from `c` to `d`, then `d` satisfies
-  -- `IsCollected`.
+  -- Suppose that a new list first has exactly the capacity `c` that a size hint `h` of the iterator
+  -- asks for, and that the change from `c` to a later capacity `d` satisfies `IsKeptOrRuled`. Then
+  -- `d` satisfies `IsCollected`.
   pub collected-after : {c d : ℕ} (n h : ℕ) (left : Count) → IsWithinCount h left
       → exact_capacity R 0 h ≡ Some c → IsKeptOrRuled rule R c d n → IsCollected rule R d n left
   collected-after n h left hint e (inl same) = inr (h, hint, e ∙ ap Some (sym same))
   collected-after n h left hint e (inr p) = inl p
 
-  -- Let `d` be the capacity that the list `v` gets by the growth rule if it needs room for `k` more
-  -- items. Then the change from the old capacity of `v` to `d` satisfies `IsLoose`.
+  -- If the growth rule determines the capacity `d` for `k` more items in the list `v`, then the
+  -- change from the capacity of `v` to `d` satisfies `IsLoose`.
   pub loose-ruled : {T A : Type 0} (v : Thin T A) (k d : ℕ) → capacity_for rule R v k ≡ Some d
       → IsLoose rule R v.capacity d
   loose-ruled v k d e =
@@ -205,9 +209,9 @@ module _ (rule : Rule) (R : RattleType) (law : KeepsLaw rule) where
       ]
 
 module _ {T A : Type 0} where
-  -- Let the list `v` become `w` by at most one growth and by appending `k` items with `k` moves. If
-  -- the growth copied no more items than it added slots, then `CostsAdding v w 0` holds: appending
-  -- the items moved no old item.
+  -- Suppose that the list `v` grew at most once, and became `w` when `k` items were appended with
+  -- `k` moves. If the growth copied no more items than it added slots, then `CostsAdding v w 0`
+  -- holds: apart from the growth, no old item was moved.
   pub filled-at : (v w : Thin T A) (k : ℕ) → w.cost ≡ moving k (cost_at v w.capacity)
       → length w.items ≡ length v.items + k
       → (cost_at v w.capacity).grown + v.capacity ≤ v.cost.grown + w.capacity → CostsAdding v w 0
@@ -223,7 +227,7 @@ module _ {T A : Type 0} where
         (omega (arith, ap (λ c. c.blocks) f), omega (arith, ap (λ c. c.grown) f));
   }
 
-  -- Let the list `v` become `w` by at most one growth that does not change the items. If the growth
+  -- Suppose that the list `v` grew at most once and became `w`, with the same items. If the growth
   -- copied no more items than it added slots, then `CostsAdding v w 0` holds.
   pub filled-reserved : (v w : Thin T A) → w.cost ≡ cost_at v w.capacity
       → w.items ≡ v.items
@@ -239,8 +243,8 @@ module _ {T A : Type 0} where
             z) i;
       })) (omega (arith, ap length n)) few
 
-  -- Let the list `v` become `w` by appending `k` items with `k` moves, without a change of the
-  -- capacity. Then `CostsAdding v w 0` holds: appending the items moved no old item.
+  -- Suppose that appending `k` items with `k` moves, without a change of the capacity, turned the
+  -- list `v` into `w`. Then `CostsAdding v w 0` holds: no old item was moved.
   pub filled-spare : (v w : Thin T A) (k : ℕ)
       → w ≡ record v { items = w.items; cost = moving k v.cost }
       → length w.items ≡ length v.items + k → CostsAdding v w 0
@@ -250,9 +254,9 @@ module _ {T A : Type 0} where
       filled-at v w k (ap (λ u. u.cost) e ∙ ap (λ c. moving k c) (sym kept)) n
       (omega (arith, ap (λ c. c.grown) kept, same))
 
-  -- Let the list `v` become `u`, and then `w`. The capacity never shrinks, and `u` is not shorter
-  -- than `v`. If `CostsAdding v u m` and `CostsAdding u w n` hold, and `m + n ≤ k`, then
-  -- `CostsAdding v w k` holds.
+  -- Suppose that the list `v` becomes `u`, and `u` then becomes `w`. Suppose also that neither step
+  -- shrinks the capacity, and that `u` is not shorter than `v`. If `CostsAdding v u m` and
+  -- `CostsAdding u w n` hold, and `m + n ≤ k`, then `CostsAdding v w k` holds.
   pub adding-join : {v u w : Thin T A} (m n k : ℕ) → m + n ≤ k → CostsAdding v u m
       → CostsAdding u w n → v.capacity ≤ u.capacity → u.capacity ≤ w.capacity
       → length v.items ≤ length u.items → CostsAdding v w k
@@ -275,8 +279,8 @@ module _ {T A : Type 0} where
     ];
   }
 
-  -- `CostsAdding v w 0` implies `CostsAdding v w n` for every `n`. The last argument is an upper
-  -- bound on the moves of old items.
+  -- `CostsAdding v w 0` implies `CostsAdding v w n` for every `n`, because the last argument is
+  -- only an upper bound on the number of moves of old items.
   pub adding-more : (v w : Thin T A) (n : ℕ) → CostsAdding v w 0 → CostsAdding v w n
   adding-more v w n p = record {
     copied = p.copied;

@@ -18,12 +18,12 @@ use Rattle.thin_block.proofs.SlotsLemmas.{same_or_not, the_item, moved_left, mov
 use lib.Seq.{set-set, take-set-le}
 use mathlib.Core.Logic.{⊎_elim}
 
--- Section: moving consecutive items by one slot
+-- Section: moves of adjacent items by one slot
 
 module _ {T : Type 0} where
-  -- Let a row of slots hold the items `xs`, followed by empty slots. If slot `i` is emptied, and
-  -- all later items are moved down by one slot, then the row holds `remove xs i`, followed by empty
-  -- slots.
+  -- Suppose that the first slots of a row hold the items `xs`, and that all other slots are empty.
+  -- If slot `i` is emptied, and all later items are moved down by one slot, then the first slots
+  -- hold `remove xs i`, and all other slots are empty.
   pub front-remove : (xs : List T) (c i : ℕ) {j k : ℕ} → i < length xs → length xs ≤ c → j ≡ i + 1
       → k ≡ length xs - j → moved j i k (set (front xs c) i None) ≡ front (remove xs i) c
   front-remove [] c i h l e n = absurd (omega arith)
@@ -47,8 +47,8 @@ module _ {T : Type 0} where
   -- for a new item at index `i`.
   module _ (xs : List T) (c i : ℕ) {j k : ℕ} (h : i ≤ length xs) (l : length xs < c) (e : j ≡ i + 1)
       (n : k ≡ length xs - i) where
-    -- The row of slots that follows slot `i` when the items from index `i` onward have been moved
-    -- up by one slot.
+    -- `after` is the row of slots after slot `i`, at the point where the items from index `i`
+    -- onward have just been moved up by one slot.
     after : List (Option T)
     after = full (drop i xs) ++ replicate (c - length xs - 1) None
 
@@ -56,8 +56,9 @@ module _ {T : Type 0} where
     before : i ≡ length (full (take i xs))
     before = omega (arith, length-full (take i xs), length-take i xs)
 
-    -- After the items from index `i` onward were moved up by one slot, slot `i` is empty. The first
-    -- `i` items are before this slot, and the moved items are directly after it.
+    -- After the items from index `i` onward have been moved up by one slot, slot `i` is empty. The
+    -- first `i` items are in the slots before it, and the moved items are in the slots directly
+    -- after it.
     apart : moved i j k (front xs c) ≡ full (take i xs) ++ (None ∷ after)
     unfolding after
     apart =
@@ -75,8 +76,8 @@ module _ {T : Type 0} where
         ap (λ (ys : List (Option T)). moved i j k ys) s
         ∙ moved_right i j k 1 (full a) (full b) r before e q
 
-    -- If the items of `xs` from index `i` onward are moved up by one slot, and `v` is written into
-    -- slot `i`, then the row of slots holds `insert xs i v`, followed by empty slots.
+    -- If the items of `xs` from index `i` onward are moved up by one slot, and `v` is then written
+    -- into slot `i`, the first slots hold `insert xs i v`, and all other slots are empty.
     pub front-insert : (v : T)
         → set (moved i j k (front xs c)) i (Some v) ≡ front (insert xs i v) c
     unfolding after
@@ -90,15 +91,15 @@ module _ {T : Type 0} where
         ∙ (ap (λ (ys : List (Option T)). ys ++ r) (sym (map-append (λ (y : T). Some y) a (v ∷ b)))
         ∙ ap (λ (z : ℕ). full (insert xs i v) ++ replicate z None) m)))
 
-    -- After the items from index `i` onward were moved up by one slot, slot `i` is empty.
+    -- After the items from index `i` onward have been moved up by one slot, slot `i` is empty.
     front-gap : slot (moved i j k (front xs c)) i ≡ None
     front-gap =
         ap (λ (ys : List (Option T)). slot ys i) apart
         ∙ get_or_at (full (take i xs)) None after None i (sym before)
 
 module _ {T A : Type 0} {b : Block T A} {a : A} (t : IsThin b a) where
-  -- Let slot `i` be emptied, let all later items be moved down by one slot, and let the stored
-  -- length be decremented. Then the new block `b'` is the block of the list without the item at
+  -- Suppose that slot `i` is emptied, all later items are moved down by one slot, and the stored
+  -- length is decremented. Then the new block `b'` is the block of the list without the item at
   -- index `i`.
   pub settle-remove : (b' : Block T A) (i : ℕ) {j k : ℕ} → i < length (items_in b.slots)
       → j ≡ i + 1 → k ≡ b.len - j → {l : ℕ} {m : Cost} → l ≡ b.len
@@ -112,9 +113,9 @@ module _ {T A : Type 0} {b : Block T A} {a : A} (t : IsThin b a) where
       (omega (arith, len, t.packed.len, length-remove xs i h))
       (omega (arith, thin-room b a t, length-remove xs i h))
 
-  -- Let the items from index `i` onward be moved up by one slot, let `v` be written into slot `i`,
-  -- and let the stored length be incremented. Then the new block `b'` is the block of the list with
-  -- `v` inserted at index `i`.
+  -- Suppose that the items from index `i` onward are moved up by one slot, `v` is written into slot
+  -- `i`, and the stored length is incremented. Then the new block `b'` is the block of the list
+  -- with `v` inserted at index `i`.
   pub settle-insert : (b' : Block T A) (i : ℕ) (v : T) {j k : ℕ} → i ≤ length (items_in b.slots)
       → b.len < length b.slots → j ≡ i + 1 → k ≡ b.len - i → {l : ℕ} {m : Cost} → l ≡ b.len
       → IsWritten b b' (set (moved i j k b.slots) i (Some v)) (l + 1) m
@@ -127,7 +128,8 @@ module _ {T A : Type 0} {b : Block T A} {a : A} (t : IsThin b a) where
       (omega (arith, len, t.packed.len, length-insert xs i v h))
       (omega (arith, o, t.packed.len, length-insert xs i v h))
 
-  -- After the items of a block from index `i` onward were moved up by one slot, slot `i` is empty.
+  -- After the items of a block from index `i` onward have been moved up by one slot, slot `i` is
+  -- empty.
   pub thin-gap : (i : ℕ) {j k : ℕ} → i ≤ length (items_in b.slots) → b.len < length b.slots
       → j ≡ i + 1 → k ≡ b.len - i → slot (moved i j k b.slots) i ≡ None
   thin-gap i {j} {k} h o e n =
@@ -138,14 +140,15 @@ module _ {T A : Type 0} {b : Block T A} {a : A} (t : IsThin b a) where
 -- Section: removal of items
 
 module _ {T : Type 0} where
-  -- Let a row of `c` slots hold the items `xs`, followed by empty slots. `emptying xs k i c` is
-  -- this row after the slots `k..i` were emptied.
+  -- `emptying xs k i c` is the row of slots `front xs c` after the slots `k..i` were emptied. The
+  -- row `front xs c` has `c` slots: the first slots hold the items `xs`, and all other slots are
+  -- empty.
   abbrev pub emptying : List T → ℕ → ℕ → ℕ → List (Option T)
   emptying xs k i c =
       full (take k xs) ++ (empty (i - k) ++ (full (drop i xs) ++ empty (c - length xs)))
 
-  -- The items of `xs` from index `i` onward are the item `x` at index `i`, followed by the items
-  -- from index `i + 1` onward.
+  -- If `i` is less than the length of `xs`, then `drop i xs` is `x ∷ drop (i + 1) xs` for some item
+  -- `x`.
   item-at : (xs : List T) (i : ℕ) → i < length xs → (x : T) × (drop i xs ≡ x ∷ drop (i + 1) xs)
   item-at [] i h = absurd (omega arith)
   item-at (x ∷ xs) zero h = (x, refl)
@@ -162,8 +165,8 @@ module _ {T : Type 0} where
   pub full-append : (xs ys : List T) → full (xs ++ ys) ≡ full xs ++ full ys
   full-append xs ys = map-append (λ (x : T). Some x) xs ys
 
-  -- Before any slot is emptied, the row `emptying xs k k c` is `front xs c`, the row of `c` slots
-  -- that holds the items `xs`, followed by empty slots.
+  -- If no slot has been emptied yet, the row of slots `emptying xs k k c` is `front xs c`: slots
+  -- with the items `xs`, followed by empty slots.
   pub emptying-none : (xs : List T) (k c : ℕ) → emptying xs k k c ≡ front xs c
   emptying-none xs k c =
       let r : List (Option T) = empty (c - length xs) in
@@ -174,15 +177,15 @@ module _ {T : Type 0} where
       ∙ ap full (take-append-drop k xs)))
 
   module _ (xs : List T) (k i c : ℕ) (order : k ≤ i) (bound : i < length xs) where
-    -- The slots before slot `i`.
+    -- The slots before slot `i` in the row of slots `emptying xs k i c`.
     pre : List (Option T)
     pre = full (take k xs) ++ empty (i - k)
 
-    -- The slots after slot `i`.
+    -- The slots after slot `i` in the row of slots `emptying xs k i c`.
     post : List (Option T)
     post = full (drop (i + 1) xs) ++ empty (c - length xs)
 
-    -- There are `i` slots before slot `i`.
+    -- The list `pre` of the slots before slot `i` has `i` elements.
     length-pre : length pre ≡ i
     unfolding pre
     length-pre =
@@ -194,8 +197,8 @@ module _ {T : Type 0} where
           length-replicate {A = Option T} (i - k) None,
         )
 
-    -- The row of slots `emptying xs k i c` consists of the slots before slot `i`, the filled slot
-    -- `i`, and the slots after slot `i`. Slot `i` holds the item of `xs` at index `i`.
+    -- The row of slots `emptying xs k i c` consists of the slots before slot `i`, then slot `i`
+    -- itself, which holds the item of `xs` at index `i`, and then the slots after slot `i`.
     split : emptying xs k i c ≡ pre ++ (Some (item-at xs i bound).0 ∷ post)
     unfolding pre post
     split =
@@ -205,7 +208,7 @@ module _ {T : Type 0} where
         ∙ sym (append_assoc (full (take k xs)) (empty (i - k))
         (Some r.0 ∷ (full (drop (i + 1) xs) ++ empty (c - length xs))))
 
-    -- After the slots `k..i` were emptied, slot `i` still holds an item.
+    -- After the slots `k..i` have been emptied, slot `i` still holds an item.
     pub emptying-filled : IsSome (slot (emptying xs k i c) i)
     emptying-filled = rw (ap (λ (s : List (Option T)). slot s i) split
         ∙ get_or_at pre (Some (item-at xs i bound).0) post None i length-pre) refl
@@ -223,8 +226,8 @@ module _ {T : Type 0} where
         ∙ ap (λ (s : List (Option T)). s ++ post)
         (replicate-append-replicate (i - k) 1 None ∙ ap empty more))))
 
-  -- After all slots from index `k` onward were emptied, the row of slots holds the first `k` items
-  -- of `xs`, followed by empty slots.
+  -- After all slots from index `k` onward have been emptied, the row of slots is `front (take k xs)
+  -- c`: slots with the first `k` items of `xs`, followed by empty slots.
   pub emptying-all : (xs : List T) (k c : ℕ) → k ≤ length xs → length xs ≤ c
       → emptying xs k (length xs) c ≡ front (take k xs) c
   emptying-all xs k c order room =
@@ -236,7 +239,7 @@ module _ {T : Type 0} where
       (replicate-append-replicate (length xs - k) (c - length xs) None ∙ ap empty many)
 
   -- If `i` is less than the length of `xs`, writing `m` into slot `i` replaces the item of `xs` at
-  -- index `i` by `m`.
+  -- index `i` with `m`.
   pub full-set : (xs : List T) (s : List (Option T)) (i : ℕ) (m : T) → i < length xs
       → set (full xs ++ s) i (Some m) ≡ full (set xs i m) ++ s
   full-set [] s i m h = absurd (omega arith)
@@ -244,9 +247,9 @@ module _ {T : Type 0} where
   full-set (x ∷ xs) s (suc i) m h = ap (λ (r : List (Option T)). Some x ∷ r)
       (full-set xs s i m (omega arith))
 
-  -- Let the item at index `i` and the last item `m` be taken out of their slots, and let `m` be
-  -- written into slot `i`. Then the row of slots is the row of the list after `swap_remove` at
-  -- index `i`.
+  -- Suppose that slot `i` and the slot of the last item `m` are emptied, and that `m` is then
+  -- written into slot `i`. Then the slots hold the items of the list after `swap_remove` at index
+  -- `i`, followed by empty slots.
   front-swap_remove : (ys : List T) (c i : ℕ) (v m : T) → i < length ys → length (ys ++ m ∷ []) ≤ c
       → set (set (set (front (ys ++ m ∷ []) c) i None) (length ys) None) i (Some m) ≡ front
       (swap_remove (ys ++ m ∷ []) i v) c
@@ -281,9 +284,9 @@ module _ {T A : Type 0} where
       settle-front t b' [] (length b.slots) w (e ∙ front-none (length b.slots)) refl (omega arith)
 
   module _ {b : Block T A} {a : A} (t : IsThin b a) (b' : Block T A) (i last : ℕ) where
-    -- Let `i` be less than `last`, the index of the last item. If the slots `i` and `last` are
-    -- emptied, the last item is written into slot `i`, and the stored length is decremented, then
-    -- the new block `b'` is the block of the list after `swap_remove` at index `i`.
+    -- Suppose that slot `i` is emptied, the last item is moved from slot `last` into slot `i`, and
+    -- the stored length is decremented. If `i` is less than `last`, then the new block `b'` is the
+    -- block of the list after `swap_remove` at index `i`.
     settle-swap_remove : (v : T) {m : T} → i < last → last + 1 ≡ b.len → slot b.slots last ≡ Some m
         → {k : Cost} → IsWritten b b' (set (set (set b.slots i None) last None) i (Some m)) last k
         → Settled b' a (swap_remove (items_in b.slots) i v) (length b.slots)
@@ -322,9 +325,9 @@ module _ {T A : Type 0} where
               long,
             )
 
-    -- Let the item in the last filled slot be moved into slot `i`, and let the stored length be
-    -- decremented. Then the new block `b'` is the block of the list after `swap_remove` at index
-    -- `i`. Slot `i` may itself be the last filled slot.
+    -- Suppose that the item in the last filled slot is moved into slot `i`, and that the stored
+    -- length is decremented. Then the new block `b'` is the block of the list after `swap_remove`
+    -- at index `i`. Slot `i` may itself be the last filled slot.
     pub settle-replaced : (v : T) → i ≤ last → last + 1 ≡ b.len → slot b.slots i ≡ Some v
         → {k : Cost} → IsWritten b b' (set (set b.slots i (slot b.slots last)) last None) last k
         → Settled b' a (swap_remove (items_in b.slots) i v) (length b.slots)

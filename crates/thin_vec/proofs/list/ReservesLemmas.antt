@@ -12,15 +12,16 @@ use Rattle.thin_vec.specs.Cheap.{IsCheap}
 use Rattle.thin_vec.specs.List.Capacity.{Keeps, Reserves, TellsOverflow, TellsOverflowOf}
 use Rattle.thin_vec.specs.ThinVec.{HasRoomFor, IsWithin, Thin, capacity_for}
 
--- If the capacity `named` that a call needs is not `None`, then `TellsOverflow named (Ok x)` holds.
+-- The capacity `named` that a call needs is `None` if it is too large. If `named` is not `None`,
+-- then `TellsOverflow named (Ok x)` holds.
 pub tells-ok : {X : Type 0} (x : X) (named : Option ℕ) (n : ℕ) → named ≡ Some n
     → TellsOverflow named (Ok x)
 tells-ok x named n is = record {
   overflow = (λ e. ok-err x CapacityOverflow e, λ none. absurd (none-some none is));
 }
 
--- Let `exact_capacity R 0 m` be equal to `exact_capacity S 0 n`. If `TellsOverflowOf R m` holds for
--- the result `Ok x`, then `TellsOverflowOf S n` holds for the result `Ok y`.
+-- Suppose that `exact_capacity R 0 m` equals `exact_capacity S 0 n`. If `TellsOverflowOf R m` holds
+-- for the result `Ok x`, then `TellsOverflowOf S n` holds for the result `Ok y`.
 pub tells-made : {X : Type 0} {x y : X} (R S : RattleType) (m n : ℕ)
     → exact_capacity R 0 m ≡ exact_capacity S 0 n
     → TellsOverflowOf R m (let r : Result X ThinVecError = Ok x in r)
@@ -32,8 +33,8 @@ tells-made {x = x} {y} R S m n e told = record {
   );
 }
 
--- Let `exact_capacity R 0 m` be equal to `exact_capacity S 0 n`. If `TellsOverflowOf R m r` holds
--- for the result `r`, then `TellsOverflowOf S n r` holds.
+-- Suppose that `exact_capacity R 0 m` equals `exact_capacity S 0 n`. If `TellsOverflowOf R m r`
+-- holds for the result `r`, then `TellsOverflowOf S n r` holds.
 pub tells-same : {X : Type 0} {r : Result X ThinVecError} (R S : RattleType) (m n : ℕ)
     → exact_capacity R 0 m ≡ exact_capacity S 0 n → TellsOverflowOf R m r → TellsOverflowOf S n r
 tells-same R S m n e told = record {
@@ -47,9 +48,9 @@ memory-no-overflow : {P : Type 0} (cause : ThinVecError) → cause ≡ OutOfMemo
 memory-no-overflow cause is over = cc
 
 module _ {T A : Type 0} (R : RattleType) (v : Thin T A) where
-  -- Let the list `v` satisfy `IsCheap`, a bound on the cost of growth. If the capacity, the number
-  -- of blocks and the number of copied items do not change, then the new list `w` satisfies
-  -- `IsCheap` too.
+  -- Suppose that the list `v` satisfies `IsCheap`, a bound on the cost of growth. If the list `w`
+  -- has the same capacity and the same counts of requests for memory and of copied items, then `w`
+  -- satisfies `IsCheap` too.
   cheap-kept : (w : Thin T A) → w.capacity ≡ v.capacity
       → (w.cost.blocks ≡ v.cost.blocks) × (w.cost.grown ≡ v.cost.grown) → IsCheap v → IsCheap w
   cheap-kept w capacity (blocks, grown) cheap = record {
@@ -61,8 +62,9 @@ module _ {T A : Type 0} (R : RattleType) (v : Thin T A) where
         rw (blocks, capacity) old;
   }
 
-  -- If the allocator, the capacity, the number of blocks and the number of copied items do not
-  -- change, and the lists `v` and `w` satisfy `IsWithin`, then `Keeps R v w` holds.
+  -- Suppose that the lists `v` and `w` have the same allocator and capacity, and the same counts of
+  -- requests for memory and of copied items. If both lists satisfy `IsWithin`, then `Keeps R v w`
+  -- holds.
   pub keeps-kept : (w : Thin T A) → w.alloc ≡ v.alloc → w.capacity ≡ v.capacity
       → (w.cost.blocks ≡ v.cost.blocks) × (w.cost.grown ≡ v.cost.grown)
       → IsWithin R v × IsWithin R w → Keeps R v w
@@ -74,8 +76,8 @@ module _ {T A : Type 0} (R : RattleType) (v : Thin T A) where
   }
 
   module _ (rule : Rule) where
-    -- Let the list `v` have room for `k` more items. If a call returns `Ok` and does not change the
-    -- capacity, then the call satisfies `Reserves`.
+    -- If the list `v` has room for `k` more items, then every call that returns `Ok` and does not
+    -- change the capacity satisfies `Reserves` for `k` items.
     pub reserves-room : {X : Type 0} {x : X} (k : ℕ) (w : Thin T A) → HasRoomFor v k
         → w.capacity ≡ v.capacity → Reserves rule R k v w (Ok x)
     reserves-room {x = x} k w room capacity =
@@ -88,10 +90,10 @@ module _ {T A : Type 0} (R : RattleType) (v : Thin T A) where
           overflow = (λ e. ok-err x CapacityOverflow e, λ none. absurd (none-some none named));
         }
 
-    -- Let a call consist of two steps. The first step returns `Ok` and satisfies `Reserves` for `k`
-    -- items. The second step does not change the capacity, and fails only with `OutOfMemory`. Then
-    -- the whole call satisfies `Reserves` for `k` items of any type `S`, if the growth rule chooses
-    -- the same capacity for `S`.
+    -- Suppose that the first step of a call returns `Ok` and satisfies `Reserves`, and that the
+    -- second step keeps the capacity and fails only with `OutOfMemory`. Then the whole call
+    -- satisfies `Reserves`, also for items of another type `S` if the growth rule chooses the same
+    -- capacity for `S`.
     pub reserves-then : {X Y : Type 0} {x : X} (S : RattleType) (k l : ℕ) (u w : Thin T A)
         (r : Result Y ThinVecError) → l ≡ k
         → capacity_for rule S v l ≡ capacity_for rule R v k → w.capacity ≡ u.capacity
@@ -117,9 +119,9 @@ module _ {T A : Type 0} (R : RattleType) (v : Thin T A) where
           );
         }
 
-    -- Let a call fail without a change of the list, and let it satisfy `Reserves` for `k` items.
-    -- Then a call that fails with the same error satisfies `Reserves` for `k` items of any type
-    -- `S`, if the growth rule chooses the same capacity for `S`.
+    -- Suppose that a call fails without changing the list, and satisfies `Reserves`. Then another
+    -- call that fails with the same error also satisfies `Reserves`, even for items of another type
+    -- `S` if the growth rule chooses the same capacity for `S`.
     pub reserves-failed : {X Y : Type 0} (S : RattleType) (k l : ℕ) (w : Thin T A)
         (cause : ThinVecError) → l ≡ k
         → capacity_for rule S v l ≡ capacity_for rule R v k

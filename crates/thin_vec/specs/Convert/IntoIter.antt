@@ -1,5 +1,5 @@
--- Definitions for the iterator that `into_iter` returns. In contracts, the iterator is a list of
--- the items that have not been yielded yet. (std: `vec::IntoIter`)
+-- Definitions for the iterator that `into_iter` returns. In contracts, the items of this iterator
+-- are the items that have not been yielded yet. (std: `vec::IntoIter`)
 use Rattle.std.specs.Prelude.{◌≡◌, ◌++◌, ℕ, ◌+◌, ◌-◌, List, length}
 use Rattle.std.specs.Iterator.{YieldsFirst, YieldsLast}
 use Rattle.std.specs.Iterator.Runs.{YieldsInOrder, YieldsInReverse}
@@ -9,22 +9,24 @@ use Rattle.thin_block.specs.declared.block.Block.{Block}
 use Rattle.thin_vec.specs.ThinVec.{Thin}
 
 module _ {T A : Type 0} where
-  -- In the block `b` of an iterator, exactly the slots `start..end` hold items. The memory of `b`
-  -- came from the allocator `a`.
+  -- `IsWalked b a start end` states that exactly the slots `start..end` of an iterator's block `b`
+  -- hold items, and that the memory of `b` came from the allocator `a`.
   pub record IsWalked (b : Block T A) (a : A) (start end : ℕ) : Type 0 where
     pub row : b.slots ≡ empty start ++ (full (items_in b.slots) ++ empty (length b.slots - end))
     pub len : start + length (items_in b.slots) ≡ end
     pub from : IsFrom b.alloc a
 
-  -- The items that have not been yielded yet.
+  -- `rest v` is the list of the items that the iterator `v` has not yielded yet.
   abbrev pub rest : Thin T A → List T
   rest v = v.items
 
 module _ (T A : Type 0) where
-  -- Repeated calls of `next` yield the items that have not been yielded yet, in order.
+  -- `RestInOrder` states that repeated calls of `next` yield the items that have not been yielded
+  -- yet, in order.
   abbrev pub RestInOrder : Type 0
   RestInOrder = YieldsInOrder (YieldsFirst (rest {T = T} {A = A})) rest
 
-  -- Repeated calls of `next_back` yield the items that have not been yielded yet, in reverse order.
+  -- `RestInReverse` states that repeated calls of `next_back` yield the items that have not been
+  -- yielded yet, in reverse order.
   abbrev pub RestInReverse : Type 0
   RestInReverse = YieldsInReverse (YieldsLast (rest {T = T} {A = A})) rest

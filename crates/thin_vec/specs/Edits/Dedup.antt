@@ -5,15 +5,14 @@ use Rattle.thin_block.specs.Cost.{moving}
 use Rattle.thin_vec.specs.ThinVec.{Thin}
 use Rattle.thin_vec.specs.Edits.Retain.{moved_down}
 
--- `R` describes one call of a test that decides whether an item is removed. Its arguments are, in
--- this order: the state of the test before the call, the item, the last item that was kept, whether
--- the item is removed, the state after the call, the item after the call, and the kept item after
--- the call.
+-- `R s x k b t y l` describes one call of a test. The call compares the item `x` with the last kept
+-- item `k`, and `b` is true if `x` is to be removed. The call changes the state of the test from
+-- `s` to `t`, the item from `x` to `y`, and the kept item from `k` to `l`.
 module _ {S T : Type 0} (R : S → T → T → Bool → S → T → T → Type 0) where
-  -- `AskedLast s k xs stays ys t` describes the tests of the items `xs`, which follow the kept item
-  -- `k`. Each item was tested once, in order, against the last item kept before it, and the test
-  -- changed its state from `s` to `t`. The flags `stays` say which items of `xs` were kept. `ys` is
-  -- `k`, followed by these items, all as the test left them.
+  -- `AskedLast s k xs stays ys t` states that the items of `xs` were tested in order, each against
+  -- the last item kept before it (at first against the item `k`). The tests changed the state from
+  -- `s` to `t`. The flags `stays` say which items of `xs` were kept, and `ys` is `k`, followed by
+  -- the kept items, as the tests left them.
   abbrev pub AskedLast : S → T → List T → List Bool → List T → S → Type 0
   AskedLast s k [] stays ys t = (stays ≡ []) × (ys ≡ k ∷ []) × (t ≡ s)
   AskedLast s k (x ∷ xs) stays ys t =
@@ -22,23 +21,24 @@ module _ {S T : Type 0} (R : S → T → T → Bool → S → T → T → Type 0
       × MatchBool b (AskedLast u k' xs rest ys t)
       ((zs : List T) × AskedLast u x' xs rest zs t × (ys ≡ k' ∷ zs))
 
-  -- `AskedPairs s xs stays ys t` describes the tests of all items of the list `xs` except the
-  -- first, which is always kept. Each item was tested once, in order, against the last item kept
-  -- before it, and the test changed its state from `s` to `t`. The flags `stays` say which of the
-  -- tested items were kept. `ys` contains all kept items, as the test left them.
+  -- `AskedPairs s xs stays ys t` states that all items of `xs` except the first were tested in
+  -- order, each against the last item kept before it. The tests changed the state from `s` to `t`.
+  -- The flags `stays` say which of the tested items were kept, and `ys` contains the first item and
+  -- the kept items, as the tests left them.
   abbrev pub AskedPairs : S → List T → List Bool → List T → S → Type 0
   AskedPairs s [] stays ys t = (stays ≡ []) × (ys ≡ []) × (t ≡ s)
   AskedPairs s (x ∷ xs) stays ys t = AskedLast s x xs stays ys t
 
-  -- Removing the duplicates from the list `v` resulted in the list `w`. The cost increased by one
-  -- move for each item that was kept after the first removed item. The test that found the
-  -- duplicates changed its state from `s` to `t`.
+  -- `IsDedupedTo s v w t` states that the list `v` became `w` when its duplicates were removed. The
+  -- cost increased by one move for each item that was kept after the first removed item. The test
+  -- that found the duplicates changed its state from `s` to `t`.
   pub record IsDedupedTo {A : Type 0} (s : S) (v w : Thin T A) (t : S) : Type 0 where
     pub stays : List Bool
     pub asked : AskedPairs s v.items stays w.items t
     pub cost : w.cost ≡ moving (moved_down stays) v.cost
 
-  -- `IsDedupedTo s v w t` holds for some final state `t` of the test.
+  -- `IsDedupedBy s v w` states that there is a final state `t` of the test for which `IsDedupedTo s
+  -- v w t` holds.
   abbrev pub IsDedupedBy : {A : Type 0} → S → Thin T A → Thin T A → Type 0
   IsDedupedBy s v w = (t : S) × IsDedupedTo s v w t
 

@@ -11,9 +11,8 @@ use Rattle.thin_vec.specs.declared.edits.drain.Drain.{Drain}
 use Rattle.thin_vec.specs.declared.edits.holder.Holder.{Holder}
 use Rattle.thin_vec.specs.declared.edits.holder.Holds.{Ghosts as HoldsGhosts}
 
--- A `Drain` has a field that owns the block of the list until the `Drain` is dropped. In these
--- definitions, this field has the type `Holder`, as in every `Drain` that the method `drain`
--- returns.
+-- A `Drain` has a field that owns the block of the list until the `Drain` is dropped. In this
+-- module, the type of this field is `Holder`, as in every `Drain` that the method `drain` returns.
 module _ {T A G : Type 0} {g : Ghosts G} {h : HoldsGhosts (Holder (Open T A)) (Open T A)} where
   -- The items of the range that have not been yielded yet.
   abbrev pub drain_rest : Drain T A G (Holder (Open T A)) g h → List T
@@ -40,8 +39,8 @@ module _ {T A G : Type 0} {g : Ghosts G} {h : HoldsGhosts (Holder (Open T A)) (O
   abbrev pub drain_lender : Drain T A G (Holder (Open T A)) g h → GName
   drain_lender d = d.list.ghost_name
 
-  -- `old` and `new` borrow the same list. Dropping `old` and dropping `new` would result in the
-  -- same final list.
+  -- `DrainKeeps old new` states that `old` and `new` borrow the same list, and that dropping either
+  -- of them would result in the same final list.
   pub record DrainKeeps (old new : Drain T A G (Holder (Open T A)) g h) : Type 0 where
     pub lender : drain_lender new ≡ drain_lender old
     pub kept : drain_kept new ≡ drain_kept old
@@ -49,32 +48,35 @@ module _ {T A G : Type 0} {g : Ghosts G} {h : HoldsGhosts (Holder (Open T A)) (O
     pub alloc : drain_alloc new ≡ drain_alloc old
     pub cost : drain_cost new ≡ drain_cost old
 
-  -- A call of `next` changed the `Drain` from `old` to `new` and returned `item`. This `item` is
-  -- the first item that had not been yielded before, or `None` if there was no such item.
+  -- `DrainSteps old item new` states that a call of `next` changed the `Drain` from `old` to `new`
+  -- and returned `item`. This `item` is the first item that had not been yielded before, or `None`
+  -- if there was no such item.
   pub record DrainSteps (old : Drain T A G (Holder (Open T A)) g h) (item : Option T)
       (new : Drain T A G (Holder (Open T A)) g h) : Type 0 where
     pub gave : YieldsFirst drain_rest old item new
     pub keeps : DrainKeeps old new
 
-  -- A call of `next_back` changed the `Drain` from `old` to `new` and returned `item`. This `item`
-  -- is the last item that had not been yielded before, or `None` if there was no such item.
+  -- `DrainStepsBack old item new` states that a call of `next_back` changed the `Drain` from `old`
+  -- to `new` and returned `item`. This `item` is the last item that had not been yielded before, or
+  -- `None` if there was no such item.
   pub record DrainStepsBack (old : Drain T A G (Holder (Open T A)) g h) (item : Option T)
       (new : Drain T A G (Holder (Open T A)) g h) : Type 0 where
     pub gave : YieldsLast drain_rest old item new
     pub keeps : DrainKeeps old new
 
-  -- No sequence of calls of `next` changes the list that remains after the `Drain` is dropped.
-  -- (`DrainSteps` and `DrainStepsBack` imply the same for a single call of `next` or `next_back`.)
+  -- `DrainKeepsAlong d` states that no sequence of calls of `next` on `d` changes the list that
+  -- remains after the `Drain` is dropped. (`DrainSteps` and `DrainStepsBack` imply this for a
+  -- single call of `next` or `next_back`.)
   abbrev pub DrainKeepsAlong : Drain T A G (Holder (Open T A)) g h → Type 0
   DrainKeepsAlong first = (items : List T) (later : Drain T A G (Holder (Open T A)) g h)
       → Yields DrainSteps first items later → DrainKeeps first later
 
-  -- For every `Drain` of the same type, calls of `next` yield the items of `drain_rest` in order.
-  -- The argument only determines the type.
+  -- `DrainsInOrder d` states that, for every `Drain` of the same type as `d`, calls of `next` yield
+  -- the items of `drain_rest` in order.
   abbrev pub DrainsInOrder : Drain T A G (Holder (Open T A)) g h → Type 0
   DrainsInOrder d = YieldsInOrder DrainSteps drain_rest
 
-  -- For every `Drain` of the same type, calls of `next_back` yield the items of `drain_rest` in
-  -- reverse order. The argument only determines the type.
+  -- `DrainsInReverse d` states that, for every `Drain` of the same type as `d`, calls of
+  -- `next_back` yield the items of `drain_rest` in reverse order.
   abbrev pub DrainsInReverse : Drain T A G (Holder (Open T A)) g h → Type 0
   DrainsInReverse d = YieldsInReverse DrainStepsBack drain_rest

@@ -11,14 +11,14 @@ use Rattle.thin_vec.specs.declared.edits.extract_if.ExtractIf.{ExtractIf}
 use Rattle.thin_vec.specs.declared.edits.holder.Holder.{Holder}
 use Rattle.thin_vec.specs.declared.edits.holder.Holds.{Ghosts as HoldsGhosts}
 
--- `R` describes one call of the closure. Its arguments are, in this order: the closure before the
--- call, the item that is passed to the closure, the boolean that the closure returns, the closure
--- after the call, and the item after the call.
+-- `R f x b g y` describes one call of the closure with the item `x`, which returned the boolean
+-- `b`. The call changed the closure from `f` to `g`, and the item from `x` to `y`.
 module _ {T F A : Type 0} (R : F → T → Bool → F → T → Type 0) where
-  -- A call of `next` changed `old` to `new` and returned `item`. The closure was called with the
-  -- untested items of the range, in order, until it returned true for `item` or no item was left.
-  -- The closure returned false for the items `kept`, which remain in the list. Each item of `kept`
-  -- counts one move if an item was extracted before.
+  -- `Extracts old item new` states that a call of `next` changed `old` to `new` and returned
+  -- `item`. The closure was called with the untested items of the range, in order, until it
+  -- returned true for `item` or no item was left. It returned false for the items `kept`, which
+  -- remain in the list. Each of these items counts as one move if an item had been extracted before
+  -- the call.
   pub record Extracts (old : Extracting T F A) (item : Option T)
       (new : Extracting T F A) : Type 0 where
     pub kept : List T
@@ -34,12 +34,12 @@ module _ {T F A : Type 0} (R : F → T → Bool → F → T → Type 0) where
         (length kept) old.block.cost)
 
 -- An `ExtractIf` has a field that owns the block of the list until the `ExtractIf` is dropped. In
--- these definitions, this field has the type `Holder`, as in every `ExtractIf` that the method
+-- this module, the type of this field is `Holder`, as in every `ExtractIf` that the method
 -- `extract_if` returns.
 module _ {T F A G : Type 0} {g : Ghosts G}
     {h : HoldsGhosts (Holder (Extracting T F A)) (Extracting T F A)} where
-  -- The items before the range, followed by the tested items that were kept. The tested items are
-  -- as the closure left them.
+  -- The items before the range, followed by the tested items that were kept, as the closure left
+  -- them.
   abbrev pub extract_front : ExtractIf T F A G (Holder (Extracting T F A)) g h → List T
   extract_front e = e.holder.value.block.front
 
@@ -59,7 +59,8 @@ module _ {T F A G : Type 0} {g : Ghosts G}
   abbrev pub extract_callee : ExtractIf T F A G (Holder (Extracting T F A)) g h → F
   extract_callee e = e.holder.value.picks.pick
 
-  -- The cost of the list so far: its requests for memory, and its copied and moved items.
+  -- The cost of the list so far: the numbers of requests for memory, of copied items and of moved
+  -- items.
   abbrev pub extract_cost : ExtractIf T F A G (Holder (Extracting T F A)) g h → Cost
   extract_cost e = e.holder.value.block.cost
 
@@ -76,8 +77,8 @@ module _ {T F A G : Type 0} {g : Ghosts G}
   abbrev pub extract_lender : ExtractIf T F A G (Holder (Extracting T F A)) g h → GName
   extract_lender e = e.list.ghost_name
 
-  -- A call of `next` changed the `ExtractIf` from `old` to `new` and returned `item`. `old` and
-  -- `new` borrow the same list.
+  -- `ExtractSteps R old item new` states that a call of `next` changed the `ExtractIf` from `old`
+  -- to `new` and returned `item`, and that `old` and `new` borrow the same list.
   pub record ExtractSteps (R : F → T → Bool → F → T → Type 0)
       (old : ExtractIf T F A G (Holder (Extracting T F A)) g h) (item : Option T)
       (new : ExtractIf T F A G (Holder (Extracting T F A)) g h) : Type 0 where

@@ -14,9 +14,9 @@ use Rattle.thin_vec.specs.ThinVec.{HasRoomFor, Thin}
 use Rattle.thin_vec.specs.declared.errors.SpliceRefused.{SpliceRefused}
 
 module _ {T A : Type 0} where
-  -- The list `v` became `w` when items of an iterator were added. `left` is an upper bound on the
-  -- number of items that the iterator could yield. `n` is an upper bound on the number of moves of
-  -- other items.
+  -- `HasTaken rule R v w n left` describes how the list `v` became `w` when items of an iterator
+  -- were added. `left` is an upper bound on the number of items that the iterator could yield, and
+  -- `n` is an upper bound on the number of moves of other items.
   pub record HasTaken (rule : Rule) (R : RattleType) (v w : Thin T A) (n : ℕ)
       (left : Count) : Type 0 where
     pub capacity : IsLoose rule R v.capacity w.capacity
@@ -25,23 +25,23 @@ module _ {T A : Type 0} where
     pub alloc : w.alloc ≡ v.alloc
     pub cheap : IsCheap v → IsCheap w
 
-  -- The items `xs` were written into the gap of the open block `v`, and `v` then became the block
-  -- of the list `w` with the allocator `a`. An open block is the block of a list during an edit,
-  -- and the gap consists of empty slots.
+  -- `IsClosedWith v xs a w` states that the items `xs` were written into the gap of the open block
+  -- `v`, and that `v` then became the block of the list `w` with the allocator `a`. An open block
+  -- is the block of a list during an edit, and its gap consists of empty slots.
   pub record IsClosedWith (v : Open T A) (xs : List T) (a : A) (w : Thin T A) : Type 0 where
     pub items : w.items ≡ with_between v xs
     pub capacity : w.capacity ≡ v.capacity
     pub alloc : w.alloc ≡ a
-    -- Each item of `xs` was moved once. Each item after the gap (each item of the tail) was moved
-    -- at most once, and not at all if `xs` filled the gap.
+    -- Each item of `xs` was moved once. Each tail item (each item after the gap) was moved at most
+    -- once, and not at all if `xs` filled the gap.
     pub cost : (m : ℕ) × (w.cost ≡ moving (length xs + m) v.cost) × (m ≤ length v.tail)
         × (length xs ≡ v.gap → m ≡ 0)
 
 module _ {S T A : Type 0} (steps : S → Option T → S → Type 0) (can : S → Type 0)
     (remaining : S → Count) where
-  -- Items of the iterator `s` were inserted into the open block `v`, and `v` became the block of
-  -- the list `w` with the allocator `a`. The call that did this returned `result`. These facts
-  -- imply the clauses of `Splice::finish`.
+  -- `IsFinished` describes a call that inserted items of the iterator `s` into the open block `v`
+  -- and returned `result`. After the call, the list is `w`, and its allocator is `a`. The clauses
+  -- of `Splice::finish` follow from the clauses below.
   pub record IsFinished (rule : Rule) (R : RattleType) (v : Open T A) (a : A) (s : S)
       (w : Thin T A) (result : Result (Unit {0}) (SpliceRefused T S A)) : Type 0 where
     pub succeeds : size (remaining s) ≤ v.gap → IsOk result

@@ -10,15 +10,15 @@ trues [] = zero
 trues (true ∷ flags) = suc (trues flags)
 trues (false ∷ flags) = trues flags
 
--- `moved_down stays` is the number of items that are kept after the first removed item. These items
--- are moved down. The flags `stays` say for each item of a list whether the item is kept.
+-- `moved_down stays` is the number of items that are kept after the first removed item, and that
+-- therefore move down. The flags `stays` say for each item of a list whether the item is kept.
 abbrev pub moved_down : List Bool → ℕ
 moved_down [] = zero
 moved_down (true ∷ stays) = moved_down stays
 moved_down (false ∷ stays) = trues stays
 
--- A list of verdicts on items, in order. A verdict consists of a flag, which is true if the item is
--- kept, and the item as the test left it.
+-- `Verdicts T` is the type of lists of verdicts on items. A verdict consists of a flag, which is
+-- true if the item is kept, and of the item as the test left it.
 abbrev pub Verdicts : Type 0 → Type 0
 Verdicts T = List (Bool × T)
 
@@ -32,20 +32,20 @@ module _ {T : Type 0} where
   left_at false ((true, x) ∷ verdicts) = left_at false verdicts
   left_at false ((false, x) ∷ verdicts) = x ∷ left_at false verdicts
 
-  -- The verdicts of a test that keeps every item. The argument contains the items as the test left
-  -- them.
+  -- `stay xs` is the list of verdicts of a test that keeps every item. The list `xs` contains the
+  -- items as the test left them.
   abbrev pub stay : List T → Verdicts T
   stay xs = map (λ (x : T). (true, x)) xs
 
-  -- The flags of `verdicts`, in order. A flag is true if the item is kept.
+  -- `flags_of verdicts` is the list of the flags in `verdicts`, in order. A flag is true if the
+  -- item is kept.
   abbrev pub flags_of : Verdicts T → List Bool
   flags_of verdicts = map (λ (answer : Bool × T). answer.0) verdicts
 
--- `R` describes one call of a test that decides whether an item is kept. Its arguments are, in this
--- order: the state of the test before the call, the item, whether the item is kept, the state after
--- the call, and the item after the call.
+-- `R s x b t y` describes one call of a test, where `b` is true if the item `x` is to be kept. The
+-- call changes the state of the test from `s` to `t`, and the item from `x` to `y`.
 module _ {S T : Type 0} (R : S → T → Bool → S → T → Type 0) where
-  -- `Asked s xs verdicts t` says that each item of the list `xs` was tested once, in order. The
+  -- `Asked s xs verdicts t` states that each item of the list `xs` was tested once, in order. The
   -- test returned `verdicts`, and it changed its state from `s` to `t`.
   abbrev pub Asked : S → List T → Verdicts T → S → Type 0
   Asked s [] verdicts t = (verdicts ≡ []) × (t ≡ s)
@@ -53,20 +53,22 @@ module _ {S T : Type 0} (R : S → T → Bool → S → T → Type 0) where
       (b : Bool) × (y : T) × (u : S) × (rest : Verdicts T) × R s x b u y × Asked u xs rest t
       × (verdicts ≡ (b, y) ∷ rest)
 
-  -- Removing the items of the list `v` that failed the test resulted in the list `w`. The cost
-  -- increased by one move for each item that was kept after the first removed item. The test
-  -- changed its state from `s` to `t`.
+  -- `IsRetainedTo s v w t` states that the list `v` became `w` when the items that failed the test
+  -- were removed. The cost increased by one move for each item that was kept after the first
+  -- removed item. The test changed its state from `s` to `t`.
   pub record IsRetainedTo {A : Type 0} (s : S) (v w : Thin T A) (t : S) : Type 0 where
     pub verdicts : Verdicts T
     pub asked : Asked s v.items verdicts t
     pub items : w.items ≡ left_at true verdicts
     pub cost : w.cost ≡ moving (moved_down (flags_of verdicts)) v.cost
 
-  -- `IsRetainedTo s v w t` holds for some final state `t` of the test.
+  -- `IsRetained s v w` states that there is a final state `t` of the test for which `IsRetainedTo s
+  -- v w t` holds.
   abbrev pub IsRetained : {A : Type 0} → S → Thin T A → Thin T A → Type 0
   IsRetained s v w = (t : S) × IsRetainedTo s v w t
 
--- `Looks R` describes a test that does not change its item. The arguments of `R` are the state
--- before the call, the item, whether the item is kept, and the state after the call.
+-- `Looks R` describes a test that does not change the tested item. `R s x b t` describes one call,
+-- where `b` is true if the item `x` is to be kept. The call changes the state of the test from `s`
+-- to `t`.
 abbrev pub Looks : {S T : Type 0} → (S → T → Bool → S → Type 0) → S → T → Bool → S → T → Type 0
 Looks R s x b t y = R s x b t × (y ≡ x)

@@ -16,10 +16,11 @@ use Rattle.thin_vec.specs.declared.edits.splice.Splice.{Splice}
 use Rattle.thin_vec.specs.declared.edits.holder.Holds.{Ghosts as HoldsGhosts}
 
 module _ {S T A : Type 0} (steps : S → Option T → S → Type 0) where
-  -- `finish` failed after it had inserted the items `placed` of the iterator `s`. The error returns
-  -- the items that were drawn afterwards: first the items in `held`, and then the item in the
-  -- option `in_hand`. If `in_hand` is `None` and `held` is not empty, the iterator has ended.
-  -- Otherwise `next` may still be called on the rest of the iterator.
+  -- `Stopped can remaining s placed error` states that `finish` failed with `error` after it had
+  -- inserted the items `placed` of the iterator `s`. The error returns the items that were drawn
+  -- afterwards: first the items in `held`, and then the item in the option `in_hand`. If `held` is
+  -- not empty and `in_hand` is `None`, the iterator has ended. Otherwise `next` may still be called
+  -- on the rest of the iterator.
   abbrev pub Stopped : (S → Type 0) → (S → Count) → S → List T → SpliceRefused T S A → Type 0
   Stopped can remaining s placed error =
       (PausedAfter steps can remaining s
@@ -34,8 +35,8 @@ module _ {T A : Type 0} where
   -- rest of the iterator may yield.
   pub record IsStopCause {S : Type 0} (rule : Rule) (R : RattleType) (w : Thin T A) (tail : List T)
       (left : Count) (error : SpliceRefused T S A) : Type 0 where
-    -- If `held` is empty and `in_hand` is `None`, the error returns no items. Then the call could
-    -- not reserve room for the size hint of the iterator.
+    -- If `held` is empty and `in_hand` is `None`, the error returns no items. In this case, the
+    -- call could not reserve room for the lower bound of the iterator's size hint.
     pub by_hint : error.held.items ≡ [] → error.in_hand ≡ None
         → FailsAtHint rule R w left error.cause
     -- If the vector `held` is not empty, and `in_hand` is `None`, the cause is `CapacityOverflow`
@@ -51,9 +52,9 @@ module _ {T A : Type 0} where
     pub by_push : tail ≡ [] → IsSome error.in_hand
         → (error.cause ≡ CapacityOverflow) ↔ (capacity_for rule R w 1 ≡ None)
 
-  -- These clauses describe a failed call of `finish` if no item follows the range. `v` is the list
-  -- without the items of the range, `w` is the list after the call, and `s` is the iterator before
-  -- the call.
+  -- These clauses describe a call of `finish` that failed, for the case that no item follows the
+  -- range. `v` is the list without the items of the range, `w` is the list after the call, and `s`
+  -- is the iterator before the call.
   pub record FailsAsExtend {S : Type 0} (v w : Thin T A) (s : S) (error : SpliceRefused T S A)
       : Type 0 where
     pub held : error.held.items ≡ []
@@ -62,8 +63,8 @@ module _ {T A : Type 0} where
     pub in_hand : MatchOption error.in_hand ((w ≡ v) × (error.rest ≡ s))
         (λ _. length w.items ≡ w.capacity)
 
-  -- An open block consists of a front, a middle run and a tail. `left_of v a` is the list with the
-  -- allocator `a` that contains the items of the front and the tail of the open block `v`.
+  -- `left_of v a` is the list that contains the front items and the tail items of the open block
+  -- `v`, that is, all its items except the middle items. The list has the allocator `a`.
   abbrev pub left_of : Open T A → A → Thin T A
   left_of v a = record {
     items = v.front ++ v.tail;
@@ -72,15 +73,15 @@ module _ {T A : Type 0} where
     cost = v.cost;
   }
 
-  -- `with_between v xs` contains the items of the front of the open block `v`, then `xs`, and then
-  -- the items of the tail of `v`.
+  -- `with_between v xs` contains the front items of the open block `v`, then the items `xs`, and
+  -- then the tail items of `v`.
   abbrev pub with_between : Open T A → List T → List T
   with_between v xs = (v.front ++ xs) ++ v.tail
 
 module _ {I T A G H : Type 0} {g : Ghosts G} {h : HoldsGhosts H (Open T A)} where
-  -- The block of the list, which the `Splice` owns, in three parts. The front contains the items
-  -- before the range, the middle run contains the items of the range that have not been yielded
-  -- yet, and the tail contains the items after the range.
+  -- The open block that the `Splice` owns. Its front contains the items before the range, its
+  -- middle run contains the items of the range that have not been yielded yet, and its tail
+  -- contains the items after the range.
   abbrev pub splice_block : Splice I T A G H g h → Open T A
   splice_block s = h.inner s.holder
 
@@ -110,20 +111,21 @@ module _ {I T A G H : Type 0} {g : Ghosts G} {h : HoldsGhosts H (Open T A)} wher
   abbrev pub splice_range : Splice I T A G H g h → ℕ
   splice_range s = range_len (splice_block s)
 
-  -- `splice_replaced s xs` contains the items of the list after the range is replaced by `xs`.
+  -- `splice_replaced s xs` contains the items that the list will have after the range is replaced
+  -- with `xs`.
   abbrev pub splice_replaced : Splice I T A G H g h → List T → List T
   splice_replaced s xs = with_between (splice_block s) xs
 
-  -- `HasPlacesFor s most` says that inserting `most` items needs no request for memory. Either the
-  -- range has at least `most` slots, or no item follows the range and the list without the range
-  -- has room for `most` more items.
+  -- `HasPlacesFor s most` states that inserting `most` items needs no request for memory. There are
+  -- two cases: the range has at least `most` slots, or no item follows the range and the list
+  -- without the range has room for `most` more items.
   abbrev pub HasPlacesFor : Splice I T A G H g h → ℕ → Type 0
   HasPlacesFor s most =
       (most ≤ splice_range s)
       ⊎ (((splice_block s).tail ≡ []) × HasRoomFor (splice_left s) most)
 
-  -- `old` and `new` borrow the same list and own the same iterator. The items before the range and
-  -- the items after the range are the same in `old` and `new`.
+  -- `SpliceKeeps old new` states that `old` and `new` borrow the same list, own the same iterator,
+  -- and differ only in which items of the range have already been yielded.
   pub record SpliceKeeps (old new : Splice I T A G H g h) : Type 0 where
     pub lender : splice_lender new ≡ splice_lender old
     pub iter : splice_iter new ≡ splice_iter old
@@ -134,15 +136,17 @@ module _ {I T A G H : Type 0} {g : Ghosts G} {h : HoldsGhosts H (Open T A)} wher
     pub alloc : splice_alloc new ≡ splice_alloc old
     pub cost : (splice_block new).cost ≡ (splice_block old).cost
 
-  -- A call of `next` changed the `Splice` from `old` to `new` and returned `item`. This `item` is
-  -- the first item that had not been yielded before, or `None` if there was no such item.
+  -- `SpliceSteps old item new` states that a call of `next` changed the `Splice` from `old` to
+  -- `new` and returned `item`. This `item` is the first item that had not been yielded before, or
+  -- `None` if there was no such item.
   pub record SpliceSteps (old : Splice I T A G H g h) (item : Option T)
       (new : Splice I T A G H g h) : Type 0 where
     pub gave : YieldsFirst splice_rest old item new
     pub keeps : SpliceKeeps old new
 
-  -- A call of `next_back` changed the `Splice` from `old` to `new` and returned `item`. This `item`
-  -- is the last item that had not been yielded before, or `None` if there was no such item.
+  -- `SpliceStepsBack old item new` states that a call of `next_back` changed the `Splice` from
+  -- `old` to `new` and returned `item`. This `item` is the last item that had not been yielded
+  -- before, or `None` if there was no such item.
   pub record SpliceStepsBack (old : Splice I T A G H g h) (item : Option T)
       (new : Splice I T A G H g h) : Type 0 where
     pub gave : YieldsLast splice_rest old item new

@@ -3,10 +3,10 @@
 -- result is `r`. (std: `Vec::reserve`)
 --
 -- The ruled capacity `capacity_for rule R v k` is the old capacity if `v` has room for `k` more
--- items. Otherwise the growth rule of the list chooses it. By default, it is twice the old capacity
--- (4 if the old capacity is 0), or the new number of items if this number is larger. By any rule,
--- it is at least twice the old capacity and at least the new number of items (`KeepsLaw`). It is
--- `None` if it would be too large for a block.
+-- items. Otherwise it is the capacity that the growth rule chooses: by default, twice the old
+-- capacity (4 if the old capacity is 0), or the new number of items if this number is larger. Every
+-- growth rule must at least double the capacity and make room for all items (`KeepsLaw`). The ruled
+-- capacity is `None` if it would be too large for a block.
 use Rattle.std.specs.Prelude.{◌≡◌, ◌↔◌, ◌⊎◌, ℕ, ◌≤◌, IsErrOf, OnErr, OnOk, Option, Result}
 use Rattle.std.specs.declared.option.Option.TheVariants.{None, Some}
 use Rattle.std.specs.declared.result.Result.TheVariants.{Ok, Err}
@@ -19,34 +19,34 @@ use Rattle.thin_vec.specs.Cheap.{IsCheap}
 use Rattle.thin_vec.specs.ThinVec.{Thin, HasRoomFor, IsWithin, capacity_for, cost_at}
 use Rattle.thin_vec.specs.declared.errors.Rejected.{Rejected}
 
--- `causes r` corresponds to `r.map_err(|error| error.cause)` in Rust. It drops the value that the
--- error returns to the caller.
+-- `causes r` is `r.map_err(|error| error.cause)` in Rust: it keeps the cause of an error, but not
+-- the value that the error returns to the caller.
 abbrev pub causes : {X T : Type 0} → Result X (Rejected T) → Result X ThinVecError
 causes (Ok x) = Ok x
 causes (Err e) = Err e.cause
 
--- `wanted` is the capacity that the call needs, or `None` if this capacity is too large. The call
--- returns the error `CapacityOverflow` if and only if `wanted` is `None`. So every other failure is
--- `OutOfMemory`, the only other error.
+-- `TellsOverflow wanted r` states that the result `r` of a call is the error `CapacityOverflow` if
+-- and only if `wanted` is `None`. `wanted` is the capacity that the call needs, or `None` if this
+-- capacity is too large. Every other failure is `OutOfMemory`, the only other error.
 pub record TellsOverflow {X : Type 0} (wanted : Option ℕ) (r : Result X ThinVecError) : Type 0
   where
     pub overflow : IsErrOf r CapacityOverflow ↔ (wanted ≡ None)
 
--- The call makes a list with room for exactly `n` items of the type `R`. It returns the error
--- `CapacityOverflow` if and only if this capacity is too large. So every other failure is
--- `OutOfMemory`, the only other error.
+-- `TellsOverflowOf R n r` is about a call that makes a list with room for exactly `n` items of the
+-- type `R`. Its result `r` is the error `CapacityOverflow` if and only if this capacity is too
+-- large. Every other failure is `OutOfMemory`, the only other error.
 pub record TellsOverflowOf {X : Type 0} (R : RattleType) (n : ℕ) (r : Result X ThinVecError) : Type 0
   where
     pub overflow : IsErrOf r CapacityOverflow ↔ (exact_capacity R 0 n ≡ None)
 
 module _ {T A : Type 0} where
-  -- `Costs n v w` says that changing the list `v` to `w` took exactly `n` moves. If the capacity
+  -- `Costs n v w` states that changing the list `v` to `w` took exactly `n` moves. If the capacity
   -- changed, the call also took one reallocation, which copied all items of `v`.
   abbrev pub Costs : ℕ → Thin T A → Thin T A → Type 0
   Costs n v w = w.cost ≡ moving n (cost_at v w.capacity)
 
-  -- A call that needs room for `k` more items guarantees these clauses. They are about the capacity
-  -- after the call, and about the error if the call fails.
+  -- Every call that needs room for `k` more items guarantees these clauses. They are about the
+  -- capacity after the call, and about the error if the call fails.
   pub record Reserves (rule : Rule) (R : RattleType) (k : ℕ) (v w : Thin T A)
       {X : Type 0} (r : Result X ThinVecError) : Type 0 where
     -- If `v` has room for `k` more items, the capacity does not change.
@@ -57,8 +57,9 @@ module _ {T A : Type 0} where
     -- On failure, the list is unchanged, or it had already grown to the capacity `capacity_for`
     -- when a clone failed. The clause `err` of each call says in which cases the list is unchanged.
     pub err : OnErr r ((w ≡ v) ⊎ (capacity_for rule R v k ≡ Some w.capacity))
-    -- The error is `CapacityOverflow` if and only if `capacity_for` is `None`, which means that the
-    -- capacity would be too large. So every other failure is `OutOfMemory`, the only other error.
+    -- The call returns the error `CapacityOverflow` if and only if `capacity_for` is `None`, which
+    -- means that the capacity would be too large. Every other failure is `OutOfMemory`, the only
+    -- other error.
     pub overflow : IsErrOf r CapacityOverflow ↔ (capacity_for rule R v k ≡ None)
 
   -- Every call that may grow a list guarantees these clauses. The allocator does not change, the
@@ -70,8 +71,8 @@ module _ {T A : Type 0} where
     pub cheap : IsCheap v → IsCheap w
     pub within : IsWithin R v × IsWithin R w
 
-  -- `w` is a new list with the allocator `a`. It satisfies the bound `IsCheap` on its cost, and the
-  -- limits `IsWithin` on its length and capacity.
+  -- `IsMade R a w` states that `w` is a new list with the allocator `a`. It satisfies the bound
+  -- `IsCheap` on its cost, and the limits `IsWithin` on its length and capacity.
   pub record IsMade (R : RattleType) (a : A) (w : Thin T A) : Type 0 where
     pub alloc : w.alloc ≡ a
     pub cheap : IsCheap w

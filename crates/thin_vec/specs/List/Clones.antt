@@ -8,24 +8,24 @@ use Rattle.thin_vec.specs.Cheap.{IsCheap}
 use Rattle.thin_vec.specs.ThinVec.{Thin, cost_at, cost_new}
 
 module _ {T : Type 0} (clones : T → T → Type 0) where
-  -- `CloneEquals x` says that every clone of `x` equals `x`.
+  -- `CloneEquals x` states that every clone of `x` equals `x`.
   abbrev pub CloneEquals : T → Type 0
   CloneEquals x = (y : T) → clones x y → y ≡ x
 
-  -- Every clone of an item equals the item.
+  -- `ClonesEqual` states that every clone of an item equals the item.
   abbrev pub ClonesEqual : Type 0
   ClonesEqual = (x : T) → CloneEquals x
 
-  -- The slots `s'` are the slots `s` after clones of the first `n` items of `sources` were written
-  -- into the slots from index `i` onward.
+  -- `LaysClones sources n i s s'` states that writing clones of the first `n` items of `sources`
+  -- into the slots `s` from index `i` onward results in the slots `s'`.
   pub record LaysClones (sources : List T) (n i : ℕ) (s s' : List (Option T)) : Type 0 where
     pub copies : List T
     pub cloned : AllZip clones (take n sources) copies
     pub slots : s' ≡ laid i (full copies) s
 
-  -- `IsClonedList v w` states what std's `Clone` guarantees about a clone `w` of the list `v`. `w`
-  -- contains a clone of each item, has the same allocator, and has a capacity that is exactly the
-  -- number of items.
+  -- `IsClonedList v w` states what std's `Clone` guarantees about a clone `w` of the list `v`. The
+  -- list `w` contains a clone of each item of `v`, has the same allocator, and has exactly one slot
+  -- for each item.
   abbrev pub IsClonedList : {A : Type 0} → Thin T A → Thin T A → Type 0
   IsClonedList v w =
       AllZip clones v.items w.items × (length w.items ≡ length v.items)
@@ -33,7 +33,8 @@ module _ {T : Type 0} (clones : T → T → Type 0) where
       × (w.cost ≡ moving (length v.items) (cost_new (length v.items))) × IsCheap w
       × (w.capacity < 2 ^ 63)
 
--- `ys` is the list `xs`, followed by `n` clones of `x`.
+-- `AppendsRepeats clones x n xs ys` states that `ys` is the list `xs`, followed by `n` clones of
+-- `x`.
 pub record AppendsRepeats {T : Type 0} (clones : T → T → Type 0) (x : T) (n : ℕ)
     (xs ys : List T) : Type 0 where
   pub copies : List T
@@ -41,8 +42,8 @@ pub record AppendsRepeats {T : Type 0} (clones : T → T → Type 0) (x : T) (n 
   pub count : length copies ≡ n
   pub items : ys ≡ xs ++ copies
 
--- `ys` is the list `xs` resized to the length `n`. It is cut off after `n` items, or extended by
--- clones of `x` and finally by `x` itself.
+-- `IsResized clones xs n x ys` states that `ys` is the list `xs` resized to the length `n`: cut off
+-- after `n` items, or extended with clones of `x` and finally with `x` itself.
 pub record IsResized {T : Type 0} (clones : T → T → Type 0) (xs : List T) (n : ℕ) (x : T)
     (ys : List T) : Type 0 where
   pub shorter : n ≤ length xs → ys ≡ take n xs
@@ -50,9 +51,9 @@ pub record IsResized {T : Type 0} (clones : T → T → Type 0) (xs : List T) (n
       × (ys ≡ xs ++ (copies ++ x ∷ []))
   pub len : length ys ≡ n
 
--- Cloning the item of `sources` at index `at` failed, so `infallible` does not hold for this item.
--- All items before it were cloned at the cost of one move each. So the cost `after` is the cost
--- `before` plus `at` moves.
+-- `StopsAtClone infallible sources before after` states that cloning the item of `sources` at some
+-- index `at` failed, so `infallible` does not hold for this item. The items before it were cloned
+-- at the cost of one move each. So the cost `after` is the cost `before` plus `at` moves.
 pub record StopsAtClone {T : Type 0} (infallible : T → Type 0) (sources : List T)
     (before after : Cost) : Type 0 where
   pub at : ℕ
@@ -60,9 +61,9 @@ pub record StopsAtClone {T : Type 0} (infallible : T → Type 0) (sources : List
   pub fallible : HoldsAt (λ x. ¬ (infallible x)) sources at
   pub cost : after ≡ moving at before
 
--- The list `v` became `w`, and cloning one of the items `sources` failed. The cost increased by one
--- move for each item that was cloned before the failure, and by one reallocation if the capacity
--- changed.
+-- `CostsUpToClone infallible sources v w` states that the list `v` became `w` when cloning one of
+-- the items `sources` failed. The cost increased by one move for each item that was cloned before
+-- the failure, and by one reallocation if the capacity changed.
 abbrev pub CostsUpToClone : {T A : Type 0} → (T → Type 0) → List T → Thin T A → Thin T A → Type 0
 CostsUpToClone infallible sources v w =
     StopsAtClone infallible sources (cost_at v w.capacity) w.cost

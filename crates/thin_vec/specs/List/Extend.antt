@@ -15,8 +15,8 @@ use Rattle.thin_vec.specs.ThinVec.{HasRoomFor, IsWithin, Thin, capacity_for}
 use Rattle.thin_vec.specs.declared.errors.CollectRefused.{CollectRefused}
 use Rattle.thin_vec.specs.declared.errors.ExtendRefused.{ExtendRefused}
 
--- Calls of `next` on the iterator `s` yielded the items `ys` and changed the iterator to `t`.
--- `next` may be called on `t`, and `t` yields only finitely many items.
+-- `PausedAfter` states that calls of `next` on the iterator `s` yielded the items `ys` and changed
+-- the iterator to `t`. `next` may be called on `t` again, and `t` yields only finitely many items.
 pub record PausedAfter {S X : Type 0} (steps : S → Option X → S → Type 0) (can : S → Type 0)
     (remaining : S → Count) (s : S) (ys : List X) (t : S) : Type 0 where
   pub gave : Yields steps s ys t
@@ -24,27 +24,27 @@ pub record PausedAfter {S X : Type 0} (steps : S → Option X → S → Type 0) 
   pub finite : IsFinite (remaining t)
 
 -- `IsLoose rule R c d` holds if `d` is `c`, or if `d` is at least a capacity that the growth rule
--- chooses when a block of capacity `c` needs room for more than `c` items. So when a capacity
--- changes from `c` to `d`, it at least doubles.
+-- chooses when a block of capacity `c` needs room for more than `c` items. So a capacity that
+-- changes from `c` to `d` at least doubles.
 abbrev pub IsLoose : Rule → RattleType → ℕ → ℕ → Type 0
 IsLoose rule R c d =
     (d ≡ c) ⊎ ((w : ℕ) × (n : ℕ) × (c < w) × (ruled_capacity rule R c w ≡ Some n) × (n ≤ d))
 
--- `IsRuled rule R d n` says that the growth rule chooses the capacity `d` for some block that must
--- grow to hold at most `n` items. The list need not have had such a block. (By the rule `Doubling`,
--- `d` is then at most 4 or at most `2 * n`.)
+-- `IsRuled rule R d n` states that the growth rule chooses the capacity `d` for some block that
+-- must grow to hold at most `n` items. The list need not have had such a block. (With the rule
+-- `Doubling`, `d` is then at most 4 or at most `2 * n`.)
 abbrev pub IsRuled : Rule → RattleType → ℕ → ℕ → Type 0
 IsRuled rule R d n = (e w : ℕ) × (e < w) × (w ≤ n) × (ruled_capacity rule R e w ≡ Some d)
 
--- `IsKeptOrRuled rule R c d n` says that the capacity changed from `c` to `d`. Either `d` is `c`,
--- or the growth rule chooses `d` for some block that must grow to hold at most `n` items.
+-- `IsKeptOrRuled rule R c d n` states that the new capacity `d` is the old capacity `c`, or that
+-- the growth rule chooses `d` for some block that must grow to hold at most `n` items.
 abbrev pub IsKeptOrRuled : Rule → RattleType → ℕ → ℕ → ℕ → Type 0
 IsKeptOrRuled rule R c d n = (d ≡ c) ⊎ IsRuled rule R d n
 
--- `IsExtended rule R v d n left` restricts the capacity `d` of a list that was `v` and now has `n`
--- items. Either `d` is the old capacity, or the growth rule chooses `d` for some block that must
--- grow to hold at most `n` items, or `d` is `capacity_for rule R v h` for a possible size hint `h`
--- of the iterator.
+-- `IsExtended rule R v d n left` restricts the capacity `d` after the list `v` was extended to `n`
+-- items. Either `d` is the old capacity or was chosen by the growth rule for at most `n` items
+-- (`IsKeptOrRuled`), or `d` is `capacity_for rule R v h` for a possible size hint `h` of the
+-- iterator.
 abbrev pub IsExtended : {T A : Type 0} → Rule → RattleType → Thin T A → ℕ → ℕ → Count → Type 0
 IsExtended rule R v d n left =
     IsKeptOrRuled rule R v.capacity d n
@@ -52,7 +52,7 @@ IsExtended rule R v d n left =
 
 -- `IsCollected rule R d n left` restricts the capacity `d` of a new list of `n` items. Either the
 -- growth rule chooses `d` for some block that must grow to hold at most `n` items, or `d` is
--- exactly a size hint that the iterator may have.
+-- exactly the capacity for a possible size hint of the iterator.
 abbrev pub IsCollected : Rule → RattleType → ℕ → ℕ → Count → Type 0
 IsCollected rule R d n left =
     IsRuled rule R d n ⊎ ((h : ℕ) × IsWithinCount h left × (exact_capacity R 0 h ≡ Some d))
@@ -64,14 +64,14 @@ module _ {T A : Type 0} where
     -- If `v` has room for all items that the iterator may yield, the capacity does not change.
     pub had_room : HasRoomFor v (size left) → w.capacity ≡ v.capacity
     -- Either the capacity does not change, or it becomes at least a capacity that the growth rule
-    -- chooses. So it at least doubles if it changes.
+    -- chooses. So if it changes, it at least doubles.
     pub loose : IsLoose rule R v.capacity w.capacity
-    -- Either the capacity does not change, or the growth rule chooses it for at most the final
-    -- number of items, or the growth rule chooses it for a possible size hint of the iterator.
+    -- Either the capacity does not change, or the growth rule chooses it. The rule chooses it
+    -- either for at most the final number of items, or for a possible size hint of the iterator.
     pub ruled : IsExtended rule R v w.capacity (length w.items) left
 
   -- These clauses bound the cost of adding items to the list `v`, which became `w`. Each added item
-  -- counts one move, and there are at most `n` moves of other items. The first two inequalities
+  -- counts as one move, and there are at most `n` moves of other items. The first two inequalities
   -- have sums on both sides, to avoid subtraction.
   pub record CostsAdding (v w : Thin T A) (n : ℕ) : Type 0 where
     pub least : v.cost.moves + length w.items ≤ w.cost.moves + length v.items
@@ -88,14 +88,14 @@ module _ {T A : Type 0} where
     -- added.
     pub copied : w.cost.grown + v.capacity ≤ v.cost.grown + w.capacity
 
-  -- `w` is a new list of items of an iterator, and it has the allocator `a`. `left` is an upper
-  -- bound on the number of items that the iterator may yield.
+  -- These clauses describe a new list `w` that was made from the items of an iterator and has the
+  -- allocator `a`. `left` is an upper bound on the number of items that the iterator may yield.
   pub record IsCollectedList (rule : Rule) (R : RattleType) (a : A) (w : Thin T A) (left : Count)
       : Type 0 where
     -- If the iterator cannot yield any item, the list has the capacity 0.
     pub none : size left ≡ 0 → w.capacity ≡ 0
-    -- Either the growth rule chooses the capacity for at most the final number of items, or the
-    -- capacity is exactly a size hint that the iterator may have.
+    -- The capacity is chosen by the growth rule for at most the final number of items, or it is
+    -- exactly the capacity for a possible size hint of the iterator.
     pub ruled : IsCollected rule R w.capacity (length w.items) left
     -- Each item was moved exactly once.
     pub moves : w.cost.moves ≡ length w.items
@@ -118,9 +118,9 @@ module _ {T A : Type 0} where
       (v.items ≡ xs) × (length v.items ≡ length xs) × (v.cost.moves ≡ length xs) × IsCheap v
       × IsWithin R v
 
-  -- A call failed because it could not reserve room for `h` more items, where `h` is the lower
-  -- bound of the iterator's size hint. The list `w` has no room for `h` more items. The cause is
-  -- `CapacityOverflow` if and only if the growth rule chooses no capacity for `h` more items.
+  -- `FailsAtHint rule R w left cause` states that a call failed because the list `w` could not get
+  -- room for `h` more items, where `h` is the lower bound of the iterator's size hint. The `cause`
+  -- is `CapacityOverflow` if and only if the growth rule chooses no capacity for `h` more items.
   abbrev pub FailsAtHint : Rule → RattleType → Thin T A → Count → ThinVecError → Type 0
   FailsAtHint rule R w left cause =
       (h : ℕ) × IsWithinCount h left × ¬ (HasRoomFor w h)
@@ -130,26 +130,27 @@ module _ {T A : Type 0} where
   -- an upper bound on the number of items that the rest of the iterator may yield.
   pub record IsExtendCause {S : Type 0} (rule : Rule) (R : RattleType) (w : Thin T A)
       (left : Count) (error : ExtendRefused T S) : Type 0 where
-    -- If `in_hand` is `Some`, an item was drawn from the iterator, but not added to the list. Then
-    -- the cause is `CapacityOverflow` if and only if the growth rule chooses no capacity for one
-    -- more item.
+    -- If `in_hand` is `Some`, an item was drawn from the iterator, but not added to the list. In
+    -- this case, the cause is `CapacityOverflow` if and only if the growth rule chooses no capacity
+    -- for one more item.
     pub by_push : IsSome error.in_hand
         → (error.cause ≡ CapacityOverflow) ↔ (capacity_for rule R w 1 ≡ None)
-    -- If `in_hand` is `None`, the call could not reserve room for the size hint of the iterator.
+    -- If `in_hand` is `None`, the call could not reserve room for the lower bound of the iterator's
+    -- size hint.
     pub by_hint : error.in_hand ≡ None → FailsAtHint rule R w left error.cause
 
   -- These clauses say why a call of `from_iter` failed. `left` is an upper bound on the number of
   -- items that the rest of the iterator may yield.
   pub record IsCollectCause {S : Type 0} (rule : Rule) (R : RattleType) (left : Count)
       (error : CollectRefused T S A) : Type 0 where
-    -- If `in_hand` is `Some`, an item was drawn from the iterator, but not added to the list. Then
-    -- the cause is `CapacityOverflow` if and only if the growth rule chooses no capacity for one
-    -- more item.
+    -- If `in_hand` is `Some`, an item was drawn from the iterator, but not added to the list. In
+    -- this case, the cause is `CapacityOverflow` if and only if the growth rule chooses no capacity
+    -- for one more item.
     pub by_push : IsSome error.in_hand
         → (error.cause ≡ CapacityOverflow) ↔ (capacity_for rule R error.list 1 ≡ None)
-    -- If `in_hand` is `None`, a block whose capacity is exactly the size hint `h` could not be
-    -- allocated. Then `h` is not 0, and the cause is `CapacityOverflow` if and only if a block of
-    -- capacity `h` would be too large.
+    -- If `in_hand` is `None`, no block of capacity `h` could be allocated, where `h` is the lower
+    -- bound of the iterator's size hint. In this case, `h` is not 0, and the cause is
+    -- `CapacityOverflow` if and only if a block of capacity `h` would be too large.
     pub by_hint : error.in_hand ≡ None
         → (h : ℕ) × IsWithinCount h left × (0 < h)
         × ((error.cause ≡ CapacityOverflow) ↔ (exact_capacity R 0 h ≡ None))

@@ -10,8 +10,9 @@ use Rattle.thin_vec.specs.Cheap.{IsCheap}
 use Rattle.thin_vec.specs.ThinVec.{Thin, IsWithin, capacity_for, cost_at}
 use Rattle.thin_vec.specs.contracts.list.ThinVec.{the_row}
 
--- `w` is the list `v` after one item was added at the cost of `k` moves. The items of `w` are `xs`,
--- and the capacity of `w` is the capacity that the growth rule determines for one more item.
+-- `IsAdded rule R v xs k w` states that the list `v` became `w` when one item was added at the cost
+-- of `k` moves. The items of `w` are `xs`, and the capacity of `w` is the capacity that the growth
+-- rule determines for one more item.
 pub record IsAdded {T A : Type 0} (rule : Rule) (R : RattleType) (v : Thin T A) (xs : List T)
     (k : ℕ) (w : Thin T A) : Type 0 where
   pub items : w.items ≡ xs
@@ -23,9 +24,10 @@ pub record IsAdded {T A : Type 0} (rule : Rule) (R : RattleType) (v : Thin T A) 
 
 module _ (T A G : RattleType) (a : AllocatorGhosts A.Denot) (g : GrowthGhosts G.Denot)
     (v : MutBor (Thin T.Denot A.Denot)) where
-  -- If the result `r` is `Ok`, it borrows an item that was added to the list `v` at the cost of `k`
-  -- moves. When the borrow ends, the items of the list are `holding x`, where `x` is the final
-  -- value of the borrowed item. If `r` is `Err`, the list does not change.
+  -- `LendsAdded holding k r` states that, if the result `r` is `Ok`, it borrows an item that was
+  -- added to the list `v` at the cost of `k` moves. When the borrow ends, the items of the list are
+  -- `holding x`, where `x` is the final value of the borrowed item. If `r` is `Err`, the list does
+  -- not change.
   abbrev pub LendsAdded : {E : Type 0} → (T.Denot → List T.Denot) → ℕ
       → Result (MutBor T.Denot) E → Fml
   LendsAdded holding k r = LendsSoOk (the_row T A G a g) T v r

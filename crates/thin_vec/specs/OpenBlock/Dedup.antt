@@ -8,14 +8,13 @@ use Rattle.thin_vec.specs.Edits.Retain.{moved_down, trues}
 use Rattle.thin_vec.specs.Edits.Dedup.{AskedLast, AskedPairs}
 use Rattle.thin_vec.specs.Open.{Open}
 
--- `R` describes one call of a test that decides whether an item is removed. Its arguments are, in
--- this order: the state of the test before the call, the item, the last item that was kept, whether
--- the item is removed, the state after the call, the item after the call, and the kept item after
--- the call.
+-- `R s x k b t y l` describes one call of a test. The call compares the item `x` with the last kept
+-- item `k`, and `b` is true if `x` is to be removed. The call changes the state of the test from
+-- `s` to `t`, the item from `x` to `y`, and the kept item from `k` to `l`.
 module _ {S T : Type 0} (R : S → T → T → Bool → S → T → T → Type 0) where
-  -- The item of the list `xs` at index `k` was tested against the item before it. The test changed
-  -- its state from `s` to `t`, and `b` says whether the item at index `k` is removed. `ys` is the
-  -- list `xs` with both items as the test left them.
+  -- `IsPairAskedAt k s xs b t ys` states that the item of `xs` at index `k` was tested against the
+  -- item before it, and that `ys` is `xs` with both items as the test left them. The test changed
+  -- its state from `s` to `t`, and `b` says whether the item at index `k` is removed.
   pub record IsPairAskedAt (k : ℕ) (s : S) (xs : List T) (b : Bool) (t : S)
       (ys : List T) : Type 0 where
     pub before : List T
@@ -29,9 +28,9 @@ module _ {S T : Type 0} (R : S → T → T → Bool → S → T → T → Type 0
     pub asked : R s later kept b t later_left kept_left
     pub now : ys ≡ before ++ kept_left ∷ later_left ∷ after
 
-  -- The item `x` was tested against the last item of the list `xs`. The test changed its state from
-  -- `s` to `t`, and `b` says whether `x` is removed. The test left `x` as `y`, and `ys` is the list
-  -- `xs` with its last item as the test left it.
+  -- `IsLastAsked s x xs b t y ys` states that the item `x` was tested against the last item of
+  -- `xs`. The test changed its state from `s` to `t`, and `b` says whether `x` is removed. The test
+  -- left `x` as `y`, and `ys` is `xs` with its last item as the test left it.
   pub record IsLastAsked (s : S) (x : T) (xs : List T) (b : Bool) (t : S) (y : T)
       (ys : List T) : Type 0 where
     pub before : List T
@@ -41,9 +40,9 @@ module _ {S T : Type 0} (R : S → T → T → Bool → S → T → T → Type 0
     pub asked : R s x kept b t y kept_left
     pub now : ys ≡ before ++ kept_left ∷ []
 
-  -- The first item of the list `xs` was tested against the kept item `k`. The test changed its
-  -- state from `s` to `t`, and `b` says whether the first item is removed. The test left `k` as
-  -- `l`, and `ys` is the list `xs` with its first item as the test left it.
+  -- `IsNextAsked s k xs b t l ys` states that the first item of `xs` was tested against the kept
+  -- item `k`. The test changed its state from `s` to `t`, and `b` says whether the first item is
+  -- removed. The test left `k` as `l`, and `ys` is `xs` with its first item as the test left it.
   pub record IsNextAsked (s : S) (k : T) (xs : List T) (b : Bool) (t : S) (l : T)
       (ys : List T) : Type 0 where
     pub later : T
@@ -53,9 +52,9 @@ module _ {S T : Type 0} (R : S → T → T → Bool → S → T → T → Type 0
     pub asked : R s later k b t later_left l
     pub now : ys ≡ later_left ∷ after
 
-  -- The item in slot `i + 1` was tested against the item in slot `i`. The test changed its state
-  -- from `s` to `t`, and `b` says whether the item in slot `i + 1` is removed. `slots'` is `slots`
-  -- with both items as the test left them.
+  -- `AreAskedIn s i slots b t slots'` states that the item in slot `i + 1` was tested against the
+  -- item in slot `i`. The test changed its state from `s` to `t`, and `b` says whether the item in
+  -- slot `i + 1` is removed. `slots'` is `slots` with both items as the test left them.
   pub record AreAskedIn (s : S) (i : ℕ) (slots : List (Option T)) (b : Bool) (t : S)
       (slots' : List (Option T)) : Type 0 where
     pub kept : T
@@ -67,10 +66,11 @@ module _ {S T : Type 0} (R : S → T → T → Bool → S → T → T → Type 0
     pub asked : R s later kept b t later_left kept_left
     pub now : slots' ≡ slice_set (slice_set slots i (Some kept_left)) (suc i) (Some later_left)
 
-  -- The items of the list `xs` after the first were tested in order, each against the item before
-  -- it, until an item was to be removed or the list ended. The test changed its state from `s` to
-  -- `t`. The first `m` items are kept. `ys` is the list `xs` as the test left it: the kept items
-  -- `left`, the item `over` that is to be removed (if there is one), and the untested items.
+  -- `PairsAskedUpTo m s xs t ys` states that the items of `xs` after the first were tested in
+  -- order, each against the item before it, until an item was to be removed or `xs` ended. The
+  -- first `m` items are kept, and the test changed its state from `s` to `t`. `ys` is `xs` as the
+  -- test left it: the kept items `left`, the item to be removed (`over`, which may be absent), and
+  -- the untested items.
   pub record PairsAskedUpTo (m : ℕ) (s : S) (xs : List T) (t : S) (ys : List T) : Type 0 where
     pub first : T
     pub done : List T
@@ -87,10 +87,10 @@ module _ {S T : Type 0} (R : S → T → T → Bool → S → T → T → Type 0
     pub stops : ((length over ≡ 1) × (stays ≡ replicate more true ++ false ∷ []))
         ⊎ ((over ≡ []) × ((after ≡ []) × (stays ≡ replicate more true)))
 
-  -- In the open block `v`, some of the untested items (the first items of the middle run) were
-  -- tested, each against the last item kept before it. The kept items were moved to the end of the
-  -- front, at the cost of one move each. The other tested items were removed. The test changed its
-  -- state from `s` to `t`, and `w` is the open block afterwards.
+  -- `Dedups s v t w` states that the open block `v` became `w` when some of its untested items (its
+  -- middle items) were tested in order, each against the last item kept before it. The kept items
+  -- were moved to the end of the front, at the cost of one move each, and the other tested items
+  -- were removed. The test changed its state from `s` to `t`.
   pub record Dedups {A : Type 0} (s : S) (v : Open T A) (t : S) (w : Open T A) : Type 0 where
     pub before : List T
     pub first : T
@@ -108,10 +108,10 @@ module _ {S T : Type 0} (R : S → T → T → Bool → S → T → T → Type 0
       cost = moving (trues stays) v.cost;
     }
 
-  -- All items of the middle run of the open block `v` were tested except the first, each against
-  -- the last item kept before it. The kept items became the front of the open block `w`, and the
-  -- middle run of `w` is empty. Each item that was kept after the first removed item counts one
-  -- move. The test changed its state from `s` to `t`.
+  -- `IsDeduped s v t w` states that all untested items (middle items) of the open block `v` except
+  -- the first were tested, each against the last item kept before it. The kept items became the
+  -- front of the open block `w`, whose middle run is empty. Each item that was kept after the first
+  -- removed item counts as one move. The test changed its state from `s` to `t`.
   pub record IsDeduped {A : Type 0} (s : S) (v : Open T A) (t : S) (w : Open T A) : Type 0 where
     pub stays : List Bool
     pub asked : AskedPairs R s v.rest stays w.front t

@@ -1,3 +1,3 @@
--- The former of the type `ThinVec`, which `src/list.rt` declares. A former tells the prover that a
--- type may contain itself, for example in a list.
+-- The former of `ThinVec` tells the prover that a type may contain lists of itself, as a tree may
+-- contain a list of trees. The type `ThinVec` is declared in `src/list.rt`.
 pub mod ThinVec

@@ -100,8 +100,8 @@ module _ {X Y : Type 0} (h : X → Y) where
     len = p.len ∙ sym (count-map s);
   }
 
-  -- If exactly the first `n` slots are filled after `h` is applied to the items, this was also true
-  -- before.
+  -- If exactly the first `n` slots are filled after `h` is applied to the items, then exactly these
+  -- slots were filled before.
   packed_from : (s : List (Option X)) (n : ℕ) → IsPacked (map (on_slot h) s) n → IsPacked s n
   packed_from s n p = record {
     row = from_shape s _
@@ -116,8 +116,8 @@ module _ {X Y : Type 0} (h : X → Y) where
     thin_to : IsThin b a → IsThin (block.mapped h b) a
     thin_to t = record { packed = packed_to b.slots b.len t.packed; from = t.from }
 
-    -- If `b` is the block of a list with the allocator `a` after `h` is applied to its items, this
-    -- was also true before.
+    -- If applying `h` to the items of the block `b` results in the block of a list with the
+    -- allocator `a`, then `b` itself is the block of such a list.
     thin_from : IsThin (block.mapped h b) a → IsThin b a
     thin_from t = record { packed = packed_from b.slots b.len t.packed; from = t.from }
 

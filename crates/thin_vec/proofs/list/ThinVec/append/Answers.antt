@@ -1,5 +1,5 @@
 -- `append` calls `reserve` with the number of items of `other`. So the list gets the capacity that
--- this call of `reserve` chooses, and an error of this call is returned.
+-- `reserve` chooses, and `append` returns any error of `reserve`.
 use Rattle.std.proofs.Common.{Ok, arith, ap, sym, ◌∙◌}
 use denote.Param.{param}
 use Rattle.thin_vec.specs.ThinVec.{capacity_for}

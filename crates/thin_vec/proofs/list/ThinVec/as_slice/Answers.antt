@@ -1,5 +1,5 @@
--- `as_slice` returns the first `len` slots as a slice. All these slots hold items, and these items
--- are the items of the list.
+-- `as_slice` returns the first `len` slots as a slice. These slots hold exactly the items of the
+-- list, in order.
 use Rattle.std.proofs.Common.{ap, arith, ◌∙◌}
 use Rattle.thin_vec.proofs.ListLemmas.{thin-filled, thin-run}
 use Rattle.thin_vec.proofs.ThinVecLemmas.{within-of}

@@ -1,6 +1,6 @@
--- `close` turns an open block, which is the block of a list during an edit, back into the block of
--- the list. `into_closed` moves all items to the first slots without a change of their order. So
--- the list contains the items of the open block, in order.
+-- `close` puts an open block, which is the block of a list during an edit, back into the list.
+-- Before that, `into_closed` closes the gap between the items without changing their order. So the
+-- list contains the items of the open block, in order.
 use Rattle.std.proofs.Common.{ap, sym, ◌∙◌, rules}
 use Rattle.thin_vec.specs.Open.{items_of}
 use Rattle.thin_vec.proofs.ListLemmas.{Settled, settled, thin-room, thin_of-becomes}

@@ -1,5 +1,5 @@
--- The invariant of the loop. The list contains its old items, followed by all items that the
--- iterator has yielded so far. The capacity is the old capacity, or the growth rule chose it.
+-- The invariant of the loop: the list contains its old items, followed by all items that the
+-- iterator has yielded so far. Its capacity is the old capacity or was chosen by the growth rule.
 use Rattle.std.proofs.Common.{◌≡◌, ◌+◌, ◌≤◌, List, ◌++◌, length}
 use Rattle.std.specs.Iterator.{IsFinite, Yields, size}
 use denote.Param.{param}

@@ -1,6 +1,6 @@
--- No item follows the replaced range. So after `close`, the list contains only the items before the
--- range, and `extend` appends the items of the iterator. The clauses follow from the contracts of
--- `close` and `extend`.
+-- No item follows the replaced range. So the list contains only the items before the range after
+-- the call of `close`, and the call of `extend` appends the items of the iterator. The clauses
+-- follow from the contracts of these two calls.
 use Rattle.std.proofs.Common.{◌≡◌, ◌*◌, ◌++◌, ◌∙◌, ap, arith, length, length-append, refl, subst, sym}
 use Rattle.std.specs.Iterator.{size}
 use Rattle.std.specs.Prelude.{MatchOption}

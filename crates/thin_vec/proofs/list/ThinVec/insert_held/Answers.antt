@@ -14,7 +14,7 @@ use Rattle.thin_block.proofs.Outcomes.{err-same}
 use Rattle.thin_vec.proofs.list.ThinVec.insert_held.Goals.{In-Err}
 use Rattle.thin_vec.proofs.list.ThinVec.insert_held.Goals as goal
 
--- The call of `reserve` asks for room for exactly the number of items in the vector `held`.
+-- The call of `reserve` asks for room for exactly the items in the vector `held`.
 count : (g : _) (c : In-Err g) → c.len.result ≡ length c.draw-held.result.held.items
 count g c = c.len.ensures ∙ c.draw-held.result.held.ok.0
 

@@ -1,5 +1,5 @@
--- The invariant of the loop. The items of the list are the items in `vec`, followed by the items
--- that are left in the iterator. The capacity of `vec` does not change, and each iteration reduces
+-- The invariant of the loop: the items of the list are the items in `vec`, followed by the items
+-- that are still in the iterator. The capacity of `vec` does not change, and each iteration reduces
 -- the number of items in the iterator.
 use Rattle.std.proofs.Common.{◌≡◌, ◌+◌, ◌++◌, length, vec_capacity, vec_len}
 use Rattle.thin_vec.proofs.list.ThinVec.moved_to.Given as goal

@@ -1,7 +1,6 @@
--- `replace_range_from_copies` calls `reserve` for the number of items that exceeds the length of
--- the range. Only the first of these two methods requires the item type to be `Copy`. But both
--- contracts use only the size and the alignment of an item, so both name the same capacity and the
--- same error.
+-- `replace_range_from_copies` calls `reserve`. Both contracts depend only on the size and the
+-- alignment of an item. So they name the same capacity and the same error, although only
+-- `replace_range_from_copies` requires the item type to be `Copy`.
 use Rattle.std.proofs.Common.{◌≡◌, ◌+◌, ◌-◌, ◌∙◌, Ok, ap, arith, length, refl}
 use denote.Param.{copied}
 use Rattle.thin_block.proofs.CapacityLemmas.{ruled-at}

@@ -1,6 +1,6 @@
--- `from_iter` makes a list whose capacity is the iterator's size hint, and then calls
--- `extend_unhinted`. The clauses about the list and about the cause of a failure follow from the
--- contracts of these two steps.
+-- `from_iter` makes a list whose capacity is the lower bound of the iterator's size hint, and then
+-- calls `extend_unhinted`. The clauses about the list and about the cause of a failure follow from
+-- the contracts of these two steps.
 use Rattle.std.specs.Iterator.{Yields}
 use Rattle.std.specs.Option.{option_to_list}
 use Rattle.std.proofs.Common.{None, [], refl, Some, inl, inr, ◌++◌, ◌≡◌, ◌∙◌, ap, arith, length, subst, sym}
@@ -16,7 +16,7 @@ use Rattle.thin_vec.proofs.list.extend.ThinVec+T+A.from_iter.Goals.{After-extend
 use Rattle.thin_vec.proofs.list.extend.ThinVec+T+A.from_iter.Goals as goal
 
 -- After `extend_unhinted`, the list satisfies `IsCollectedList`, because its capacity before this
--- call was exactly the size hint.
+-- call was exactly the lower bound of the size hint.
 collected : (g : _) (c : After-extend_unhinted g)
     → IsCollectedList doubling (param 0 g.row.T) c.args.alloc c.extend_unhinted.new.self
     (g.I.Iterator.remaining c.args.iter)
