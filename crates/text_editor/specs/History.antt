@@ -1,8 +1,8 @@
 -- In contracts, the state of an editor is a `History`.
 use Rattle.std.specs.Prelude.{◌≡◌, ℕ, List, []}
 
--- A `History` contains the current text and two lists of texts. Repeated calls of `undo` restore
--- the texts in `past`, and repeated calls of `redo` restore the texts in `future`. In each list,
+-- A `History` contains the current text and two lists of texts. Repeated calls to `undo` restore
+-- the texts in `past`, and repeated calls to `redo` restore the texts in `future`. In each list,
 -- the first text is the one that the next call restores.
 pub record History : Type 0 where
   pub past : List (List ℕ)

@@ -12,7 +12,7 @@ use std::marker::Model;
 use thin_vec::{ThinVec, ThinVecError};
 
 /// A text with the history of its edits. In contracts, an editor is a `History`: the text, the
-/// texts that repeated calls of `undo` restore, and the texts that repeated calls of `redo`
+/// texts that repeated calls to `undo` restore, and the texts that repeated calls to `redo`
 /// restore.
 #[derive(Drop)]
 pub struct Editor {

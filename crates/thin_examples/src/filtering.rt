@@ -48,7 +48,7 @@ pub fn keep_last_digits<A: Allocator, G: Growth>(list: &mut ThinVec<u32, A, G>)
 
 /// Halves each number, and then removes each half that equals the half that was kept before it. The
 /// closure of `dedup_by` halves only the later of the two numbers that it compares. So the first
-/// number of the list is halved before the call of `dedup_by`.
+/// number of the list is halved before the call to `dedup_by`.
 pub fn halve_each<A: Allocator, G: Growth>(list: &mut ThinVec<u32, A, G>)
     ensures items { list.new.items
         ≡ dedup (λ later kept. later == kept) (map (λ number. number / 2) list.old.items) }

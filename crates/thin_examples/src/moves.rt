@@ -32,7 +32,7 @@ pub fn removed_first<T, A: Allocator, G: Growth>(list: &mut ThinVec<T, A, G>) ->
     list.remove(0)
 }
 
-/// Drains the four middle items of a list of six items. Calls of `next` and `next_back` yield two
+/// Drains the four middle items of a list of six items. Calls to `next` and `next_back` yield two
 /// of them, and the other two are dropped. Only the last item of the list is moved.
 pub fn drained_middle<T: Drop, A: Allocator, G: Growth>(list: &mut ThinVec<T, A, G>)
     requires six { length list.old.items ≡ 6 }

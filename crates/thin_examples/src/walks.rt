@@ -70,7 +70,7 @@ pub fn reversed_singly<A: Allocator, G: Growth>(
     Ok(vec)
 }
 
-/// Moves the items of `list` into a `Vec` one by one, using calls of `next`.
+/// Moves the items of `list` into a `Vec` one by one, using calls to `next`.
 ///
 /// # Errors
 ///

@@ -56,7 +56,7 @@ pub fn write_reply(out: &mut impl Write, reply: Reply<u64>) -> io::Result<()> {
     }
 }
 
-// Writes the list that was passed to `append`. If the call of `append` failed, first writes the
+// Writes the list that was passed to `append`. If the call to `append` failed, first writes the
 // cause of the failure.
 fn write_other(
     out: &mut impl Write,

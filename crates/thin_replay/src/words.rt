@@ -59,7 +59,7 @@ pub fn list_of(alloc: Global, words: &[&str]) -> Result<ThinVec<u64>, LineError>
     Ok(list)
 }
 
-/// Parses a word as steps, which are calls of `next` or `next_back`. The word `-` stands for no
+/// Parses a word as steps, which are calls to `next` or `next_back`. The word `-` stands for no
 /// steps. In any other word, each letter stands for one step.
 pub fn steps_of(alloc: Global, word: &str) -> Result<Vec<Step>, LineError>
     ensures steps { IfOk result (λ steps. SpellsSteps word.now steps.items) }
@@ -75,7 +75,7 @@ pub fn steps_of(alloc: Global, word: &str) -> Result<Vec<Step>, LineError>
     Ok(steps)
 }
 
-// Parses a letter as a step, which is a call of `next` or `next_back`.
+// Parses a letter as a step, which is a call to `next` or `next_back`.
 fn step_of(letter: u8) -> Result<Step, LineError>
     ensures step { IfOk result (IsStep letter) }
 {

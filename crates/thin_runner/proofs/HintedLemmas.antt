@@ -1,4 +1,4 @@
--- These lemmas state what calls of `next` on the iterator `Hinted` yield, and how the calls change
+-- These lemmas state what calls to `next` on the iterator `Hinted` yield, and how the calls change
 -- the iterator.
 use Rattle.std.proofs.Common.{◌≡◌, List, [], ◌∷◌, ◌++◌, ap, sym, ◌∙◌}
 use Rattle.std.proofs.lemmas.List.{append-nil}
@@ -7,14 +7,14 @@ use Rattle.thin_runner.specs.Hinted.{HintedSteps, hinted_claim, hinted_items}
 use Rattle.thin_runner.specs.declared.hinted.Hinted.{Hinted}
 
 module _ {T A : Type 0} where
-  -- If calls of `next` yielded the items `xs` and turned the iterator `s` into `t`, then the items
+  -- If calls to `next` yielded the items `xs` and turned the iterator `s` into `t`, then the items
   -- left in `s` are `xs`, followed by the items left in `t`.
   pub yields-items : (s t : Hinted T A) (xs : List T) → Yields (HintedSteps {T = T} {A = A}) s xs t
       → hinted_items s ≡ xs ++ hinted_items t
   yields-items s t [] e = ap hinted_items e
   yields-items s t (x ∷ xs) e = e.1.0 ∙ ap (λ l. x ∷ l) (yields-items e.0 t xs e.2)
 
-  -- Calls of `next` on a `Hinted` do not change the lower bound of its size hint.
+  -- Calls to `next` on a `Hinted` do not change the lower bound of its size hint.
   pub yields-claim : (s t : Hinted T A) (xs : List T) → Yields (HintedSteps {T = T} {A = A}) s xs t
       → hinted_claim t ≡ hinted_claim s
   yields-claim s t [] e = ap hinted_claim (sym e)

@@ -1,5 +1,5 @@
 -- Lemmas about an `ExtractIf` whose closure asks a judge which items to remove. They state what the
--- calls of `next` return, and which items the list has afterwards.
+-- calls to `next` return, and which items the list has afterwards.
 use Rattle.std.proofs.Common.{◌≡◌, ℕ, zero, suc, ◌+◌, ◌-◌, ◌≤◌, ◌==◌, Bool, true, false, List, [], ◌∷◌, ◌++◌, Option, None, Some, length, take, drop, refl, arith, ap, subst, sym, ◌∙◌, append_assoc}
 use Rattle.std.proofs.Math.Dec.{eqb-suc-zero}
 use Rattle.std.proofs.lemmas.List.{append-nil, length-append, length-drop, length-map, length-take}
@@ -16,14 +16,14 @@ use Rattle.thin_runner.specs.commands.Ranges.{walked}
 use Rattle.thin_runner.specs.declared.command.Step.TheVariants.{Front}
 
 module _ {T : Type 0} where
-  -- `goes item` lists the verdicts on `item`, the result of a call of `next`. If `item` is
+  -- `goes item` lists the verdicts on `item`, the result of a call to `next`. If `item` is
   -- `Some x`, the list has one verdict, which says that `x` is removed. If `item` is `None`, the
   -- list is empty.
   abbrev pub goes : Option T → Verdicts T
   goes None = []
   goes (Some x) = (false, x) ∷ []
 
-  -- `handed_out k xs` lists the results of `k` calls of `next` if `xs` is the list of the items to
+  -- `handed_out k xs` lists the results of `k` calls to `next` if `xs` is the list of the items to
   -- extract: first these items in order, and then `None`.
   abbrev pub handed_out : ℕ → List T → List (Option T)
   handed_out k xs = walked xs (replicate k Front)
@@ -80,10 +80,10 @@ module _ {S T J : Type 0} (R : S → T → Bool → S → T → Type 0) (judge_o
   none-left j zero = refl
   none-left j (suc k) = refl
 
-  -- In this module, a call of `next` returns `item`. After the call, the items `rest` are untested,
+  -- In this module, a call to `next` returns `item`. After the call, the items `rest` are untested,
   -- the closure is in the state `t`, and up to `k` more calls follow.
   module _ (t : S) (k : ℕ) (item : Option T) (rest : List T) where
-    -- Suppose that a call of `next` keeps the items `kept` and returns `item`. Then the verdicts of
+    -- Suppose that a call to `next` keeps the items `kept` and returns `item`. Then the verdicts of
     -- this call and of `k` more calls are, in this order: the verdicts that keep `kept`, the
     -- verdict on `item` (if any), and the verdicts of the `k` calls.
     pub extracts-by : (s : S) (xs kept : List T) → ExtractsNext R s xs item t kept rest
@@ -111,7 +111,7 @@ module _ {S T J : Type 0} (R : S → T → Bool → S → T → Type 0) (judge_o
             ap (λ l. (true, e.2) ∷ l) (by m.0 m.1)
             ∙ sym (ap (λ l. stay l ++ (goes item ++ extracting ask (judge_of t) k rest)) m.2)
 
-    -- If a call of `next` returns `None`, then no untested item is left.
+    -- If a call to `next` returns `None`, then no untested item is left.
     rest-none : (s : S) (xs kept : List T) → ExtractsNext R s xs item t kept rest
         → item ≡ None → rest ≡ []
     rest-none s [] kept e none = e.3
@@ -124,7 +124,7 @@ module _ {S T J : Type 0} (R : S → T → Bool → S → T → Type 0) (judge_o
         answered true by m = let wrong = m.0 in absurd (none-some (sym none ∙ wrong))
         answered false by m = by m.0 m.1
 
-    -- Suppose that a call of `next` returns `item`. Then the results that `handed_out` computes for
+    -- Suppose that a call to `next` returns `item`. Then the results that `handed_out` computes for
     -- this call and `k` more calls are `item`, followed by the results of the `k` calls.
     pub handed-by : (s : S) (xs kept : List T) → ExtractsNext R s xs item t kept rest
         → handed_out (suc k) (left_at false (extracting ask (judge_of s) (suc k) xs))
@@ -156,7 +156,7 @@ charged (suc gone) m k c =
     ≡ moving (m + (if t then 0 else k)) c)
     (sym (eqb-suc-zero gone)) (moving-more k m c)
 
--- The state of an `extract_if` between two calls of `next`.
+-- The state of an `extract_if` between two calls to `next`.
 pub record Stand (T : Type 0) : Type 0 where
   -- The verdicts on the items that have not been tested so far, computed in advance.
   pub left : Verdicts T
@@ -169,9 +169,9 @@ pub record Stand (T : Type 0) : Type 0 where
 
 -- In this module, an `extract_if` tests the items of a range of a list. `asked` contains the
 -- verdicts on all items of the range, and `start` contains the items before the range. `before` is
--- the cost of the list before the first call of `next`.
+-- the cost of the list before the first call to `next`.
 module _ {T : Type 0} (asked : Verdicts T) (start : List T) (before : Cost) where
-  -- `IsExtracting at` holds if `at` is the state of the extraction after some number of calls of
+  -- `IsExtracting at` holds if `at` is the state of the extraction after some number of calls to
   -- `next`. The field `done` contains the verdicts of these calls.
   pub record IsExtracting (at : Stand T) : Type 0 where
     pub done : Verdicts T
@@ -195,7 +195,7 @@ module _ {T : Type 0} (asked : Verdicts T) (start : List T) (before : Cost) wher
       before)
       ∙ ap (λ m. moving m before) (sym (moves-append h.done now))))
 
-  -- `IsExtracting` holds for the state before the first call of `next`.
+  -- `IsExtracting` holds for the state before the first call to `next`.
   pub extracting-none : (at : Stand T) → at.left ≡ asked → at.front ≡ start → at.out ≡ 0
       → at.paid ≡ before → IsExtracting at
   extracting-none at all same none free =
@@ -208,7 +208,7 @@ module _ {T : Type 0} (asked : Verdicts T) (start : List T) (before : Cost) wher
       }
 
   module _ (at next : Stand T) where
-    -- Suppose that `IsExtracting` holds for the state `at`. If a call of `next` keeps the items
+    -- Suppose that `IsExtracting` holds for the state `at`. If a call to `next` keeps the items
     -- `kept`, returns `item`, and ends in the state `next`, then `IsExtracting` holds for `next`.
     pub extracting-step : (kept : List T) (item : Option T) → IsExtracting at
         → at.left ≡ stay kept ++ (goes item ++ next.left) → next.front ≡ at.front ++ kept
@@ -312,7 +312,7 @@ module _ {T J : Type 0} (ask : J → T → Bool × T × J) where
   extracting-length j (suc k) (x ∷ xs) =
       ap suc (extracting-length (ask j x).2 (if (ask j x).0 then k else suc k) xs)
 
-  -- If `k` calls of `next` extract items from the range `a..b` of the list `xs`, then the number of
+  -- If `k` calls to `next` extract items from the range `a..b` of the list `xs`, then the number of
   -- items that are kept is at most `length xs`.
   pub few-extracted : (j : J) (k : ℕ) (xs : List T) (a b : ℕ) → a ≤ b → b ≤ length xs
       → length (left_at true (around xs a b (extracting ask j k (slice_range xs a b)))) ≤ length xs

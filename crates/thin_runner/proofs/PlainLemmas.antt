@@ -56,7 +56,7 @@ module _ {T A G : Type 0} where
   in_range-decides xs command = ((λ e. tt), (λ e. refl))
 
 module _ {T : Type 0} where
-  -- If a call of `pop` turns the list `xs` into `ys` and returns `o`, then `o` is the last item of
+  -- If a call to `pop` turns the list `xs` into `ys` and returns `o`, then `o` is the last item of
   -- `xs`, and `ys` contains the items before it. (If `xs` is empty, `o` is `None`.)
   popped : (xs ys : List T) (o : Option T) → (IsSome o ↔ (0 < length xs))
       → xs ≡ ys ++ option_to_list o

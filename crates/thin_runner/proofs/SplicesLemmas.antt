@@ -182,7 +182,7 @@ module _ {T A : Type 0} (old : Thin T A) where
 -- The lemmas of this module show that appending items to a list is the same as replacing the empty
 -- range at its end.
 module _ {T A : Type 0} (rule : Rule) (R : RattleType) (old new : Thin T A) where
-  -- `IsFilled placed most` holds if a call of `extend` appended the items `placed`, and thereby
+  -- `IsFilled placed most` holds if a call to `extend` appended the items `placed`, and thereby
   -- turned the list `old` into `new`. The iterator could yield at most `most` items. The fields are
   -- clauses of the contract of `extend`.
   pub record IsFilled (placed : List T) (most : ℕ) : Type 0 where

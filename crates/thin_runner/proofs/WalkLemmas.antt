@@ -1,4 +1,4 @@
--- A step on a range is a call of `next` or `next_back`. These lemmas state the results of a
+-- A step on a range is a call to `next` or `next_back`. These lemmas state the results of a
 -- sequence of steps that begins with `next_back`.
 use Rattle.std.proofs.Common.{◌≡◌, ◌-◌, List, [], ◌∷◌, ◌++◌, Option, None, Some, ap, arith, length, refl, subst, sym, take, ◌∙◌}
 use Rattle.std.proofs.Math.Seq.{take-append_seam}

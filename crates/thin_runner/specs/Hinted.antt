@@ -21,7 +21,7 @@ module _ {T A : Type 0} where
   abbrev pub hinted_count : Hinted T A → Count
   hinted_count h = at_most (hinted_claim h + length (hinted_items h))
 
-  -- `HintedSteps old item new` holds if a call of `next` may turn the iterator `old` into `new` and
+  -- `HintedSteps old item new` holds if a call to `next` may turn the iterator `old` into `new` and
   -- return `item`: the first item that is left in `old`, or `None` if no item is left. The call
   -- must not change the lower bound of the size hint.
   abbrev pub HintedSteps : Hinted T A → Option T → Hinted T A → Type 0

@@ -77,7 +77,7 @@ module _ {T A G J : Type 0} (here : Setting T A J) where
       × Grows here old more new.items more new
   Does old (ExtendFromSlice xs) (Refused cause) new = let more = length xs.items in
       (0 < more) × RefusesClone here old more xs.items cause new
-  -- A call of `extend` is described as a splice that replaces the empty range at the end of the
+  -- A call to `extend` is described as a splice that replaces the empty range at the end of the
   -- list.
   Does old (Extend xs lower) Done new = let end = length old.items in
       Replaces here.rule here.R old end end xs.items (lower + length xs.items) new
@@ -103,7 +103,7 @@ module _ {T A G J : Type 0} (here : Setting T A J) where
       × (new ≡ edited old (remove_range old.items a b) m)
   Does old (Drain a b steps) (Refused cause) new =
       (0 < length steps.items) × (cause ≡ OutOfMemory) × (new ≡ old)
-  -- The calls of `next` on the `ExtractIf` return the extracted items in order, and then `None`.
+  -- The calls to `next` on the `ExtractIf` return the extracted items in order, and then `None`.
   Does old (ExtractIf a b k) (Answers answers) new =
       let asked = extracting here.judging.take here.judge k (slice_range old.items a b) in
       (answers.items ≡ walked (left_at false asked) (replicate k Front))

@@ -91,7 +91,7 @@ pub enum Reply<T, A: Allocator = Global, G: Growth = Doubling> {
     Done,
     /// The item that the call removed or replaced, or `None` if there was no such item.
     Item(Option<T>),
-    /// The results of the calls of `next` and `next_back`, in order.
+    /// The results of the calls to `next` and `next_back`, in order.
     Answers(Vec<Option<T>, A>),
     /// The list that the call made.
     List(ThinVec<T, A, G>),
@@ -102,7 +102,7 @@ pub enum Reply<T, A: Allocator = Global, G: Growth = Doubling> {
     Returned(T, ThinVecError),
     /// The cause of the failure.
     Refused(ThinVecError),
-    /// A call of `extend`, or of `finish` on a splice, failed.
+    /// A call to `extend`, or of `finish` on a splice, failed.
     Stopped {
         /// The results of the steps that were taken before `finish` was called. If `extend` failed,
         /// this vector is empty.

@@ -92,7 +92,7 @@ pub trait Numbers: List<u64> {
     /// numbers.
     fn extend_filtered(&mut self, items: &[u64]) -> Result<(), AllocError>;
 
-    /// Appends the first half of `items`, and then the second half, using two calls of `extend`.
+    /// Appends the first half of `items`, and then the second half, using two calls to `extend`.
     /// The two iterators have the same type, so both calls run the same instance of the generic
     /// method `extend`.
     fn extend_twice(&mut self, items: &[u64]) -> Result<(), AllocError>;

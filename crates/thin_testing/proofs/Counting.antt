@@ -1,4 +1,4 @@
--- These lemmas are about calls of `granted` and `returned`. A shared reference to the counts of the
+-- These lemmas are about calls to `granted` and `returned`. A shared reference to the counts of the
 -- allocator satisfies the preconditions of both functions, and both functions return the unit
 -- value. The lemmas assume the laws of the separation logic (`Logic`).
 use Rattle.std.proofs.Common.{◌≡◌, ℕ, List, [], ◌∷◌, refl, ap}
@@ -36,7 +36,7 @@ module _ {M : Type 1} {𝓤 : Ura M} (𝓛 : Logic 𝓤) (at_mem : Memory → SP
   abbrev pub Returned : Contract 𝓤
   Returned = triple_of 𝓛 RE.signature (RE.spec 𝓛 at_mem run)
 
-  -- `at_granted κ q c k y v` consists of the ghost arguments for a call of `granted` with the
+  -- `at_granted κ q c k y v` consists of the ghost arguments for a call to `granted` with the
   -- answer `y`, whose machine value is `v`. The call passes a reference of the lifetime `κ` to the
   -- counts, which have the address `c` and the value `k`. It also passes the fraction `q` of the
   -- token that proves that `κ` has not ended.
@@ -52,7 +52,7 @@ module _ {M : Type 1} {𝓤 : Ura M} (𝓛 : Logic 𝓤) (at_mem : Memory → SP
     tt,
   )
 
-  -- `at_returned κ q c k` consists of the ghost arguments for a call of `returned`. The call passes
+  -- `at_returned κ q c k` consists of the ghost arguments for a call to `returned`. The call passes
   -- a reference of the lifetime `κ` to the counts, which have the address `c` and the value `k`. It
   -- also passes the fraction `q` of the token that proves that `κ` has not ended.
   abbrev pub at_returned : Lft → Share → ℕ × ℕ → Row.Denot → Returned.Ghost
@@ -77,7 +77,7 @@ module _ {M : Type 1} {𝓤 : Ura M} (𝓛 : Logic 𝓤) (at_mem : Memory → SP
       move ! (1 ∷ []) $ fjoin ! $
       nothing ! $ move ! (2 ∷ []) $ join ! $ join ! $ nothing ! $ move ! (1 ∷ []) $ done !
 
-  -- A call of `granted` returns the unit value. It also returns the token that proves that the
+  -- A call to `granted` returns the unit value. It also returns the token that proves that the
   -- lifetime `κ` has not ended.
   pub Granted-gives : (y : Answer.Denot) (w v : Val)
       → ent 𝓤 ((Granted 𝓛 at_mem run).post (at_granted 𝓛 at_mem run κ q c k y w) v)
@@ -102,7 +102,7 @@ module _ {M : Type 1} {𝓤 : Ura M} (𝓛 : Logic 𝓤) (at_mem : Memory → SP
       nothing ! $ move ! (1 ∷ []) $ fjoin ! $ nothing ! $ move ! (2 ∷ []) $ join ! $ join ! $
       nothing ! $ move ! (1 ∷ []) $ done !
 
-  -- A call of `returned` returns the unit value. It also returns the token that proves that the
+  -- A call to `returned` returns the unit value. It also returns the token that proves that the
   -- lifetime `κ` has not ended.
   pub Returned-gives : (v : Val)
       → ent 𝓤 ((Returned 𝓛 at_mem run).post (at_returned 𝓛 at_mem run κ q c k) v)

@@ -1,4 +1,4 @@
--- These lemmas are about calls of `refuses`, `granted` and `returned`. The hand-written proofs of
+-- These lemmas are about calls to `refuses`, `granted` and `returned`. The hand-written proofs of
 -- the allocator `Refusing` use them.
 mod Asks
 mod Counting

@@ -1,6 +1,6 @@
 //! Defines `Refusing`, an allocator for tests. It refuses one request, which the test chooses.
 //!
-//! A request is a call of `allocate`, `grow` or `shrink`, so each growth of a list is one request.
+//! A request is a call to `allocate`, `grow` or `shrink`, so each growth of a list is one request.
 //! The methods `grow` and `shrink` call the same method of `inner`, which may resize a block in
 //! place. Pass the allocator by reference, as `&Refusing<Global>`. A reference to an allocator is
 //! itself an allocator, and it is `Copy`.
@@ -17,7 +17,7 @@ use std::alloc::{AllocError, Allocator};
 use std::cell::Cell;
 
 // The counts of an allocator `Refusing`. `requests` is the number of requests since the allocator
-// was created or since the last call of `refuse`. `blocks` is the number of blocks that are
+// was created or since the last call to `refuse`. `blocks` is the number of blocks that are
 // allocated and have not been freed yet. The request with the number `refused` is refused. If
 // `refused` is 0, no request is refused.
 #[derive(Drop)]
@@ -73,13 +73,13 @@ impl<B: Allocator> Refusing<B> {
         self.counts.refused.set(refused);
     }
 
-    /// Returns the number of requests since the allocator was created or since the last call of
+    /// Returns the number of requests since the allocator was created or since the last call to
     /// `refuse`. A refused request counts, too.
     pub fn requests(&self) -> u64 {
         self.counts.requests.get()
     }
 
-    /// Returns the number of blocks that are allocated and have not been freed yet. A call of
+    /// Returns the number of blocks that are allocated and have not been freed yet. A call to
     /// `refuse` does not change this number.
     pub fn blocks(&self) -> u64 {
         self.counts.blocks.get()

@@ -76,7 +76,7 @@ module _ {T : Type 0} (test : T → Bool) where
   abbrev pub others : List T → List T
   others xs = filter (λ x. not (test x)) xs
 
-  -- `Parts` describes one call of `next`, which tests the items of the list `xs`, in order, until
+  -- `Parts` describes one call to `next`, which tests the items of the list `xs`, in order, until
   -- one of them passes. `item` is this item, or `None` if no item passes. The items `kept` were
   -- tested but not yielded, and the items `rest` were not tested.
   pub record Parts (xs : List T) (item : Option T) (kept rest : List T) : Type 0 where

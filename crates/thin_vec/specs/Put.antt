@@ -4,8 +4,8 @@ use Rattle.std.specs.Iterator.{Count, IsFinite, Yields, YieldsThen, size}
 use Rattle.std.specs.declared.option.Option.TheVariants.{None}
 use Rattle.thin_vec.specs.declared.put.Filled.{Filled}
 
--- `Gives steps s xs ended t` states that calls of `next` on the iterator `s` yielded the items `xs`
--- and changed the iterator to `t`. If `ended` is true, one more call of `next` returned `None`.
+-- `Gives steps s xs ended t` states that calls to `next` on the iterator `s` yielded the items `xs`
+-- and changed the iterator to `t`. If `ended` is true, one more call to `next` returned `None`.
 abbrev pub Gives : {S X : Type 0} → (S → Option X → S → Type 0) → S → List X → Bool → S → Type 0
 Gives steps s xs true t = YieldsThen steps s xs None t
 Gives steps s xs false t = Yields steps s xs t

@@ -18,7 +18,7 @@ use std::marker::Model;
 use std::mem;
 use thin_block::{Block, Growth};
 
-/// The block of a list during an edit of a range of the list, for example during a call of
+/// The block of a list during an edit of a range of the list, for example during a call to
 /// `retain`. There may be empty slots between the items.
 ///
 /// The slots have six parts, each of which may be empty. The fields of this struct say in which

@@ -119,7 +119,7 @@ pub(crate) fn put_repeated<T: Clone, A: Allocator>(
     count
 }
 
-// Fills the `count` empty slots from index `start` onward with the results of calls of `make`, in
+// Fills the `count` empty slots from index `start` onward with the results of calls to `make`, in
 // order.
 pub(crate) fn put_results<T, A: Allocator, F: FnMut() -> T>(
     block: &mut Block<T, A>,

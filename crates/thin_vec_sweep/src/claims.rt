@@ -1,4 +1,4 @@
-//! An iterator whose size hint may be wrong. The iterator counts the calls of `next` and of
+//! An iterator whose size hint may be wrong. The iterator counts the calls to `next` and of
 //! `size_hint`.
 ghost use Rattle.std.specs.Prelude.{◌+◌, length};
 ghost use Rattle.std.specs.Iterator.{at_most};
@@ -19,7 +19,7 @@ pub struct Claims<T> {
 
 impl<T> Claims<T> {
     /// Returns an iterator over `items`. The lower bound of its size hint is `lower`. The ledger
-    /// counts each call of `next` and of `size_hint`.
+    /// counts each call to `next` and of `size_hint`.
     pub fn new(items: Vec<T>, lower: usize, ledger: &'static Ledger) -> Claims<T> {
         Claims {
             items,
@@ -29,7 +29,7 @@ impl<T> Claims<T> {
         }
     }
 
-    /// Returns the items that have not been yielded yet. The next call of `next` would have yielded
+    /// Returns the items that have not been yielded yet. The next call to `next` would have yielded
     /// the last of these items.
     pub fn into_items(self) -> Vec<T> {
         let Claims {

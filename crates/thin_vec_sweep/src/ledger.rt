@@ -24,11 +24,11 @@ pub struct Ledger {
     pub global: Global,
     /// The number of items of type `Counted` that have been made but have not been dropped yet.
     pub standing: Cell<u64>,
-    /// The number of clones of `Counted` items since the last call of `begin`.
+    /// The number of clones of `Counted` items since the last call to `begin`.
     pub clones: Cell<u64>,
-    /// The number of calls of `next` on a `Claims` iterator since the last call of `begin`.
+    /// The number of calls to `next` on a `Claims` iterator since the last call to `begin`.
     pub asked: Cell<u64>,
-    /// The number of calls of `size_hint` on a `Claims` iterator since the last call of `begin`.
+    /// The number of calls to `size_hint` on a `Claims` iterator since the last call to `begin`.
     pub hinted: Cell<u64>,
     /// The numbers of test cases, of refused requests, and of comparisons since the test began.
     pub counts: Counts,
@@ -54,7 +54,7 @@ impl Ledger {
         Box::leak(Box::new(alloc, ledger).ok().expect(rt, "memory"))
     }
 
-    /// Resets the counts of requests, of clones, and of calls of `next` and `size_hint`. From now
+    /// Resets the counts of requests, of clones, and of calls to `next` and `size_hint`. From now
     /// on, the allocator `alloc` refuses the request with the number `refused`, or no request if
     /// `refused` is 0.
     pub fn begin(&self, refused: u64) {

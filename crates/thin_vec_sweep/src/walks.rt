@@ -1,4 +1,4 @@
-//! Walks over an iterator. A walk is a sequence of steps, each of which is a call of `next` or of
+//! Walks over an iterator. A walk is a sequence of steps, each of which is a call to `next` or of
 //! `next_back`. This file also determines the item that each step must yield.
 use crate::shapes::Cases;
 

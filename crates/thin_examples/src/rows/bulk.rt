@@ -38,7 +38,7 @@ pub fn row_15<A: Allocator + Copy>(alloc: A) -> Outcome {
     Ok(checks)
 }
 
-/// Checks the items and the capacity of a list after a call of `extend` with an iterator of five
+/// Checks the items and the capacity of a list after a call to `extend` with an iterator of five
 /// items. The lower bound of the size hint is 0, 3, 5 or 9.
 pub fn row_24<A: Allocator + Copy>(alloc: A) -> Outcome {
     let mut checks = Checks::new();

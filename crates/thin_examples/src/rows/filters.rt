@@ -50,7 +50,7 @@ pub fn row_14<A: Allocator + Copy>(alloc: A) -> Outcome {
     Ok(checks)
 }
 
-/// Checks `dedup_by_key` and `dedup`, and a call of `pop` after each of them.
+/// Checks `dedup_by_key` and `dedup`, and a call to `pop` after each of them.
 pub fn row_34<A: Allocator + Copy>(alloc: A) -> Outcome {
     let mut checks = Checks::new();
     let mut tens = listed(alloc, [10, 20, 21, 30, 20])?;

@@ -5,7 +5,7 @@ use crate::rows::{Outcome, listed};
 use std::alloc::Allocator;
 use thin_vec::{ThinVec, ThinVecError};
 
-/// Checks that the capacity of a new list is 0, and is still 0 after a call of `pop`.
+/// Checks that the capacity of a new list is 0, and is still 0 after a call to `pop`.
 pub fn row_1<A: Allocator + Copy>(alloc: A) -> Outcome {
     let mut checks = Checks::new();
     let mut list: ThinVec<i32, A> = ThinVec::new(alloc);

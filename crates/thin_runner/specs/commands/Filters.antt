@@ -12,7 +12,7 @@ use Rattle.thin_runner.specs.declared.command.Command.TheVariants.{Retain, Retai
 module _ {T J : Type 0} where
   -- `same_key key j later kept` compares the items `later` and `kept` by their keys. The key of
   -- `later` is computed first. The result says whether the keys are equal, and contains both items
-  -- and the state of the judge after the calls of `key`.
+  -- and the state of the judge after the calls to `key`.
   abbrev pub same_key : (J → T → ℕ × T × J) → J → T → T → Bool × T × T × J
   same_key key j later kept =
       let a = key j later in let b = key a.2 kept in (a.0 == b.0, a.1, b.1, b.2)
@@ -24,7 +24,7 @@ module _ {T J : Type 0} (ask : J → T → Bool × T × J) where
   asked j [] = []
   asked j (x ∷ xs) = let a = ask j x in (a.0, a.1) ∷ asked a.2 xs
 
-  -- `extracting j k xs` is the list of the verdicts on the items `xs` after `k` calls of `next` on
+  -- `extracting j k xs` is the list of the verdicts on the items `xs` after `k` calls to `next` on
   -- an `ExtractIf`, if the judge starts in the state `j`. After `k` items have been extracted, the
   -- remaining items are kept without a test.
   abbrev pub extracting : J → ℕ → List T → Verdicts T

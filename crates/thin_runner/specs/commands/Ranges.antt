@@ -1,4 +1,4 @@
--- This definition states what calls of `next` and `next_back` on a range of items return. (std:
+-- This definition states what calls to `next` and `next_back` on a range of items return. (std:
 -- `Vec::drain`, `DoubleEndedIterator`)
 use Rattle.std.specs.Prelude.{◌-◌, List, [], ◌∷◌, Option, drop, length, slice_get, take}
 use Rattle.thin_runner.specs.declared.command.Step.{Step}

@@ -41,7 +41,7 @@ module _ {T A : Type 0} (rule : Rule) (R : RattleType) (old : Thin T A) (a b : �
     pub cheap : IsCheap old → IsCheap new
     pub alloc : new.alloc ≡ old.alloc
 
-  -- `StopsBetween` states that a splice or a call of `extend` failed after it had placed the items
+  -- `StopsBetween` states that a splice or a call to `extend` failed after it had placed the items
   -- `placed` (perhaps none). All other items of the iterator must be in `held`, in `in_hand`, or in
   -- `rest`.
   pub record StopsBetween (xs held : List T) (lower : ℕ) (cause : ThinVecError)

@@ -39,7 +39,7 @@ impl<T: Clone + Eq, A: Allocator + Copy, G: Growth, J: Judge<T>> Setting<T, A, G
         Reply::Answers(answers)
     }
 
-    // Reserves room for the results of `count` calls of `next`, and then extracts items of the
+    // Reserves room for the results of `count` calls to `next`, and then extracts items of the
     // range `start..end`. If `count` is 0, no memory is allocated for the results.
     pub(crate) fn extract_if(
         self,

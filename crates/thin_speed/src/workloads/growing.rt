@@ -169,7 +169,7 @@ impl<L: Numbers> Make<L> for ExtendFilter {
 }
 
 /// Makes a list with enough capacity. Then extends it with the two halves of a slice, using two
-/// calls of `extend`.
+/// calls to `extend`.
 pub struct ExtendTwice;
 
 impl<L: Numbers> Make<L> for ExtendTwice {

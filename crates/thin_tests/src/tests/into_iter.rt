@@ -1,5 +1,5 @@
 //! Tests of `IntoIter`, the iterator that consumes a list. They check which items remain after some
-//! calls of `next` and `next_back`, and that the iterator ends.
+//! calls to `next` and `next_back`, and that the iterator ends.
 use crate::tests::support::assertions::{assert_items, assert_list, assert_same};
 use crate::tests::support::items::{list_of, refusing_nth};
 use std::alloc::{Allocator, Global};

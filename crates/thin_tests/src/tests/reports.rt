@@ -12,7 +12,7 @@ use thin_examples::rows::Outcome;
 use thin_testing::Refusing;
 use thin_vec::ThinVecError;
 
-// A writer that appends the written bytes to `text`. The calls of `write` are numbered from 1, and
+// A writer that appends the written bytes to `text`. The calls to `write` are numbered from 1, and
 // the call with the number `failing` fails. If `failing` is 0, no call fails.
 #[derive(Drop)]
 struct Failing<'a> {
@@ -58,7 +58,7 @@ const OUT_OF_MEMORY: &str = "ExitCode(unix_exit_status(2))";
 const NOT_WRITTEN: &str = "ExitCode(unix_exit_status(3))";
 
 // Writes the report to `text`, asserts that `report` returns the exit code `end`, and returns the
-// number of calls of `write`. The call of `write` with the number `failing` fails. If `failing` is
+// number of calls to `write`. The call to `write` with the number `failing` fails. If `failing` is
 // 0, no call fails.
 fn report_into<A: Allocator + Copy, R: Abort>(
     rt: &R,

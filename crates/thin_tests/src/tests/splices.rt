@@ -1,5 +1,5 @@
 //! Functions whose contracts show what a caller of `splice` can conclude. The tests check which
-//! items a list has after a failed call of `finish`, and what the failed call returns.
+//! items a list has after a failed call to `finish`, and what the failed call returns.
 ghost use Rattle.std.specs.Prelude.{◌≡◌, ◌≤◌, ◌++◌, OnOk, drop, length, take};
 
 use crate::tests::support::assertions::{assert_items, assert_len, assert_list, assert_same};

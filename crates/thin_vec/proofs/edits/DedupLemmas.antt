@@ -1,5 +1,5 @@
 -- These lemmas state which items are kept if each item is tested against the last item kept before
--- it, and how the results of consecutive tests combine. In this file, `R` describes the calls of
+-- it, and how the results of consecutive tests combine. In this file, `R` describes the calls to
 -- the closure, and `s`, `t` and `u` are states of the closure.
 use Rattle.std.proofs.Common.{◌≡◌, ℕ, zero, suc, ◌+◌, ◌<◌, ◌≤◌, Bool, true, false, List, [], ◌∷◌, ◌++◌, length, take, drop, refl, sym, ap, subst, ◌∙◌, arith, inl, inr, append_assoc}
 use Rattle.std.proofs.lemmas.List.{append-nil, drop_at, length_push, replicate-append-replicate, take_at}

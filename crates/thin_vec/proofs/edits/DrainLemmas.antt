@@ -1,4 +1,4 @@
--- These lemmas state what calls of `next` and `next_back` on a `Drain` yield, and what these calls
+-- These lemmas state what calls to `next` and `next_back` on a `Drain` yield, and what these calls
 -- leave unchanged.
 use Rattle.std.proofs.Common.{[], ◌∷◌, ap, refl, subst, ◌∙◌, length}
 use Rattle.std.proofs.iter.runs.Sources.{as_is, as_is_back, from_back, from_front}
@@ -25,14 +25,14 @@ module _ {T A G : Type 0} {g : Ghosts G} {h : HoldsGhosts (Holder (Open T A)) (O
         cost = q.cost ∙ p.cost;
       }
 
-  -- Calls of `next` do not change the list that remains after the `Drain` is dropped.
+  -- Calls to `next` do not change the list that remains after the `Drain` is dropped.
   pub drain_keeps_along : (d : Drain T A G (Holder (Open T A)) g h) → DrainKeepsAlong d
   drain_keeps_along d [] later e = subst (λ t. DrainKeeps d t) e
       (record { lender = refl; kept = refl; capacity = refl; alloc = refl; cost = refl })
   drain_keeps_along d (x ∷ xs) later e = drain_keeps_more d e.0 later e.1.keeps
       (drain_keeps_along e.0 xs later e.2)
 
-  -- Repeated calls of `next` yield the items that have not been yielded yet, in order.
+  -- Repeated calls to `next` yield the items that have not been yielded yet, in order.
   pub drains_in_order : YieldsInOrder (DrainSteps {T = T} {A = A} {G = G} {g = g} {h = h})
       drain_rest
   drains_in_order p s =
@@ -40,7 +40,7 @@ module _ {T A G : Type 0} {g : Ghosts G} {h : HoldsGhosts (Holder (Open T A)) (O
       (from_front DrainSteps (λ x. x) drain_rest (λ a b n. ap length n.gave.0)
       (λ a x b n. n.gave) p s)
 
-  -- Repeated calls of `next_back` yield the items that have not been yielded yet, in reverse order.
+  -- Repeated calls to `next_back` yield the items that have not been yielded yet, in reverse order.
   pub drains_in_reverse : YieldsInReverse (DrainStepsBack {T = T} {A = A} {G = G} {g = g} {h = h})
       drain_rest
   drains_in_reverse p s =

@@ -1,4 +1,4 @@
--- These lemmas are about the item that a call of `next` on an `ExtractIf` extracts. It is the first
+-- These lemmas are about the item that a call to `next` on an `ExtractIf` extracts. It is the first
 -- untested item for which the closure returns true.
 use Rattle.std.proofs.Common.{◌≡◌, ℕ, ◌+◌, ◌≤◌, Bool, true, false, List, [], ◌∷◌, ◌++◌, Option, None, Some, length, take, drop, refl, sym, ap, subst, ◌∙◌, arith, length-append}
 use Rattle.std.proofs.lemmas.List.{drop_at, length-take-le, nil_from_length, take_at}

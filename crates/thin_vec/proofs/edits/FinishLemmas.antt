@@ -43,7 +43,7 @@ module _ {S T A : Type 0} (steps : S → Option T → S → Type 0) (can : S →
 
   -- `IsReached` states that the list `u` consists of the front items of the open block `v`, the
   -- items `xs`, and the tail items of `v`. The items `xs` fill the gap of `v` and end before slot
-  -- `end`. Calls of `next` on the iterator `s` yielded these items, and the rest of the iterator is
+  -- `end`. Calls to `next` on the iterator `s` yielded these items, and the rest of the iterator is
   -- `t`.
   pub record IsReached (v : Open T A) (s : S) (u : Thin T A) (xs : List T) (end : ℕ)
       (t : S) : Type 0 where
@@ -205,7 +205,7 @@ module _ {S T A : Type 0} {steps : S → Option T → S → Type 0} {can : S →
     }
 
     -- Suppose that at least one tail item follows the placed items `xs`, and that the later steps
-    -- returned the result `r`. Then `IsFinished` holds for the whole call of `finish` with the
+    -- returned the result `r`. Then `IsFinished` holds for the whole call to `finish` with the
     -- result `r`.
     pub finished-from : {t : S} {u : Thin T A} {xs : List T} {end : ℕ}
         (r : Result (Unit {0}) (SpliceRefused T S A))

@@ -89,7 +89,7 @@ run-moves count n k m c d e = go (eqb count 0) e
     )
 
 module _ {S X : Type 0} (steps : S → Option X → S → Type 0) where
-  -- If calls of `next` yielded the items `xs`, and later calls yielded the items `ys` and then
+  -- If calls to `next` yielded the items `xs`, and later calls yielded the items `ys` and then
   -- returned `o`, then all these calls together yielded `xs ++ ys` and then returned `o`.
   pub yields-held : (s t u : S) (xs ys zs : List X) (o : Option X) → Yields steps s xs t
       → zs ≡ xs ++ ys → YieldsThen steps t ys o u → YieldsThen steps s zs o u
@@ -100,14 +100,14 @@ module _ {S X : Type 0} (steps : S → Option X → S → Type 0) where
     now.2,
   )
 
-  -- If calls of `next` yielded the items `xs` and then returned `Some x`, then these calls yielded
+  -- If calls to `next` yielded the items `xs` and then returned `Some x`, then these calls yielded
   -- the items `xs ++ x ∷ []`.
   pub yields-drawn : (s u : S) (xs : List X) (o : Option X) (x : X) → o ≡ Some x
       → YieldsThen steps s xs o u → Yields steps s (xs ++ x ∷ []) u
   yields-drawn s u xs o x is all =
       yields-more steps s all.0 u xs x all.1 (subst (λ r. steps all.0 r u) is all.2)
 
-  -- Suppose that a call of `next` yielded `x` and later calls yielded `xs`. If `x ∷ xs` consists of
+  -- Suppose that a call to `next` yielded `x` and later calls yielded `xs`. If `x ∷ xs` consists of
   -- the items `held` and the item in the option `o`, then all calls together yielded `held` and the
   -- item in `o`. If `o` is `None`, they yielded `held` and then returned `None`.
   pub drawn-after : (s t u : S) (x : X) (xs held : List X) (o : Option X) → steps s (Some x) t
@@ -162,7 +162,7 @@ inserted-long xs ys at in_bounds =
     )
 
 module _ {S X : Type 0} (steps : S → Option X → S → Type 0) where
-  -- If calls of `next` yielded the items `xs`, and later calls yielded the items `ys` and then
+  -- If calls to `next` yielded the items `xs`, and later calls yielded the items `ys` and then
   -- returned `None`, then all these calls together yielded `xs ++ ys` and then returned `None`.
   pub drains-more : (s t : S) (xs ys : List X) → Yields steps s xs t → Drains steps t ys
       → Drains steps s (xs ++ ys)
@@ -171,7 +171,7 @@ module _ {S X : Type 0} (steps : S → Option X → S → Type 0) where
 
 module _ {S X A : Type 0} (steps : S → Option X → S → Type 0) (can : S → Type 0)
     (remaining : S → Count) where
-  -- Suppose that calls of `next` yielded the items `xs`, and that `Stopped` holds for the later
+  -- Suppose that calls to `next` yielded the items `xs`, and that `Stopped` holds for the later
   -- calls with an empty list of placed items. Then `Stopped` holds for all calls together, with
   -- `xs` as the list of placed items.
   pub stopped-more : (s t : S) (xs : List X) (error : SpliceRefused X S A) → Yields steps s xs t
@@ -194,7 +194,7 @@ module _ {S X A : Type 0} (steps : S → Option X → S → Type 0) (can : S →
         (now.2.0, yields-join steps s t now.2.0 xs error.held.items before now.2.1, now.2.2),
       )
 
-  -- Suppose that the list `held` in the error is empty. Suppose also that calls of `next` yielded
+  -- Suppose that the list `held` in the error is empty. Suppose also that calls to `next` yielded
   -- the items that were placed in the list, and then the item `in_hand` of the error, if there is
   -- one. Then `Stopped` holds for these calls.
   pub stopped-now : (s : S) (xs : List X) (error : SpliceRefused X S A) → error.held.items ≡ []
@@ -211,7 +211,7 @@ module _ {S X A : Type 0} (steps : S → Option X → S → Type 0) (can : S →
         λ _. none,
       )
 
--- In this module, `error` is the error of a failed call of `finish`, and `v` is the list after the
+-- In this module, `error` is the error of a failed call to `finish`, and `v` is the list after the
 -- failure. `left` is an upper bound on the number of items that the iterator may still yield.
 module _ {S T A : Type 0} (rule : Rule) (R : RattleType) (v : Thin T A) (tail : List T)
     (left : Count) (error : SpliceRefused T S A) where

@@ -1,5 +1,5 @@
 -- These lemmas are for calls that append the items of an iterator to a list. They are about the
--- items that calls of `next` yield, and about the list after these items were appended.
+-- items that calls to `next` yield, and about the list after these items were appended.
 use Rattle.std.proofs.Common.{true, ◌≡◌, ℕ, ◌+◌, ◌-◌, ◌<◌, ◌≤◌, List, [], ◌∷◌, ◌++◌, inl, inr, length, length-append, Option, None, Some, refl, sym, ap, subst, ◌∙◌, arith, false}
 use Rattle.std.proofs.lemmas.Bool.{cases_lt}
 use Rattle.std.proofs.lemmas.List.{map-append}
@@ -29,35 +29,35 @@ use Rattle.thin_vec.proofs.ListLemmas.{length-full}
 use Rattle.thin_vec.proofs.ThinVecLemmas.{cap-kept, cost_at-more, cost_at-moves, cost_at-same}
 
 module _ {S X : Type 0} (steps : S → Option X → S → Type 0) where
-  -- If calls of `next` yielded the items `xs`, and one more call yielded `x`, then the whole
+  -- If calls to `next` yielded the items `xs`, and one more call yielded `x`, then the whole
   -- sequence of calls yielded `xs ++ x ∷ []`.
   pub yields-more : (s t u : S) (xs : List X) (x : X) → Yields steps s xs t → steps t (Some x) u
       → Yields steps s (xs ++ x ∷ []) u
   yields-more s t u [] x e now = (u, subst (λ r. steps r (Some x) u) (sym e) now, λ _. u)
   yields-more s t u (y ∷ ys) x e now = (e.0, e.1, yields-more e.0 t u ys x e.2 now)
 
-  -- If calls of `next` yielded the items `xs`, and the following calls yielded the items `ys`, then
+  -- If calls to `next` yielded the items `xs`, and the following calls yielded the items `ys`, then
   -- the whole sequence of calls yielded `xs ++ ys`.
   pub yields-join : (s t u : S) (xs ys : List X) → Yields steps s xs t → Yields steps t ys u
       → Yields steps s (xs ++ ys) u
   yields-join s t u [] ys e more = subst (λ r. Yields steps r ys u) (sym e) more
   yields-join s t u (x ∷ xs) ys e more = (e.0, e.1, yields-join e.0 t u xs ys e.2 more)
 
-  -- If calls of `next` yielded the items `xs ++ ys`, then the first `length xs` calls yielded `xs`.
+  -- If calls to `next` yielded the items `xs ++ ys`, then the first `length xs` calls yielded `xs`.
   pub yields-first : (s u : S) (xs ys : List X) → Yields steps s (xs ++ ys) u
       → (t : S) × Yields steps s xs t
   yields-first s u [] ys e = (s, refl)
   yields-first s u (x ∷ xs) ys e =
       let rest = yields-first e.0 u xs ys e.2 in (rest.0, (e.0, e.1, rest.1))
 
-  -- Suppose that calls of `next` yielded the items `xs` and then returned `None`, and that `xs`
+  -- Suppose that calls to `next` yielded the items `xs` and then returned `None`, and that `xs`
   -- satisfies the predicate `P`. Then these calls form a complete run of the iterator (`WholeRun`),
   -- and the items of this run satisfy `P`.
   pub run_of : (s : S) (P : List X → Type 0) → (xs : List X) × Drains steps s xs × P xs
       → WholeRun steps s (λ p. P p.items)
   run_of s P all = (run steps s all.0 true (to_end steps s all.0 all.1), refl, refl, all.2)
 
-  -- Suppose that the result `r` is `Ok`, and that calls of `next` yielded items that satisfy `P`
+  -- Suppose that the result `r` is `Ok`, and that calls to `next` yielded items that satisfy `P`
   -- and then returned `None`. Then these calls form a complete run of the iterator (`WholeRun`),
   -- and the items of this run satisfy `P`.
   pub run_of_ok : {E : Type 0} (s : S) (P : List X → Type 0) (r : Result (Unit {0}) E)
@@ -67,7 +67,7 @@ module _ {S X : Type 0} (steps : S → Option X → S → Type 0) where
   run_of_ok s P (Err _) all = tt
 
 module _ {S X : Type 0} (steps : S → Option X → S → Type 0) (s : S) where
-  -- Suppose that calls of `next` yielded the items `xs`, and then the item in the option `o` if `o`
+  -- Suppose that calls to `next` yielded the items `xs`, and then the item in the option `o` if `o`
   -- is `Some`. If the list of all these items satisfies `P`, then the calls form a run (`SomeRun`)
   -- whose items satisfy `P`. This run may be incomplete.
   pub run_given : (xs : List X) (o : Option X) (t : S) (P : List X → Type 0)
@@ -76,7 +76,7 @@ module _ {S X : Type 0} (steps : S → Option X → S → Type 0) (s : S) where
   run_given xs o t P gave h =
       (run steps s (xs ++ option_to_list o) false (t, gave, λ e. absurd (false≢true e)), refl, h)
 
-  -- Suppose that the result `r` is an error, and that calls of `next` yielded the items `xs` and
+  -- Suppose that the result `r` is an error, and that calls to `next` yielded the items `xs` and
   -- then the item that the error returns (if there is one). Then these calls form a run of the
   -- iterator (`SomeRun`), which may be incomplete.
   pub run_given_err : {E : Type 0} (can : S → Type 0) (remaining : S → Count)

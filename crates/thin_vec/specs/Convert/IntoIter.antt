@@ -21,12 +21,12 @@ module _ {T A : Type 0} where
   rest v = v.items
 
 module _ (T A : Type 0) where
-  -- `RestInOrder` states that repeated calls of `next` yield the items that have not been yielded
+  -- `RestInOrder` states that repeated calls to `next` yield the items that have not been yielded
   -- yet, in order.
   abbrev pub RestInOrder : Type 0
   RestInOrder = YieldsInOrder (YieldsFirst (rest {T = T} {A = A})) rest
 
-  -- `RestInReverse` states that repeated calls of `next_back` yield the items that have not been
+  -- `RestInReverse` states that repeated calls to `next_back` yield the items that have not been
   -- yielded yet, in reverse order.
   abbrev pub RestInReverse : Type 0
   RestInReverse = YieldsInReverse (YieldsLast (rest {T = T} {A = A})) rest

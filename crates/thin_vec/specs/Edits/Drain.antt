@@ -48,7 +48,7 @@ module _ {T A G : Type 0} {g : Ghosts G} {h : HoldsGhosts (Holder (Open T A)) (O
     pub alloc : drain_alloc new ≡ drain_alloc old
     pub cost : drain_cost new ≡ drain_cost old
 
-  -- `DrainSteps old item new` states that a call of `next` changed the `Drain` from `old` to `new`
+  -- `DrainSteps old item new` states that a call to `next` changed the `Drain` from `old` to `new`
   -- and returned `item`. This `item` is the first item that had not been yielded before, or `None`
   -- if there was no such item.
   pub record DrainSteps (old : Drain T A G (Holder (Open T A)) g h) (item : Option T)
@@ -56,7 +56,7 @@ module _ {T A G : Type 0} {g : Ghosts G} {h : HoldsGhosts (Holder (Open T A)) (O
     pub gave : YieldsFirst drain_rest old item new
     pub keeps : DrainKeeps old new
 
-  -- `DrainStepsBack old item new` states that a call of `next_back` changed the `Drain` from `old`
+  -- `DrainStepsBack old item new` states that a call to `next_back` changed the `Drain` from `old`
   -- to `new` and returned `item`. This `item` is the last item that had not been yielded before, or
   -- `None` if there was no such item.
   pub record DrainStepsBack (old : Drain T A G (Holder (Open T A)) g h) (item : Option T)
@@ -64,19 +64,19 @@ module _ {T A G : Type 0} {g : Ghosts G} {h : HoldsGhosts (Holder (Open T A)) (O
     pub gave : YieldsLast drain_rest old item new
     pub keeps : DrainKeeps old new
 
-  -- `DrainKeepsAlong d` states that no sequence of calls of `next` on `d` changes the list that
+  -- `DrainKeepsAlong d` states that no sequence of calls to `next` on `d` changes the list that
   -- remains after the `Drain` is dropped. (`DrainSteps` and `DrainStepsBack` imply this for a
-  -- single call of `next` or `next_back`.)
+  -- single call to `next` or `next_back`.)
   abbrev pub DrainKeepsAlong : Drain T A G (Holder (Open T A)) g h → Type 0
   DrainKeepsAlong first = (items : List T) (later : Drain T A G (Holder (Open T A)) g h)
       → Yields DrainSteps first items later → DrainKeeps first later
 
-  -- `DrainsInOrder d` states that, for every `Drain` of the same type as `d`, calls of `next` yield
+  -- `DrainsInOrder d` states that, for every `Drain` of the same type as `d`, calls to `next` yield
   -- the items of `drain_rest` in order.
   abbrev pub DrainsInOrder : Drain T A G (Holder (Open T A)) g h → Type 0
   DrainsInOrder d = YieldsInOrder DrainSteps drain_rest
 
-  -- `DrainsInReverse d` states that, for every `Drain` of the same type as `d`, calls of
+  -- `DrainsInReverse d` states that, for every `Drain` of the same type as `d`, calls to
   -- `next_back` yield the items of `drain_rest` in reverse order.
   abbrev pub DrainsInReverse : Drain T A G (Holder (Open T A)) g h → Type 0
   DrainsInReverse d = YieldsInReverse DrainStepsBack drain_rest

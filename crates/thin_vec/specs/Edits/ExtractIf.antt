@@ -1,5 +1,5 @@
 -- Definitions for the contracts of `ExtractIf`. They name the parts of an `ExtractIf`, and they say
--- what a call of `next` changes. (std: `Vec::extract_if`)
+-- what a call to `next` changes. (std: `Vec::extract_if`)
 use Rattle.std.specs.Prelude.{◌≡◌, ◌+◌, ◌==◌, ◌++◌, Bool, List, Option, if◌then◌else◌, length, ℕ}
 use Rattle.std.specs.List.Retain.{ExtractsNext}
 use Rattle.std.specs.Option.{option_to_list}
@@ -14,7 +14,7 @@ use Rattle.thin_vec.specs.declared.edits.holder.Holds.{Ghosts as HoldsGhosts}
 -- `R f x b g y` describes one call of the closure with the item `x`, which returned the boolean
 -- `b`. The call changed the closure from `f` to `g`, and the item from `x` to `y`.
 module _ {T F A : Type 0} (R : F → T → Bool → F → T → Type 0) where
-  -- `Extracts old item new` states that a call of `next` changed `old` to `new` and returned
+  -- `Extracts old item new` states that a call to `next` changed `old` to `new` and returned
   -- `item`. The closure was called with the untested items of the range, in order, until it
   -- returned true for `item` or no item was left. It returned false for the items `kept`, which
   -- remain in the list. Each of these items counts as one move if an item had been extracted before
@@ -77,7 +77,7 @@ module _ {T F A G : Type 0} {g : Ghosts G}
   abbrev pub extract_lender : ExtractIf T F A G (Holder (Extracting T F A)) g h → GName
   extract_lender e = e.list.ghost_name
 
-  -- `ExtractSteps R old item new` states that a call of `next` changed the `ExtractIf` from `old`
+  -- `ExtractSteps R old item new` states that a call to `next` changed the `ExtractIf` from `old`
   -- to `new` and returned `item`, and that `old` and `new` borrow the same list.
   pub record ExtractSteps (R : F → T → Bool → F → T → Type 0)
       (old : ExtractIf T F A G (Holder (Extracting T F A)) g h) (item : Option T)

@@ -1,5 +1,5 @@
 -- Definitions for the contracts of `Splice`. They name the parts of a `Splice`, and they describe
--- the list and the error after a call of `finish`. (std: `Vec::splice`)
+-- the list and the error after a call to `finish`. (std: `Vec::splice`)
 use Rattle.std.specs.Prelude.{◌≡◌, ◌⊎◌, ◌↔◌, ◌<◌, ◌≤◌, [], ◌++◌, IsSome, List, MatchOption, Option, length, ℕ}
 use Rattle.std.specs.Iterator.{Count, YieldsFirst, YieldsLast, YieldsThen}
 use Rattle.std.specs.Option.{option_to_list}
@@ -30,7 +30,7 @@ module _ {S T A : Type 0} (steps : S → Option T → S → Type 0) where
       × YieldsThen steps s (placed ++ error.held.items) None error.rest)
 
 module _ {T A : Type 0} where
-  -- These clauses say why a call of `finish` failed. `w` is the list after the call, and `tail`
+  -- These clauses say why a call to `finish` failed. `w` is the list after the call, and `tail`
   -- contains the items after the range. `left` is an upper bound on the number of items that the
   -- rest of the iterator may yield.
   pub record IsStopCause {S : Type 0} (rule : Rule) (R : RattleType) (w : Thin T A) (tail : List T)
@@ -52,7 +52,7 @@ module _ {T A : Type 0} where
     pub by_push : tail ≡ [] → IsSome error.in_hand
         → (error.cause ≡ CapacityOverflow) ↔ (capacity_for rule R w 1 ≡ None)
 
-  -- These clauses describe a call of `finish` that failed, for the case that no item follows the
+  -- These clauses describe a call to `finish` that failed, for the case that no item follows the
   -- range. `v` is the list without the items of the range, `w` is the list after the call, and `s`
   -- is the iterator before the call.
   pub record FailsAsExtend {S : Type 0} (v w : Thin T A) (s : S) (error : SpliceRefused T S A)
@@ -136,7 +136,7 @@ module _ {I T A G H : Type 0} {g : Ghosts G} {h : HoldsGhosts H (Open T A)} wher
     pub alloc : splice_alloc new ≡ splice_alloc old
     pub cost : (splice_block new).cost ≡ (splice_block old).cost
 
-  -- `SpliceSteps old item new` states that a call of `next` changed the `Splice` from `old` to
+  -- `SpliceSteps old item new` states that a call to `next` changed the `Splice` from `old` to
   -- `new` and returned `item`. This `item` is the first item that had not been yielded before, or
   -- `None` if there was no such item.
   pub record SpliceSteps (old : Splice I T A G H g h) (item : Option T)
@@ -144,7 +144,7 @@ module _ {I T A G H : Type 0} {g : Ghosts G} {h : HoldsGhosts H (Open T A)} wher
     pub gave : YieldsFirst splice_rest old item new
     pub keeps : SpliceKeeps old new
 
-  -- `SpliceStepsBack old item new` states that a call of `next_back` changed the `Splice` from
+  -- `SpliceStepsBack old item new` states that a call to `next_back` changed the `Splice` from
   -- `old` to `new` and returned `item`. This `item` is the last item that had not been yielded
   -- before, or `None` if there was no such item.
   pub record SpliceStepsBack (old : Splice I T A G H g h) (item : Option T)

@@ -15,7 +15,7 @@ use Rattle.thin_vec.specs.ThinVec.{HasRoomFor, IsWithin, Thin, capacity_for}
 use Rattle.thin_vec.specs.declared.errors.CollectRefused.{CollectRefused}
 use Rattle.thin_vec.specs.declared.errors.ExtendRefused.{ExtendRefused}
 
--- `PausedAfter` states that calls of `next` on the iterator `s` yielded the items `ys` and changed
+-- `PausedAfter` states that calls to `next` on the iterator `s` yielded the items `ys` and changed
 -- the iterator to `t`. `next` may be called on `t` again, and `t` yields only finitely many items.
 pub record PausedAfter {S X : Type 0} (steps : S → Option X → S → Type 0) (can : S → Type 0)
     (remaining : S → Count) (s : S) (ys : List X) (t : S) : Type 0 where
@@ -126,7 +126,7 @@ module _ {T A : Type 0} where
       (h : ℕ) × IsWithinCount h left × ¬ (HasRoomFor w h)
       × ((cause ≡ CapacityOverflow) ↔ (capacity_for rule R w h ≡ None))
 
-  -- These clauses say why a call of `extend` failed. `w` is the list after the call, and `left` is
+  -- These clauses say why a call to `extend` failed. `w` is the list after the call, and `left` is
   -- an upper bound on the number of items that the rest of the iterator may yield.
   pub record IsExtendCause {S : Type 0} (rule : Rule) (R : RattleType) (w : Thin T A)
       (left : Count) (error : ExtendRefused T S) : Type 0 where
@@ -139,7 +139,7 @@ module _ {T A : Type 0} where
     -- size hint.
     pub by_hint : error.in_hand ≡ None → FailsAtHint rule R w left error.cause
 
-  -- These clauses say why a call of `from_iter` failed. `left` is an upper bound on the number of
+  -- These clauses say why a call to `from_iter` failed. `left` is an upper bound on the number of
   -- items that the rest of the iterator may yield.
   pub record IsCollectCause {S : Type 0} (rule : Rule) (R : RattleType) (left : Count)
       (error : CollectRefused T S A) : Type 0 where

@@ -88,7 +88,7 @@ impl<T: Drop, A: Allocator, G: Growth> ThinVec<T, A, G> {
         ensures cost { drain_cost result ≡ (if start == end then self.old.cost else moving
             (length self.old.items - end) self.old.cost) }
 
-        // The `Drain` borrows this list. Calls of `next` do not change the value that the list will
+        // The `Drain` borrows this list. Calls to `next` do not change the value that the list will
         // have after the `Drain` is dropped.
         ensures same_reference { drain_lender result ≡ self.entry.ghost_name }
         ensures stays { DrainKeepsAlong result }

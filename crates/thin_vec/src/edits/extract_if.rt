@@ -116,8 +116,8 @@ impl<T: Drop, A: Allocator, G: Growth> ThinVec<T, A, G> {
     /// Returns an iterator that removes the items in the range `start..end` for which `pick`
     /// returns true. The iterator yields the removed items in order.
     ///
-    /// `extract_if` itself does not call `pick`. Calls of `next` test the items of the range in
-    /// order, each with one call of `pick`, which may change the item.
+    /// `extract_if` itself does not call `pick`. Calls to `next` test the items of the range in
+    /// order, each with one call to `pick`, which may change the item.
     ///
     /// After the `ExtractIf` is dropped, the list holds every item that was not yielded, and has
     /// its old capacity and allocator. Items that were not tested are kept, as with Rust's

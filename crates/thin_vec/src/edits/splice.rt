@@ -19,7 +19,7 @@ use thin_block::{Doubling, Growth, ThinVecError};
 /// items of the range from either end. Its method `finish` puts the items of the iterator in their
 /// place.
 ///
-/// Every `Splice` must be ended with a call of `finish`: a program that drops a `Splice` does not
+/// Every `Splice` must be ended with a call to `finish`: a program that drops a `Splice` does not
 /// compile. Until this call, the `Splice` owns the allocation of the list, and the list is empty
 /// and has capacity 0.
 pub struct Splice<

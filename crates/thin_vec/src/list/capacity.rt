@@ -177,7 +177,7 @@ impl<T, A: Allocator, G: Growth> ThinVec<T, A, G> {
 
     // Grows the list to make room for `additional` more items. The list must have too little room
     // for these items. This part of `reserve` is a separate function, which is marked as cold,
-    // because most calls of `reserve` find enough room.
+    // because most calls to `reserve` find enough room.
     #[cold]
     fn grow_for(&mut self, additional: usize) -> Result<(), ThinVecError>
         requires more { self.old.capacity < length self.old.items + additional }

@@ -49,7 +49,7 @@ impl<T: Clone, A: Allocator, G: Growth> ThinVec<T, A, G> {
         ensures err_cost { OnErr result ((self.new ≡ self.old) ⊎ CostsUpToClone T.is_infallible
             (replicate (len - length self.old.items - 1) value) self.old self.new) }
 
-        // In every case. The call changes the capacity exactly as a call of `reserve` with the
+        // In every case. The call changes the capacity exactly as a call to `reserve` with the
         // number of new items does, and fails with `CapacityOverflow` in the same cases.
         ensures reserves { Reserves G.rule T.row (len - length self.old.items) self.old self.new
             result }
@@ -160,7 +160,7 @@ impl<T: Drop, A: Allocator, G: Growth> ThinVec<T, A, G> {
         // On failure, the list is unchanged.
         ensures err { OnErr result (self.new ≡ self.old) }
 
-        // In every case. The call changes the capacity exactly as a call of `reserve` with the
+        // In every case. The call changes the capacity exactly as a call to `reserve` with the
         // number of new items does, and fails in the same cases.
         ensures reserves { Reserves G.rule T.row (len - length self.old.items) self.old self.new
             result }
@@ -176,7 +176,7 @@ impl<T: Drop, A: Allocator, G: Growth> ThinVec<T, A, G> {
         Ok(())
     }
 
-    // Appends the results of `count` calls of `make`, in order. The list must have room for `count`
+    // Appends the results of `count` calls to `make`, in order. The list must have room for `count`
     // more items.
     fn push_results_reserved<F: FnMut() -> T>(&mut self, count: usize, make: F)
         requires room { HasRoomFor self.old count }

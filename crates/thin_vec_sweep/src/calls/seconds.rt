@@ -44,7 +44,7 @@ impl<T: Sample, G: Ruled, C: MakesSecond<T, G>> Call<T, G> for MakeSecond<C> {
     }
 }
 
-/// A call of `ThinVec::clone`, which takes an allocator.
+/// A call to `ThinVec::clone`, which takes an allocator.
 pub struct CloneOn {}
 
 impl<T: Sample, G: Ruled> MakesSecond<T, G> for CloneOn {
@@ -79,7 +79,7 @@ impl<T: Sample, G: Ruled> MakesSecond<T, G> for CloneAsTrait {
     }
 }
 
-/// A call of `clone_copies`, which takes an allocator and copies the items instead of cloning them.
+/// A call to `clone_copies`, which takes an allocator and copies the items instead of cloning them.
 pub struct CloneCopies {}
 
 impl<T: Sample + Copy, G: Ruled> MakesSecond<T, G> for CloneCopies {
@@ -93,7 +93,7 @@ impl<T: Sample + Copy, G: Ruled> MakesSecond<T, G> for CloneCopies {
     }
 }
 
-/// A call of `from_slice`, which clones the items of a slice.
+/// A call to `from_slice`, which clones the items of a slice.
 pub struct FromSlice {}
 
 impl<T: Sample> MakesSecond<T, Doubling> for FromSlice {
@@ -109,7 +109,7 @@ impl<T: Sample> MakesSecond<T, Doubling> for FromSlice {
     }
 }
 
-/// A call of `from_copies`, which copies the items of a slice.
+/// A call to `from_copies`, which copies the items of a slice.
 pub struct FromCopies {}
 
 impl<T: Sample + Copy> MakesSecond<T, Doubling> for FromCopies {

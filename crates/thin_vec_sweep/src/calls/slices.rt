@@ -66,7 +66,7 @@ impl<T: Sample, G: Ruled, C: AppendsSlice<T, G>> Call<T, G> for AppendSlice<C> {
     }
 }
 
-/// A call of `extend_from_slice`, which appends clones of the items.
+/// A call to `extend_from_slice`, which appends clones of the items.
 pub struct ExtendFromSlice {}
 
 impl<T: Sample, G: Ruled> AppendsSlice<T, G> for ExtendFromSlice {
@@ -84,7 +84,7 @@ impl<T: Sample, G: Ruled> AppendsSlice<T, G> for ExtendFromSlice {
     }
 }
 
-/// A call of `extend_from_copies`, which appends copies of the items.
+/// A call to `extend_from_copies`, which appends copies of the items.
 pub struct ExtendFromCopies {}
 
 impl<T: Sample + Copy, G: Ruled> AppendsSlice<T, G> for ExtendFromCopies {
@@ -100,7 +100,7 @@ impl<T: Sample + Copy, G: Ruled> AppendsSlice<T, G> for ExtendFromCopies {
     }
 }
 
-/// A call of `extend_from_slice_reserved`, which clones the items into spare capacity.
+/// A call to `extend_from_slice_reserved`, which clones the items into spare capacity.
 pub struct ExtendFromSliceReserved {}
 
 impl<T: Sample, G: Ruled> AppendsSlice<T, G> for ExtendFromSliceReserved {
@@ -124,7 +124,7 @@ impl<T: Sample, G: Ruled> AppendsSlice<T, G> for ExtendFromSliceReserved {
     }
 }
 
-/// A call of `extend_from_copies_reserved`, which copies the items into spare capacity.
+/// A call to `extend_from_copies_reserved`, which copies the items into spare capacity.
 pub struct ExtendFromCopiesReserved {}
 
 impl<T: Sample + Copy, G: Ruled> AppendsSlice<T, G> for ExtendFromCopiesReserved {
@@ -146,7 +146,7 @@ impl<T: Sample + Copy, G: Ruled> AppendsSlice<T, G> for ExtendFromCopiesReserved
     }
 }
 
-/// A call of `write`, which must append all bytes of the slice.
+/// A call to `write`, which must append all bytes of the slice.
 pub struct WriteSome {}
 
 impl<G: Ruled> AppendsSlice<u8, G> for WriteSome {
@@ -168,7 +168,7 @@ impl<G: Ruled> AppendsSlice<u8, G> for WriteSome {
     }
 }
 
-/// A call of `write_all`, followed by a call of `flush`.
+/// A call to `write_all`, followed by a call to `flush`.
 pub struct WriteAll {}
 
 impl<G: Ruled> AppendsSlice<u8, G> for WriteAll {

@@ -26,12 +26,12 @@ const HINTS: usize = 5;
 // 5. This is the number of combinations.
 const FILLS: usize = 30;
 
-// The number of short sequences of calls: no call, one call of `next`, and one call of `next_back`.
+// The number of short sequences of calls: no call, one call to `next`, and one call to `next_back`.
 // Each of these sequences is tried with each size hint and each number of new items.
 const SHORT_WALKS: usize = 3;
 
 // The number of test cases on a range, for each length of the range from 0 to 6. Each sequence of
-// at most one call of `next` or `next_back` is combined with each size hint and each number of new
+// at most one call to `next` or `next_back` is combined with each size hint and each number of new
 // items. Each longer sequence is tried once. On an empty range, only 3 test cases make such a call.
 const AFTER_STEPS: Cases = [33, 94, 102, 118, 150, 214, 342];
 
@@ -49,14 +49,14 @@ fn cases(shape: Shape) -> Cases {
     }
 }
 
-// One test case of `splice`: the replaced range, the calls of `next` and `next_back` before
+// One test case of `splice`: the replaced range, the calls to `next` and `next_back` before
 // `finish`, and the properties of the iterator over the new items.
 #[derive(Drop)]
 struct Plan {
     range: Ranged,
     // The numbers from which the items in the range are made.
     numbers: Vec<u64, Global>,
-    // The calls of `next` and `next_back` before `finish`.
+    // The calls to `next` and `next_back` before `finish`.
     walk: Walk,
     // The number of new items that the iterator yields.
     count: usize,
@@ -93,7 +93,7 @@ impl Plan {
 }
 
 // Returns the number of the walk in the test case `number`, on a list of at most 6 items. A walk is
-// a sequence of calls of `next` and `next_back`.
+// a sequence of calls to `next` and `next_back`.
 fn few_steps(number: usize) -> usize {
     let crossed = SHORT_WALKS.saturating_mul(FILLS);
     match number.checked_sub(crossed) {
@@ -227,7 +227,7 @@ impl<T: Sample, G: Ruled> Call<T, G> for Spliced {
     }
 }
 
-// The result of the calls of `next` and `next_back`: the first call that yielded a wrong item, and
+// The result of the calls to `next` and `next_back`: the first call that yielded a wrong item, and
 // the number of remaining items.
 #[derive(Drop, Debug, PartialEq)]
 struct Walked {
@@ -238,7 +238,7 @@ struct Walked {
 }
 
 impl Walked {
-    // Returns the expected result of the calls of `next` and `next_back`: no wrong item, and the
+    // Returns the expected result of the calls to `next` and `next_back`: no wrong item, and the
     // right number of remaining items.
     fn due(plan: &Plan) -> Walked {
         let width = plan.numbers.len();

@@ -73,7 +73,7 @@ pub struct Order {
     pub at: usize,
     /// The end of the range on which the command acts.
     pub to: usize,
-    /// The number of new items, or the number of calls of `next`.
+    /// The number of new items, or the number of calls to `next`.
     pub count: usize,
     /// The lower bound of a size hint, the number of items for which room is reserved, or the new
     /// length for `resize`.

@@ -30,7 +30,7 @@ pub struct Place {
     pub start: usize,
     /// The end of the range on which the command acts.
     pub end: usize,
-    /// The lower bound of the size hint, or the number of calls of `next`.
+    /// The lower bound of the size hint, or the number of calls to `next`.
     pub claim: usize,
     /// The steps over the range, as binary digits after a leading 1. The digit 1 is a step from the
     /// front, and 0 is a step from the back.
@@ -71,7 +71,7 @@ pub struct Shown<T, A: Allocator> {
     pub form: Form,
     /// The cause of the failure, if the command failed.
     pub cause: Option<ThinVecError>,
-    /// The results of the calls of `next` and `next_back`, or the item that was removed or
+    /// The results of the calls to `next` and `next_back`, or the item that was removed or
     /// replaced.
     pub answers: Vec<Option<T>, A>,
     /// The items of the list in the reply, or the items that a failed command returned.
@@ -115,7 +115,7 @@ impl<T: Drop, A: Allocator + Copy> Shown<T, A> {
         }
     }
 
-    /// Returns the parts of a reply that contains the results of calls of `next` and `next_back`,
+    /// Returns the parts of a reply that contains the results of calls to `next` and `next_back`,
     /// or an item that was removed or replaced.
     pub fn with_answers(form: Form, alloc: A, answers: Vec<Option<T>, A>) -> Shown<T, A> {
         Shown {
@@ -147,7 +147,7 @@ impl<T: Eq, A: Allocator> Shown<T, A> {
     }
 }
 
-// Returns the index or the range on which `command` acts, and its steps (calls of `next` and
+// Returns the index or the range on which `command` acts, and its steps (calls to `next` and
 // `next_back`).
 fn place_of<T, A: Allocator, G: Growth>(command: &Command<T, A, G>) -> Place {
     match command {

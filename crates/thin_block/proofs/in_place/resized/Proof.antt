@@ -120,7 +120,7 @@ module _ (E : El) (Y : Al) {M : Type 1} {𝓤 : Ura M} (𝓛 : Logic 𝓤) (at_m
   left x y b o = resized_if_ok (token Y r.now) (R E) x len held wanted xs (result_of y b o)
 
   -- Ends the proof of `resized`. Before this step the proof context holds, in this order: [the
-  -- resources that the call of `grow` or `shrink` has returned; the lifetime tokens of the `&` to
+  -- resources that the call to `grow` or `shrink` has returned; the lifetime tokens of the `&` to
   -- the allocator, of `T` and of `A`].
   exits : (x : Ptr) (y : Bool) (b o : ℕ)
       → ent 𝓤 (⋆ 𝓛 (‵ (left x y b o) ∷ ‵ (flft κ q) ∷ ‵ (flft κT qT) ∷ (‵ (flft κA qA) ⊛ ‵ ftrue)
@@ -143,7 +143,7 @@ module _ (E : El) (Y : Al) {M : Type 1} {𝓤 : Ura M} (𝓛 : Logic 𝓤) (at_m
   entry x = (‵ (flft κ q) ⊛ ‵ (flft κT qT) ⊛ ‵ (flft κA qA) ⊛ ‵ ftrue) ⊛ ‵
       (owns (types_at (ended E Y).signature.params (bound x).0.0) (bound x).0.3 (bound x).0.4)
 
-  -- `Given x v` is the entry of the proof context for the resources that the call of `grow` or
+  -- `Given x v` is the entry of the proof context for the resources that the call to `grow` or
   -- `shrink` has returned. The old block is at the address `x`, and `v` is the machine value of the
   -- result.
   abbrev Given : Ptr → Val → Item 𝓤

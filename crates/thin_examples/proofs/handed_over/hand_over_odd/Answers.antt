@@ -1,4 +1,4 @@
--- In `hand_over_odd`, the calls of `next` extract the odd numbers from `list` one by one, and each
+-- In `hand_over_odd`, the calls to `next` extract the odd numbers from `list` one by one, and each
 -- of them is pushed to `other`. When `next` returns `None`, all odd numbers have been pushed, and
 -- `list` contains the even numbers.
 use Rattle.std.proofs.Common.{◌≡◌, ℕ, ◌-◌, ◌%◌, ◌==◌, ◌++◌, Bool, List, ap, arith, length, rules, take, ◌∙◌}

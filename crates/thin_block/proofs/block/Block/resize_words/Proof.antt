@@ -269,7 +269,7 @@ resize_words_spec 𝓤 𝓛 𝓜 𝓡 wired T A m k LT LA fits_m fits_k g d dd m
     (ap (vptr b) (let plus : 16 + o ≡ o + 16 = omega arith in plus))) refl (tt, tt) $
     sets ! (of_opd ! (get ! refl)) refl (tt, tt) $
     move ! (0 ∷ 6 ∷ 8 ∷ []) $
-    -- Before the call of `make_words`, the proof context begins with [the items; the lifetime token
+    -- Before the call to `make_words`, the proof context begins with [the items; the lifetime token
     -- of `T`; the lifetime token of `M`].
     let G = triple_of 𝓛 (make.signature T Mr) (make.spec T Mr 𝓛 𝓜.mem 𝓡.returns) in
     let y₀ : G.Ghost = (

@@ -1,4 +1,4 @@
--- Calls of `next` yield the items in order, because each call yields the first item that is left.
+-- Calls to `next` yield the items in order, because each call yields the first item that is left.
 use Rattle.std.proofs.Common.{length, ap, rules}
 use Rattle.std.proofs.iter.runs.Sources.{from_front, as_is}
 use Rattle.thin_runner.specs.Hinted.{HintedSteps, hinted_items}

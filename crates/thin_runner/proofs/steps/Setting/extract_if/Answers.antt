@@ -1,4 +1,4 @@
--- Each call of `next` asks the judge that is in the state of the closure. When the `ExtractIf` is
+-- Each call to `next` asks the judge that is in the state of the closure. When the `ExtractIf` is
 -- dropped, the items that have not been tested are kept.
 use Rattle.std.proofs.Common.{ℕ, ◌≡◌, ◌+◌, ◌-◌, ◌++◌, ◌∷◌, [], false, suc, take, slice_range, ap, arith, refl, rules, sym, ◌∙◌, append_assoc}
 use Rattle.std.proofs.lemmas.List.{append-nil}

@@ -1,4 +1,4 @@
--- The results of all `count` calls of `next` are the results so far, followed by the results that
+-- The results of all `count` calls to `next` are the results so far, followed by the results that
 -- the remaining calls will return.
 use Rattle.std.proofs.Common.{◌≡◌, ◌++◌, ◌≤◌, ◌+◌, ◌-◌, drop, take, false, slice_range, vec_len}
 use Rattle.std.specs.Vec.{vec_capacity}

@@ -1,5 +1,5 @@
 -- No item follows the replaced range. So the list contains only the items before the range after
--- the call of `close`, and the call of `extend` appends the items of the iterator. The clauses
+-- the call to `close`, and the call to `extend` appends the items of the iterator. The clauses
 -- follow from the contracts of these two calls.
 use Rattle.std.proofs.Common.{◌≡◌, ◌*◌, ◌++◌, ◌∙◌, ap, arith, length, length-append, refl, subst, sym}
 use Rattle.std.specs.Iterator.{size}
@@ -16,7 +16,7 @@ use Rattle.thin_vec.specs.declared.errors.SpliceRefused.{SpliceRefused}
 use Rattle.thin_vec.proofs.list.ThinVec.finish_at_end.Goals.{After-extend}
 use Rattle.thin_vec.proofs.list.ThinVec.finish_at_end.Goals as goal
 
--- After the call of `close`, the list contains only the items outside the replaced range
+-- After the call to `close`, the list contains only the items outside the replaced range
 -- (`left_of`).
 left : (g : _) (c : After-extend g)
     → c.close.new.self ≡ left_of c.args.block c.args.self.now.alloc
@@ -24,7 +24,7 @@ left g c =
     c.close.ensures.changes
     ∙ closed-left c.args.block c.args.self.now c.requires.none c.requires.no_tail
 
--- `HasTaken` holds for the lists before and after the call of `extend`. It describes how a list
+-- `HasTaken` holds for the lists before and after the call to `extend`. It describes how a list
 -- changes when items of an iterator are added.
 taken : (g : _) (c : After-extend g)
     → HasTaken g.G.Growth.rule (param 0 g.row.T) (left_of c.args.block c.args.self.now.alloc)
@@ -41,7 +41,7 @@ taken g c =
     } in
     subst (λ z. HasTaken g.G.Growth.rule (param 0 g.row.T) z w n more) (left g c) now
 
--- The call of `extend` satisfies `IsExtended`, which restricts the capacity of the list after the
+-- The call to `extend` satisfies `IsExtended`, which restricts the capacity of the list after the
 -- call.
 ruled : (g : _) (c : After-extend g)
     → IsExtended g.G.Growth.rule (param 0 g.row.T) (left_of c.args.block c.args.self.now.alloc)

@@ -1,5 +1,5 @@
 -- If a clone fails, `drop_range` drops the clones that were made before, so the list contains its
--- old items again. Each of the calls of `open_wide`, `close` and `drop_range` moves each item at or
+-- old items again. Each of the calls to `open_wide`, `close` and `drop_range` moves each item at or
 -- after index `at` at most once.
 use Rattle.std.proofs.Common.{◌≡◌, ◌+◌, ◌-◌, ◌++◌, ◌∙◌, [], ap, arith, drop, eqb, length, length-append, sym, take}
 use Rattle.std.proofs.lemmas.List.{length-drop, length-take-le}
@@ -9,7 +9,7 @@ use Rattle.thin_vec.proofs.list.ClonesLemmas.{not-all}
 use Rattle.thin_vec.proofs.edits.ReplaceRangeLemmas.{at-most-if, at-most-le, at-most-more, if-le, put-and-gone}
 use Rattle.thin_vec.proofs.list.ThinVec.insert_clones_reserved.Goals as goal
 
--- After the call of `close`, the list contains its old items and, at index `at`, the clones that
+-- After the call to `close`, the list contains its old items and, at index `at`, the clones that
 -- were made.
 closed : (g : _) (c : goal.After-drop_range g) → c.close.new.self.items
     ≡ replace_range c.args.self.now.items c.args.at c.args.at

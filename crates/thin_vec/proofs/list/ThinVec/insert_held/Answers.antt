@@ -14,11 +14,11 @@ use Rattle.thin_block.proofs.Outcomes.{err-same}
 use Rattle.thin_vec.proofs.list.ThinVec.insert_held.Goals.{In-Err}
 use Rattle.thin_vec.proofs.list.ThinVec.insert_held.Goals as goal
 
--- The call of `reserve` asks for room for exactly the items in the vector `held`.
+-- The call to `reserve` asks for room for exactly the items in the vector `held`.
 count : (g : _) (c : In-Err g) → c.len.result ≡ length c.draw-held.result.held.items
 count g c = c.len.ensures ∙ c.draw-held.result.held.ok.0
 
--- If the call of `reserve` fails, the vector `held` contains at least one item, because reserving
+-- If the call to `reserve` fails, the vector `held` contains at least one item, because reserving
 -- room for no item always succeeds.
 more : (g : _) (c : In-Err g) → 0 < length c.draw-held.result.held.items
 more g c = elim (cases_lt 0 (length c.draw-held.result.held.items)) [

@@ -1,4 +1,4 @@
--- Calls of `next` yield the items in order, and calls of `next_back` yield the items in reverse
+-- Calls to `next` yield the items in order, and calls to `next_back` yield the items in reverse
 -- order. The block of the list satisfies the invariant of an `IntoIter` that has not yielded any
 -- item yet.
 use Rattle.std.proofs.Common.{arith, ◌∙◌}

@@ -1,4 +1,4 @@
--- `write_all` reserves capacity with a call of `reserve_run`. The contract of `reserve_run` is
+-- `write_all` reserves capacity with a call to `reserve_run`. The contract of `reserve_run` is
 -- about a generic item type, which here has the size and the alignment of `u8`. So the growth rule
 -- chooses the same capacity for this type and for `u8`.
 use Rattle.std.proofs.Common.{◌+◌, ◌∙◌, Some, ap, length, refl, sym}

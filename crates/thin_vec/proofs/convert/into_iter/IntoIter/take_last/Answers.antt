@@ -15,7 +15,7 @@ some g c = omega (
   ap (λ v. length v.items) c.self.view_is,
 )
 
--- Slot `end - 1` is filled, as the call of `take` requires.
+-- Slot `end - 1` is filled, as the call to `take` requires.
 pub take-requires : goal.take-requires
 take-requires g c =
     let it = c.self.inside in

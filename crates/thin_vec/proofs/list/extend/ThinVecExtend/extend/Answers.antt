@@ -1,5 +1,5 @@
 -- The contract of the inherent method `extend` implies the contract of the trait method
--- `Extend::extend`. If the call fails, the appended items are the items that the first calls of
+-- `Extend::extend`. If the call fails, the appended items are the items that the first calls to
 -- `next` yielded.
 use Rattle.std.proofs.Common.{arith, ap, length, length-append, ◌∙◌}
 use Rattle.thin_vec.proofs.list.ExtendLemmas.{yields-first}
