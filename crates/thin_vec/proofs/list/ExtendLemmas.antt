@@ -183,15 +183,15 @@ module _ (rule : Rule) (R : RattleType) (law : KeepsLaw rule) where
       inr (p.0, p.1, p.2, omega (arith, p.3, more), p.4 ∙ ap Some (sym same))
 
   -- Suppose that `IsKeptOrRuled` holds for the old capacity `d` and the new capacity `e`, and that
-  -- `e ≡ d` implies `P`. Then `P` holds, or `IsKeptOrRuled` holds for the old capacity `c` and the
-  -- new capacity `e`, whatever `c` is.
+  -- `e ≡ d` implies `P`. Then, for every capacity `c`, either `P` holds, or `IsKeptOrRuled` holds
+  -- for the old capacity `c` and the new capacity `e`.
   pub ruled-after : (c d e n : ℕ) (P : Type 0) → IsKeptOrRuled rule R d e n → (e ≡ d → P)
       → IsKeptOrRuled rule R c e n ⊎ P
   ruled-after c d e n P (inl same) f = inr (f same)
   ruled-after c d e n P (inr p) f = inl (inr p)
 
-  -- Suppose that a new list first has exactly the capacity `c` that a size hint `h` of the iterator
-  -- asks for, and that the change from `c` to a later capacity `d` satisfies `IsKeptOrRuled`. Then
+  -- Suppose that a new list was made with exactly the capacity `c` for a possible size hint `h` of
+  -- the iterator. If the change from `c` to a later capacity `d` satisfies `IsKeptOrRuled`, then
   -- `d` satisfies `IsCollected`.
   pub collected-after : {c d : ℕ} (n h : ℕ) (left : Count) → IsWithinCount h left
       → exact_capacity R 0 h ≡ Some c → IsKeptOrRuled rule R c d n → IsCollected rule R d n left

@@ -12,8 +12,8 @@ use Rattle.thin_vec.specs.Cheap.{IsCheap}
 use Rattle.thin_vec.specs.List.Capacity.{Keeps, Reserves, TellsOverflow, TellsOverflowOf}
 use Rattle.thin_vec.specs.ThinVec.{HasRoomFor, IsWithin, Thin, capacity_for}
 
--- The capacity `named` that a call needs is `None` if it is too large. If `named` is not `None`,
--- then `TellsOverflow named (Ok x)` holds.
+-- Suppose that `named` is the capacity that a call needs, or `None` if this capacity is too large.
+-- If `named` is `Some n`, then `TellsOverflow named (Ok x)` holds.
 pub tells-ok : {X : Type 0} (x : X) (named : Option ℕ) (n : ℕ) → named ≡ Some n
     → TellsOverflow named (Ok x)
 tells-ok x named n is = record {
