@@ -11,13 +11,13 @@ pub record Open (T A : Type 0) : Type 0 where
   -- The front items: the items before the edited range, and the items that have been kept or
   -- inserted so far.
   pub front : List T
-  -- The number of empty slots between the front and the middle run, which are the first and the
-  -- second part of the block.
+  -- The number of empty slots between the first part of the block (the front) and the second part
+  -- (the middle run).
   pub gap : ℕ
   -- The middle items: the items of the edited range that have not been yielded or tested yet.
   pub rest : List T
-  -- The number of empty slots between the middle run and the tail, which are the second and the
-  -- third part of the block.
+  -- The number of empty slots between the second part of the block (the middle run) and the third
+  -- part (the tail).
   pub gap_after : ℕ
   -- The tail items: the items after the edited range.
   pub tail : List T

@@ -42,7 +42,8 @@ module _ {T : Type 0} where
         (full-append (take i ys) (drop i ys))
         ∙ append_assoc (full (take i ys)) (full (drop i ys)) (empty (c - length ys)))
 
-    -- The first `i` items of `ys` fill exactly `i` slots.
+    -- Because `i` is at most the length of `ys`, the first `i` items of `ys` fill exactly `i`
+    -- slots.
     before : i ≡ length (full (take i ys))
     before = omega (arith, length-full (take i ys), length-take-le i ys order)
 

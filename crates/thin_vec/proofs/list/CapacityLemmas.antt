@@ -38,9 +38,9 @@ module _ {T : Type 0} where
   front-none c = let same : c ≡ c - 0 = omega arith in ap (λ (m : ℕ). empty m) same
 
 module _ {T A : Type 0} {b : Block T A} {a : A} (t : IsThin b a) where
-  -- Suppose that the block of a list becomes a block `b'` of `c` slots, whose first slots hold the
-  -- same items in order, and whose other slots are empty. Then `b'` is the block of a list with the
-  -- same items and the capacity `c`.
+  -- Suppose that the block of a list is replaced with a block `b'` of `c` slots from the same
+  -- allocator. If the first slots of `b'` hold the same items in order, and all its other slots are
+  -- empty, then `b'` is the block of a list with the same items and the capacity `c`.
   settle-remade : (b' : Block T A) (c : ℕ) {s : List (Option T)} {k : Cost}
       → seen b' ≡ record (seen b) { slots = s; alloc = Some a; cost = k }
       → s ≡ front (items_in b.slots) c → length (items_in b.slots) ≤ c

@@ -104,8 +104,8 @@ module _ {T : Type 0} (xs : List T) (a b : ℕ) (within : b ≤ length xs) where
   pub length-range : length (slice_range xs a b) ≡ b - a
   length-range = length-take-le (b - a) (drop a xs) (omega (arith, length-drop a xs))
 
-  -- The item at index `i` of the range `a..b` of the list `xs` is the item at index `a + i` of the
-  -- list `xs ++ ys`.
+  -- If `b` is at most the length of `xs`, and `i` is less than `b - a`, then the item at index `i`
+  -- of the range `a..b` of `xs` is the item at index `a + i` of `xs ++ ys`.
   pub get-range : (ys : List T) (i : ℕ) (x : T) → i < b - a → x ≡ get_or (xs ++ ys) (a + i) x
       → x ≡ get_or (slice_range xs a b) i x
   get-range ys i x less is = is ∙ (get_or_append_left xs ys x (a + i) (omega arith)

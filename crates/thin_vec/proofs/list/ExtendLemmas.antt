@@ -114,8 +114,9 @@ full-in-hand P Q (Err error) some at_capacity =
 
 module _ {T : Type 0} where
   module _ (s s' r : List (Option T)) where
-    -- Writing the items `xs` into the slots from index `i` onward, and then `x` into the next slot,
-    -- is the same as writing `xs ++ x ∷ []` into the slots from index `i` onward.
+    -- Suppose that the items `xs` are written into the slots from index `i` onward, and that `x` is
+    -- then written into the next slot. Then the slots from index `i` onward hold `xs ++ x ∷ []`,
+    -- and all other slots are unchanged.
     pub laid-more : (i k : ℕ) (xs : List T) (x : T) → s ≡ laid i (full xs) r → k ≡ i + length xs
         → k < length r → s' ≡ set s k (Some x) → s' ≡ laid i (full (xs ++ x ∷ [])) r
     laid-more i k xs x e at within e' =
@@ -147,9 +148,9 @@ module _ {T A : Type 0} where
         ∙ (moving-more 1 n u.cost ∙ ap (λ (m : ℕ). moving m u.cost) (sym one)))) i;
   }
 
--- Suppose that appending the items `xs` to the list `v`, at the cost of one move for each item,
--- resulted in the list `w`. Then `w` differs from `v` only in its items and in `length w.items -
--- length v.items` additional moves.
+-- Suppose that the list `v` became `w` when the items `xs` were appended, at the cost of one move
+-- for each item. Then `w` differs from `v` only in its items and in `length w.items - length
+-- v.items` additional moves.
 pub spare-kept : {T A : Type 0} (v w : Thin T A) (xs : List T)
     → w ≡ record v { items = v.items ++ xs; cost = moving (length xs) v.cost }
     → w ≡ record v
@@ -183,15 +184,15 @@ module _ (rule : Rule) (R : RattleType) (law : KeepsLaw rule) where
       inr (p.0, p.1, p.2, omega (arith, p.3, more), p.4 ∙ ap Some (sym same))
 
   -- Suppose that `IsKeptOrRuled` holds for the old capacity `d` and the new capacity `e`, and that
-  -- `e ≡ d` implies `P`. Then `P` holds, or `IsKeptOrRuled` holds for the old capacity `c` and the
-  -- new capacity `e`, whatever `c` is.
+  -- `e ≡ d` implies `P`. Then, for every capacity `c`, either `P` holds, or `IsKeptOrRuled` holds
+  -- for the old capacity `c` and the new capacity `e`.
   pub ruled-after : (c d e n : ℕ) (P : Type 0) → IsKeptOrRuled rule R d e n → (e ≡ d → P)
       → IsKeptOrRuled rule R c e n ⊎ P
   ruled-after c d e n P (inl same) f = inr (f same)
   ruled-after c d e n P (inr p) f = inl (inr p)
 
-  -- Suppose that a new list first has exactly the capacity `c` that a size hint `h` of the iterator
-  -- asks for, and that the change from `c` to a later capacity `d` satisfies `IsKeptOrRuled`. Then
+  -- Suppose that a new list was made with exactly the capacity `c` for a possible size hint `h` of
+  -- the iterator. If the change from `c` to a later capacity `d` satisfies `IsKeptOrRuled`, then
   -- `d` satisfies `IsCollected`.
   pub collected-after : {c d : ℕ} (n h : ℕ) (left : Count) → IsWithinCount h left
       → exact_capacity R 0 h ≡ Some c → IsKeptOrRuled rule R c d n → IsCollected rule R d n left
@@ -210,8 +211,8 @@ module _ (rule : Rule) (R : RattleType) (law : KeepsLaw rule) where
 
 module _ {T A : Type 0} where
   -- Suppose that the list `v` grew at most once, and became `w` when `k` items were appended with
-  -- `k` moves. If the growth copied no more items than it added slots, then `CostsAdding v w 0`
-  -- holds: apart from the growth, no old item was moved.
+  -- `k` moves. If the growth copied at most one item for each slot that it added, then `CostsAdding
+  -- v w 0` holds: apart from the growth, no old item was moved.
   pub filled-at : (v w : Thin T A) (k : ℕ) → w.cost ≡ moving k (cost_at v w.capacity)
       → length w.items ≡ length v.items + k
       → (cost_at v w.capacity).grown + v.capacity ≤ v.cost.grown + w.capacity → CostsAdding v w 0
@@ -228,7 +229,7 @@ module _ {T A : Type 0} where
   }
 
   -- Suppose that the list `v` grew at most once and became `w`, with the same items. If the growth
-  -- copied no more items than it added slots, then `CostsAdding v w 0` holds.
+  -- copied at most one item for each slot that it added, then `CostsAdding v w 0` holds.
   pub filled-reserved : (v w : Thin T A) → w.cost ≡ cost_at v w.capacity
       → w.items ≡ v.items
       → (cost_at v w.capacity).grown + v.capacity ≤ v.cost.grown + w.capacity → CostsAdding v w 0
@@ -243,8 +244,8 @@ module _ {T A : Type 0} where
             z) i;
       })) (omega (arith, ap length n)) few
 
-  -- Suppose that appending `k` items with `k` moves, without a change of the capacity, turned the
-  -- list `v` into `w`. Then `CostsAdding v w 0` holds: no old item was moved.
+  -- Suppose that the list `v` became `w` when `k` items were appended with `k` moves, and that the
+  -- capacity did not change. Then `CostsAdding v w 0` holds, because no old item was moved.
   pub filled-spare : (v w : Thin T A) (k : ℕ)
       → w ≡ record v { items = w.items; cost = moving k v.cost }
       → length w.items ≡ length v.items + k → CostsAdding v w 0

@@ -22,8 +22,8 @@ use mathlib.Core.Logic.{⊎_elim}
 
 module _ {T : Type 0} where
   -- Suppose that the first slots of a row hold the items `xs`, and that all other slots are empty.
-  -- If slot `i` is emptied, and all later items are moved down by one slot, then the first slots
-  -- hold `remove xs i`, and all other slots are empty.
+  -- If the item in slot `i` is removed, and all later items are moved down by one slot, then the
+  -- first slots hold `remove xs i`, and all other slots are empty.
   pub front-remove : (xs : List T) (c i : ℕ) {j k : ℕ} → i < length xs → length xs ≤ c → j ≡ i + 1
       → k ≡ length xs - j → moved j i k (set (front xs c) i None) ≡ front (remove xs i) c
   front-remove [] c i h l e n = absurd (omega arith)
@@ -52,7 +52,8 @@ module _ {T : Type 0} where
     after : List (Option T)
     after = full (drop i xs) ++ replicate (c - length xs - 1) None
 
-    -- The items before index `i` fill exactly `i` slots.
+    -- Because `i` is at most the length of `xs`, the first `i` items of `xs` fill exactly `i`
+    -- slots.
     before : i ≡ length (full (take i xs))
     before = omega (arith, length-full (take i xs), length-take i xs)
 
@@ -98,9 +99,9 @@ module _ {T : Type 0} where
         ∙ get_or_at (full (take i xs)) None after None i (sym before)
 
 module _ {T A : Type 0} {b : Block T A} {a : A} (t : IsThin b a) where
-  -- Suppose that slot `i` is emptied, all later items are moved down by one slot, and the stored
-  -- length is decremented. Then the new block `b'` is the block of the list without the item at
-  -- index `i`.
+  -- Suppose that the item in slot `i` is removed, all later items are moved down by one slot, and
+  -- the stored length is decremented. Then the new block `b'` is the block of the list without the
+  -- item at index `i`.
   pub settle-remove : (b' : Block T A) (i : ℕ) {j k : ℕ} → i < length (items_in b.slots)
       → j ≡ i + 1 → k ≡ b.len - j → {l : ℕ} {m : Cost} → l ≡ b.len
       → IsWritten b b' (moved j i k (set b.slots i None)) (l - 1) m
@@ -208,12 +209,14 @@ module _ {T : Type 0} where
         ∙ sym (append_assoc (full (take k xs)) (empty (i - k))
         (Some r.0 ∷ (full (drop (i + 1) xs) ++ empty (c - length xs))))
 
-    -- After the slots `k..i` have been emptied, slot `i` still holds an item.
+    -- If `i` is less than the length of `xs`, slot `i` still holds an item after the slots `k..i`
+    -- have been emptied.
     pub emptying-filled : IsSome (slot (emptying xs k i c) i)
     emptying-filled = rw (ap (λ (s : List (Option T)). slot s i) split
         ∙ get_or_at pre (Some (item-at xs i bound).0) post None i length-pre) refl
 
-    -- Emptying slot `i` turns the row of slots `emptying xs k i c` into `emptying xs k (i + 1) c`.
+    -- If `k ≤ i` and `i < length xs`, emptying slot `i` turns the row of slots `emptying xs k i c`
+    -- into `emptying xs k (i + 1) c`.
     pub emptying-take : set (emptying xs k i c) i None ≡ emptying xs k (i + 1) c
     unfolding pre post
     emptying-take =
@@ -247,9 +250,9 @@ module _ {T : Type 0} where
   full-set (x ∷ xs) s (suc i) m h = ap (λ (r : List (Option T)). Some x ∷ r)
       (full-set xs s i m (omega arith))
 
-  -- Suppose that slot `i` and the slot of the last item `m` are emptied, and that `m` is then
-  -- written into slot `i`. Then the slots hold the items of the list after `swap_remove` at index
-  -- `i`, followed by empty slots.
+  -- Suppose that `i` is less than the index of the last item `m`. If slot `i` and the slot of `m`
+  -- are emptied, and `m` is then written into slot `i`, the slots hold the items of the list after
+  -- `swap_remove` at index `i`, followed by empty slots.
   front-swap_remove : (ys : List T) (c i : ℕ) (v m : T) → i < length ys → length (ys ++ m ∷ []) ≤ c
       → set (set (set (front (ys ++ m ∷ []) c) i None) (length ys) None) i (Some m) ≡ front
       (swap_remove (ys ++ m ∷ []) i v) c

@@ -12,8 +12,8 @@ use Rattle.thin_vec.specs.Cheap.{IsCheap}
 use Rattle.thin_vec.specs.List.Capacity.{Keeps, Reserves, TellsOverflow, TellsOverflowOf}
 use Rattle.thin_vec.specs.ThinVec.{HasRoomFor, IsWithin, Thin, capacity_for}
 
--- The capacity `named` that a call needs is `None` if it is too large. If `named` is not `None`,
--- then `TellsOverflow named (Ok x)` holds.
+-- Suppose that `named` is the capacity that a call needs, or `None` if this capacity is too large.
+-- If `named` is `Some n`, then `TellsOverflow named (Ok x)` holds.
 pub tells-ok : {X : Type 0} (x : X) (named : Option ℕ) (n : ℕ) → named ≡ Some n
     → TellsOverflow named (Ok x)
 tells-ok x named n is = record {
@@ -92,8 +92,8 @@ module _ {T A : Type 0} (R : RattleType) (v : Thin T A) where
 
     -- Suppose that the first step of a call returns `Ok` and satisfies `Reserves`, and that the
     -- second step keeps the capacity and fails only with `OutOfMemory`. Then the whole call
-    -- satisfies `Reserves`, also for items of another type `S` if the growth rule chooses the same
-    -- capacity for `S`.
+    -- satisfies `Reserves`. This is also true for items of another type `S`, if the growth rule
+    -- chooses the same capacity for `S`.
     pub reserves-then : {X Y : Type 0} {x : X} (S : RattleType) (k l : ℕ) (u w : Thin T A)
         (r : Result Y ThinVecError) → l ≡ k
         → capacity_for rule S v l ≡ capacity_for rule R v k → w.capacity ≡ u.capacity
@@ -120,8 +120,8 @@ module _ {T A : Type 0} (R : RattleType) (v : Thin T A) where
         }
 
     -- Suppose that a call fails without changing the list, and satisfies `Reserves`. Then another
-    -- call that fails with the same error also satisfies `Reserves`, even for items of another type
-    -- `S` if the growth rule chooses the same capacity for `S`.
+    -- call that fails with the same error also satisfies `Reserves`. This is also true for items of
+    -- another type `S`, if the growth rule chooses the same capacity for `S`.
     pub reserves-failed : {X Y : Type 0} (S : RattleType) (k l : ℕ) (w : Thin T A)
         (cause : ThinVecError) → l ≡ k
         → capacity_for rule S v l ≡ capacity_for rule R v k

@@ -10,9 +10,9 @@ use Rattle.thin_vec.specs.Edits.Retain.{moved_down}
 -- `s` to `t`, the item from `x` to `y`, and the kept item from `k` to `l`.
 module _ {S T : Type 0} (R : S → T → T → Bool → S → T → T → Type 0) where
   -- `AskedLast s k xs stays ys t` states that the items of `xs` were tested in order, each against
-  -- the last item kept before it (at first against the item `k`). The tests changed the state from
-  -- `s` to `t`. The flags `stays` say which items of `xs` were kept, and `ys` is `k`, followed by
-  -- the kept items, as the tests left them.
+  -- the last kept item, which is `k` at first. The tests changed the state from `s` to `t`. The
+  -- flags `stays` say which items of `xs` were kept, and `ys` consists of `k` and the kept items,
+  -- as the tests left them.
   abbrev pub AskedLast : S → T → List T → List Bool → List T → S → Type 0
   AskedLast s k [] stays ys t = (stays ≡ []) × (ys ≡ k ∷ []) × (t ≡ s)
   AskedLast s k (x ∷ xs) stays ys t =
@@ -49,16 +49,16 @@ abbrev pub Compares : {S T : Type 0} → (T → T → Bool) → S → T → T �
 Compares E s x k b t y l = (b ≡ E x k) × (y ≡ x) × (l ≡ k)
 
 module _ {T : Type 0} (E : T → T → Bool) where
-  -- `unlike_from k xs` contains one flag for each item of the list `xs`, which follows the kept
-  -- item `k`. The flag is true if the item is kept, that is, if `E` returns false for the item and
-  -- the last item kept before it.
+  -- `unlike_from k xs` contains one flag for each item of the list `xs`, which is true if the item
+  -- is kept. An item is kept if the comparison `E` returns false for the item and the last item
+  -- kept before it. For the first item of `xs`, this last kept item is `k`.
   abbrev pub unlike_from : T → List T → List Bool
   unlike_from k [] = []
   unlike_from k (x ∷ xs) = if E x k then false ∷ unlike_from k xs else true ∷ unlike_from x xs
 
   -- `unlike xs` contains one flag for each item of the list `xs` except the first, which is always
-  -- kept. The flag is true if the item is kept, that is, if `E` returns false for the item and the
-  -- last item kept before it.
+  -- kept. The flag is true if the item is kept, that is, if the comparison `E` returns false for
+  -- the item and the last item kept before it.
   abbrev pub unlike : List T → List Bool
   unlike [] = []
   unlike (x ∷ xs) = unlike_from x xs

@@ -15,10 +15,10 @@ use Rattle.thin_vec.specs.declared.edits.holder.Holds.{Ghosts as HoldsGhosts}
 -- `b`. The call changed the closure from `f` to `g`, and the item from `x` to `y`.
 module _ {T F A : Type 0} (R : F → T → Bool → F → T → Type 0) where
   -- `Extracts old item new` states that a call to `next` changed `old` to `new` and returned
-  -- `item`. The closure was called with the untested items of the range, in order, until it
-  -- returned true for `item` or no item was left. It returned false for the items `kept`, which
-  -- remain in the list. Each of these items counts as one move if an item had been extracted before
-  -- the call.
+  -- `item`. The call passed the untested items of the range to the closure, in order, until the
+  -- closure returned true for `item` or no untested item was left. The items `kept`, for which the
+  -- closure returned false, remain in the list. Each of these kept items counts as one move if an
+  -- item had already been extracted before the call.
   pub record Extracts (old : Extracting T F A) (item : Option T)
       (new : Extracting T F A) : Type 0 where
     pub kept : List T

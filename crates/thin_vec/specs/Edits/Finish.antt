@@ -32,8 +32,8 @@ module _ {T A : Type 0} where
     pub items : w.items ≡ with_between v xs
     pub capacity : w.capacity ≡ v.capacity
     pub alloc : w.alloc ≡ a
-    -- Each item of `xs` was moved once. Each tail item (each item after the gap) was moved at most
-    -- once, and not at all if `xs` filled the gap.
+    -- Each item of `xs` was moved once. The tail items are the items after the gap. Each tail item
+    -- was moved at most once, and not at all if `xs` filled the gap.
     pub cost : (m : ℕ) × (w.cost ≡ moving (length xs + m) v.cost) × (m ≤ length v.tail)
         × (length xs ≡ v.gap → m ≡ 0)
 

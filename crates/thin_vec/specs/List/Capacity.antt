@@ -2,11 +2,11 @@
 -- `w` is the list after the call. The call needs room for `k` more items of the type `R`, and its
 -- result is `r`. (std: `Vec::reserve`)
 --
--- The ruled capacity `capacity_for rule R v k` is the old capacity if `v` has room for `k` more
--- items. Otherwise it is the capacity that the growth rule chooses: by default, twice the old
--- capacity (4 if the old capacity is 0), or the new number of items if this number is larger. Every
--- growth rule must at least double the capacity and make room for all items (`KeepsLaw`). The ruled
--- capacity is `None` if it would be too large for a block.
+-- If `v` has room for `k` more items, `capacity_for rule R v k` is the old capacity. Otherwise, it
+-- is the capacity that the growth rule chooses, or `None` if this capacity is too large for a
+-- block. Every growth rule must at least double the capacity and make room for all items
+-- (`KeepsLaw`). The default rule chooses twice the old capacity (4 if the old capacity is 0), or
+-- the new number of items if this number is larger.
 use Rattle.std.specs.Prelude.{◌≡◌, ◌↔◌, ◌⊎◌, ℕ, ◌≤◌, IsErrOf, OnErr, OnOk, Option, Result}
 use Rattle.std.specs.declared.option.Option.TheVariants.{None, Some}
 use Rattle.std.specs.declared.result.Result.TheVariants.{Ok, Err}
@@ -32,9 +32,10 @@ pub record TellsOverflow {X : Type 0} (wanted : Option ℕ) (r : Result X ThinVe
   where
     pub overflow : IsErrOf r CapacityOverflow ↔ (wanted ≡ None)
 
--- `TellsOverflowOf R n r` is about a call that makes a list with room for exactly `n` items of the
--- type `R`. Its result `r` is the error `CapacityOverflow` if and only if this capacity is too
--- large. Every other failure is `OutOfMemory`, the only other error.
+-- Suppose that a call makes a list with room for exactly `n` items of the type `R`.
+-- `TellsOverflowOf R n r` states that the result `r` of this call is the error `CapacityOverflow`
+-- if and only if the capacity is too large. Every other failure is `OutOfMemory`, the only other
+-- error.
 pub record TellsOverflowOf {X : Type 0} (R : RattleType) (n : ℕ) (r : Result X ThinVecError) : Type 0
   where
     pub overflow : IsErrOf r CapacityOverflow ↔ (exact_capacity R 0 n ≡ None)
@@ -54,8 +55,9 @@ module _ {T A : Type 0} where
     -- On success, the new capacity is the capacity that the growth rule determines for `k` more
     -- items (`capacity_for`).
     pub ok : OnOk r (capacity_for rule R v k ≡ Some w.capacity)
-    -- On failure, the list is unchanged, or it had already grown to the capacity `capacity_for`
-    -- when a clone failed. The clause `err` of each call says in which cases the list is unchanged.
+    -- On failure, the list is unchanged, or it had already grown to the capacity that
+    -- `capacity_for` determines when a clone failed. The clause `err` of each call says in which
+    -- cases the list is unchanged.
     pub err : OnErr r ((w ≡ v) ⊎ (capacity_for rule R v k ≡ Some w.capacity))
     -- The call returns the error `CapacityOverflow` if and only if `capacity_for` is `None`, which
     -- means that the capacity would be too large. Every other failure is `OutOfMemory`, the only
@@ -63,16 +65,16 @@ module _ {T A : Type 0} where
     pub overflow : IsErrOf r CapacityOverflow ↔ (capacity_for rule R v k ≡ None)
 
   -- Every call that may grow a list guarantees these clauses. The allocator does not change, the
-  -- capacity does not shrink, and the bound `IsCheap` on the cost is preserved. The list is within
-  -- the limits of `IsWithin` before and after the call.
+  -- capacity does not shrink, and the bound `IsCheap` on the cost is preserved. The list satisfies
+  -- `IsWithin` before and after the call.
   pub record Keeps (R : RattleType) (v w : Thin T A) : Type 0 where
     pub alloc : w.alloc ≡ v.alloc
     pub never_less : v.capacity ≤ w.capacity
     pub cheap : IsCheap v → IsCheap w
     pub within : IsWithin R v × IsWithin R w
 
-  -- `IsMade R a w` states that `w` is a new list with the allocator `a`. It satisfies the bound
-  -- `IsCheap` on its cost, and the limits `IsWithin` on its length and capacity.
+  -- `IsMade R a w` states that `w` is a new list with the allocator `a`. The list satisfies
+  -- `IsCheap`, which bounds its cost, and `IsWithin`, which limits its length and capacity.
   pub record IsMade (R : RattleType) (a : A) (w : Thin T A) : Type 0 where
     pub alloc : w.alloc ≡ a
     pub cheap : IsCheap w

@@ -23,9 +23,9 @@ pub record PausedAfter {S X : Type 0} (steps : S → Option X → S → Type 0) 
   pub can_next : can t
   pub finite : IsFinite (remaining t)
 
--- `IsLoose rule R c d` holds if `d` is `c`, or if `d` is at least a capacity that the growth rule
--- chooses when a block of capacity `c` needs room for more than `c` items. So a capacity that
--- changes from `c` to `d` at least doubles.
+-- `IsLoose rule R c d` holds if `d` is `c`, or if `d` is at least as large as a capacity that the
+-- growth rule chooses when a block of capacity `c` needs room for more than `c` items. So a
+-- capacity that changes from `c` to `d` at least doubles.
 abbrev pub IsLoose : Rule → RattleType → ℕ → ℕ → Type 0
 IsLoose rule R c d =
     (d ≡ c) ⊎ ((w : ℕ) × (n : ℕ) × (c < w) × (ruled_capacity rule R c w ≡ Some n) × (n ≤ d))
@@ -43,8 +43,8 @@ IsKeptOrRuled rule R c d n = (d ≡ c) ⊎ IsRuled rule R d n
 
 -- `IsExtended rule R v d n left` restricts the capacity `d` after the list `v` was extended to `n`
 -- items. Either `d` is the old capacity or was chosen by the growth rule for at most `n` items
--- (`IsKeptOrRuled`), or `d` is `capacity_for rule R v h` for a possible size hint `h` of the
--- iterator.
+-- (`IsKeptOrRuled`), or `d` is `capacity_for rule R v h`, where `h` is a possible size hint of an
+-- iterator that yields at most `left` items.
 abbrev pub IsExtended : {T A : Type 0} → Rule → RattleType → Thin T A → ℕ → ℕ → Count → Type 0
 IsExtended rule R v d n left =
     IsKeptOrRuled rule R v.capacity d n
@@ -52,7 +52,7 @@ IsExtended rule R v d n left =
 
 -- `IsCollected rule R d n left` restricts the capacity `d` of a new list of `n` items. Either the
 -- growth rule chooses `d` for some block that must grow to hold at most `n` items, or `d` is
--- exactly the capacity for a possible size hint of the iterator.
+-- exactly the capacity for a possible size hint of an iterator that yields at most `left` items.
 abbrev pub IsCollected : Rule → RattleType → ℕ → ℕ → Count → Type 0
 IsCollected rule R d n left =
     IsRuled rule R d n ⊎ ((h : ℕ) × IsWithinCount h left × (exact_capacity R 0 h ≡ Some d))
@@ -63,8 +63,8 @@ module _ {T A : Type 0} where
   pub record GrowsFor (rule : Rule) (R : RattleType) (v w : Thin T A) (left : Count) : Type 0 where
     -- If `v` has room for all items that the iterator may yield, the capacity does not change.
     pub had_room : HasRoomFor v (size left) → w.capacity ≡ v.capacity
-    -- Either the capacity does not change, or it becomes at least a capacity that the growth rule
-    -- chooses. So if it changes, it at least doubles.
+    -- Either the capacity does not change, or it becomes at least as large as a capacity that the
+    -- growth rule chooses. So a capacity that changes at least doubles.
     pub loose : IsLoose rule R v.capacity w.capacity
     -- Either the capacity does not change, or the growth rule chooses it. The rule chooses it
     -- either for at most the final number of items, or for a possible size hint of the iterator.
@@ -99,8 +99,7 @@ module _ {T A : Type 0} where
     pub ruled : IsCollected rule R w.capacity (length w.items) left
     -- Each item was moved exactly once.
     pub moves : w.cost.moves ≡ length w.items
-    -- The list has the allocator `a`, and it satisfies the bound `IsCheap` and the limits
-    -- `IsWithin`.
+    -- The list has the allocator `a`, and it satisfies `IsCheap` and `IsWithin`.
     pub made : IsMade R a w
 
   -- `Extends rule R v xs w` states what std's `Extend` guarantees about a call that appended the
@@ -119,8 +118,9 @@ module _ {T A : Type 0} where
       × IsWithin R v
 
   -- `FailsAtHint rule R w left cause` states that a call failed because the list `w` could not get
-  -- room for `h` more items, where `h` is the lower bound of the iterator's size hint. The `cause`
-  -- is `CapacityOverflow` if and only if the growth rule chooses no capacity for `h` more items.
+  -- room for `h` more items. Here, `h` is the lower bound of the size hint of an iterator that
+  -- yields at most `left` items. The `cause` is `CapacityOverflow` if and only if the growth rule
+  -- chooses no capacity for `h` more items.
   abbrev pub FailsAtHint : Rule → RattleType → Thin T A → Count → ThinVecError → Type 0
   FailsAtHint rule R w left cause =
       (h : ℕ) × IsWithinCount h left × ¬ (HasRoomFor w h)

@@ -68,9 +68,9 @@ module _ {S T : Type 0} (R : S → T → T → Bool → S → T → T → Type 0
 
   -- `PairsAskedUpTo m s xs t ys` states that the items of `xs` after the first were tested in
   -- order, each against the item before it, until an item was to be removed or `xs` ended. The
-  -- first `m` items are kept, and the test changed its state from `s` to `t`. `ys` is `xs` as the
-  -- test left it: the kept items `left`, the item to be removed (`over`, which may be absent), and
-  -- the untested items.
+  -- first `m` items are kept, and `over` contains the item to be removed, if there is one. The test
+  -- changed its state from `s` to `t`, and `ys` is `xs` with the tested items as the test left
+  -- them.
   pub record PairsAskedUpTo (m : ℕ) (s : S) (xs : List T) (t : S) (ys : List T) : Type 0 where
     pub first : T
     pub done : List T

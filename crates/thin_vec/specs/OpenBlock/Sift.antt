@@ -30,7 +30,7 @@ module _ {S T : Type 0} (R : S → T → Bool → S → T → Type 0) where
   Stops s (x ∷ xs) t ys = (y : T) × R s x false t y × (ys ≡ y ∷ xs)
 
   -- `AskedUpTo k m s xs t ys` states that the items `k..m` of `xs` were tested and are kept, and
-  -- that `xs` then ended or the item at index `m` was tested and is to be removed. The test changed
+  -- that the item at index `m`, if there is one, was tested and is to be removed. The test changed
   -- its state from `s` to `t`, and `ys` is `xs` with the tested items as the test left them.
   pub record AskedUpTo (k m : ℕ) (s : S) (xs : List T) (t : S) (ys : List T) : Type 0 where
     pub before : List T
@@ -49,8 +49,8 @@ module _ {S T : Type 0} (R : S → T → Bool → S → T → Type 0) where
   -- `Advances s v t w` states that the untested items (middle items) of the open block `v` were
   -- tested in order, until an item was to be removed or no untested item was left. In the open
   -- block `w`, the kept items are the last front items, and an item to be removed is the first
-  -- middle item. Each kept item counts as one move if `v` has a gap. The test changed its state
-  -- from `s` to `t`.
+  -- middle item. Each kept item counts as one move if `v` has empty slots between its front and its
+  -- middle items. The test changed its state from `s` to `t`.
   pub record Advances {A : Type 0} (s : S) (v : Open T A) (t : S) (w : Open T A) : Type 0 where
     pub count : ℕ
     pub left : List T

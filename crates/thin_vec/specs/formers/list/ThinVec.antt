@@ -56,7 +56,8 @@ the_empty Z Q z q = record { items = []; capacity = 0; alloc = z; cost = no_cost
 abbrev pub the_items : (Z Q X : Type 0) → Thin X Z → List X
 the_items Z Q X v = v.items
 
--- The values that a list contains, according to its former, are exactly the items of the list.
+-- The type former of `ThinVec` states which values a list contains. These values are exactly the
+-- items of the list.
 pub the_items_listed : (Z Q X : Type 0) (v : Thin X Z)
     → listed _ (children (the_former this Z Q) X v) ≡ the_items Z Q X v
 the_items_listed Z Q X v = list-listed X v.items

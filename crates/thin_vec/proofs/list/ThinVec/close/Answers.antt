@@ -1,5 +1,5 @@
--- `close` puts an open block, which is the block of a list during an edit, back into the list.
--- Before that, `into_closed` closes the gap between the items without changing their order. So the
+-- An open block is the block of a list during an edit. `close` removes the gap between its items
+-- with `into_closed`, which keeps their order, and then puts the block back into the list. So the
 -- list contains the items of the open block, in order.
 use Rattle.std.proofs.Common.{ap, sym, ◌∙◌, rules}
 use Rattle.thin_vec.specs.Open.{items_of}

@@ -1,6 +1,6 @@
--- No item follows the replaced range. So the list contains only the items before the range after
--- the call to `close`, and the call to `extend` appends the items of the iterator. The clauses
--- follow from the contracts of these two calls.
+-- No item follows the replaced range. So after the call to `close`, the list contains only the
+-- items before the range. The call to `extend` then appends the items of the iterator, and the
+-- clauses follow from the contracts of these two calls.
 use Rattle.std.proofs.Common.{◌≡◌, ◌*◌, ◌++◌, ◌∙◌, ap, arith, length, length-append, refl, subst, sym}
 use Rattle.std.specs.Iterator.{size}
 use Rattle.std.specs.Prelude.{MatchOption}
@@ -24,8 +24,8 @@ left g c =
     c.close.ensures.changes
     ∙ closed-left c.args.block c.args.self.now c.requires.none c.requires.no_tail
 
--- `HasTaken` holds for the lists before and after the call to `extend`. It describes how a list
--- changes when items of an iterator are added.
+-- `HasTaken` relates the list before the call to `extend` to the list after the call. This relation
+-- describes how a list changes when items of an iterator are added.
 taken : (g : _) (c : After-extend g)
     → HasTaken g.G.Growth.rule (param 0 g.row.T) (left_of c.args.block c.args.self.now.alloc)
     c.extend.new.self (2 * length c.args.block.tail) (g.I.Iterator.remaining c.args.iter)

@@ -19,7 +19,7 @@ count : (g : _) (c : In-Err g) → c.len.result ≡ length c.draw-held.result.he
 count g c = c.len.ensures ∙ c.draw-held.result.held.ok.0
 
 -- If the call to `reserve` fails, the vector `held` contains at least one item, because reserving
--- room for no item always succeeds.
+-- room for zero items always succeeds.
 more : (g : _) (c : In-Err g) → 0 < length c.draw-held.result.held.items
 more g c = elim (cases_lt 0 (length c.draw-held.result.held.items)) [
   | inl some ↦ some

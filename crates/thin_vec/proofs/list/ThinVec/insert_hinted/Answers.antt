@@ -24,8 +24,8 @@ wide g c = record {
   cost = c.open_wide-block.ensures.other_cost;
 }
 
--- If opening and closing the gap takes at most `n` moves, then `HasTaken` holds for the old list
--- and the new list, with at most `n` moves of old items.
+-- If opening and closing the gap takes at most `n` moves, then `HasTaken` relates the list before
+-- the call to the list after the call, with at most `n` moves of old items.
 taken : (g : _) (c : After-fill_gap g) (n : _)
     → c.fill_gap.ensures.filled.1.cost.0 + (length c.reserve.new.self.items - c.args.at) ≤ n
     → HasTaken g.G.Growth.rule (param 0 g.row.T) c.args.self.now c.fill_gap.new.self n

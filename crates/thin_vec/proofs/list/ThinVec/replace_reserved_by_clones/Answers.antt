@@ -1,6 +1,6 @@
--- The first clones are appended to the list, and `replace_by_last` then moves them into the range.
--- If the range is too short for all clones, the other clones are inserted directly after it. If a
--- clone fails, all clones are dropped, so the list contains its old items again.
+-- Clones that fit into the range are appended to the list, and `replace_by_last` then moves them
+-- into the range. All further clones are inserted directly after the range. If a clone fails, all
+-- clones are dropped, so the list contains its old items again.
 use Rattle.std.proofs.Common.{if◌then◌else◌, ◌≡◌, ◌+◌, ◌-◌, ◌≤◌, ◌++◌, ◌∙◌, ap, arith, eqb, length, length-append, subst, sym}
 use Rattle.std.proofs.lemmas.List.Elements.{length_all_zip}
 use Rattle.std.specs.List.{AllZip}

@@ -1,5 +1,5 @@
 -- The contract of the inherent method `clone` implies the contract of the trait method
--- `Clone::clone`: `IsClonedList` holds for the list and its clone.
+-- `Clone::clone`, which states that `IsClonedList` relates the list to its clone.
 use Rattle.std.proofs.Common.{sym, ◌∙◌}
 use Rattle.std.proofs.lemmas.List.Elements.{length_all_zip}
 use Rattle.thin_vec.proofs.list.clones.ThinVecClone.clone.Goals as goal
