@@ -57,8 +57,8 @@ plainly Rs = Struct (record { name = []; args = []; types = []; fields = Rs })
 abbrev pub block_val : Ptr → Val
 block_val p = vstruct (vcons (ptr_val p) (vcons (vstruct vnil) (vcons (vstruct vnil) vnil)))
 
--- `block_own p vs` states what the fields of a block with the pointer `p` own if the machine values
--- of the block are `vs`.
+-- `block_own p vs` states what the fields of a block own if the block has the pointer `p` and the
+-- machine values `vs`.
 abbrev pub block_own : Ptr → List Val → Fml
 block_own p = (plainly (RawPtr ∷ plainly [] ∷ plainly [] ∷ [])).own_val (p, (tt, (tt, tt)))
 
@@ -262,7 +262,7 @@ module _ (E : El) (Y : Al) {M : Type 1} {𝓤 : Ura M} {𝓛 : Logic 𝓤} {K : 
     {Γ : List (Item 𝓤)} {G : Goal 𝓤 𝓛.H} where
   -- Splits the block behind a `&mut` into its parts. After this step the proof context holds, in
   -- this order: [the header; the slots; the memory that holds the block's pointer; three entries
-  -- for the open borrow of the block, which include its lifetime token].
+  -- for the open borrow of the block, which include the lifetime token of the borrow].
   pub block_opens : K → Soaks G → {κ : Lft} {q : Share} {γ : GName} (x : (Br E Y).Denot) (rb ro : ℕ)
       → ((b o : ℕ) → x.at ≡ block_ptr b o → fits_block (R E) (length x.slots) ≡ true
       → Seq K 𝓛 (‵ (Header E Y x b o) ∷ ‵ (Slots E Y x b o) ∷ ‵

@@ -1,12 +1,12 @@
 -- These lemmas begin and end the proof of a method that takes `&mut self` or `&self`. The lemmas
 -- assume the laws of the separation logic (`Logic`).
---     `dropped` and `all_go` give no argument back to the caller, if the contract allows this.
+--     If the contract allows it, `dropped` and `all_go` give no argument back to the caller.
 --     `heard_all` splits a `requires` clause that consists of several facts.
 --     `block_stays` and `goes` give only the `&mut` back to the caller.
 --     `arrives` begins the proof of any function.
 --     `starts`, `begins` and `begins_with` begin the proof of a method that takes `&mut self`.
 --     `token_out` separates the first lifetime token from the other lifetime tokens.
---     `enters` enters the body of a function, and writes out the arguments.
+--     `enters` begins the proof about a function body, and gives the arguments explicitly.
 --     `opens_self` splits the block behind the `&mut`.
 --     `closes_over` puts the block back together, with changed slots.
 --     `continues` continues the proof after the first statements of a body.
@@ -277,8 +277,8 @@ module _ (E : El) (Y : Al) {M : Type 1} {𝓤 : Ura M} {𝓛 : Logic 𝓤} {K : 
 
   -- Puts the parts of the block behind a `&mut` back together. Before this step the proof context
   -- holds, in this order: [the slots, which may have changed; the header; the memory that holds the
-  -- block's pointer; three entries for the open borrow of the block, which include its lifetime
-  -- token].
+  -- block's pointer; three entries for the open borrow of the block, which include the lifetime
+  -- token of the borrow].
   pub closes_over : K → Soaks G → {Γ : List (Item 𝓤)} {κ : Lft} {q : Share} {u v : Gv} {c : ℕ}
       (r : MutBor (Br E Y).Denot) (y : (Br E Y).Denot) (b o : ℕ) → y.at ≡ block_ptr b o
       → length y.slots ≡ c

@@ -3,7 +3,7 @@
 -- The lemmas assume the laws of the separation logic (`Logic`).
 --     `slot_out` separates one slot from the other slots, and `slot_in` puts it back.
 --     `run_out` separates the slots `i..i + k` from the other slots, and `run_in` puts them back.
---     `two_slots` separates two different slots from the other slots, and puts them back.
+--     `two_slots` says that two different slots can be separated from the other slots and put back.
 --     `to_items` converts slots that hold items into an array, and `of_items` is the inverse.
 --     `to_cells` converts slots that hold items into slice elements, and `of_cells` is the inverse.
 --     `to_room` converts empty slots into uninitialized memory for an array, and `of_room` is the

@@ -38,8 +38,8 @@ module _ {T : Type 0} where
   filled-within (x ∷ s) zero is = omega arith
   filled-within (x ∷ s) (suc i) is = let low = filled-within s i is in omega arith
 
-  -- If each of the slots `i..i + k` is filled, then there is a list of items `xs` such that these
-  -- slots are `full xs`.
+  -- If each of the slots `i..i + k` is filled, then there is a list `xs` of items such that
+  -- `run i k s` is `full xs`.
   pub full-run : (s : List (Option T)) (i k : ℕ) → i + k ≤ length s
       → ((j : ℕ) → i ≤ j → j < i + k → IsSome (slot s j)) → (xs : List T) × (run i k s ≡ full xs)
   full-run [] zero zero le filled = ([], refl)

@@ -3,7 +3,8 @@
 -- items. The lemmas assume the laws of the separation logic (`Logic`).
 --     `asked_size` and `asked_align` give the size and the alignment of a block's allocation.
 --     `carve_asked` splits the memory of a block into its parts, and `gather` is the inverse.
---     `turn_out` separates the last `k` words from the others, and `turn_back` is the inverse.
+--     `turn_out` separates the last `k` words from the words before them, and `turn_back` is the
+--     inverse.
 --     `turn_up` forms the array that an allocator can grow, and `turn_down` is the inverse.
 --     `units_out` converts memory for `k` words into memory for the capacity and the length.
 --     `header_apart` splits the header into memory for words and the rights that belong to a block,

@@ -83,7 +83,8 @@ counts_8 = record {
 }
 
 -- `Laid s a m k` collects facts on words of `m` items: the size and the alignment of a word, and
--- the size of a block of words. Each item has the size `s` and the alignment `a`.
+-- the size of a block of words. Each item has the size `s` and the alignment `a`, and the header
+-- takes as many bytes as `k` words.
 abbrev Laid : ℕ → ℕ → ℕ → ℕ → Type 0
 Laid s a m k = (word_size s a m ≡ m * s) × ((word_align a ≡ block_align a)
     × (Dv 8 (word_align a) × (Dv a (word_align a)

@@ -94,8 +94,8 @@ module _ {M : Type 1} {𝓤 : Ura M} (𝓛 : Logic 𝓤) (τ : Ty) (m k b : ℕ)
   one_more : (w : ℕ) → m + w * m ≡ suc w * m
   one_more w = omega (arith, suc-mul w m)
 
-  -- Splits memory for `w` words into memory for their items, and the right (`ways`) to convert this
-  -- memory back into memory for words.
+  -- Splits memory for `w` words into two parts: memory for their items, and the right (`ways`) to
+  -- convert it back into memory for words.
   pub ways_out : (w o : ℕ) → ent 𝓤 (H.room (ty_array ω w) b o)
       (sep 𝓤 (H.room (ty_array τ (w * m)) b o) (sem 𝓛 (ways τ m w b o)))
   ways_out zero o =
@@ -148,8 +148,8 @@ module _ {M : Type 1} {𝓤 : Ura M} (𝓛 : Logic 𝓤) (τ : Ty) (m k b : ℕ)
   after_header : (o : ℕ) → past ω k o ≡ o + 16
   after_header o = past_is ω k o ∙ ap (λ (n : ℕ). o + n) header_bytes
 
-  -- Splits memory for `k` words into memory for the capacity, memory for the length, and the right
-  -- (`header_way`) to convert these two parts back into memory for words.
+  -- Splits memory for `k` words into three parts: memory for the capacity, memory for the length,
+  -- and the right (`header_way`) to convert both back into memory for words.
   pub header_out : (o : ℕ) → ent 𝓤 (H.room units b o)
       (sep 𝓤 (H.room half b o) (sep 𝓤 (H.room half b (o + 8)) (sem 𝓛 (header_way τ m k b o))))
   header_out o =
@@ -176,8 +176,8 @@ module _ {M : Type 1} {𝓤 : Ura M} (𝓛 : Logic 𝓤) (τ : Ty) (m k b : ℕ)
       qed 𝓛 (‵ (froom half b o) ∷ ‵ (froom half b (o + 8)) ∷ ‵ (header_way τ m k b o) ∷ []) ∵
       fjoin ! $ by ! (apply∗ 𝓤 (sem 𝓛 (header_room b o)) (H.room units b o))
 
-  -- Splits memory for `w` words into memory for `c` slots, and the right (`slots_way`) to convert
-  -- this memory back into memory for words.
+  -- Splits memory for `w` words into two parts: memory for `c` slots, and the right (`slots_way`)
+  -- to convert it back into memory for words.
   slots_out : (w c o : ℕ) → c ≤ w * m → ent 𝓤 (H.room (ty_array ω w) b o)
       (sep 𝓤 (H.room (ty_array τ c) b o) (sem 𝓛 (slots_way τ m w c b o)))
   slots_out w c o le =
@@ -208,8 +208,9 @@ module _ {M : Type 1} {𝓤 : Ura M} (𝓛 : Logic 𝓤) (τ : Ty) (m k b : ℕ)
     abbrev Back : Fml
     Back = fsep (header_way τ m k b o) (slots_way τ m w c b (o + 16))
 
-    -- Splits memory for a block of words into memory for the capacity, the length and the slots,
-    -- and the right (`Back`) to convert this memory back.
+    -- Splits memory for a block of words into four parts: memory for the capacity, memory for the
+    -- length, memory for the slots, and the right (`Back`) to convert these three kinds of memory
+    -- back.
     pub block_out : ent 𝓤 (H.room (ty_array ω (k + w)) b o)
         (sep 𝓤 (H.room half b o) (sep 𝓤 (H.room half b (o + 8))
         (sep 𝓤 (H.room (ty_array τ c) b (o + 16)) (sem 𝓛 Back))))
