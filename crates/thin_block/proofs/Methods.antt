@@ -207,9 +207,9 @@ module _ (E : El) (Y : Al) {M : Type 1} {𝓤 : Ura M} (𝓛 : Logic 𝓤) {n : 
   begins_with x φs next = starts x (Facts 𝓤 φs)
       (move ! (5 ∷ []) $ heard_all ! φs (λ said. next said))
 
-  -- Begins the proof of a method that takes `&mut self`, and drops what the other arguments own.
-  -- After this step the proof context holds, in this order: [two entries for the `&mut`; the
-  -- lifetime token of this `&mut`; the other lifetime tokens].
+  -- Begins the proof of a method that takes `&mut self`, and discards the resources of the other
+  -- arguments. After this step the proof context holds, in this order: [two entries for the `&mut`;
+  -- the lifetime token of this `&mut`; the other lifetime tokens].
   pub begins : {Bd : Lfts (suc n) → Type 0} {P : SProp 𝓤} (x : Passed lent ss Bd)
       (φs : List (Type 0))
       → (Shown φs → Sq 𝓛 (‵ (fobs x.3.0.ghost_name ((Br E Y).coded.code x.3.0.now)) ∷ ‵

@@ -322,16 +322,16 @@ module _ {M : Type 1} {𝓤 : Ura M} (𝓛 : Logic 𝓤) (T : RattleType) (L : L
   hd : InWords (size (bare (R Item))) (align (bare (R Item))) m k
   hd = nameless (elτ Item) m k (words_told (R Item) m k is)
 
-  -- Splits uninitialized memory for `k` words into memory for the capacity and memory for the
-  -- length. The third part is the right to put these two parts back together.
+  -- Splits uninitialized memory for `k` words into three parts: memory for the capacity, memory for
+  -- the length, and the right to put these two kinds of memory back together.
   pub units_out : ent 𝓤 (H.room units b o)
       (sep 𝓤 (H.room half b o)
       (sep 𝓤 (H.room half b (o + 8)) (sem 𝓛 (header_way (bare (R Item)) m k b o))))
   units_out = via 𝓤 (H.room (array_of (R W) k) b o) (𝓛.laws.room-raw units b o)
       (header_out 𝓛 (bare (R Item)) m k b hd o)
 
-  -- Converts uninitialized memory for the capacity and the length back into uninitialized memory
-  -- for `k` words.
+  -- Uses the right `header_way` to convert uninitialized memory for the capacity and the length
+  -- back into uninitialized memory for `k` words.
   pub units_in : ent 𝓤 (sep 𝓤 (H.room half b o) (sep 𝓤 (H.room half b (o + 8))
       (sem 𝓛 (header_way (bare (R Item)) m k b o)))) (H.room units b o)
   units_in = via 𝓤 (H.room (array_of (R W) k) b o) (header_in 𝓛 (bare (R Item)) m k b hd o)

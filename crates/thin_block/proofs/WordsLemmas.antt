@@ -90,8 +90,8 @@ Laid s a m k = (word_size s a m ≡ m * s) × ((word_align a ≡ block_align a)
     × (Dv 8 (word_align a) × (Dv a (word_align a)
     × ((c : ℕ) → (k + div_ceil c m) * (m * s) ≡ block_bytes s a c))))
 
--- If the alignment of an item divides the size of an item, then `Laid` holds for items of 1, 2, 4,
--- 8 and 16 bytes.
+-- If the alignment of an item divides its size, then `Laid` holds for items of 1, 2, 4, 8 and 16
+-- bytes.
 laid_1 : (w : Width) → Dv (bytes w) 1 → Laid 1 (bytes w) 8 2
 laid_1 w8 d = (refl, (refl, (tt, (tt, λ c. omega arith))))
 laid_1 w16 d = absurd d
@@ -139,8 +139,8 @@ pub record InWords (s a m k : ℕ) : Type 0 where
   pub room : k * (m * s) ≡ 16
   pub any : 0 < k
 
--- `Counts m` and `Laid s a m k` together imply `InWords s a m k`, if `k > 0` and `k` words take 16
--- bytes.
+-- If `k > 0` and `k` words take 16 bytes, then `Counts m` and `Laid s a m k` together imply
+-- `InWords s a m k`.
 in_words_by : (s a m k : ℕ) → Counts m → 0 < k → k * (m * s) ≡ 16 → Laid s a m k → InWords s a m k
 in_words_by s a m k c any room l = record {
   counts = c;

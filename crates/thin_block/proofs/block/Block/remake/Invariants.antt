@@ -4,6 +4,6 @@ use Rattle.thin_block.specs.Cost.{growing}
 use Rattle.thin_block.proofs.block.Block.remake.Given as goal
 
 -- The recorded cost of the old block (requests for memory, copied items and moves), plus one
--- request for memory that copies all items.
+-- request for memory and one copy of each item.
 abbrev pub ghost-move_run_charging : goal.ghost-move_run_charging
 ghost-move_run_charging g a = growing a.k a.self.now.cost

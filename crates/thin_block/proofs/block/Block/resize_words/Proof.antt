@@ -1,5 +1,5 @@
--- `resize_words` converts the items of a block into words, and moves the last one or two words into
--- the memory of the header, so that the block is one array of words. It passes this array to
+-- `resize_words` converts the items of a block into words. It moves the last one or two words into
+-- the memory of the header, which turns the block into one array of words. It passes this array to
 -- `resized`, and converts the returned array back into a block of items. The proof assumes the laws
 -- of the separation logic (`Logic`).
 use Rattle.std.proofs.Common.{◌≡◌, ℕ, ◌+◌, ◌-◌, ◌*◌, ◌^◌, ◌<◌, ◌≤◌, List, [], ◌∷◌, ◌++◌, length, true, refl, sym, ap, subst, ◌∙◌, arith, lit<, w64, Some, None, Option}
