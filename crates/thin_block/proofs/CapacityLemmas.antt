@@ -1,6 +1,6 @@
--- Lemmas on functions that choose the new capacity of a block. `ruled_capacity` uses a growth rule,
--- and `exact_capacity` makes room for an exact number of items. `Fits` says that a block of a given
--- capacity is small enough to be allocated.
+-- Lemmas on the functions that choose the new capacity of a block. `ruled_capacity` uses a growth
+-- rule, and `exact_capacity` chooses exactly the wanted capacity. `Fits` says that a block of a
+-- given capacity is small enough to be allocated.
 use Rattle.std.proofs.Common.{if◌then◌else◌, Bool, true, false, IsTrue, ◌≡◌, ℕ, zero, suc, ◌*◌, ◌^◌, ◌<◌, ◌≤◌, ap, refl, subst, sym, ◌∙◌, arith}
 use Rattle.std.specs.declared.option.Option.TheVariants.{Some, None}
 use borrow.Author.Tests.{lt-ltb, le-ltb, le-leb, lt-leb}
@@ -21,15 +21,14 @@ pub ruled-same : (rule : Rule) (R : RattleType) (c w : ℕ) → w ≤ c
 unfolding ruled_capacity
 ruled-same rule R c w enough = rw (le-leb w c enough) refl
 
--- If `c < w` and the number of items `w` exceeds `usize::MAX`, then `ruled_capacity rule R c w` is
--- `None`.
+-- If `c < w` and `w` exceeds `usize::MAX`, then `ruled_capacity rule R c w` is `None`.
 pub ruled-overflow : (rule : Rule) (R : RattleType) (c w : ℕ) → c < w → 2 ^ 64 ≤ w
     → ruled_capacity rule R c w ≡ None
 unfolding ruled_capacity
 ruled-overflow rule R c w more high = rw (lt-leb w c more) (rw (le-ltb w (2 ^ 64) high) refl)
 
--- If `c < w` and the number of items `w` fits into a `usize`, then `ruled_capacity rule R c w` is
--- the result of the growth rule.
+-- If `c < w` and `w` fits into a `usize`, then `ruled_capacity rule R c w` is the result of the
+-- growth rule `rule`.
 pub ruled-rule : (rule : Rule) (R : RattleType) (c w : ℕ) → c < w → w < 2 ^ 64
     → ruled_capacity rule R c w ≡ rule (type_size R) (type_align R) c w
 unfolding ruled_capacity
@@ -45,8 +44,8 @@ pub record Grown (R : RattleType) (c w n : ℕ) : Type 0 where
 none_some : {A B : Type 0} (x : A) → None ≡ Some x → B
 none_some x e = cc
 
--- If `rule` obeys the law of growth rules, `c < w` and `ruled_capacity rule R c w ≡ Some n`, then
--- `Grown R c w n` holds.
+-- If the growth rule `rule` satisfies `KeepsLaw`, `c < w` and `ruled_capacity rule R c w ≡ Some n`,
+-- then `Grown R c w n` holds.
 pub ruled-grows : (rule : Rule) (R : RattleType) (c w n : ℕ) → KeepsLaw rule → c < w
     → ruled_capacity rule R c w ≡ Some n → Grown R c w n
 ruled-grows rule R c w n law more e = elim (dec_lt w (2 ^ 64)) [
@@ -79,8 +78,9 @@ fits-less R c d e less =
 pub fits-none : (R : RattleType) → Fits R 0
 fits-none R = closed R 0 (fits_none R)
 
--- Section: blocks far below every size limit, with fewer than `2 ^ 31` items of fewer than `2 ^ 31`
--- bytes each. The lemmas are for callers that know the item type.
+-- Section: blocks that are far below every size limit. Such a block has fewer than `2 ^ 31` items,
+-- and each item takes fewer than `2 ^ 31` bytes. These lemmas are for proofs about a known item
+-- type.
 
 -- Fewer than `2 ^ 31` items of fewer than `2 ^ 31` bytes each take fewer than `2 ^ 62` bytes in
 -- total.
@@ -111,9 +111,9 @@ doubling_first R c w none some few small =
     subst (Fits R) (sym four) (small_fits R 4 (omega arith) small) in
     ruled-rule doubling R c w more (omega arith) ∙ (rw fit (ap Some four))
 
--- Suppose that the capacity `c` is too small for `w` items, but `2 * c` suffices. Then the rule
--- `doubling` chooses the capacity `2 * c`. The lemma is for `0 < c < 2 ^ 30` and items of less than
--- `2 ^ 31` bytes.
+-- Suppose that `0 < c < 2 ^ 30`, and that an item takes less than `2 ^ 31` bytes. If the capacity
+-- `c` is too small for `w` items, but `2 * c` suffices, then the rule `doubling` chooses the
+-- capacity `2 * c`.
 pub doubling_next : (R : RattleType) (c w : ℕ) → 0 < c → c < w → w ≤ 2 * c → c < 2 ^ 30
     → type_size R < 2 ^ 31 → ruled_capacity doubling R c w ≡ Some (2 * c)
 unfolding doubling fitting
@@ -158,8 +158,7 @@ pub exact-none : (R : RattleType) (w : ℕ) → (Fits R w → ⊥) → exact_cap
 exact-none R zero never = absurd (never (fits-none R))
 exact-none R (suc w) never = exact-overflow R 0 (suc w) (omega arith) never
 
--- If `c < w` and the number of items `w` exceeds `usize::MAX`, then `exact_capacity R c w` is
--- `None`.
+-- If `c < w` and `w` exceeds `usize::MAX`, then `exact_capacity R c w` is `None`.
 pub exact-past : (R : RattleType) (c w : ℕ) → c < w → 2 ^ 64 ≤ w → exact_capacity R c w ≡ None
 exact-past R c w more high =
     exact-overflow R c w more (λ fit. let small = fits-small R w fit in absurd (omega arith))
@@ -167,12 +166,14 @@ exact-past R c w more high =
 -- Two lemmas on item types `R` and `S` that have the same size and the same alignment.
 module _ (R S : RattleType) (c w : ℕ) (size : type_size R ≡ type_size S)
     (align : type_align R ≡ type_align S) where
-  -- The function `exact_capacity` returns the same result for the two item types.
+  -- If the item types `R` and `S` have the same size and the same alignment, then `exact_capacity`
+  -- returns the same result for both types.
   pub exact-at : exact_capacity R c w ≡ exact_capacity S c w
   unfolding exact_capacity fitting
   exact-at = rw (size, align) refl
 
-  -- The function `ruled_capacity` returns the same result for the two item types.
+  -- If the item types `R` and `S` have the same size and the same alignment, then `ruled_capacity`
+  -- returns the same result for both types.
   pub ruled-at : (rule : Rule) → ruled_capacity rule R c w ≡ ruled_capacity rule S c w
   unfolding ruled_capacity
   ruled-at rule = rw (size, align) refl

@@ -52,13 +52,13 @@ use Rattle.thin_block.proofs.SizesLemmas.{fits_none}
 abbrev pub plainly : List RattleType → RattleType
 plainly Rs = Struct (record { name = []; args = []; types = []; fields = Rs })
 
--- The machine value of a block with the pointer `p`: a struct of `p` and two fields that take no
--- bytes.
+-- `block_val p` is the machine value of a block with the pointer `p`. It is a struct that consists
+-- of `p` and of two fields that take no bytes.
 abbrev pub block_val : Ptr → Val
 block_val p = vstruct (vcons (ptr_val p) (vcons (vstruct vnil) (vcons (vstruct vnil) vnil)))
 
--- `block_own p vs` states what the fields of a block with the pointer `p` own if the machine values
--- of the block are `vs`.
+-- `block_own p vs` states what the fields of a block own if the block has the pointer `p` and the
+-- machine values `vs`.
 abbrev pub block_own : Ptr → List Val → Fml
 block_own p = (plainly (RawPtr ∷ plainly [] ∷ plainly [] ∷ [])).own_val (p, (tt, (tt, tt)))
 
@@ -106,7 +106,7 @@ module _ (R : RattleType) (c : ℕ) where
   abbrev τ : Ty
   τ = lone R.mir
 
-  -- The type of the memory of all slots: an array of possibly uninitialized items.
+  -- `items` is the type of the memory of all slots. It is an array of possibly uninitialized items.
   abbrev pub items : Ty
   items = raw (ty_array τ c)
 
@@ -153,16 +153,16 @@ module _ {M : Type 1} {𝓤 : Ura M} (𝓛 : Logic 𝓤) (R : RattleType) where
       move ! (2 ∷ 4 ∷ []) $ join ! $ move ! (2 ∷ 0 ∷ []) $ join ! $ move ! (1 ∷ 0 ∷ []) $ join ! $
       by ! (apply∗ 𝓤 rooms (H.room (whole R c) b o))
 
--- Section: a block without its slots. `header` states what a block of `c` slots owns besides these
--- slots. If the block has an allocator, this is the formula `frame`. Otherwise, it is a share of
--- the static header.
+-- Section: a block without its slots. `header` states what a block owns besides its slots. If the
+-- block has an allocator, it owns its header and the right to free the allocation. Otherwise, it
+-- owns a share of the static header.
 abbrev pub header : {D : Type 0} → (D → Ty → Ptr → Fml) → RattleType → ℕ → ℕ
     → Option D → ℕ → ℕ → Fml
 header t R n c None b o = fsep (lent_at usize (block_ptr b o) 0 [])
     (lent_at usize (block_ptr b (o + 8)) 0 [])
 header t R n c (Some a) b o = frame (t a) R n c b o
 
--- If the list of a block's slots is not empty, the block has an allocator.
+-- If a block has at least one slot, then it has an allocator.
 pub alloc_there : {D X : Type 0} (a : Option D) (xs : List X) → is_some a ≡ any xs → 0 < length xs
     → (h : D) × (a ≡ Some h)
 alloc_there (Some h) xs is some = (h, refl)
@@ -262,7 +262,7 @@ module _ (E : El) (Y : Al) {M : Type 1} {𝓤 : Ura M} {𝓛 : Logic 𝓤} {K : 
     {Γ : List (Item 𝓤)} {G : Goal 𝓤 𝓛.H} where
   -- Splits the block behind a `&mut` into its parts. After this step the proof context holds, in
   -- this order: [the header; the slots; the memory that holds the block's pointer; three entries
-  -- for the open borrow of the block].
+  -- for the open borrow of the block, which include the lifetime token of the borrow].
   pub block_opens : K → Soaks G → {κ : Lft} {q : Share} {γ : GName} (x : (Br E Y).Denot) (rb ro : ℕ)
       → ((b o : ℕ) → x.at ≡ block_ptr b o → fits_block (R E) (length x.slots) ≡ true
       → Seq K 𝓛 (‵ (Header E Y x b o) ∷ ‵ (Slots E Y x b o) ∷ ‵

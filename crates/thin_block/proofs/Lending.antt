@@ -37,8 +37,8 @@ module _ (E : El) (Y : Al) {M : Type 1} {𝓤 : Ura M} (𝓛 : Logic 𝓤) (x : 
   Waiting = fsep (Header E Y x b o)
       (cell_at full_share (Br E Y).mir (block_val (block_ptr b o) ∷ []) rb ro)
 
-  -- The memory of the slots `s` and the other parts of the block (`Waiting`) form the block with
-  -- the slots `s`.
+  -- If the memory of the slots `s` is combined with the other parts of the block (`Waiting`), the
+  -- result is the block with the slots `s`.
   pub slots_back : (s : List (Slot E)) (same : length s ≡ length x.slots)
       → ent 𝓤 (sep 𝓤 (sem 𝓛 (places (R E) s b (o + 16))) (sem 𝓛 Waiting))
       (sem 𝓛 ((mem (Br E Y)).own_at (with_slots x s same) rb ro))

@@ -1,12 +1,12 @@
 -- These lemmas begin and end the proof of a method that takes `&mut self` or `&self`. The lemmas
 -- assume the laws of the separation logic (`Logic`).
---     `dropped` and `all_go` give no argument back to the caller, if the contract allows this.
+--     If the contract allows it, `dropped` and `all_go` give no argument back to the caller.
 --     `heard_all` splits a `requires` clause that consists of several facts.
 --     `block_stays` and `goes` give only the `&mut` back to the caller.
 --     `arrives` begins the proof of any function.
 --     `starts`, `begins` and `begins_with` begin the proof of a method that takes `&mut self`.
 --     `token_out` separates the first lifetime token from the other lifetime tokens.
---     `enters` enters the body of a function, and writes out the arguments.
+--     `enters` begins the proof about a function body, and gives the arguments explicitly.
 --     `opens_self` splits the block behind the `&mut`.
 --     `closes_over` puts the block back together, with changed slots.
 --     `continues` continues the proof after the first statements of a body.
@@ -55,20 +55,20 @@ others [] = []
 others (s ∷ ss) = ss
 
 module _ {n : ℕ} where
-  -- `dropped ss ks` chooses, for each of the parameters `ss`, not to give its argument back to the
+  -- `dropped ss ks` is the choice to give none of the arguments for the parameters `ss` back to the
   -- caller.
   abbrev pub dropped : (ss : List (Slot n)) (ks : Kepts ss) → Stays ss ks
   dropped [] ks = tt
   dropped (s ∷ ss) ks = (stay_dropped s ks.0, dropped ss ks.1)
 
 module _ {M : Type 1} {𝓤 : Ura M} (𝓛 : Logic 𝓤) {n : ℕ} where
-  -- `AllSilent ss ks` holds if the contract says nothing about the state, after the call, of the
-  -- arguments for the parameters `ss`.
+  -- `AllSilent ss ks` holds if the contract does not say which values the arguments for the
+  -- parameters `ss` have after the call.
   abbrev pub AllSilent : (ss : List (Slot n)) → Kepts ss → Type 1
   AllSilent [] ks = Unit {1}
   AllSilent (s ∷ ss) ks = Silent 𝓛 n s ks.0 × AllSilent ss ks.1
 
-  -- If the contract says nothing about the state of the arguments after the call, then the function
+  -- If the contract does not say which values the arguments have after the call, then the function
   -- need not give the arguments back to the caller.
   pub all_go : (ss : List (Slot n)) (ks : Kepts ss) → AllSilent ss ks
       → AllGo 𝓛 n ss ks (dropped ss ks)
@@ -97,8 +97,8 @@ abbrev pub word : {n : ℕ} → n < 2 ^ 64 → T (has_ty (ty_int w64) (vint w64 
 word fits = (tt, record { fits = fits })
 
 module _ {M : Type 1} {𝓤 : Ura M} {𝓛 : Logic 𝓤} {K : Type 0} {Γ : List (Item 𝓤)} where
-  -- Enters the body of the function `f`. The list `us` of the arguments is replaced with the equal
-  -- list `vs`, in which each value is written out.
+  -- Begins the proof about the body of the function `f`. The argument list `us` is replaced with
+  -- the equal list `vs`, in which each value is given explicitly.
   pub enters : K → {C : Calls 𝓤 𝓛.H} {Λ : Loops 𝓤 𝓛.H} (f : Fn) {us : List Val}
       {P : Val → SProp 𝓤} (vs : List Val) → us ≡ vs
       → Step K 𝓛 Γ (allocs f.locals (λ E. params' E vs (runs C Λ E f.body (at_ret E P))))
@@ -127,13 +127,13 @@ module _ (E : El) (Y : Al) {n : ℕ} (ss : List (Slot (suc n))) where
   abbrev pub on_block : List (Slot (suc n))
   on_block = mut_ref_to (0 ∷ []) tt (plain (λ _. Br E Y)) ∷ ss
 
-  -- `block_stays ks` chooses to give only the `&mut Block` back to the caller when the method
+  -- `block_stays ks` is the choice to give only the `&mut Block` back to the caller when the method
   -- returns.
   abbrev pub block_stays : (ks : Kepts ss) → Stays on_block (yes, ks)
   block_stays ks = (stay_ref (0 ∷ []) tt (plain (λ _. Br E Y)), dropped ss ks)
 
-  -- If the contract says nothing about the state of the other arguments after the call, then the
-  -- method need not give these arguments back to the caller.
+  -- If the contract does not say which values the arguments other than `self` have after the call,
+  -- then the method need not give these arguments back to the caller.
   pub goes : {M : Type 1} {𝓤 : Ura M} (𝓛 : Logic 𝓤) (ks : Kepts ss) → AllSilent 𝓛 ss ks
       → AllGo 𝓛 (suc n) on_block (yes, ks) (block_stays ks)
   goes 𝓛 ks silent =
@@ -187,7 +187,7 @@ module _ (E : El) (Y : Al) {M : Type 1} {𝓤 : Ura M} (𝓛 : Logic 𝓤) {n : 
 
   -- The proof context on entry to a method that takes `&mut self`. It holds, in this order: [two
   -- entries for the `&mut`; the lifetime token of this `&mut`; the other lifetime tokens; what the
-  -- other arguments own; the further entries `Γ`].
+  -- other arguments own; the entries in the list `Γ`].
   abbrev Entered : {Bd : Lfts (suc n) → Type 0} → Passed lent ss Bd → List (Item 𝓤) → List (Item 𝓤)
   Entered x Γ = ‵ (fobs x.3.0.ghost_name ((Br E Y).coded.code x.3.0.now)) ∷ ‵
       (fbor x.0.0 (Body (mem (Br E Y)) x.3.0.ref_ptr.0 x.3.0.ref_ptr.1 x.3.0.ghost_name))
@@ -207,9 +207,9 @@ module _ (E : El) (Y : Al) {M : Type 1} {𝓤 : Ura M} (𝓛 : Logic 𝓤) {n : 
   begins_with x φs next = starts x (Facts 𝓤 φs)
       (move ! (5 ∷ []) $ heard_all ! φs (λ said. next said))
 
-  -- Begins the proof of a method that takes `&mut self`, and drops what the other arguments own.
-  -- After this step the proof context holds, in this order: [two entries for the `&mut`; the
-  -- lifetime token of this `&mut`; the other lifetime tokens].
+  -- Begins the proof of a method that takes `&mut self`, and discards the resources of the other
+  -- arguments. After this step the proof context holds, in this order: [two entries for the `&mut`;
+  -- the lifetime token of this `&mut`; the other lifetime tokens].
   pub begins : {Bd : Lfts (suc n) → Type 0} {P : SProp 𝓤} (x : Passed lent ss Bd)
       (φs : List (Type 0))
       → (Shown φs → Sq 𝓛 (‵ (fobs x.3.0.ghost_name ((Br E Y).coded.code x.3.0.now)) ∷ ‵
@@ -237,16 +237,16 @@ module _ {M : Type 1} {𝓤 : Ura M} {𝓛 : Logic 𝓤} {K : Type 0} {Γ : List
   token_out k n κs qs = step (λ s.
       use1 𝓛 (‵ (flft κs.0 qs.0) ⊛ raw (toks 𝓛 n κs.1 qs.1)) (id⊢ 𝓤 _) $ split k $ s)
 
--- `blanks m` is what a function must prove at its end about `m` arguments that are not given back
--- to the caller: a trivially true formula for each argument.
+-- `blanks m` is the formula that must be proved at the end of a function about `m` arguments that
+-- are not given back to the caller. It consists of one trivially true formula for each argument.
 abbrev pub blanks : ℕ → Fml
 blanks zero = ftrue
 blanks (suc m) = fsep ftrue (blanks m)
 
 module _ {M : Type 1} {𝓤 : Ura M} {𝓛 : Logic 𝓤} {K : Type 0} {Γ : List (Item 𝓤)}
     {G : Goal 𝓤 𝓛.H} where
-  -- Adds to the proof context what must be proved about `m` arguments that are not given back to
-  -- the caller. This formula is trivially true, so the step needs no resource.
+  -- Adds the formula `blanks m` to the proof context. The formula is trivially true, so this step
+  -- needs no resource.
   pub blank : K → (m : ℕ) → Step K 𝓛 (‵ (blanks m) ∷ Γ) G Γ G
   blank k zero = nothing k
   blank k (suc m) = step (λ s. blank k m $ nothing k $ fjoin k $ s)
@@ -276,8 +276,9 @@ module _ (E : El) (Y : Al) {M : Type 1} {𝓤 : Ura M} {𝓛 : Logic 𝓤} {K : 
   opens_self k z r next = block_opens E Y k z r.now r.ref_ptr.0 r.ref_ptr.1 next
 
   -- Puts the parts of the block behind a `&mut` back together. Before this step the proof context
-  -- holds, in this order: [the slots in their present state; the header; the memory that holds the
-  -- block's pointer; three entries for the open borrow of the block].
+  -- holds, in this order: [the slots, which may have changed; the header; the memory that holds the
+  -- block's pointer; three entries for the open borrow of the block, which include the lifetime
+  -- token of the borrow].
   pub closes_over : K → Soaks G → {Γ : List (Item 𝓤)} {κ : Lft} {q : Share} {u v : Gv} {c : ℕ}
       (r : MutBor (Br E Y).Denot) (y : (Br E Y).Denot) (b o : ℕ) → y.at ≡ block_ptr b o
       → length y.slots ≡ c

@@ -31,9 +31,9 @@ capped_le s = elim (cases_lt s (2 ^ 64)) [
 takes_some : (s size : ℕ) → size ≡ capped s → 0 < size → 0 < s
 takes_some s size is some = omega (arith, is, some, capped_le s)
 
--- Suppose that an item takes at least one byte, and that `power_bytes` chooses a capacity. Then
--- there is a power of two `p` such that `p` bytes have room for the header and the items, but not
--- for one more item.
+-- Suppose that an item takes at least one byte, and that `power_bytes` chooses the capacity `n`.
+-- Then there is a power of two `p` such that `p` bytes have room for the header and `n` items, but
+-- not for the header and `n + 1` items.
 pub each_fills : (s a c w : ℕ) (r : Option ℕ) → r ≡ power_bytes s a c w → 0 < s
     → IfSome r (FillsPower s a)
 each_fills s a c w None e some = tt

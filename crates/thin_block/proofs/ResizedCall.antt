@@ -22,8 +22,9 @@ use Rattle.core.proofs.alloc.Resizes.{Sizes, Flagged, by_flag}
 use Rattle.core.proofs.mem.Param.{El, R, el_x}
 use Rattle.thin_block.specs.contracts.in_place.resized as F
 
--- The condition that the allocator's methods `grow` and `shrink` require: the items fit into the
--- old memory and into the new memory, and neither memory is too large to be allocated.
+-- `Sized` is the condition that the allocator's methods `grow` and `shrink` require. The items must
+-- fit into the old memory block and into the new memory block, and neither memory block may be too
+-- large to be allocated.
 abbrev pub Sized : El → Sizes
 Sized E len held wanted = (len ≤ held) × ((len ≤ wanted)
     × (FitsBlock (R E) held × FitsBlock (R E) wanted))
@@ -85,7 +86,7 @@ module _ (E : El) (Y : Al) {M : Type 1} {𝓤 : Ura M} (𝓛 : Logic 𝓤) (at_m
         feq_i ! (List Val) (vptr b o ∷ []) (vptr b o ∷ []) refl $ fjoin ! $ move ! (2 ∷ []) $
         feq_i ! (List Val) (vptr p.0 p.1 ∷ []) (vptr p.0 p.1 ∷ []) refl $ fjoin ! $ fjoin ! $
         -- The arguments have been joined. The proof context holds, in this order: [the arguments;
-        -- the required facts with the memory of the block; the three lifetime tokens].
+        -- one entry for the required facts and the memory of the block; the three lifetime tokens].
         nothing ! $ move ! (5 ∷ 0 ∷ []) $ join ! $ move ! (4 ∷ 0 ∷ []) $ join ! $
         move ! (3 ∷ 0 ∷ []) $ join ! $ join ! $ join ! $ done !
 

@@ -1,6 +1,6 @@
 -- These lemmas say when a block may be sent to another thread (`block_send`), and when a block may
--- be shared between threads (`block_sync`). They show that neither what a block owns (`Keyless`)
--- nor what a `&` to a block gives access to (`Common`) depends on the thread.
+-- be shared between threads (`block_sync`). `Keyless` says that a resource does not depend on the
+-- thread that owns it. `Common` says the same about the resources that a `&` gives access to.
 use Rattle.std.specs.Prelude.{ℕ, zero, suc, ◌+◌, List, [], ◌∷◌, length, Option}
 use Rattle.std.specs.declared.option.Option.TheVariants.{Some, None}
 use Rattle.std.specs.Int.{div_ceil}
@@ -54,14 +54,14 @@ module _ (R : RattleType) where
   places_Keyless s (x ∷ xs) b o =
       (place_Keyless s x b o, places_Keyless s xs b (o + type_size R))
 
-  -- If items may be shared between threads, then what a `&` to a slot gives access to does not
-  -- depend on the thread.
+  -- If items may be shared between threads, then the resources behind a `&` to a slot do not depend
+  -- on the thread.
   place_Common : IsSync R → (x : Option R.Denot) (p : Ptr) → Common (place_lent R x p)
   place_Common y (Some x) p κ = seen R y p x κ
   place_Common y None p κ = tt
 
-  -- If items may be shared between threads, then what a `&` to several slots gives access to does
-  -- not depend on the thread.
+  -- If items may be shared between threads, then the resources behind a `&` to several slots do not
+  -- depend on the thread.
   places_Common : IsSync R → (xs : List (Option R.Denot)) (b o : ℕ)
       → Common (places_lent R xs b o)
   places_Common y [] b o κ = tt
@@ -69,8 +69,9 @@ module _ (R : RattleType) where
       (place_Common y x (block_ptr b o) κ, places_Common y xs b (o + type_size R) κ)
 
   module _ (Z : RattleType) (g : Ghosts Z.Denot) where
-    -- If items may be sent to another thread and the right to free memory does not depend on the
-    -- thread, then what a block owns does not depend on the thread either.
+    -- Suppose that items may be sent to another thread, and that the right to free memory does not
+    -- depend on the thread. Then the resources that a block owns do not depend on the thread
+    -- either.
     block_Keyless : IsSend R → Frees g g.dealloc_token → (p : Ptr) (n : ℕ)
         (xs : List (Option R.Denot)) (a : Option Z.Denot)
         → Keyless (block_owns g.dealloc_token R p n xs a)
@@ -96,7 +97,7 @@ module _ (R : RattleType) where
       places_Keyless s xs b (o + 16),
     )
 
-    -- If items may be shared between threads, then what a `&` to a block gives access to does not
+    -- If items may be shared between threads, then the resources behind a `&` to a block do not
     -- depend on the thread.
     block_Common : IsSync R → (p : Ptr) (n : ℕ) (xs : List (Option R.Denot)) (a : Option Z.Denot)
         → Common (block_lent R p n xs a)

@@ -27,8 +27,8 @@ use Rattle.thin_block.specs.Shifts.{IsShifted}
 use Rattle.thin_block.proofs.SlotsLemmas.{empty-run, parted-run, run-split, length-run, moved_left, moved_right, moved_over, moved_back}
 use Rattle.thin_block.proofs.SlotMemory.{Slot, sz, cut, glue, around, run_out, run_in, to_items, of_items, to_room, of_room}
 
--- If `c ≡ d + a`, then slot `c` begins `d` slots after the beginning of slot `a`. The size of a
--- slot is `s`.
+-- If `c ≡ d + a`, then slot `c` begins `d` slots after the beginning of slot `a`. Each slot takes
+-- `s` bytes.
 pub further : (a d c s o : ℕ) → c ≡ d + a → c * s + o ≡ d * s + (a * s + o)
 further a d c s o e = let sum = add_times d a s in
     let same : c * s ≡ (d + a) * s = ap (λ (k : ℕ). k * s) e in omega arith
@@ -62,8 +62,9 @@ module _ (E : El) {M : Type 1} {𝓤 : Ura M} (𝓛 : Logic 𝓤) (b o : ℕ) (s
   abbrev Room : ℕ → ℕ → Fml
   Room n at = froom (ty_array (elτ E) n) b at
 
-  -- `Moves Was Is` says that the memory `Was` can be separated from the other slots before the
-  -- move, and that the memory `Is` and the other slots can be put together after the move.
+  -- `Moves Was Is` states that the memory `Was` can be separated from the memory of the other slots
+  -- before the move, and that the memory `Is` can be joined with the memory of the other slots
+  -- after the move.
   pub record Moves (Was Is : Fml) : Type 1 where
     pub Rest : Fml
     pub out : ent 𝓤 (sem 𝓛 (Row o slots)) (sep 𝓤 (sem 𝓛 Was) (sem 𝓛 Rest))
@@ -75,9 +76,9 @@ module _ (E : El) {M : Type 1} {𝓤 : Ura M} (𝓛 : Logic 𝓤) (b o : ℕ) (s
   empty-long : (n : ℕ) → length (empty {T = el_x E} n) ≡ n
   empty-long n = length-replicate n None
 
-  -- If the `d` slots directly before a run are empty, then the run and these slots can be separated
-  -- from the other slots. After the run has been moved down by `d` slots, all slots can be put back
-  -- together.
+  -- If the `d` slots directly before a run of adjacent items are empty, then the items and these
+  -- slots can be separated from the other slots. After the items have been moved down by `d` slots,
+  -- all slots can be put back together.
   pub slides_down : (d : ℕ) → from ≡ to + d → from + k ≤ length slots → run to d slots ≡ empty d
       → Moves (memory_before_copy (R E) false d k (block_ptr b src) (block_ptr b dst) xs)
       (memory_after_copy (R E) false d k (block_ptr b src) (block_ptr b dst) xs)
@@ -127,9 +128,9 @@ module _ (E : El) {M : Type 1} {𝓤 : Ura M} (𝓛 : Logic 𝓤) (b o : ℕ) (s
             rewrite ! 0 (λ (l : S). ‵ (Row o l)) result refl $ done !;
       }
 
-  -- If the `d` slots directly after a run are empty, then the run and these slots can be separated
-  -- from the other slots. After the run has been moved up by `d` slots, all slots can be put back
-  -- together.
+  -- If the `d` slots directly after a run of adjacent items are empty, then the items and these
+  -- slots can be separated from the other slots. After the items have been moved up by `d` slots,
+  -- all slots can be put back together.
   pub slides_up : (d : ℕ) → to ≡ from + d → to + k ≤ length slots → run (from + k) d slots ≡ empty d
       → Moves (memory_before_copy (R E) true d k (block_ptr b src) (block_ptr b dst) xs)
       (memory_after_copy (R E) true d k (block_ptr b src) (block_ptr b dst) xs)
@@ -216,9 +217,9 @@ module _ (E : El) {M : Type 1} {𝓤 : Ura M} (𝓛 : Logic 𝓤) (b o : ℕ) (s
       let same : length mid * s ≡ m * s = ap (λ (n : ℕ). n * s) count in
       omega arith
 
-  -- If `k` slots above a run of `k` items are empty, then the run and these slots can be separated
-  -- from the other slots. After the run has been moved up into these slots, all slots can be put
-  -- back together.
+  -- If `k` adjacent slots somewhere above a run of `k` items are empty, then the items and these
+  -- slots can be separated from the other slots. After the items have been moved up into these
+  -- slots, all slots can be put back together.
   goes_over : (m : ℕ) → to ≡ from + k + m → to + k ≤ length slots
       → run to k slots ≡ empty k → Moves Was Is
   goes_over m apart within gap =
@@ -276,9 +277,9 @@ module _ (E : El) {M : Type 1} {𝓤 : Ura M} (𝓛 : Logic 𝓤) (b o : ℕ) (s
             rewrite ! 0 (λ (l : S). ‵ (Row o l)) result refl $ done !;
       }
 
-  -- If `k` slots below a run of `k` items are empty, then the run and these slots can be separated
-  -- from the other slots. After the run has been moved down into these slots, all slots can be put
-  -- back together.
+  -- If `k` adjacent slots somewhere below a run of `k` items are empty, then the items and these
+  -- slots can be separated from the other slots. After the items have been moved down into these
+  -- slots, all slots can be put back together.
   goes_back : (m : ℕ) → from ≡ to + k + m → from + k ≤ length slots
       → run to k slots ≡ empty k → Moves Was Is
   goes_back m apart within gap =
@@ -341,8 +342,9 @@ module _ (E : El) {M : Type 1} {𝓤 : Ura M} (𝓛 : Logic 𝓤) (b o : ℕ) (s
   abbrev pub Bare : Type 0
   Bare = (i : ℕ) → to ≤ i → i < to + k → (i < from) ⊎ (from + k ≤ i) → slot slots i ≡ None
 
-  -- If the old and the new slots of a run do not overlap, then they can be separated from the other
-  -- slots. After the run has been moved, all slots can be put back together.
+  -- Suppose that adjacent items are to be moved to empty slots, and that their old and new slots do
+  -- not overlap. Then the old and new slots can be separated from the other slots. After the move,
+  -- all slots can be put back together.
   pub apart : from + k ≤ length slots → to + k ≤ length slots → Bare → (from + k ≤ to)
       ⊎ (to + k ≤ from) → Moves Was Is
   apart source target bare far =
@@ -353,7 +355,7 @@ module _ (E : El) {M : Type 1} {𝓤 : Ura M} (𝓛 : Logic 𝓤) (b o : ℕ) (s
       (empty-run slots to k target
       (λ i h j. bare i h j (inl (let q : i < from = omega arith in q))))) far
 
-  -- The distance by which the run is moved, in slots.
+  -- The distance, in slots, by which the items are moved.
   abbrev pub distance : Bool → ℕ
   distance true = to - from
   distance false = from - to
@@ -362,18 +364,18 @@ module _ (E : El) {M : Type 1} {𝓤 : Ura M} (𝓛 : Logic 𝓤) (b o : ℕ) (s
   Way up = Moves (memory_before_copy (R E) up (distance up) k (block_ptr b src) (block_ptr b dst)
       xs) (memory_after_copy (R E) up (distance up) k (block_ptr b src) (block_ptr b dst) xs)
 
-  -- `GapAbove up` states: if the run is moved up, then the slots between its old end and its new
-  -- end are empty.
+  -- `GapAbove up` states: if the items are moved up, then the slots between the end of their old
+  -- slots and the end of their new slots are empty.
   abbrev pub GapAbove : Bool → Type 0
   GapAbove up = up ≡ true → (from ≤ to) × AreEmpty slots (from + k) (to - from)
 
-  -- `GapBelow up` states: if the run is moved down, then the slots between its new start and its
-  -- old start are empty.
+  -- `GapBelow up` states: if the items are moved down, then the slots between the start of their
+  -- new slots and the start of their old slots are empty.
   abbrev pub GapBelow : Bool → Type 0
   GapBelow up = up ≡ false → (to ≤ from) × AreEmpty slots to (from - to)
 
-  -- If the slots through which a run is moved are empty, then the run and these slots can be
-  -- separated from the other slots. After the run has been moved, all slots can be put back
+  -- Suppose that adjacent items are to be moved only through empty slots. Then the items and these
+  -- empty slots can be separated from the other slots. After the move, all slots can be put back
   -- together.
   pub slides : from + k ≤ length slots → to + k ≤ length slots → (up : Bool) → GapAbove up
       → GapBelow up → Way up
@@ -388,7 +390,7 @@ module _ (E : El) {M : Type 1} {𝓤 : Ura M} (𝓛 : Logic 𝓤) (b o : ℕ) (s
       slides_down (from - to) (omega arith) source
       (empty-run slots to (from - to) within gap.1)
 
-  -- The new address of the run differs from the old address by the distance of the move.
+  -- The new address of the items differs from their old address by the distance of the move.
   pub shifted : (up : Bool) → GapAbove up → GapBelow up → IsShifted (R E) up (distance up)
       (block_ptr b src) (block_ptr b dst)
   shifted true above below = let le : from ≤ to = (above refl).0 in

@@ -253,7 +253,7 @@ unfolding fits
 fits_no s a c many = first_false (ltb c (2 ^ 63)) (ltb (block_bytes s a c) (2 ^ 63))
     (le-ltb c (2 ^ 63) many)
 
--- `tried s c w` is the capacity that the rule `doubling` computes first. The rule chooses this
+-- `tried s c w` is the capacity that the rule `doubling` computes. The rule then chooses this
 -- capacity if a block of this capacity is small enough to be allocated.
 abbrev pub tried : ℕ → ℕ → ℕ → ℕ
 tried s c w = max w (if c == 0 then first s else 2 * c)

@@ -3,7 +3,7 @@
 -- The lemmas assume the laws of the separation logic (`Logic`).
 --     `slot_out` separates one slot from the other slots, and `slot_in` puts it back.
 --     `run_out` separates the slots `i..i + k` from the other slots, and `run_in` puts them back.
---     `two_slots` separates two different slots from the other slots, and puts them back.
+--     `two_slots` says that two different slots can be separated from the other slots and put back.
 --     `to_items` converts slots that hold items into an array, and `of_items` is the inverse.
 --     `to_cells` converts slots that hold items into slice elements, and `of_cells` is the inverse.
 --     `to_room` converts empty slots into uninitialized memory for an array, and `of_room` is the
@@ -47,7 +47,7 @@ reach Rw i c fits le =
     times_below i c (type_size Rw) (2 ^ 63) le all
 
 module _ (E : El) where
-  -- The content of a slot: an item, or nothing.
+  -- A slot contains either an item or nothing.
   abbrev pub Slot : Type 0
   Slot = Option (el_x E)
 
@@ -183,7 +183,7 @@ module _ (E : El) {M : Type 1} {𝓤 : Ura M} (𝓛 : Logic 𝓤) (b : ℕ) wher
       use1 𝓛 (given (length xs ≡ k) (‵ (row (R E) full_share xs b o)))
       (arrays.apart E' 𝓛 full_share k xs b o) $ learn ! (λ _. by ! (of_row xs o))
 
-  -- If an array type has the length `k`, then an array of this type consists of `k` items.
+  -- If the items `xs` are stored in memory as an array of length `k`, then `length xs` is `k`.
   pub counted : (k : ℕ) (xs : List (el_x E)) (o : ℕ)
       → ent 𝓤 (sem 𝓛 (part_at (Array (R E) k) full_share xs b o))
       (guard 𝓤 (length xs ≡ k) (sem 𝓛 (part_at (Array (R E) k) full_share xs b o)))
@@ -192,13 +192,13 @@ module _ (E : El) {M : Type 1} {𝓤 : Ura M} (𝓛 : Logic 𝓤) (b : ℕ) wher
       (arrays.apart E' 𝓛 full_share k xs b o) $
       learn ! (λ long. check ! long $ by ! (arrays.whole E' 𝓛 full_share k xs b o long))
 
-  -- Slots that hold the items `xs` can be converted into the elements `xs` of a slice.
+  -- Slots that hold the items `xs` can be converted into a slice with the elements `xs`.
   pub to_cells : (xs : List (el_x E)) (o : ℕ) → ent 𝓤 (sem 𝓛 (Row o (full xs)))
       (sem 𝓛 (cells (mem (R E)) xs b o))
   to_cells [] o = id⊢ 𝓤 (emp 𝓤)
   to_cells (x ∷ xs) o = mono_r 𝓤 (sem 𝓛 (part_at (R E) full_share x b o)) (to_cells xs (o + s))
 
-  -- The elements `xs` of a slice can be converted into slots that hold the items `xs`.
+  -- A slice with the elements `xs` can be converted into slots that hold the items `xs`.
   pub of_cells : (xs : List (el_x E)) (o : ℕ) → ent 𝓤 (sem 𝓛 (cells (mem (R E)) xs b o))
       (sem 𝓛 (Row o (full xs)))
   of_cells [] o = id⊢ 𝓤 (emp 𝓤)
@@ -274,8 +274,9 @@ module _ (E : El) {M : Type 1} {𝓤 : Ura M} (𝓛 : Logic 𝓤) (b : ℕ) wher
       (sym (drop-set-lt (suc j) xs i x (omega arith))) refl $ fjoin ! $ move ! (1 ∷ 0 ∷ []) $
       by ! (slot_in o (set xs i x) j low' y)
 
-  -- `Two o xs i j` says that the slots `i` and `j` can be separated from the other slots in the
-  -- list `xs`. All slots can later be put back together, whatever the two slots then contain.
+  -- `Two o xs i j` states that the slots `i` and `j` can be separated from the other slots in the
+  -- list `xs`, and that all slots can later be put back together. The contents of the two slots may
+  -- change in between.
   pub record Two (o : ℕ) (xs : List (Slot E)) (i j : ℕ) : Type 1 where
     pub Rest : Fml
     pub out : ent 𝓤 (sem 𝓛 (Row o xs))
@@ -311,8 +312,8 @@ module _ (E : El) {M : Type 1} {𝓤 : Ura M} (𝓛 : Logic 𝓤) (b : ℕ) wher
       }
 
   -- If `i` and `j` are different, then the slots `i` and `j` can be separated from the other slots
-  -- in the list `xs`. All slots can later be put back together, whatever the two slots then
-  -- contain.
+  -- in the list `xs`, and all slots can later be put back together. The contents of the two slots
+  -- may change in between.
   pub two_slots : (o : ℕ) (xs : List (Slot E)) (i j : ℕ) → (i ≡ j → ⊥) → i < length xs
       → j < length xs → Two o xs i j
   two_slots o xs i j apart low low' = ⊎_elim (λ (p : i < j). in_order o xs i j p low')

@@ -12,7 +12,7 @@ use Rattle.std.specs.Prelude.{Option, IsSome, take, drop, replicate}
 use Rattle.thin_block.specs.Lends.{over}
 use Rattle.thin_block.specs.Slots.{full, empty, slot, items_in, IsPacked, run, laid, emptied, moved}
 
--- Two indices are either equal or different.
+-- Equality of indices is decidable: two indices are either equal or different.
 pub same_or_not : (i j : ℕ) → (i ≡ j) ⊎ (i ≡ j → ⊥)
 same_or_not i j =
     ⊎_elim (λ (p : i < j). inr (λ (e : i ≡ j). absurd (omega arith)))
@@ -38,8 +38,8 @@ module _ {T : Type 0} where
   filled-within (x ∷ s) zero is = omega arith
   filled-within (x ∷ s) (suc i) is = let low = filled-within s i is in omega arith
 
-  -- If each of the slots `i..i + k` is filled, then there is a list of items `xs` such that these
-  -- slots are `full xs`.
+  -- If each of the slots `i..i + k` is filled, then there is a list `xs` of items such that
+  -- `run i k s` is `full xs`.
   pub full-run : (s : List (Option T)) (i k : ℕ) → i + k ≤ length s
       → ((j : ℕ) → i ≤ j → j < i + k → IsSome (slot s j)) → (xs : List T) × (run i k s ≡ full xs)
   full-run [] zero zero le filled = ([], refl)
@@ -84,7 +84,7 @@ module _ {T : Type 0} where
       )
 
   -- If the slots `i..i + length ws` are filled, then `over s i ws` is `laid i (full ws) s`. Both
-  -- replace the items in these slots with the items `ws`.
+  -- functions replace the items in these slots with the items `ws`.
   pub over-laid : (s : List (Option T)) (i : ℕ) (ws : List T) → i + length ws ≤ length s
       → ((j : ℕ) → i ≤ j → j < i + length ws → IsSome (slot s j)) → over s i ws ≡ laid i (full ws) s
   over-laid [] zero [] le held = refl
@@ -112,8 +112,8 @@ module _ {T : Type 0} where
   laid-none i s = ap (λ (k : ℕ). take i s ++ drop k s) (let e : i + 0 ≡ i = omega arith in
       e) ∙ take-append-drop i s
 
-  -- Replacing slots with `ys` and then setting the slot directly after `ys` to `y` is the same as
-  -- replacing slots with `ys ++ y ∷ []`.
+  -- If `k ≡ i + length ys` and `k < length s`, then `set (laid i ys s) k y` is
+  -- `laid i (ys ++ y ∷ []) s`.
   pub laid-one : (i : ℕ) (ys s : List (Option T)) (k : ℕ) (y : Option T) → k ≡ i + length ys
       → k < length s → set (laid i ys s) k y ≡ laid i (ys ++ y ∷ []) s
   laid-one i ys s k y e within =
@@ -142,8 +142,8 @@ module _ {T : Type 0} where
       ∙ ap (λ (n : ℕ). slot s n)
       (let e : i + length ys + (k - i - length ys) ≡ k = omega arith in e)))
 
-  -- A list of slots is the concatenation of the slots before index `i`, the slots `i..i + k`, and
-  -- all later slots.
+  -- A list of slots is the concatenation of three parts: the slots before index `i`, the slots
+  -- `i..i + k`, and the slots from index `i + k` onward.
   pub parted-run : (s : List (Option T)) (i k : ℕ) → s ≡ take i s ++ (run i k s ++ drop (i + k) s)
   parted-run s i k =
       sym (take-append-drop i s)
@@ -174,8 +174,8 @@ module _ {T : Type 0} where
       (drop_at pre (ys ++ post) i (sym e)) ∙ take_at ys post k (sym n)
 
   module _ (from to k : ℕ) where
-    -- If `run from k s ≡ ys`, `emptied from k s ≡ bare` and `laid to ys bare ≡ result`, then `moved
-    -- from to k s ≡ result`.
+    -- If `run from k s ≡ ys`, `emptied from k s ≡ bare` and `laid to ys bare ≡ result`, then
+    -- `moved from to k s ≡ result`.
     moved-by : (s ys bare result : List (Option T)) → run from k s ≡ ys → emptied from k s ≡ bare
         → laid to ys bare ≡ result → moved from to k s ≡ result
     unfolding moved
@@ -193,8 +193,7 @@ module _ {T : Type 0} where
       length-laid to (run from k s) (emptied from k s)
       (omega (arith, left, length-run s from k source)) ∙ left
 
-  -- `a` empty slots followed by `k` empty slots are the same as `k` empty slots followed by `a`
-  -- empty slots.
+  -- `empty a ++ (empty k ++ post)` is `empty k ++ (empty a ++ post)`.
   empty-turn : (a k : ℕ) (post : List (Option T))
       → empty a ++ (empty k ++ post) ≡ empty k ++ (empty a ++ post)
   empty-turn a k post =
@@ -205,8 +204,8 @@ module _ {T : Type 0} where
       ∙ append_assoc (empty k) (empty a) post)
 
   module _ (from to k d : ℕ) where
-    -- If `d` empty slots directly precede the slots `ys`, then moving `ys` down by `d` slots
-    -- exchanges `ys` and the empty slots.
+    -- If the slots `ys` are moved down by `d` slots, into the `d` empty slots directly before them,
+    -- then `ys` and the empty slots change places.
     pub moved_left : (pre ys post : List (Option T)) → to ≡ length pre → from ≡ to + d
         → k ≡ length ys
         → moved from to k (pre ++ (empty d ++ (ys ++ post))) ≡ pre ++ (ys ++ (empty d ++ post))
@@ -231,8 +230,8 @@ module _ {T : Type 0} where
         (laid-at to pre ys (empty k) (empty d ++ post) t (sym m))
 
   module _ (from to k d : ℕ) where
-    -- If `d` empty slots directly follow the slots `ys`, then moving `ys` up by `d` slots exchanges
-    -- `ys` and the empty slots.
+    -- If the slots `ys` are moved up by `d` slots, into the `d` empty slots directly after them,
+    -- then `ys` and the empty slots change places.
     pub moved_right : (pre ys post : List (Option T)) → from ≡ length pre → to ≡ from + d
         → k ≡ length ys
         → moved from to k (pre ++ (ys ++ (empty d ++ post))) ≡ pre ++ (empty d ++ (ys ++ post))
@@ -256,8 +255,8 @@ module _ {T : Type 0} where
         ∙ append_assoc pre (empty d) (ys ++ post))
 
   module _ (from to k : ℕ) where
-    -- Moving the `k` slots `ys` up past the slots `mid` into `k` empty slots exchanges `ys` and the
-    -- empty slots. The slots `mid` do not change.
+    -- If the `k` slots `ys` are moved up, past the slots `mid`, into `k` empty slots, then `ys` and
+    -- the empty slots change places. The slots `mid` do not change.
     pub moved_over : (pre ys mid post : List (Option T)) → from ≡ length pre
         → to ≡ from + k + length mid → k ≡ length ys
         → moved from to k (pre ++ (ys ++ (mid ++ (empty k ++ post))))
@@ -279,8 +278,8 @@ module _ {T : Type 0} where
         (laid-at to front ys (empty k) post l (sym m) ∙ joined (ys ++ post))
 
   module _ (from to k : ℕ) where
-    -- Moving the `k` slots `ys` down past the slots `mid` into `k` empty slots exchanges `ys` and
-    -- the empty slots. The slots `mid` do not change.
+    -- If the `k` slots `ys` are moved down, past the slots `mid`, into `k` empty slots, then `ys`
+    -- and the empty slots change places. The slots `mid` do not change.
     pub moved_back : (pre ys mid post : List (Option T)) → to ≡ length pre
         → from ≡ to + k + length mid → k ≡ length ys
         → moved from to k (pre ++ (empty k ++ (mid ++ (ys ++ post))))
@@ -325,8 +324,7 @@ module _ {T : Type 0} where
       ∙ (ap (λ (l : Row). full xs ++ l) (sym (replicate-append-replicate a b None))
       ∙ sym (append_assoc (full xs) (empty a) (empty b)))
 
--- Lemmas on packed slots `s`. The first `n` of these slots hold `n` items, and the other slots are
--- empty.
+-- Lemmas on a list `s` of packed slots: exactly the first `n` slots are filled.
 module _ {T : Type 0} (s : List (Option T)) (n : ℕ) (packed : IsPacked s n) where
   abbrev xs : List T
   xs = items_in s
@@ -340,21 +338,22 @@ module _ {T : Type 0} (s : List (Option T)) (n : ℕ) (packed : IsPacked s n) wh
   parted : s ≡ full xs ++ empty (length s - n)
   parted = packed.row ∙ ap (λ (k : ℕ). full xs ++ empty (length s - k)) (sym packed.len)
 
-  -- The number of items `n` is at most the number of slots.
+  -- If exactly the first `n` slots of `s` are filled, then `s` has at least `n` slots.
   pub packed-le : n ≤ length s
   packed-le =
       let whole : length s ≡ length (full xs ++ empty {T = T} (length s - n)) = ap length parted in
       let long = full-long in
       omega (arith, length-append (full xs) (empty {T = T} (length s - n)))
 
-  -- Each of the first `n` slots is filled.
+  -- If `IsPacked s n` holds, then each of the first `n` slots of `s` is filled.
   pub packed-filled : (i : ℕ) → i < n → IsSome (slot s i)
   packed-filled i low =
       let len = packed.len in
       subst (λ (l : Row). IsSome (slot l i)) (sym packed.row)
       (full-filled xs (empty (length s - length xs)) i (omega arith))
 
-  -- The first `n` slots hold all items of the list, in order.
+  -- If exactly the first `n` slots of `s` are filled, then these slots hold all items of `s`, in
+  -- order.
   pub packed-run : run 0 n s ≡ full xs
   packed-run = ap (λ (l : Row). take n l) parted
       ∙ take_at (full xs) (empty (length s - n)) n full-long
@@ -363,7 +362,8 @@ module _ {T : Type 0} (s : List (Option T)) (n : ℕ) (packed : IsPacked s n) wh
   packed-rest = ap (λ (l : Row). drop n l) parted
       ∙ drop_at (full xs) (empty (length s - n)) n full-long
 
-  -- After the first `n` slots have been emptied, all slots are empty.
+  -- Suppose that exactly the first `n` slots of `s` are filled. If these slots are emptied, then
+  -- all slots of `s` are empty.
   pub packed-emptied : emptied 0 n s ≡ empty (length s)
   packed-emptied =
       let le = packed-le in
@@ -374,8 +374,8 @@ module _ {T : Type 0} (s : List (Option T)) (n : ℕ) (packed : IsPacked s n) wh
       ∙ (replicate-append-replicate n (length s - n) None
       ∙ ap (λ (k : ℕ). empty k) (let e : n + (length s - n) ≡ length s = omega arith in e)))
 
-  -- Moving the first `n` slots of `s` into `c` empty slots yields the items of `s`, followed by
-  -- empty slots.
+  -- Suppose that exactly the first `n` slots of `s` are filled, and that they hold the items `xs`.
+  -- Then moving these slots to the start of `c` empty slots yields `full xs ++ empty (c - n)`.
   pub packed-carried : (c : ℕ) → laid 0 (run 0 n s) (empty c) ≡ full xs ++ empty (c - n)
   packed-carried c =
       let long : 0 + length (full xs) ≡ n = omega (arith, full-long) in
@@ -383,8 +383,9 @@ module _ {T : Type 0} (s : List (Option T)) (n : ℕ) (packed : IsPacked s n) wh
       ∙ (ap (λ (k : ℕ). full xs ++ drop k (empty c)) long ∙ ap (λ (l : Row). full xs ++ l)
       (drop-replicate n c None))
 
-  -- If `length s ≤ c`, then moving the first `n` slots of `s` into `c` empty slots yields `s`,
-  -- followed by empty slots.
+  -- Suppose that exactly the first `n` slots of `s` are filled, and that `length s ≤ c`. Then
+  -- moving these `n` slots to the start of `c` empty slots yields `s`, followed by `c - length s`
+  -- empty slots.
   pub packed-grown : (c : ℕ) → length s ≤ c
       → laid 0 (run 0 n s) (empty c) ≡ s ++ empty (c - length s)
   packed-grown c more =
@@ -392,8 +393,8 @@ module _ {T : Type 0} (s : List (Option T)) (n : ℕ) (packed : IsPacked s n) wh
       packed-carried c ∙ (tail-split xs (length s - n) (c - length s) (c - n) (omega arith)
       ∙ ap (λ (l : Row). l ++ empty (c - length s)) (sym parted))
 
-  -- If `n ≤ c` and `c ≤ length s`, then moving the first `n` slots of `s` into `c` empty slots
-  -- yields the first `c` slots of `s`.
+  -- Suppose that exactly the first `n` slots of `s` are filled, and that `n ≤ c ≤ length s`. Then
+  -- moving these `n` slots to the start of `c` empty slots yields the first `c` slots of `s`.
   pub packed-shrunk : (c : ℕ) → n ≤ c → c ≤ length s → laid 0 (run 0 n s) (empty c) ≡ take c s
   packed-shrunk c enough less =
       let kept : Row = full xs ++ empty (c - n) in

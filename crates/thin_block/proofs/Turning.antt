@@ -3,7 +3,8 @@
 -- items. The lemmas assume the laws of the separation logic (`Logic`).
 --     `asked_size` and `asked_align` give the size and the alignment of a block's allocation.
 --     `carve_asked` splits the memory of a block into its parts, and `gather` is the inverse.
---     `turn_out` separates the last `k` words from the others, and `turn_back` is the inverse.
+--     `turn_out` separates the last `k` words from the words before them, and `turn_back` is the
+--     inverse.
 --     `turn_up` forms the array that an allocator can grow, and `turn_down` is the inverse.
 --     `units_out` converts memory for `k` words into memory for the capacity and the length.
 --     `header_apart` splits the header into memory for words and the rights that belong to a block,
@@ -99,8 +100,8 @@ module _ {M : Type 1} {𝓤 : Ura M} (𝓛 : Logic 𝓤) (E : El) (b c o : ℕ) 
   Parts w = sep 𝓤 (H.room half b o) (sep 𝓤 (H.room half b (o + 8))
       (sep 𝓤 (H.room (array_of (R E) c) b (o + 16)) (sem 𝓛 (way_back w (bare (R E)) c b o))))
 
-  -- If the items of the block can be grouped into words, then `InWords` holds for the item type
-  -- with all field names erased.
+  -- If `in_words` returns the pair `w` for the size of the item type, then `InWords` holds for this
+  -- pair and for the item type with all field names erased.
   known : (w : ℕ × ℕ) → in_words (type_size (R E)) ≡ Some w
       → InWords (size (bare (R E))) (align (bare (R E))) w.0 w.1
   known w e = nameless (elτ E) w.0 w.1 (words_told (R E) w.0 w.1 e)
@@ -130,8 +131,8 @@ module _ {M : Type 1} {𝓤 : Ura M} (𝓛 : Logic 𝓤) (E : El) (b c o : ℕ) 
   pub carve_asked : ent 𝓤 (H.room (asked (R E) c) b o) (Parts (words_of (R E)))
   carve_asked = carve_for (words_of (R E)) (sym (same_words (R E) c))
 
-  -- Combines a block without its slots and uninitialized memory for the slots into the memory of
-  -- the whole block and the right to free this memory.
+  -- Combines a block, except for its slots, with uninitialized memory for the slots. The result is
+  -- the memory of the whole block and the right to free this memory.
   pub gather : (t : Ty → Ptr → Fml) (n : ℕ)
       → ent 𝓤 (sep 𝓤 (sem 𝓛 (frame t (R E) n c b o)) (H.room (array_of (R E) c) b (o + 16)))
       (sep 𝓤 (H.room (asked (R E) c) b o) (sem 𝓛 (t (asked (R E) c) (block_ptr b o))))
@@ -162,8 +163,8 @@ module _ {M : Type 1} {𝓤 : Ura M} (𝓛 : Logic 𝓤) (E : El) (b : ℕ) (k :
   abbrev Slots' : ℕ → List (Option (el_x E)) → Fml
   Slots' at xs = places (R E) xs b at
 
-  -- Lemmas on slots that hold the items `xs` and then the `k` items `ys`, followed by `m` empty
-  -- slots. The items `ys` take as many bytes as the header.
+  -- These lemmas are about a list of slots that hold the items `xs` and then the `k` items `ys`,
+  -- followed by `m` empty slots. The items `ys` take as many bytes as the header.
   module _ (xs ys : List (el_x E)) (long : length ys ≡ k) (n m : ℕ)
       (count : n ≡ length xs + k) where
     abbrev there : ℕ
@@ -282,8 +283,8 @@ module _ {M : Type 1} {𝓤 : Ura M} (𝓛 : Logic 𝓤) (E : El) (b : ℕ) (k :
           move ! (1 ∷ 0 ∷ 2 ∷ []) $ fjoin3 ! $ done !
 
       -- Splits an array that begins at the start of the block into four parts: its first `k` items,
-      -- in the memory of the header; the other items; the memory after the items; and the right to
-      -- free the block.
+      -- which are in the memory of the header; its other items; the memory after all items; and the
+      -- right to free the block.
       pub turn_down : ent 𝓤 (sem 𝓛 Whole) (sep 𝓤 (sem 𝓛 (Last o))
           (sep 𝓤 (sem 𝓛 (Slots' (o + 16) (full xs))) (sep 𝓤 (H.room (ty_array τ' k) b there)
           (sep 𝓤 (sem 𝓛 (Slots' past_all (empty m))) (sem 𝓛 Token)))))
@@ -321,16 +322,16 @@ module _ {M : Type 1} {𝓤 : Ura M} (𝓛 : Logic 𝓤) (T : RattleType) (L : L
   hd : InWords (size (bare (R Item))) (align (bare (R Item))) m k
   hd = nameless (elτ Item) m k (words_told (R Item) m k is)
 
-  -- Splits uninitialized memory for `k` words into memory for the capacity and memory for the
-  -- length. The third part is the right to put these two parts back together.
+  -- Splits uninitialized memory for `k` words into three parts: memory for the capacity, memory for
+  -- the length, and the right to put these two kinds of memory back together.
   pub units_out : ent 𝓤 (H.room units b o)
       (sep 𝓤 (H.room half b o)
       (sep 𝓤 (H.room half b (o + 8)) (sem 𝓛 (header_way (bare (R Item)) m k b o))))
   units_out = via 𝓤 (H.room (array_of (R W) k) b o) (𝓛.laws.room-raw units b o)
       (header_out 𝓛 (bare (R Item)) m k b hd o)
 
-  -- Converts uninitialized memory for the capacity and the length back into uninitialized memory
-  -- for `k` words.
+  -- Uses the right `header_way` to convert uninitialized memory for the capacity and the length
+  -- back into uninitialized memory for `k` words.
   pub units_in : ent 𝓤 (sep 𝓤 (H.room half b o) (sep 𝓤 (H.room half b (o + 8))
       (sem 𝓛 (header_way (bare (R Item)) m k b o)))) (H.room units b o)
   units_in = via 𝓤 (H.room (array_of (R W) k) b o) (header_in 𝓛 (bare (R Item)) m k b hd o)
@@ -346,9 +347,9 @@ module _ {M : Type 1} {𝓤 : Ura M} (𝓛 : Logic 𝓤) (T : RattleType) (L : L
     asked_words : words_of (R Item) ≡ Some (m, k)
     asked_words = same_words (R Item) c ∙ is
 
-    -- Splits a block without its slots into three parts: uninitialized memory for `k` words at the
-    -- address of the header, the right to convert memory for the slots into memory for words, and
-    -- the right to free the block.
+    -- Splits a block, except for its slots, into three parts: uninitialized memory for `k` words at
+    -- the address of the header, the right to convert memory for the slots into memory for words,
+    -- and the right to free the block.
     pub header_apart : ent 𝓤 (sem 𝓛 (frame t (R Item) n c b o))
         (sep 𝓤 (H.room units b o) (sep 𝓤 (sem 𝓛 Rest) (sem 𝓛 Right)))
     header_apart =
@@ -371,9 +372,9 @@ module _ {M : Type 1} {𝓤 : Ura M} (𝓛 : Logic 𝓤) (T : RattleType) (L : L
         rewrite ! 0 (λ (j : ℕ). ‵ (t (array_of (R W) j) (block_ptr b o))) (sym total) refl $
         move ! (1 ∷ 2 ∷ 0 ∷ []) $ done !
 
-    -- Forms a block without its slots from the capacity, the length and three rights. These are the
-    -- rights to convert memory for the header and memory for the slots into memory for words, and
-    -- the right to free the block.
+    -- Forms a block, except for its slots, from the capacity, the length and three rights. Two of
+    -- these rights convert memory for the header and memory for the slots into memory for words.
+    -- The third right is the right to free the block.
     pub header_whole : fits_block (R Item) c ≡ true
         → ent 𝓤 (sep 𝓤 (sem 𝓛 (lies_at usize full_share (block_ptr b o) c))
         (sep 𝓤 (sem 𝓛 (lies_at usize full_share (block_ptr b (o + 8)) n))

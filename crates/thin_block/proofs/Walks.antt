@@ -32,12 +32,13 @@ slot_at (suc k) (s ∷ ss) = slot_at k ss
 module _ {M : Type 1} {𝓤 : Ura M} (𝓛 : Logic 𝓤) where
   open 𝓛 use {H}
 
-  -- `then_runs C Λ E b q` is the condition that must hold before the remaining statements `b` of a
-  -- body are executed.
+  -- `then_runs C Λ E b q` is the condition that must hold directly before `b`, the last part of a
+  -- function body, is executed.
   abbrev pub then_runs : Calls 𝓤 H → Loops 𝓤 H → Env 𝓤 H → Body → Post 𝓤 H → Post 𝓤 H
   then_runs C Λ E b q = any_q (after_seq 𝓤 H (Wp 𝓤 H C Λ E b (post 𝓤 H q)) (post 𝓤 H q))
 
-  -- `out_of_block q` is the condition that must hold at the end of an inner block of statements.
+  -- `out_of_block q` is the condition that must hold at the end of an inner block of statements if
+  -- `q` must hold after this block.
   abbrev pub out_of_block : Post 𝓤 H → Post 𝓤 H
   out_of_block q = any_q (after_block 𝓤 H (post 𝓤 H q))
 

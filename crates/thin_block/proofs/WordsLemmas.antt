@@ -31,8 +31,8 @@ word_align a = max a (max 8 1)
 abbrev pub word_size : ℕ → ℕ → ℕ → ℕ
 word_size s a m = up (word_align a) (up 8 (up a 0 + m * s) + 0 * 8)
 
--- `Counts m` collects facts about `div_ceil c m`, the number of words that `c` items need if a word
--- holds `m` items.
+-- If a word holds `m` items, then `c` items need `div_ceil c m` words. `Counts m` collects facts
+-- about this number of words.
 pub record Counts (m : ℕ) : Type 0 where
   pub some : 0 < m
   pub covers : (c : ℕ) → c ≤ div_ceil c m * m
@@ -83,14 +83,15 @@ counts_8 = record {
 }
 
 -- `Laid s a m k` collects facts on words of `m` items: the size and the alignment of a word, and
--- the size of a block of words. Each item has the size `s` and the alignment `a`.
+-- the size of a block of words. Each item has the size `s` and the alignment `a`, and the header
+-- takes as many bytes as `k` words.
 abbrev Laid : ℕ → ℕ → ℕ → ℕ → Type 0
 Laid s a m k = (word_size s a m ≡ m * s) × ((word_align a ≡ block_align a)
     × (Dv 8 (word_align a) × (Dv a (word_align a)
     × ((c : ℕ) → (k + div_ceil c m) * (m * s) ≡ block_bytes s a c))))
 
--- `Laid` holds for items of 1, 2, 4, 8 and 16 bytes if the alignment of an item divides the size of
--- an item.
+-- If the alignment of an item divides its size, then `Laid` holds for items of 1, 2, 4, 8 and 16
+-- bytes.
 laid_1 : (w : Width) → Dv (bytes w) 1 → Laid 1 (bytes w) 8 2
 laid_1 w8 d = (refl, (refl, (tt, (tt, λ c. omega arith))))
 laid_1 w16 d = absurd d
@@ -138,7 +139,8 @@ pub record InWords (s a m k : ℕ) : Type 0 where
   pub room : k * (m * s) ≡ 16
   pub any : 0 < k
 
--- The facts in `Counts` and `Laid` together imply `InWords`.
+-- If `k > 0` and `k` words take 16 bytes, then `Counts m` and `Laid s a m k` together imply
+-- `InWords s a m k`.
 in_words_by : (s a m k : ℕ) → Counts m → 0 < k → k * (m * s) ≡ 16 → Laid s a m k → InWords s a m k
 in_words_by s a m k c any room l = record {
   counts = c;
@@ -168,14 +170,15 @@ at_size : (s t : ℕ) (p q : ℕ × ℕ) → s ≡ t → ◌≡◌ {A = Option (
 at_size s t p q es e all =
     subst (λ (x : ℕ × (ℕ × ℕ)). AtAny x.0 x.1.0 x.1.1) (λ i. (sym es i, pair (e i))) all
 
--- The result of `in_words`, computed from five tests of the item size. If it is a pair, it contains
--- the number of items that make a word, and the number of words that take as many bytes as the
--- header.
+-- `tested` computes the result of `in_words` from five tests of the item size. If the result is a
+-- pair, it contains the number of items that make a word, and the number of words that take as many
+-- bytes as the header.
 abbrev tested : Bool → Bool → Bool → Bool → Bool → Option (ℕ × ℕ)
 tested x y z u v = if x then Some (8, 2) else (if y then Some (4, 2) else
     (if z then Some (2, 2) else (if u then Some (1, 2) else (if v then Some (1, 1) else None))))
 
--- If one of the five tests of the size `s` succeeds, then `InWords` holds for items of `s` bytes.
+-- If the item size `s` is 1, 2, 4, 8 or 16, then `InWords` holds for items of size `s` with every
+-- alignment that divides `s`.
 by_test : (x y z u v : Bool) (s : ℕ) (q : ℕ × ℕ) → (s == 1) ≡ x → (s == 2) ≡ y → (s == 4) ≡ z
     → (s == 8) ≡ u → (s == 16) ≡ v → tested x y z u v ≡ Some q → AtAny s q.0 q.1
 by_test true y z u v s q ex ey ez eu ev e =

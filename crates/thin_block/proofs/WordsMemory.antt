@@ -86,7 +86,7 @@ module _ {M : Type 1} {𝓤 : Ura M} (𝓛 : Logic 𝓤) (τ : Ty) (m k b : ℕ)
   abbrev units : Ty
   units = ty_array ω k
 
-  -- The end of a word is the end of its last item.
+  -- A word ends where its last item ends.
   after_run : (o : ℕ) → past τ m o ≡ o + u
   after_run o = past_is τ m o ∙ ap (λ (n : ℕ). o + n) (sym hd.size)
 
@@ -94,8 +94,8 @@ module _ {M : Type 1} {𝓤 : Ura M} (𝓛 : Logic 𝓤) (τ : Ty) (m k b : ℕ)
   one_more : (w : ℕ) → m + w * m ≡ suc w * m
   one_more w = omega (arith, suc-mul w m)
 
-  -- Splits memory for `w` words into memory for their items, and the right (`ways`) to convert this
-  -- memory back into memory for words.
+  -- Splits memory for `w` words into two parts: memory for their items, and the right (`ways`) to
+  -- convert it back into memory for words.
   pub ways_out : (w o : ℕ) → ent 𝓤 (H.room (ty_array ω w) b o)
       (sep 𝓤 (H.room (ty_array τ (w * m)) b o) (sem 𝓛 (ways τ m w b o)))
   ways_out zero o =
@@ -112,9 +112,9 @@ module _ {M : Type 1} {𝓤 : Ura M} (𝓛 : Logic 𝓤) (τ : Ty) (m k b : ℕ)
       use1 𝓛 (‵ (froom (ty_array τ (w * m)) b (o + u)) ⊛ ‵ (ways τ m w b (o + u)))
       (ways_out w (o + u)) $ split ! $
       -- The memory has been split. The proof context holds, in this order: [memory for the items of
-      -- the other words; the right to convert this memory into memory for these words; memory for
-      -- the items of the first word; the right to convert this memory into memory for the first
-      -- word].
+      -- all words except the first; the right to convert this memory into memory for these words;
+      -- memory for the items of the first word; the right to convert this memory into memory for
+      -- the first word].
       rewrite ! 0 (λ (n : ℕ). ‵ (froom (ty_array τ (w * m)) b n)) (sym (after_run o)) refl $
       move ! (2 ∷ 0 ∷ []) $ use2 𝓛 (‵ (froom (ty_array τ (m + w * m)) b o))
       (room_glue 𝓛 τ m (w * m) b o) $
@@ -148,8 +148,8 @@ module _ {M : Type 1} {𝓤 : Ura M} (𝓛 : Logic 𝓤) (τ : Ty) (m k b : ℕ)
   after_header : (o : ℕ) → past ω k o ≡ o + 16
   after_header o = past_is ω k o ∙ ap (λ (n : ℕ). o + n) header_bytes
 
-  -- Splits memory for `k` words into memory for the capacity, memory for the length, and the right
-  -- (`header_way`) to convert the two back into memory for words.
+  -- Splits memory for `k` words into three parts: memory for the capacity, memory for the length,
+  -- and the right (`header_way`) to convert both back into memory for words.
   pub header_out : (o : ℕ) → ent 𝓤 (H.room units b o)
       (sep 𝓤 (H.room half b o) (sep 𝓤 (H.room half b (o + 8)) (sem 𝓛 (header_way τ m k b o))))
   header_out o =
@@ -176,8 +176,8 @@ module _ {M : Type 1} {𝓤 : Ura M} (𝓛 : Logic 𝓤) (τ : Ty) (m k b : ℕ)
       qed 𝓛 (‵ (froom half b o) ∷ ‵ (froom half b (o + 8)) ∷ ‵ (header_way τ m k b o) ∷ []) ∵
       fjoin ! $ by ! (apply∗ 𝓤 (sem 𝓛 (header_room b o)) (H.room units b o))
 
-  -- Splits memory for `w` words into memory for `c` slots, and the right (`slots_way`) to convert
-  -- this memory back into memory for words.
+  -- Splits memory for `w` words into two parts: memory for `c` slots, and the right (`slots_way`)
+  -- to convert it back into memory for words.
   slots_out : (w c o : ℕ) → c ≤ w * m → ent 𝓤 (H.room (ty_array ω w) b o)
       (sep 𝓤 (H.room (ty_array τ c) b o) (sem 𝓛 (slots_way τ m w c b o)))
   slots_out w c o le =
@@ -208,8 +208,9 @@ module _ {M : Type 1} {𝓤 : Ura M} (𝓛 : Logic 𝓤) (τ : Ty) (m k b : ℕ)
     abbrev Back : Fml
     Back = fsep (header_way τ m k b o) (slots_way τ m w c b (o + 16))
 
-    -- Splits memory for a block of words into memory for the capacity, the length and the slots,
-    -- and the right (`Back`) to convert this memory back.
+    -- Splits memory for a block of words into four parts: memory for the capacity, memory for the
+    -- length, memory for the slots, and the right (`Back`) to convert these three kinds of memory
+    -- back.
     pub block_out : ent 𝓤 (H.room (ty_array ω (k + w)) b o)
         (sep 𝓤 (H.room half b o) (sep 𝓤 (H.room half b (o + 8))
         (sep 𝓤 (H.room (ty_array τ c) b (o + 16)) (sem 𝓛 Back))))
@@ -271,7 +272,7 @@ zero_up τ = subst (λ (a : ℕ). up a 0 ≡ 0) (sym (align-bytes τ)) (zero_at 
 abbrev pub words_made : (T : RattleType) (m n : ℕ) → List T.Denot → List (word_row T m).Denot
 words_made T m n xs = map (word (param 0 T) (number_of_items m)) (first_chunks m n xs)
 
--- Cutting a list into its first `n` chunks yields `n` chunks.
+-- The list `first_chunks m n xs` consists of `n` chunks.
 pub chunks_long : {X : Type 0} (m n : ℕ) (xs : List X) → length (first_chunks m n xs) ≡ n
 chunks_long m zero xs = refl
 chunks_long m (suc n) xs = ap suc (chunks_long m n (rest m xs))
@@ -350,7 +351,7 @@ module _ {M : Type 1} {𝓤 : Ura M} (𝓛 : Logic 𝓤) (T : RattleType) (L : L
     Rooms = rooms_for 𝓤 H fields zero b o
 
     -- If memory for the fields of a word can be converted into memory for the word, then memory for
-    -- the items of the word can be converted too.
+    -- the items of the word can also be converted into memory for the word.
     way_out : ent 𝓤 (RoomBack 𝓤 H (the_type (R E) N).name fields b o) (sem 𝓛 (way τ' m b o))
     way_out =
         qed 𝓛 (raw (RoomBack 𝓤 H (the_type (R E) N).name fields b o) ∷ []) ∵
@@ -390,8 +391,8 @@ module _ {M : Type 1} {𝓤 : Ura M} (𝓛 : Logic 𝓤) (T : RattleType) (L : L
   abbrev words : ℕ → List X → List W.row.Denot
   words n xs = words_made T m n xs
 
-  -- The slots that hold the items `xs` are the slots of the first `m` items, followed by the slots
-  -- of the other items. The first `m` items make the first word.
+  -- `full xs` is `full (take m xs) ++ full (rest m xs)`. The first `m` items of `xs` make the first
+  -- word, and `rest m xs` contains the items after them.
   parted : (xs : List X) → full xs ≡ full (take m xs) ++ full (rest m xs)
   parted xs = ap full (sym (take-append-drop m xs)) ∙ map-append Some (take m xs) (rest m xs)
 
@@ -408,9 +409,9 @@ module _ {M : Type 1} {𝓤 : Ura M} (𝓛 : Logic 𝓤) (T : RattleType) (L : L
         ap (λ (n : ℕ). n * s) (length-map (take m xs) Some ∙ first_long) in
         let e = wide in omega arith
 
-  -- Groups the slots that hold the items of `n` words, with one group for each word. Each group
-  -- gets the right (`way`) to convert its memory into memory for the word. The rights for `j`
-  -- further words remain.
+  -- Groups the slots that hold the items of `n` words: one group for each word. Each group gets the
+  -- right (`way`) to convert its memory into memory for the word. The rights for the next `j` words
+  -- remain unused.
   to_runs : (n w j : ℕ) (xs : List X) (o at : ℕ) → length xs ≡ n * m → w ≡ j + n → at ≡ n * u' + o
       → ent 𝓤 (sep 𝓤 (sem 𝓛 (places (R E) (full xs) b o)) (sem 𝓛 (ways τ' m w b o)))
       (sep 𝓤 (sem 𝓛 (runs_at (R E) N (chunks n xs) b o)) (sem 𝓛 (ways τ' m j b at)))
@@ -463,9 +464,9 @@ module _ {M : Type 1} {𝓤 : Ura M} (𝓛 : Logic 𝓤) (T : RattleType) (L : L
       use2 𝓛 (‵ (places (R E) (full (rest m xs)) b far) ⊛ ‵ (ways τ' m (j + n) b far))
       (of_runs n (j + n) j (rest m xs) far at (rest_long n xs o long) refl
       (omega (arith, ea, suc-mul n u'))) $ split ! $
-      -- The other words have been turned into slots. The proof context holds, in this order: [the
-      -- slots with the items of the other words; the rights (`ways`) for the other words; the slots
-      -- with the items of the first word; the right for the first word].
+      -- All words except the first have been turned into slots. The proof context holds, in this
+      -- order: [the slots with the items of these words; the rights (`ways`) for these words; the
+      -- slots with the items of the first word; the right for the first word].
       move ! (2 ∷ 0 ∷ []) $ use2 𝓛 (‵ (places (R E) (full c ++ full (rest m xs)) b o))
       (glue E 𝓛 b (full c) (full (rest m xs)) o far (next n xs o long)) $
       rewrite ! 0 (λ (l : List (Option X)). ‵ (places (R E) l b o)) (sym (parted xs)) refl $
@@ -588,7 +589,7 @@ module _ {M : Type 1} {𝓤 : Ura M} (𝓛 : Logic 𝓤) (T : RattleType) (L : L
         (spare_slots j v pad' after (o + c * size τ') whole end) $ split3 ! $
         -- The empty words have been turned into empty slots. The proof context holds, in this
         -- order: [the empty slots; the rights (`ways`) to convert them back; the memory at the end
-        -- that belongs to no slot; the words].
+        -- that belongs to no slot; the words that hold items].
         move ! (3 ∷ 1 ∷ []) $
         use2 𝓛 (‵ (places (R E) (full xs) b o) ⊛ ‵ (ways τ' m w b o))
         (of_runs n w v xs o after long total at_after) $ split ! $ move ! (0 ∷ 2 ∷ []) $

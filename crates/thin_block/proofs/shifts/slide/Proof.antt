@@ -1,6 +1,7 @@
 -- `slide` moves items one by one. If the items are moved up, `slide` begins with the last item.
--- Otherwise, it begins with the first item. The proof is core's proof of `ptr::copy` without the
--- first test. It assumes the laws of the separation logic (`Logic`).
+-- Otherwise, it begins with the first item. The proof is the same as core's proof of `ptr::copy`,
+-- but without the test with which `ptr::copy` begins. It assumes the laws of the separation logic
+-- (`Logic`).
 use mathlib.Core.Path.{◌≡◌, refl, sym, subst}
 use mathlib.Core.Bool.{Bool, true, false}
 use mathlib.Core.List.{List, [], ◌∷◌}

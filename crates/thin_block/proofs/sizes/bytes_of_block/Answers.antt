@@ -11,7 +11,7 @@ use denote.Param.{param}
 use denote.RattleType.{RattleType}
 use Rattle.thin_block.proofs.sizes.bytes_of_block.Goals as goal
 
--- The sum that the code computes is the offset of the end of the last item.
+-- The sum that the code computes is the offset at which the last item ends.
 summed : (R : RattleType) (c size : ℕ) → Fits R c → size ≡ capped (type_size R)
     → 16 + c * size ≡ items_offset (type_align R) + c * type_size R
 summed R c size fits is =

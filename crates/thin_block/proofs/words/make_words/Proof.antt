@@ -98,8 +98,8 @@ module _ (E : El) (m : ℕ) where
   abbrev Wr : RattleType
   Wr = word_row E.row m
 
-  -- `word_val v` is the machine value of the word whose items, as one array, have the machine value
-  -- `v`.
+  -- If `v` is the machine value of an array of items, then `word_val v` is the machine value of the
+  -- word that these items make.
   abbrev word_val : Val → Val
   word_val v = vstruct (vcons v (vcons (vstruct vnil) vnil))
 
@@ -167,8 +167,8 @@ module _ (E : El) (m : ℕ) {M : Type 1} {𝓤 : Ura M} (𝓛 : Logic 𝓤) (at_
     abbrev To : Fml
     To = Made g o
 
-    -- `Then xss at` is the right to join the words that are made from the items `xss` with the
-    -- words before them. The result is the memory of all words.
+    -- `Then xss at` is the right to complete the memory of all words: the words that are made from
+    -- the items `xss` are joined with the words before them.
     abbrev Then : Runs E m → ℕ → SProp 𝓤
     Then xss at = wand 𝓤 (sem 𝓛 (Made xss at)) (sem 𝓛 To)
 
@@ -183,7 +183,7 @@ module _ (E : El) (m : ℕ) {M : Type 1} {𝓤 : Ura M} (𝓛 : Logic 𝓤) (at_
         nothing ! $ fjoin ! $ join ! $ move ! (2 ∷ 0 ∷ []) $ join ! $ join ! $ done !
 
     -- The type of the states of the loop. In each state, `i` words have been made, and `xss` lists
-    -- the items of the other words.
+    -- the items of the words that have not been made yet.
     abbrev Left : Type 0
     Left = (i : ℕ) × ((xss : Runs E m) × (i + length xss ≡ n))
 
@@ -248,10 +248,10 @@ module _ (E : El) (m : ℕ) {M : Type 1} {𝓤 : Ura M} (𝓛 : Logic 𝓤) (at_
           sets ! (bin ! (get ! refl) (size_lit ! (record { fits = fs })) (record { fits = fm }))
           refl (tt, record { fits = fm }) $
           sets ! (bin ! (get ! refl) (get ! refl) tt) refl (tt, tt) $ fsplit ! $ fsplit ! $
-          -- The items of the next word have been separated from the other items. The proof context
-          -- holds, in this order: [the items of the next word; the right to convert the memory of
-          -- these items into memory for the word; the items of the other words; the right to join
-          -- these other words with the words before them; the lifetime tokens].
+          -- The items of the next word have been separated from the items after them. The proof
+          -- context holds, in this order: [the items of the next word; the right to convert the
+          -- memory of these items into memory for the word; the items of the later words; the right
+          -- to join the later words with the words before them; the lifetime tokens].
           use1 𝓛 (exists (λ (v : Val). ‵ (fat full_share σ b at v) ⊛ ‵
           ((Arr E m).own_val xs (v ∷ [])))) (part_out 𝓛 (Arr E m) refl full_share xs b at) $
           pick ! (λ v. split ! $ move ! (1 ∷ []) $

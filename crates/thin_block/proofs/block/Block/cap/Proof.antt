@@ -1,5 +1,5 @@
--- `cap` reads the capacity, which is the first word of the header, through a `&` to the block. The
--- proof assumes the laws of the separation logic (`Logic`).
+-- `cap` reads the capacity through a `&` to the block. The capacity is the first word of the
+-- header. The proof assumes the laws of the separation logic (`Logic`).
 use Rattle.std.proofs.Common.{ℕ, ◌+◌, ◌^◌, List, ◌∷◌, [], ◌++◌, length, refl, w64}
 use mir.Val.{Val, vint, vptr}
 use mir.MapTy.{inst_fn}

@@ -1,5 +1,5 @@
--- `charge_as` does nothing at run time. It only sets the ghost cost of the block. The proof assumes
--- the laws of the separation logic (`Logic`).
+-- `charge_as` does nothing at run time. It only sets the recorded cost of the block, which is ghost
+-- state. The proof assumes the laws of the separation logic (`Logic`).
 use Rattle.std.proofs.Common.{ℕ, ◌∷◌, [], ◌++◌, refl}
 use mir.Val.{vptr, vunit}
 use mir.MapTy.{inst_fn}

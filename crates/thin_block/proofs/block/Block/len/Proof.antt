@@ -1,5 +1,5 @@
--- `len` reads the length, which is the second word of the header, through a `&` to the block. The
--- proof assumes the laws of the separation logic (`Logic`).
+-- `len` reads the length through a `&` to the block. The length is the second word of the header.
+-- The proof assumes the laws of the separation logic (`Logic`).
 use Rattle.std.proofs.Common.{ℕ, ◌+◌, ◌^◌, List, ◌∷◌, [], ◌++◌, length, refl, w64}
 use mir.Val.{Val, vint, vptr}
 use mir.MapTy.{inst_fn}

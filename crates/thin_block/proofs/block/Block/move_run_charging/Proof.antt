@@ -145,7 +145,7 @@ move_run_charging_spec 𝓤 𝓛 𝓜 𝓡 wired T A LT LA g d dd met md =
     block_opens E Y ! tt y sb so (λ b' o' at' fits'.
     -- Both blocks have been split into their parts. The proof context holds, in this order: [the
     -- header, the slots, the pointer and the open borrow of `to_block`; the same entries for
-    -- `self`; the other lifetime tokens].
+    -- `self`; the lifetime tokens of `T` and `A`].
     let src : ℕ = from * s + (o + 16) in
     let dst : ℕ = to * s + (o' + 16) in
     let light : k * s < 2 ^ 63 = reach (R E) k (length x.slots) fits (omega arith) in

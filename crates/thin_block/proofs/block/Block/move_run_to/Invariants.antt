@@ -1,5 +1,5 @@
--- The ghost argument of `move_run_charging` is the cost of the target block (its counted blocks,
--- copies and moves) before the call, plus one move for each item.
+-- The ghost argument of `move_run_charging` is the recorded cost of the target block (requests for
+-- memory, copied items and moves) before the call, plus one move for each item.
 use Rattle.thin_block.specs.Cost.{moving}
 use Rattle.thin_block.proofs.block.Block.move_run_to.Given as goal
 

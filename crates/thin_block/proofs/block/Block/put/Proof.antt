@@ -53,8 +53,8 @@ put_spec 𝓤 𝓛 𝓜 𝓡 wired T A LT LA g d dd met md =
     use1 𝓛 (‵ (froom (layout T) b here)) (𝓛.laws.raw-room (layout T) b here) $
     -- The empty slot has been separated from the other slots. The proof context holds, in this
     -- order: [memory for the item; the other slots; the header; the memory that holds the block's
-    -- pointer; three entries for the open borrow of the block; the other lifetime tokens; what the
-    -- item owns].
+    -- pointer; three entries for the open borrow of the block, which include the lifetime token of
+    -- the borrow; the other lifetime tokens; what the item owns].
     sets ! (of_opd ! (get ! refl)) refl good $
     assigns_last ! (of_opd ! (get ! refl)) (through ! refl (stop !)) (init ! 0 refl good) $
     continues ! 𝓜 𝓡 fn l 2 ((walk_of 𝓛 En₀ hs c).post z) $

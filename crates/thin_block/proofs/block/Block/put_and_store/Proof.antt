@@ -65,8 +65,8 @@ put_and_store_spec 𝓤 𝓛 𝓜 𝓡 wired T A LT LA g d dd met md =
     use1 𝓛 (‵ (froom (layout T) b here)) (𝓛.laws.raw-room (layout T) b here) $
     -- The empty slot has been separated from the other slots. The proof context holds, in this
     -- order: [memory for the item; the other slots; the header; the memory that holds the block's
-    -- pointer; three entries for the open borrow of the block; the other lifetime tokens; what the
-    -- item owns].
+    -- pointer; three entries for the open borrow of the block, which include the lifetime token of
+    -- the borrow; the other lifetime tokens; what the item owns].
     sets ! (of_opd ! (get ! refl)) refl good $
     assigns ! (of_opd ! (get ! refl)) (through ! refl (stop !)) (init ! 0 refl good) $
     move ! (0 ∷ 8 ∷ []) $ use2 𝓛 (‵ (place (R E) (Some value) b here)) (el_in E 𝓛 b value here v) $
@@ -83,7 +83,7 @@ put_and_store_spec 𝓤 𝓛 𝓜 𝓡 wired T A LT LA g d dd met md =
     -- The filled slot has been joined with the other slots, and the header has been split. The
     -- proof context holds, in this order: [the length; the right to free the block; the capacity;
     -- the slots; the memory that holds the block's pointer; three entries for the open borrow of
-    -- the block; the other lifetime tokens].
+    -- the block, which include the lifetime token of the borrow; the other lifetime tokens].
     sets ! (bin ! (get ! refl) (lit ! tt) tt) refl (tt, tt) $
     assigns_last ! (of_opd ! (get ! refl)) (through ! refl (stop !))
     (store ! 0 refl (tt, record { fits = fl })) $

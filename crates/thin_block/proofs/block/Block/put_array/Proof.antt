@@ -85,8 +85,8 @@ put_array_spec 𝓤 𝓛 𝓜 𝓡 wired T A N LT LA fits_N g d dd met md =
     use1 𝓛 (‵ (froom (ty_array (layout T) N) b here)) (to_room E 𝓛 b N here) $
     -- The empty slots for the array have been separated from the other slots. The proof context
     -- holds, in this order: [memory for the array; the other slots; the header; the memory that
-    -- holds the block's pointer; three entries for the open borrow of the block; the other lifetime
-    -- tokens; what the array owns].
+    -- holds the block's pointer; three entries for the open borrow of the block, which include the
+    -- lifetime token of the borrow; the other lifetime tokens; what the array owns].
     sets ! (of_opd ! (get ! refl)) refl good $
     assigns_last ! (of_opd ! (get ! refl)) (through ! refl (stop !)) (init ! 0 refl good) $
     continues ! 𝓜 𝓡 fn l 2 ((walk_of 𝓛 En₀ hs c).post z) $

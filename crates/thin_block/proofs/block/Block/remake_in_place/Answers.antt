@@ -1,12 +1,13 @@
--- The number of words that a block of the new capacity takes fits into a `usize`.
+-- A block of the new capacity takes a number of words that fits into a `usize`.
 use Rattle.std.proofs.Common.{arith}
 use Rattle.thin_block.proofs.SizesLemmas.{opened, fits_tells}
 use Rattle.thin_block.proofs.WordsLemmas.{words_told}
 use denote.Param.{param}
 use Rattle.thin_block.proofs.block.Block.remake_in_place.Goals as goal
 
--- The sum does not overflow. The slots take at most as many words as the new capacity, which is
--- less than `2 ^ 63`. The header takes one or two words.
+-- Adding the words of the header to the words of the slots does not overflow. The header takes one
+-- or two words. The number of words of the slots is at most the new capacity, which is less than
+-- `2 ^ 63`.
 pub overflow_add-wanted : goal.overflow_add-wanted
 overflow_add-wanted g c =
     let T = param 0 g.row.T in

@@ -1,7 +1,7 @@
--- `resize_words` converts the items of a block into words, and moves the last words into the memory
--- of the header, so that the block is one array of words. It passes this array to `resized`, and
--- converts the returned array back into a block of items. The proof assumes the laws of the
--- separation logic (`Logic`).
+-- `resize_words` converts the items of a block into words. It moves the last one or two words into
+-- the memory of the header, which turns the block into one array of words. It passes this array to
+-- `resized`, and converts the returned array back into a block of items. The proof assumes the laws
+-- of the separation logic (`Logic`).
 use Rattle.std.proofs.Common.{◌≡◌, ℕ, ◌+◌, ◌-◌, ◌*◌, ◌^◌, ◌<◌, ◌≤◌, List, [], ◌∷◌, ◌++◌, length, true, refl, sym, ap, subst, ◌∙◌, arith, lit<, w64, Some, None, Option}
 use Rattle.std.specs.Prelude.{take, drop as rest}
 use Rattle.std.specs.Int.{div_ceil}
@@ -161,7 +161,8 @@ resize_words_spec 𝓤 𝓛 𝓜 𝓡 wired T A m k LT LA fits_m fits_k g d dd m
     let held_is : held ≡ k + div_ceil old m = said.1.1.1.1.1.1.1.1.1.1.1.1.0 in
     let wanted_is : wanted ≡ k + div_ceil cap m = said.1.1.1.1.1.1.1.1.1.1.1.1.1.0 in
     let room : k ≤ count = said.1.1.1.1.1.1.1.1.1.1.1.1.1.1 in
-    -- These facts relate the numbers of items, of words and of bytes to each other.
+    -- These facts relate the number of items, the number of words and the number of bytes to each
+    -- other.
     let hd : InWords (type_size Rt) (type_align Rt) m k = words_told Rt m k in_words in
     let sixteen : k * s ≡ 16 = ap (λ (n : ℕ). k * n) hd.size ∙ hd.room in
     let items : List T.Denot = items_in x.slots in
@@ -190,7 +191,7 @@ resize_words_spec 𝓤 𝓛 𝓜 𝓡 wired T A m k LT LA fits_m fits_k g d dd m
     let row : x.slots ≡ full items ++ empty j = packed.row
     ∙ (λ i. full items ++ empty (let e : length x.slots - length items ≡ j = omega arith in e i)) in
     -- The items make `count` words. The list `ws` contains all words, the list `ys` contains the
-    -- last `k` words, and the list `xs` contains the other words.
+    -- last `k` words, and the list `xs` contains the words before them.
     let xss : List (List T.Denot) = first_chunks m count items in
     let ws : List W.row.Denot = words_made T m count items in
     let many : length ws ≡ count = words_long T m count items in
@@ -317,15 +318,16 @@ resize_words_spec 𝓤 𝓛 𝓜 𝓡 wired T A m k LT LA fits_m fits_k g d dd m
     use1 𝓛 (‵ (places Rw (full xs) b (o + 16)) ⊛ ‵ (part_at (Array Rw k) full_share ys b there) ⊛ ‵
     (places Rw (empty v) b (k * s + there))) (turn_out 𝓛 W b k sixteen o xs ys long count v parted)
     $ split3 ! $ move ! (3 ∷ []) $ split3 ! $ move ! (2 ∷ []) $ drop ! $
-    -- The last words have been separated from the other words. The proof context holds, in this
-    -- order: [the lifetime tokens of `T` and `M`; the other words; the last words; the empty words;
-    -- memory for the header; the right to free the block; the `&` to the allocator; the lifetime
-    -- tokens of this `&`, of `A` and of `K`].
+    -- The last `k` words have been separated from the words before them. The proof context holds,
+    -- in this order: [the lifetime tokens of `T` and `M`; the words before the last `k` words; the
+    -- last `k` words; the empty words; memory for the header; the right to free the block; the `&`
+    -- to the allocator; the lifetime tokens of this `&`, of `A` and of `K`].
     move ! (1 ∷ 10 ∷ []) $ join ! $ move ! (9 ∷ 0 ∷ []) $ join ! $
     move ! (3 ∷ 2 ∷ 4 ∷ 5 ∷ 6 ∷ 7 ∷ 8 ∷ 1 ∷ 0 ∷ []) $
-    -- The entries of the proof context have been put into a new order: [the last words; the other
-    -- words; the empty words; memory for the header; the right to free the block; the `&` to the
-    -- allocator; the lifetime tokens of this `&` and of `T`; the other lifetime tokens].
+    -- The entries of the proof context have been put into a new order: [the last `k` words; the
+    -- words before them; the empty words; memory for the header; the right to free the block; the
+    -- `&` to the allocator; the lifetime tokens of this `&` and of `T`; the lifetime tokens of `A`,
+    -- `M` and `K`].
     use1 𝓛 (exists (λ (u : Val). ‵ (fat full_share (ty_array ω k) b there u) ⊛ ‵
     (Arr.own_val ys (u ∷ [])))) (part_out 𝓛 (Array Rw k) refl full_share ys b there) $
     pick ! (λ u₁. split ! $
@@ -342,16 +344,16 @@ resize_words_spec 𝓤 𝓛 𝓜 𝓡 wired T A m k LT LA fits_m fits_k g d dd m
     move ! (1 ∷ []) $
     sets ! (of_opd ! (load ! (through ! refl (stop !)) (look ! 0 refl))) refl good $
     assigns ! (of_opd ! (get ! refl)) (through ! refl (stop !)) (init ! 4 refl good) $
-    -- The bytes of the last words have been copied into the memory of the header. The proof context
-    -- holds, in this order: [these bytes at their old address; what the last words own; the other
-    -- words; the empty words; the same bytes in the memory of the header; the right to free the
-    -- block; the `&` to the allocator; the lifetime tokens].
+    -- The bytes of the last `k` words have been copied into the memory of the header. The proof
+    -- context holds, in this order: [these bytes at their old address; what the last `k` words own;
+    -- the words before them; the empty words; the same bytes in the memory of the header; the right
+    -- to free the block; the `&` to the allocator; the lifetime tokens].
     use1 𝓛 (‵ (froom (ty_array ω k) b there)) (𝓛.laws.at_room (ty_array ω k) b there u₁) $
     move ! (4 ∷ 1 ∷ []) $ use2 𝓛 (‵ (part_at (Array Rw k) full_share ys b o))
     (part_in 𝓛 (Array Rw k) refl full_share ys b o u₁) $
-    -- The last words are now in the memory of the header. The proof context holds, in this order:
-    -- [the last words; uninitialized memory at their old address; the other words; the empty words;
-    -- the right to free the block; the `&` to the allocator; the lifetime tokens].
+    -- The last `k` words are now in the memory of the header. The proof context holds, in this
+    -- order: [the last `k` words; uninitialized memory at their old address; the words before them;
+    -- the empty words; the right to free the block; the `&` to the allocator; the lifetime tokens].
     move ! (0 ∷ 2 ∷ 1 ∷ 3 ∷ 4 ∷ []) $ group ! 5 $
     use1 𝓛 (‵ (block_with_items tok Rw here count held (ys ++ xs)))
     (turn_up 𝓛 W b k sixteen o xs ys long count v parted tok w held filled held_is) $
@@ -386,8 +388,8 @@ resize_words_spec 𝓤 𝓛 𝓜 𝓡 wired T A m k LT LA fits_m fits_k g d dd m
     (Resizing-gives EX Y 𝓛 𝓜.mem 𝓡.returns κ κT κA q qT z.0.1.1.1.0 z.0.2.0 handle_at h b o count
     held wanted (ys ++ xs) u) $ await ! tt $ split ! $ move ! (1 ∷ []) $ split3 ! $
     -- `resized` has returned. The proof context holds, in this order: [the lifetime tokens of the
-    -- `&` to the allocator, of `T` and of `A`; what `resized` has returned; the other lifetime
-    -- tokens].
+    -- `&` to the allocator, of `T` and of `A`; what `resized` has returned; the lifetime tokens of
+    -- `M` and `K`].
     move ! (2 ∷ 4 ∷ []) $ join ! $ move ! (2 ∷ 0 ∷ []) $ join ! $ move ! (1 ∷ 0 ∷ []) $ join ! $
     move ! (1 ∷ []) $
     -- The lifetime tokens have been joined. The proof context holds, in this order: [what `resized`
@@ -445,8 +447,8 @@ resize_words_spec 𝓤 𝓛 𝓜 𝓡 wired T A m k LT LA fits_m fits_k g d dd m
     is_u₂).0 in
     move ! (1 ∷ []) $
     -- The array that `resized` has returned has been split. The proof context holds, in this order:
-    -- [the bytes of the last words, in the memory of the header; what the last words own; the
-    -- memory after the other words; the empty words; the right to free the block; the other words;
+    -- [the bytes of the last `k` words, in the memory of the header; what these `k` words own; the
+    -- memory after all other words; the empty words; the right to free the block; all other words;
     -- the lifetime tokens].
     sets ! (of_opd ! (load ! (through ! refl (stop !)) (look ! 0 refl))) refl good' $
     assigns ! (of_opd ! (get ! refl)) (through ! refl (stop !)) (init ! 2 refl good') $
@@ -472,10 +474,10 @@ resize_words_spec 𝓤 𝓛 𝓜 𝓡 wired T A m k LT LA fits_m fits_k g d dd m
     exec ! C Λ En (after 2 fn.body) (at_ret En Post) $
     sets ! (of_opd ! (get ! refl)) refl (tt, (record { fits = lit< tt }, (words, tt))) $
     returns ! (look_at ! 0 refl) $ free_all ! refl $
-    -- The bytes of the last words have been copied to the memory after the other words, and the
-    -- header has been written. The proof context holds, in this order: [the two words of the
-    -- header; the right to convert memory for the header into memory for words; what the last words
-    -- own; the bytes of the last words; the empty words; the right to free the block; the other
+    -- The bytes of the last `k` words have been copied to the memory after all other words, and the
+    -- header has been written. The proof context holds, in this order: [the two halves of the
+    -- header; the right to convert memory for the header into memory for words; what the last `k`
+    -- words own; the bytes of these words; the empty words; the right to free the block; all other
     -- words; the lifetime tokens].
     rewrite ! 1 (λ (n : ℕ). ‵ (fat full_share (ty_int w64) b' n (vint w64 len)))
     (let turned : 8 + o' ≡ o' + 8 = omega arith in turned) refl $
@@ -529,9 +531,9 @@ resize_words_spec 𝓤 𝓛 𝓜 𝓡 wired T A m k LT LA fits_m fits_k g d dd m
     is_u₂).0 in
     move ! (1 ∷ []) $
     -- `resized` has failed, and the old array has been split. The proof context holds, in this
-    -- order: [the bytes of the last words, in the memory of the header; what the last words own;
-    -- the memory after the other words; the empty words; the right to free the block; the other
-    -- words; the lifetime tokens].
+    -- order: [the bytes of the last `k` words, in the memory of the header; what these `k` words
+    -- own; the memory after all other words; the empty words; the right to free the block; all
+    -- other words; the lifetime tokens].
     sets ! (of_opd ! (load ! (through ! refl (stop !)) (look ! 0 refl))) refl good' $
     assigns ! (of_opd ! (get ! refl)) (through ! refl (stop !)) (init ! 2 refl good') $
     use1 𝓛 (‵ (froom (ty_array ω k) b o)) (𝓛.laws.at_room (ty_array ω k) b o u₂) $
@@ -555,10 +557,10 @@ resize_words_spec 𝓤 𝓛 𝓜 𝓡 wired T A m k LT LA fits_m fits_k g d dd m
     exec ! C Λ En (after 2 fn.body) (at_ret En Post) $
     sets ! (of_opd ! (get ! refl)) refl (tt, (record { fits = lit< tt }, (words, tt))) $
     returns ! (look_at ! 0 refl) $ free_all ! refl $
-    -- The bytes of the last words have been copied to the memory after the other words, and the
-    -- header has been written. The proof context holds, in this order: [the two words of the
-    -- header; the right to convert memory for the header into memory for words; what the last words
-    -- own; the bytes of the last words; the empty words; the right to free the block; the other
+    -- The bytes of the last `k` words have been copied to the memory after all other words, and the
+    -- header has been written. The proof context holds, in this order: [the two halves of the
+    -- header; the right to convert memory for the header into memory for words; what the last `k`
+    -- words own; the bytes of these words; the empty words; the right to free the block; all other
     -- words; the lifetime tokens].
     rewrite ! 1 (λ (n : ℕ). ‵ (fat full_share (ty_int w64) b n (vint w64 len)))
     (let turned : 8 + o ≡ o + 8 = omega arith in turned) refl $

@@ -1,4 +1,4 @@
--- If `shrink` succeeds, the block keeps only its first slots.
+-- If `shrink` succeeds, the block keeps only its first `cap` slots.
 use Rattle.std.proofs.Common.{arith}
 use denote.Param.{param}
 use Rattle.thin_block.proofs.BlockLemmas.{slots-are}

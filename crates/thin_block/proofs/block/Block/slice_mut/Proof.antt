@@ -85,7 +85,8 @@ slice_mut_spec 𝓤 𝓛 𝓜 𝓡 wired T A LT LA g d dd met md =
     use1 𝓛 (‵ (cells (mem (R E)) xs b here)) (to_cells E 𝓛 b xs here) $
     -- The items of the slice have been separated from the other slots. The proof context holds, in
     -- this order: [the items; the other slots; the header; the memory that holds the block's
-    -- pointer; three entries for the open borrow of the block; the other lifetime tokens].
+    -- pointer; three entries for the open borrow of the block, which include the lifetime token of
+    -- the borrow; the other lifetime tokens].
     let Rest : Fml = fsep (around E 𝓛 b (o + 16) x.slots i k)
     (Waiting E Y 𝓛 x b o r.ref_ptr.0 r.ref_ptr.1 at) in
     let Back : List T.Denot → Type 1 =

@@ -52,7 +52,8 @@ slot_mut_spec 𝓤 𝓛 𝓜 𝓡 wired T A LT LA g d dd met md =
     takes_slot E ! b (o + 16) x.slots i within item.1 $
     -- The filled slot has been separated from the other slots. The proof context holds, in this
     -- order: [the item; the other slots; the header; the memory that holds the block's pointer;
-    -- three entries for the open borrow of the block; the other lifetime tokens].
+    -- three entries for the open borrow of the block, which include the lifetime token of the
+    -- borrow; the other lifetime tokens].
     sets_last ! (addr ! (through ! refl (stop !))) refl (tt, tt) $
     continues ! 𝓜 𝓡 fn l 2 ((walk_of 𝓛 En₀ hs c).post z) $
     sets ! (of_opd ! (get ! refl)) refl (tt, tt) $

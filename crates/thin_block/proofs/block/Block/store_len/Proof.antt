@@ -49,7 +49,8 @@ store_len_spec 𝓤 𝓛 𝓜 𝓡 wired T A LT LA g d dd met md =
     (let turned : o + 8 ≡ 8 + o = omega arith in turned) refl $
     -- The header has been split. The proof context holds, in this order: [the length; the right to
     -- free the block; the capacity; the slots; the memory that holds the block's pointer; three
-    -- entries for the open borrow of the block; the other lifetime tokens].
+    -- entries for the open borrow of the block, which include the lifetime token of the borrow; the
+    -- other lifetime tokens].
     sets ! (of_opd ! (load ! (through ! refl (fld ! refl (stop !)))
     (look_in ! 4 (sub ! 0 refl (whole !))))) refl (tt, tt) $
     first ! $ blocks ! $

@@ -70,8 +70,8 @@ swap_spec 𝓤 𝓛 𝓜 𝓡 wired T A LT LA g d dd met md =
           -- The two slots have been separated from the other slots. The proof context holds, in
           -- this order: [the bytes of the second item; what the second item owns; the bytes of the
           -- first item; what the first item owns; the other slots; the header; the memory that
-          -- holds the block's pointer; three entries for the open borrow of the block; the other
-          -- lifetime tokens].
+          -- holds the block's pointer; three entries for the open borrow of the block, which
+          -- include the lifetime token of the borrow; the other lifetime tokens].
           sets ! (of_opd ! (load ! (through ! refl (stop !)) (look ! 2 refl))) refl good $
           sets ! (of_opd ! (load ! (through ! refl (stop !)) (look ! 0 refl))) refl good' $
           assigns ! (of_opd ! (get ! refl)) (through ! refl (stop !)) (store ! 2 refl good') $
@@ -91,10 +91,11 @@ swap_spec 𝓤 𝓛 𝓜 𝓡 wired T A LT LA g d dd met md =
           says_all ! (_ ∷ []) refl $ done !)
       | inl same ↦
           takes_item E ! b (o + 16) x.slots i low one.1 (λ v good.
-          -- In this case, the two slots are the same slot. It has been separated from the other
-          -- slots. The proof context holds, in this order: [the bytes of the item; what the item
-          -- owns; the other slots; the header; the memory that holds the block's pointer; three
-          -- entries for the open borrow of the block; the other lifetime tokens].
+          -- In this case, the two slots are the same slot. This slot has been separated from the
+          -- other slots. The proof context holds, in this order: [the bytes of the item; what the
+          -- item owns; the other slots; the header; the memory that holds the block's pointer;
+          -- three entries for the open borrow of the block, which include the lifetime token of the
+          -- borrow; the other lifetime tokens].
           let Bits = λ (k : ℕ). ‵ (fat full_share (layout T) b (k * sz E + (o + 16)) v) in
           sets ! (of_opd ! (load ! (through ! refl (stop !)) (look ! 0 refl))) refl good $
           rewrite ! 0 Bits same refl $

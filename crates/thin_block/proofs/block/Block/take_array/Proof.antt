@@ -75,8 +75,8 @@ take_array_spec 𝓤 𝓛 𝓜 𝓡 wired T A N LT LA fits_N g d dd met md =
     move ! (1 ∷ []) $
     -- The items have been separated from the other slots as one array. The proof context holds, in
     -- this order: [the bytes of the array; what the array owns; the other slots; the header; the
-    -- memory that holds the block's pointer; three entries for the open borrow of the block; the
-    -- other lifetime tokens].
+    -- memory that holds the block's pointer; three entries for the open borrow of the block, which
+    -- include the lifetime token of the borrow; the other lifetime tokens].
     sets_last ! (of_opd ! (load ! (through ! refl (stop !)) (look ! 0 refl))) refl good $
     continues ! 𝓜 𝓡 fn l 2 ((walk_of 𝓛 En₀ hs c).post z) $
     sets ! (of_opd ! (get ! refl)) refl good $

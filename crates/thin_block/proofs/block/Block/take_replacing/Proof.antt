@@ -71,8 +71,8 @@ take_replacing_spec 𝓤 𝓛 𝓜 𝓡 wired T A LT LA g d dd met md =
           -- The two slots have been separated from the other slots. The proof context holds, in
           -- this order: [the bytes of the second item; what the second item owns; the bytes of the
           -- first item; what the first item owns; the other slots; the header; the memory that
-          -- holds the block's pointer; three entries for the open borrow of the block; the other
-          -- lifetime tokens].
+          -- holds the block's pointer; three entries for the open borrow of the block, which
+          -- include the lifetime token of the borrow; the other lifetime tokens].
           sets ! (of_opd ! (load ! (through ! refl (stop !)) (look ! 2 refl))) refl good $
           sets ! (of_opd ! (load ! (through ! refl (stop !)) (look ! 0 refl))) refl good' $
           assigns ! (of_opd ! (get ! refl)) (through ! refl (stop !)) (store ! 2 refl good') $
@@ -87,7 +87,7 @@ take_replacing_spec 𝓤 𝓛 𝓜 𝓡 wired T A LT LA g d dd met md =
           -- The second item is now in slot `i`, and slot `j` is empty. The proof context holds, in
           -- this order: [slot `i`; slot `j`; what the removed item owns; the other slots; the
           -- header; the memory that holds the block's pointer; three entries for the open borrow of
-          -- the block; the other lifetime tokens].
+          -- the block, which include the lifetime token of the borrow; the other lifetime tokens].
           move ! (0 ∷ 1 ∷ 3 ∷ []) $ use3 𝓛 (‵ (places (R E) after_it b (o + 16)))
           (p.back (slot x.slots j) None) $
           move ! (0 ∷ 2 ∷ 3 ∷ 4 ∷ 5 ∷ 6 ∷ []) $
@@ -97,10 +97,11 @@ take_replacing_spec 𝓤 𝓛 𝓜 𝓡 wired T A LT LA g d dd met md =
           says_all ! (_ ∷ _ ∷ []) (one.1, refl) $ done !)
       | inl same ↦
           takes_item E ! b (o + 16) x.slots i low one.1 (λ v good.
-          -- In this case, the two slots are the same slot. It has been separated from the other
-          -- slots. The proof context holds, in this order: [the bytes of the item; what the item
-          -- owns; the other slots; the header; the memory that holds the block's pointer; three
-          -- entries for the open borrow of the block; the other lifetime tokens].
+          -- In this case, the two slots are the same slot. This slot has been separated from the
+          -- other slots. The proof context holds, in this order: [the bytes of the item; what the
+          -- item owns; the other slots; the header; the memory that holds the block's pointer;
+          -- three entries for the open borrow of the block, which include the lifetime token of the
+          -- borrow; the other lifetime tokens].
           let Bits = λ (k : ℕ). ‵ (fat full_share (layout T) b (k * sz E + (o + 16)) v) in
           sets ! (of_opd ! (load ! (through ! refl (stop !)) (look ! 0 refl))) refl good $
           rewrite ! 0 Bits same refl $
