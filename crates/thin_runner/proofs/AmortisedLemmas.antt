@@ -20,9 +20,9 @@ use Rattle.thin_runner.specs.declared.command.Reply.{Reply}
 use Rattle.thin_runner.specs.declared.command.Reply.TheVariants.{Done, Item, Returned, OutOfRange}
 use Rattle.thin_runner.proofs.PaidLemmas.{step-paid}
 
--- `IsAmortised m v` holds if the list `v` is cheap (`IsCheap`: growing it has cost little) and has
--- at most `m` items, which fit into its capacity. In addition, growing the list must have copied
--- either no items or fewer than `2 * m` items.
+-- `IsAmortised m v` holds if the list `v` is cheap, its length is at most its capacity and at most
+-- `m`, and growing it has copied either no items or fewer than `2 * m` items. (A list is cheap,
+-- `IsCheap`, if growing it has cost little.)
 pub record IsAmortised {T A : Type 0} (m : ℕ) (v : Thin T A) : Type 0 where
   pub cheap : IsCheap v
   pub room : length v.items ≤ v.capacity
@@ -30,7 +30,7 @@ pub record IsAmortised {T A : Type 0} (m : ℕ) (v : Thin T A) : Type 0 where
   pub copied : (v.cost.grown < 2 * m) ⊎ (v.cost.grown ≡ 0)
 
 module _ {T A : Type 0} where
-  -- A new list is cheap: growing it has cost nothing so far.
+  -- Every new list is cheap (`IsCheap`), because growing it has cost nothing so far.
   new-cheap : (v : Thin T A) → IsNew v v.alloc → IsCheap v
   new-cheap v new =
       let blocks : v.cost.blocks ≡ 0 = ap (λ c. c.blocks) new.cost in
