@@ -62,8 +62,9 @@ module _ {T A : Type 0} where
   same-amortised : (m : ℕ) (v w : Thin T A) → IsAmortised m v → w ≡ v → IsAmortised (m + 0) w
   same-amortised m v w a same = let e : m + 0 ≡ m = omega arith in rw (same, e) a
 
--- Suppose that the cost `k` is cheap for the capacity `c` (`IsCheapAt`), and that `c ≤ m`. Then
--- `k.grown + c < 2 * (m + 1)`, where `k.grown` is the number of items that growth has copied.
+-- Suppose that the recorded cost `k` is within the bound `IsCheapAt` for the capacity `c`, and that
+-- `c ≤ m`. Then `k.grown + c < 2 * (m + 1)`, where `k.grown` is the number of items that growth has
+-- copied.
 copied-growing : (c m : ℕ) (k : Cost) → IsCheapAt c k → c ≤ m → k.grown + c < 2 * (m + 1)
 copied-growing zero m k h few = let z = h.none refl in omega (arith, z.1)
 copied-growing (suc c) m k h few =

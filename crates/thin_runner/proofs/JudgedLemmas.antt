@@ -15,7 +15,7 @@ use Rattle.thin_runner.specs.commands.Filters.{asked, asked_last, asked_pairs, s
 
 module _ {S T J : Type 0} (R : S → T → Bool → S → T → Type 0) (judge_of : S → J)
     (ask : J → T → Bool × T × J) where
-  -- `AsksJudge` holds if the closure has a judge in its state, and each call of the closure returns
+  -- `AsksJudge` holds if the closure has a judge in its state, and each call to the closure returns
   -- the decision of this judge.
   abbrev pub AsksJudge : Type 0
   AsksJudge = (s : S) (x : T) (b : Bool) (u : S) (y : T) → R s x b u y

@@ -30,7 +30,7 @@ use Rattle.thin_runner.specs.declared.command.Reply.{Reply}
 use Rattle.thin_runner.specs.declared.command.Reply.TheVariants.{Answers, Done, Item, List as Made, Other, Returned, Refused, Stopped, OutOfRange}
 
 -- If two costs count the same number of blocks and the same number of copied items, and the first
--- cost is cheap for the capacity `c`, then the second cost is cheap for `c`, too.
+-- cost is within the bound `IsCheapAt` for the capacity `c`, then so is the second cost.
 cheap-same : (c : ℕ) (k k' : Cost) → k'.blocks ≡ k.blocks → k'.grown ≡ k.grown
     → IsCheapAt c k → IsCheapAt c k'
 cheap-same c k k' blocks grown h = record {
@@ -42,9 +42,10 @@ cheap-same c k k' blocks grown h = record {
       omega (arith, same, b);
 }
 
--- `IsPaid v w` states three facts about a change of the list `v` to `w`. First, if `v` is cheap,
--- then `w` is cheap. Second, the number of items that growth copied is at most the increase of the
--- capacity. Third, the items of `w` fit into its capacity.
+-- `IsPaid v w` states three facts about a change of the list `v` to `w`. First, if `v` satisfies
+-- the bound `IsCheap` on the cost of growth, then so does `w`. Second, the number of items that
+-- growth copied is at most the increase of the capacity. Third, the items of `w` fit into its
+-- capacity.
 pub record IsPaid {T A : Type 0} (v w : Thin T A) : Type 0 where
   pub cheap : IsCheap v → IsCheap w
   pub copied : w.cost.grown + v.capacity ≤ v.cost.grown + w.capacity

@@ -14,7 +14,7 @@ use Rattle.thin_runner.specs.declared.command.Reply.{Reply}
 use Rattle.thin_runner.specs.declared.command.Reply.TheVariants.{Answers, Done, Item, List as Made, Other, OutOfRange}
 use Rattle.thin_runner.specs.declared.command.Step.TheVariants.{Front}
 
--- `Seen` is the type of the part of a reply that the main theorem determines. For the reply
+-- A value of the type `Seen` is the part of a reply that the main theorem determines. For the reply
 -- `Answers`, this part is the list of the results in its vector. For any other reply, it is the
 -- whole reply.
 pub data Seen (T A G : Type 0) : Type 0 where

@@ -1,4 +1,4 @@
--- Each call of the closure returns what the judge's method `same` decides. So the judge determines
+-- Each call to the closure returns what the judge's method `same` decides. So the judge determines
 -- which items `dedup_by` keeps.
 use Rattle.std.proofs.Common.{rules}
 use Rattle.thin_runner.proofs.JudgedLemmas.{deduped-by}

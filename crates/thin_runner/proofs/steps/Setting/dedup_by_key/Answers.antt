@@ -1,4 +1,4 @@
--- Each call of the closure returns the key that the judge's method `key` computes. So the judge
+-- Each call to the closure returns the key that the judge's method `key` computes. So the judge
 -- determines which items `dedup_by_key` keeps.
 use Rattle.std.proofs.Common.{rules}
 use Rattle.thin_runner.proofs.JudgedLemmas.{deduped-by-keys}

@@ -1,4 +1,4 @@
--- Each call of the closure returns what the judge's method `keep` decides. So the judge determines
+-- Each call to the closure returns what the judge's method `keep` decides. So the judge determines
 -- which items `retain_mut` keeps.
 use Rattle.std.proofs.Common.{rules}
 use Rattle.thin_runner.proofs.JudgedLemmas.{retained-by}
