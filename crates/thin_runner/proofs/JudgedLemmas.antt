@@ -23,8 +23,8 @@ module _ {S T J : Type 0} (R : S → T → Bool → S → T → Type 0) (judge_o
 
 module _ {S T J : Type 0} (R : S → T → Bool → S → T → Type 0) (judge_of : S → J)
     (ask : J → T → Bool × T × J) (told : AsksJudge R judge_of ask) where
-  -- If the closure was called for each item of `xs`, in order, then its verdicts are the verdicts
-  -- of the judge.
+  -- Suppose that the closure asks the judge. If it was called for each item of `xs`, in order, then
+  -- its verdicts are the verdicts of the judge.
   pub asked-by : (s t : S) (xs : List T) (verdicts : Verdicts T) → Asked R s xs verdicts t
       → verdicts ≡ asked ask (judge_of s) xs
   asked-by s t [] verdicts a = a.0
@@ -57,9 +57,9 @@ module _ {S T J : Type 0} (R : S → T → T → Bool → S → T → T → Type
     (same : J → T → T → Bool × T × T × J)
     (told : (s : S) (x k : T) (b : Bool) (u : S) (x' k' : T) → R s x k b u x' k'
     → (b, x', k', judge_of u) ≡ same (judge_of s) x k) where
-  -- Suppose that each item of `xs` was compared with the last item kept before it, and that the
-  -- first item of `xs` was compared with `k`. Then the list `flags` of the verdicts and the list
-  -- `ys` of the kept items agree with the decisions of the judge.
+  -- Suppose that a closure that asks the judge compared each item of `xs` with the last item kept
+  -- before it, and the first item of `xs` with `k`. Then the list `flags` of the verdicts and the
+  -- list `ys` of the kept items agree with the decisions of the judge.
   pub asked-last-by : (s t : S) (k : T) (xs : List T) (flags : List Bool) (ys : List T)
       → AskedLast R s k xs flags ys t → Leaves flags ys (asked_last same (judge_of s) k xs)
   asked-last-by s t k [] flags ys a = (a.0, a.1)
@@ -79,8 +79,9 @@ module _ {S T J : Type 0} (R : S → T → T → Bool → S → T → T → Type
       answered by false m e = let h =
           by a.1 m.0 m.1 in (e ∙ ap (λ l. true ∷ l) h.0, m.2 ∙ ap (λ l. a.2 ∷ l) h.1)
 
-  -- If each item of `xs` except the first was compared with the last item kept before it, then the
-  -- kept items `ys` and the number of moves agree with the decisions of the judge.
+  -- Suppose that a closure that asks the judge compared each item of `xs` except the first with the
+  -- last item kept before it. Then the kept items `ys` and the number of moves agree with the
+  -- decisions of the judge.
   pub asked-pairs-by : (s t : S) (xs : List T) (flags : List Bool) (ys : List T)
       → AskedPairs R s xs flags ys t
       → (moved_down flags ≡ moved_down (flags_of (asked_pairs same (judge_of s) xs)))

@@ -63,7 +63,7 @@ module _ {T A : Type 0} (v w : Thin T A) where
           few,
         )
 
-    -- A failed splice adds to the cost at most one move for each item of its iterator, plus 2 moves
+    -- A failed splice adds at most one move to the cost for each item of its iterator, plus 2 moves
     -- for each item after the replaced range.
     stopped-moves : (xs held : List T) (lower : ℕ) (cause : ThinVecError) (in_hand : Option T)
         (rest : Hinted T A) → StopsBetween rule R v a b xs held lower cause in_hand rest w

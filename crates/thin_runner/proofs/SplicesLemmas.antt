@@ -1,5 +1,5 @@
--- These lemmas derive the predicates of `specs/commands/Splices` from the contracts of the methods
--- `finish` (of a `Splice`) and `extend`.
+-- These lemmas derive the predicates of `specs/commands/Splices` from the contracts of
+-- `Splice::finish` and `ThinVec::extend`.
 use Rattle.std.proofs.Common.{◌≡◌, ℕ, ◌-◌, ◌*◌, ◌<◌, List, [], ◌∷◌, ◌++◌, None, Option, Some, ap, append_assoc, arith, drop, inl, inr, length, refl, subst, sym, take, ◌∙◌}
 use Rattle.std.proofs.lemmas.Bool.{false≢true}
 use Rattle.std.proofs.Math.Seq.{drop-length, take-length}
