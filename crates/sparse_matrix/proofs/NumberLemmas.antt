@@ -67,8 +67,8 @@ module _ (t : Table ℕ) (i j : ℕ) where
       (λ k l other. ap (λ o. unwrap_or o 0) (columns_unchanged t i j k l v other))
       (λ k l other. ap (λ o. unwrap_or o 0) (rows_unchanged t i j k l v other))
 
-  -- Suppose that the entry at row `i` and column `j` of the table `t` is removed, and that `v` is
-  -- 0. Then the number at this place becomes `v`, and all other numbers are unchanged.
+  -- If the entry at row `i` and column `j` of the table `t` is removed, then the number there
+  -- becomes 0 (the lemma calls it `v`), and all other numbers are unchanged.
   pub number-without_value : (v : ℕ) → v ≡ 0 → (k l : ℕ)
       → number_at (without_value t i j) k l ≡ (if k == i && l == j then v else number_at t k l)
   number-without_value v zero =
@@ -92,9 +92,9 @@ pub still_small : (t u : Table ℕ) (i j v : ℕ) → v < 2 ^ 64
 still_small t u i j v fits small told k l =
     rw (told k l) (either_below (k == i && l == j) v (number_at t k l) (2 ^ 64) fits (small k l))
 
--- Suppose that a call turned the table `t` into `u`: on success, it wrote `v` at row `i` and column
--- `j`, and on failure, it changed nothing. If `v` and all numbers of `t` are less than `2 ^ 64`,
--- then so are all numbers of `u`.
+-- Suppose that the table `t` has a row `i`, and that a call turned `t` into `u`: on success, it
+-- wrote `v` at row `i` and column `j`, and on failure, it changed nothing. If `v` and all numbers
+-- of `t` are less than `2 ^ 64`, then so are all numbers of `u`.
 pub small_if_written : {X E : Type 0} (result : Result X E) (t u : Table ℕ) (i j v : ℕ)
     → i < length t → v < 2 ^ 64 → ((k l : ℕ) → number_at t k l < 2 ^ 64)
     → OnOk result (u ≡ with_value t i j v) → OnErr result (u ≡ t)

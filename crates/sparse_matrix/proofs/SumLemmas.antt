@@ -32,8 +32,8 @@ same_sum f g (suc n) same =
     let last : f n ≡ g n = same n (omega arith) in
     λ i. rest i + last i
 
--- If `c < n`, `f c ≡ v + g c`, and `f` and `g` agree at all other numbers, then
--- `sum_below n f ≡ v + sum_below n g`. (`sum_below n f` is `f 0 + f 1 + .. + f (n - 1)`.)
+-- `sum_below n f` is `f 0 + f 1 + .. + f (n - 1)`. If `c < n`, `f c ≡ v + g c`, and `f` and `g`
+-- agree at all other numbers, then `sum_below n f ≡ v + sum_below n g`.
 sum_differs : (f g : ℕ → ℕ) (c v n : ℕ) → c < n → f c ≡ v + g c → ((j : ℕ) → j ≢ c → f j ≡ g j)
     → sum_below n f ≡ v + sum_below n g
 sum_differs f g c v zero inside here others = absurd (omega arith)
@@ -53,8 +53,8 @@ no_sum f zero = refl
 no_sum f (suc n) = let rest = no_sum f n in omega arith
 
 module _ (f : ℕ → ℕ) where
-  -- If `entries` contains the number `x` in column `j`, then `term entries j` is `x * f j`. If it
-  -- contains no number in column `j`, then `term entries j` is 0.
+  -- `term entries j` is `x * f j` if `entries` contains the number `x` in column `j`. It is 0 if
+  -- `entries` contains no number in column `j`.
   abbrev term : List (ℕ × ℕ) → ℕ → ℕ
   term entries j = unwrap_or (find nat_cmp j entries) 0 * f j
 
@@ -67,8 +67,8 @@ module _ (f : ℕ → ℕ) where
       ∙ none_found x entries (both_hold _ _ below).1
 
   -- Suppose that the columns of the entries are strictly increasing and less than `n`. Then the sum
-  -- of `x * f c` over all entries, each with a column `c` and a number `x`, equals the sum of
-  -- `term entries j` over all columns `j` less than `n`.
+  -- of `x * f c` over all entries `(c, x)` equals the sum of `term entries j` over all `j` less
+  -- than `n`.
   entries_sum : (entries : List (ℕ × ℕ)) (n : ℕ) → T (is_sorted nat_cmp entries)
       → ((k : ℕ) → k < length entries → (slice_index_or entries k (0, 0)).0 < n)
       → sum_by (λ e. e.1 * f e.0) entries ≡ sum_below n (term entries)
@@ -98,8 +98,8 @@ module _ (f : ℕ → ℕ) where
           omega (arith, nothing))
 
 -- Suppose that all entries of `row` are in columns less than `n`, and that the number in each
--- column `j` is multiplied by `f j`. Then the sum of the products over the columns that have an
--- entry equals the sum over all columns less than `n`.
+-- column `j` is multiplied by `f j`. Then summing the products over the columns that have an entry
+-- yields the same result as summing them over all columns less than `n`.
 pub row_sum : (f : ℕ → ℕ) (row : Columns ℕ) (n : ℕ) (entries : List (ℕ × ℕ))
     → entries ≡ columns.entries row
     → ((k : ℕ) → k < length entries → (slice_index_or entries k (0, 0)).0 < n)

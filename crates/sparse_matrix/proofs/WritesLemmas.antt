@@ -22,18 +22,19 @@ module _ (write : ℕ → ℕ → ℕ) (row : Columns ℕ) (old : ℕ → ℕ) w
   abbrev number : ℕ → ℕ
   number k = (slice_index_or (columns.entries row) k (0, 0)).1
 
-  -- `IsWritten n now` holds if `now` maps each column to its number after the first `n` entries of
-  -- the row were written.
+  -- `IsWritten n now` holds if, after the first `n` entries of the row have been written, the
+  -- number at each column `j` is `now j`.
   pub record IsWritten (n : ℕ) (now : ℕ → ℕ) : Type 0 where
     pub done : (k : ℕ) → k < n → now (column k) ≡ write (old (column k)) (number k)
     pub left : (j : ℕ) → ((k : ℕ) → k < n → column k ≢ j) → now j ≡ old j
 
-  -- Before any entry is written, all numbers are the old ones.
+  -- `IsWritten 0 old` holds: before any entry is written, the number at each column `j` is `old j`.
   pub none_written : IsWritten 0 old
   none_written = record { done = λ k less. absurd (omega arith); left = λ j none. refl }
 
-  -- If `IsWritten n now` holds, and writing the next entry turns `now` into `next` without changing
-  -- another number, then `IsWritten (n + 1) next` holds.
+  -- Suppose that `IsWritten n now` holds. If writing the entry at index `n` turns `now` into
+  -- `next`, and the numbers at all other columns are unchanged, then `IsWritten (n + 1) next`
+  -- holds.
   pub one_more : (n : ℕ) (now next : ℕ → ℕ) → n < length (columns.entries row) → IsWritten n now
       → next (column n) ≡ write (now (column n)) (number n)
       → ((j : ℕ) → j ≢ column n → next j ≡ now j) → IsWritten (n + 1) next
@@ -51,8 +52,8 @@ module _ (write : ℕ → ℕ → ℕ) (row : Columns ℕ) (old : ℕ → ℕ) w
         ∙ h.left j (λ k less. none k (omega (arith, less)));
   }
 
-  -- This is the lemma `one_more` for any list `entries` that equals the list of the entries of the
-  -- row.
+  -- The lemma `one_more` also holds for every list `entries` that equals the list of the entries of
+  -- `row`.
   pub next_written : (entries : List (ℕ × ℕ)) → entries ≡ columns.entries row → (n : ℕ)
       (now next : ℕ → ℕ) → n < length entries → IsWritten n now
       → next (slice_index_or entries n (0, 0)).0
@@ -61,9 +62,9 @@ module _ (write : ℕ → ℕ → ℕ) (row : Columns ℕ) (old : ℕ → ℕ) w
       → IsWritten (n + 1) next
   next_written entries is = rw is one_more
 
-  -- After all entries of the row have been written, the number at column `j` is `write (old j) v`.
-  -- Here, `v` is the number of the row at column `j`, or 0 if the row has no entry there. The lemma
-  -- requires that `write (old j) 0` is `old j`.
+  -- Suppose that all entries of the row have been written, and that `write (old j) 0` is `old j`.
+  -- Then the number at column `j` is `write (old j) v`, where `v` is the number of the row at
+  -- column `j`, or 0 if the row has no entry there.
   pub all_written : (n : ℕ) (now : ℕ → ℕ) → n ≡ length (columns.entries row) → IsWritten n now
       → (j : ℕ) → write (old j) 0 ≡ old j
       → now j ≡ write (old j) (unwrap_or (columns.get row j) 0)

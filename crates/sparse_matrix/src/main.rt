@@ -1,5 +1,5 @@
-//! Transposes a sparse matrix, adds it to itself, multiplies it by a vector, and prints the
-//! results.
+//! Makes a sparse matrix, and prints the matrix, its transpose, its sum with itself, and its
+//! product with a vector.
 #![tactic(auto)]
 
 mod matrix;

@@ -24,7 +24,7 @@ impl<A: Allocator + Copy> Matrix<A> {
     ///
     /// # Errors
     ///
-    /// Fails if there is no memory for the rows.
+    /// Fails if there is not enough memory for the rows.
     #[tactic(auto, using(thin_rows::proofs::TableLemmas::values))]
     pub fn zeros(alloc: A, rows: usize, columns: usize) -> Result<Matrix<A>, ThinVecError>
         ensures rows { IfOk result (λ matrix. length matrix.numbers ≡ rows) }
@@ -39,7 +39,7 @@ impl<A: Allocator + Copy> Matrix<A> {
     ///
     /// # Errors
     ///
-    /// Fails if there is no memory for the sum.
+    /// Fails if there is not enough memory for the sum.
     pub fn sum(alloc: A, left: &Matrix<A>, right: &Matrix<A>) -> Result<Matrix<A>, ThinVecError>
         requires rows { length left.now.numbers ≡ length right.now.numbers }
         requires columns { left.now.columns ≡ right.now.columns }
@@ -60,7 +60,7 @@ impl<A: Allocator + Copy> Matrix<A> {
     ///
     /// # Errors
     ///
-    /// Fails if there is no memory for the transposed matrix.
+    /// Fails if there is not enough memory for the transposed matrix.
     pub fn transposed(&self, alloc: A) -> Result<Matrix<A>, ThinVecError>
         ensures rows { IfOk result (λ matrix. length matrix.numbers ≡ self.now.columns) }
         ensures columns { IfOk result (λ matrix. matrix.columns ≡ length self.now.numbers) }
@@ -78,7 +78,7 @@ impl<A: Allocator + Copy> Matrix<A> {
     ///
     /// # Errors
     ///
-    /// Fails if there is no memory for the product.
+    /// Fails if there is not enough memory for the product.
     pub fn product(&self, alloc: A, vector: &[u64]) -> Result<ThinVec<u64, A>, ThinVecError>
         requires size { length vector.now ≡ self.now.columns }
         ensures length { IfOk result (λ product. length product.items ≡ length self.now.numbers) }
@@ -106,7 +106,8 @@ impl<A: Allocator> Matrix<A> {
     ///
     /// # Errors
     ///
-    /// Fails if there is no memory for the number. In this case, the matrix does not change.
+    /// Fails if there is not enough memory for the number. In this case, the matrix does not
+    /// change.
     #[tactic(auto, using(thin_rows::proofs::TableLemmas::values))]
     pub fn set(&mut self, row: usize, column: usize, number: u64) -> Result<(), ThinVecError>
         requires row_in_bounds { row < length self.old.numbers }

@@ -2,8 +2,8 @@
 ghost use Rattle.std.specs.List.{sum};
 ghost use Rattle.std.specs.Prelude.{◌≡◌, ◌-◌, ◌*◌, ◌^◌, ◌<◌, ℕ, length, map, min, slice_index, slice_index_or};
 
-/// Multiplies the number of each entry by the number that `vector` contains at the index of the
-/// entry's column. Returns the sum of the products, or `u64::MAX` if the sum is greater.
+/// Multiplies the number of each entry `(column, number)` by `vector[column]`. Returns the sum of
+/// the products, or `u64::MAX` if the sum is greater.
 pub(crate) fn row_product(entries: &[(usize, u64)], vector: &[u64]) -> u64
     requires in_bounds { (k : ℕ) → k < length entries.now
         → (slice_index_or entries.now k (0, 0)).0 < length vector.now }

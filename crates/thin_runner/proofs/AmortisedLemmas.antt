@@ -20,9 +20,9 @@ use Rattle.thin_runner.specs.declared.command.Reply.{Reply}
 use Rattle.thin_runner.specs.declared.command.Reply.TheVariants.{Done, Item, Returned, OutOfRange}
 use Rattle.thin_runner.proofs.PaidLemmas.{step-paid}
 
--- `IsAmortised m v` holds if the list `v` is cheap (`IsCheap`: growing it has cost little) and has
--- at most `m` items, which fit into its capacity. In addition, growing the list must have copied
--- either no items or fewer than `2 * m` items.
+-- `IsAmortised m v` holds if the list `v` is cheap, its length is at most its capacity and at most
+-- `m`, and growing it has copied either no items or fewer than `2 * m` items. (A list is cheap,
+-- `IsCheap`, if growing it has cost little.)
 pub record IsAmortised {T A : Type 0} (m : ℕ) (v : Thin T A) : Type 0 where
   pub cheap : IsCheap v
   pub room : length v.items ≤ v.capacity
@@ -30,7 +30,7 @@ pub record IsAmortised {T A : Type 0} (m : ℕ) (v : Thin T A) : Type 0 where
   pub copied : (v.cost.grown < 2 * m) ⊎ (v.cost.grown ≡ 0)
 
 module _ {T A : Type 0} where
-  -- A new list is cheap: growing it has cost nothing so far.
+  -- Every new list is cheap (`IsCheap`), because growing it has cost nothing so far.
   new-cheap : (v : Thin T A) → IsNew v v.alloc → IsCheap v
   new-cheap v new =
       let blocks : v.cost.blocks ≡ 0 = ap (λ c. c.blocks) new.cost in
@@ -62,8 +62,9 @@ module _ {T A : Type 0} where
   same-amortised : (m : ℕ) (v w : Thin T A) → IsAmortised m v → w ≡ v → IsAmortised (m + 0) w
   same-amortised m v w a same = let e : m + 0 ≡ m = omega arith in rw (same, e) a
 
--- Suppose that the cost `k` is cheap for the capacity `c` (`IsCheapAt`), and that `c ≤ m`. Then
--- `k.grown + c < 2 * (m + 1)`, where `k.grown` is the number of items that growth has copied.
+-- Suppose that the recorded cost `k` is within the bound `IsCheapAt` for the capacity `c`, and that
+-- `c ≤ m`. Then `k.grown + c < 2 * (m + 1)`, where `k.grown` is the number of items that growth has
+-- copied.
 copied-growing : (c m : ℕ) (k : Cost) → IsCheapAt c k → c ≤ m → k.grown + c < 2 * (m + 1)
 copied-growing zero m k h few = let z = h.none refl in omega (arith, z.1)
 copied-growing (suc c) m k h few =

@@ -1,5 +1,5 @@
--- Each command calls a method of a list. These lemmas help to prove, from the contract of the
--- method, that the call changes the list as `specs/Steps` states.
+-- Each command calls a method of a list. These lemmas help to derive what `specs/Steps` states
+-- about the command from the contract of the method.
 use Rattle.std.proofs.Common.{◌≡◌, ℕ, ◌<◌, ◌⊎◌, List, [], ◌∷◌, Some, refl, length, inl, inr, arith}
 use Rattle.std.specs.Borrow.{RattleType}
 use Rattle.std.specs.Prelude.{HoldsAt}
@@ -32,10 +32,10 @@ module _ {T A : Type 0} where
   }
 
   module _ (rule : Rule) where
-    -- Suppose that a call that clones the items `sources` failed, and turned the list `v` into `w`
-    -- without changing the items or the allocator. Then either nothing else changed, or `w` has the
-    -- capacity that the growth rule requires for `k` more items, and one of the sources could not
-    -- be cloned. In the second case, each source before that one counts as one move.
+    -- Suppose that a call that clones the items `sources` failed, and that it changed neither the
+    -- items nor the allocator of the list `v`. Then either the list did not change at all, or its
+    -- capacity became the one that the growth rule requires for `k` more items and a source could
+    -- not be cloned. In the second case, each source before that source counts as one move.
     pub refuses-clone : (R : RattleType) (k : ℕ) {infallible : T → Type 0} {sources : List T}
         {v w : Thin T A} → w.items ≡ v.items → w.alloc ≡ v.alloc
         → (w ≡ v) ⊎ (capacity_for rule R v k ≡ Some w.capacity)

@@ -1,4 +1,4 @@
--- Proves the main theorem (`Headline`) from the lemmas of the other files.
+-- This file proves the main theorem (`Headline`) from the lemmas of the other files.
 use Rattle.std.proofs.Common.{◌≡◌, List, [], ◌++◌, ap, sym, subst, ◌∙◌}
 use Rattle.std.proofs.lemmas.List.{append-nil}
 use Rattle.thin_vec.specs.Growth.{KeepsLaw}

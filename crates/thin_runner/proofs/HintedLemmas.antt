@@ -1,5 +1,5 @@
--- These lemmas state what calls to `next` on the iterator `Hinted` yield, and how the calls change
--- the iterator.
+-- These lemmas are about calls to `next` on the iterator `Hinted`: which items they yield, and how
+-- they change the iterator.
 use Rattle.std.proofs.Common.{◌≡◌, List, [], ◌∷◌, ◌++◌, ap, sym, ◌∙◌}
 use Rattle.std.proofs.lemmas.List.{append-nil}
 use Rattle.std.specs.Iterator.{Drains, Yields}
@@ -14,7 +14,7 @@ module _ {T A : Type 0} where
   yields-items s t [] e = ap hinted_items e
   yields-items s t (x ∷ xs) e = e.1.0 ∙ ap (λ l. x ∷ l) (yields-items e.0 t xs e.2)
 
-  -- Calls to `next` on a `Hinted` do not change the lower bound of its size hint.
+  -- Calls to `next` on an iterator `Hinted` do not change the lower bound of its size hint.
   pub yields-claim : (s t : Hinted T A) (xs : List T) → Yields (HintedSteps {T = T} {A = A}) s xs t
       → hinted_claim t ≡ hinted_claim s
   yields-claim s t [] e = ap hinted_claim (sym e)

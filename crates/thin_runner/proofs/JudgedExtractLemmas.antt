@@ -60,9 +60,9 @@ module _ {T : Type 0} where
   few-goes None = refl
   few-goes (Some x) = refl
 
-  -- Suppose that the verdicts `a` are followed by the verdicts `b`. If `a` removes an item, then
-  -- the number of moves is the number for `a`, plus one for each item that `b` keeps. If `a`
-  -- removes no item, then it is the number for `a` plus the number for `b`.
+  -- If the verdicts `a` remove an item, then the number of moves for `a ++ b` is the number of
+  -- moves for `a`, plus one move for each item that the verdicts `b` keep. Otherwise, it is the
+  -- number of moves for `a` plus the number of moves for `b`.
   pub moves-append : (a b : Verdicts T) → moved_down (flags_of (a ++ b))
       ≡ moved_down (flags_of a) + (if length (left_at false a) == 0 then moved_down
       (flags_of b) else trues (flags_of b))
@@ -145,8 +145,8 @@ module _ {S T J : Type 0} (R : S → T → Bool → S → T → Type 0) (judge_o
             ∙ ap (left_at false) (none-left (judge_of t) k) in
             subst (λ l. handed_out (suc k) l ≡ None ∷ handed_out k l) (sym empty) refl
 
--- Adding `m` moves to a cost, and then `k` more moves if `gone` is not 0, has the same result as
--- adding all these moves at once.
+-- If `m` moves are added to a cost, and then `k` more moves if `gone` is not 0, then the result is
+-- the same as if all these moves were added at once.
 charged : (gone m k : ℕ) (c : Cost)
     → (if gone == 0 then moving m c else moving k (moving m c))
     ≡ moving (m + (if gone == 0 then 0 else k)) c
@@ -180,9 +180,9 @@ module _ {T : Type 0} (asked : Verdicts T) (start : List T) (before : Cost) wher
     pub out : at.out ≡ length (left_at false done)
     pub paid : at.paid ≡ moving (moved_down (flags_of done)) before
 
-  -- Suppose that the next verdicts, `now`, keep `k` items and then remove the others. If an item
-  -- was extracted before, then these verdicts add `k` moves to the cost. Otherwise, they add no
-  -- moves.
+  -- Suppose that the next verdicts, `now`, first keep `k` items and then only remove items. If an
+  -- item was extracted before, then these verdicts add `k` moves to the cost. Otherwise, they add
+  -- no moves.
   paid-next : (at : Stand T) (h : IsExtracting at) (now : Verdicts T) (k : ℕ)
       → moved_down (flags_of now) ≡ 0 → trues (flags_of now) ≡ k
       → (if at.out == 0 then at.paid else moving k at.paid)

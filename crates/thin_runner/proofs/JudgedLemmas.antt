@@ -15,7 +15,7 @@ use Rattle.thin_runner.specs.commands.Filters.{asked, asked_last, asked_pairs, s
 
 module _ {S T J : Type 0} (R : S → T → Bool → S → T → Type 0) (judge_of : S → J)
     (ask : J → T → Bool × T × J) where
-  -- `AsksJudge` holds if the closure has a judge in its state, and each call of the closure returns
+  -- `AsksJudge` holds if the closure has a judge in its state, and each call to the closure returns
   -- the decision of this judge.
   abbrev pub AsksJudge : Type 0
   AsksJudge = (s : S) (x : T) (b : Bool) (u : S) (y : T) → R s x b u y
@@ -23,8 +23,8 @@ module _ {S T J : Type 0} (R : S → T → Bool → S → T → Type 0) (judge_o
 
 module _ {S T J : Type 0} (R : S → T → Bool → S → T → Type 0) (judge_of : S → J)
     (ask : J → T → Bool × T × J) (told : AsksJudge R judge_of ask) where
-  -- If the closure was called for each item of `xs`, in order, then its verdicts are the verdicts
-  -- of the judge.
+  -- Suppose that the closure asks the judge. If it was called for each item of `xs`, in order, then
+  -- its verdicts are the verdicts of the judge.
   pub asked-by : (s t : S) (xs : List T) (verdicts : Verdicts T) → Asked R s xs verdicts t
       → verdicts ≡ asked ask (judge_of s) xs
   asked-by s t [] verdicts a = a.0
@@ -32,8 +32,8 @@ module _ {S T J : Type 0} (R : S → T → Bool → S → T → Type 0) (judge_o
       a.6 ∙ (ap (λ l. (a.0, a.1) ∷ l) (asked-by a.2 t xs a.3 a.5)
       ∙ ap (λ l. (l.0, l.1) ∷ asked ask l.2 xs) (told s x a.0 a.2 a.1 a.4))
 
-  -- Suppose that `retain` or `retain_mut`, called with a closure that asks the judge, turned the
-  -- list `v` into `w`. Then `w` contains exactly the items of `v` that the judge keeps (`sifted`).
+  -- Suppose that `retain` or `retain_mut` turned the list `v` into `w`, and that its closure asked
+  -- the judge. Then `w` contains exactly the items of `v` that the judge keeps (`sifted`).
   pub retained-by : {A : Type 0} (s : S) (v w : Thin T A) → IsRetained R s v w
       → w.capacity ≡ v.capacity → w.alloc ≡ v.alloc
       → w ≡ sifted v (asked ask (judge_of s) v.items)
@@ -46,9 +46,9 @@ module _ {S T J : Type 0} (R : S → T → Bool → S → T → Type 0) (judge_o
 -- This module is about methods such as `dedup_by`, which compare each item with the last item kept
 -- before it.
 module _ {T : Type 0} where
-  -- `Leaves flags ys b` holds if `flags` and `ys` agree with the pair `b`, which consists of the
-  -- first item and the verdicts on the later items. `flags` must say which later items are kept.
-  -- `ys` must contain the first item, and then the later items that are kept.
+  -- `Leaves flags ys b` holds if `flags` and `ys` follow from the pair `b`, which consists of a
+  -- first item and the verdicts on the later items. `flags` must contain the flags of these
+  -- verdicts. `ys` must contain the first item, followed by the later items that the verdicts keep.
   abbrev pub Leaves : List Bool → List T → T × Verdicts T → Type 0
   Leaves flags ys b = (flags ≡ flags_of b.1) × (ys ≡ b.0 ∷ left_at true b.1)
 
@@ -57,9 +57,9 @@ module _ {S T J : Type 0} (R : S → T → T → Bool → S → T → T → Type
     (same : J → T → T → Bool × T × T × J)
     (told : (s : S) (x k : T) (b : Bool) (u : S) (x' k' : T) → R s x k b u x' k'
     → (b, x', k', judge_of u) ≡ same (judge_of s) x k) where
-  -- Suppose that each item of `xs` was compared with the last item kept before it, and that the
-  -- first item of `xs` was compared with `k`. Then `flags` and the kept items `ys` agree with the
-  -- decisions of the judge.
+  -- Suppose that a closure that asks the judge compared each item of `xs` with the last item kept
+  -- before it, and the first item of `xs` with `k`. Then the list `flags` of the verdicts and the
+  -- list `ys` of the kept items agree with the decisions of the judge.
   pub asked-last-by : (s t : S) (k : T) (xs : List T) (flags : List Bool) (ys : List T)
       → AskedLast R s k xs flags ys t → Leaves flags ys (asked_last same (judge_of s) k xs)
   asked-last-by s t k [] flags ys a = (a.0, a.1)
@@ -79,8 +79,9 @@ module _ {S T J : Type 0} (R : S → T → T → Bool → S → T → T → Type
       answered by false m e = let h =
           by a.1 m.0 m.1 in (e ∙ ap (λ l. true ∷ l) h.0, m.2 ∙ ap (λ l. a.2 ∷ l) h.1)
 
-  -- If each item of `xs` except the first was compared with the last item kept before it, then the
-  -- kept items `ys` and the number of moves agree with the decisions of the judge.
+  -- Suppose that a closure that asks the judge compared each item of `xs` except the first with the
+  -- last item kept before it. Then the kept items `ys` and the number of moves agree with the
+  -- decisions of the judge.
   pub asked-pairs-by : (s t : S) (xs : List T) (flags : List Bool) (ys : List T)
       → AskedPairs R s xs flags ys t
       → (moved_down flags ≡ moved_down (flags_of (asked_pairs same (judge_of s) xs)))
@@ -89,8 +90,8 @@ module _ {S T J : Type 0} (R : S → T → T → Bool → S → T → T → Type
   asked-pairs-by s t (x ∷ xs) flags ys a = let h = asked-last-by s t x xs flags ys a
       in (ap moved_down h.0, h.1)
 
-  -- Suppose that `dedup_by`, called with a closure that asks the judge, turned the list `v` into
-  -- `w`. Then `w` contains exactly the items of `v` that the judge keeps (`sifted`).
+  -- Suppose that `dedup_by` turned the list `v` into `w`, and that its closure asked the judge.
+  -- Then `w` contains exactly the items of `v` that the judge keeps (`sifted`).
   pub deduped-by : {A : Type 0} (s : S) (v w : Thin T A) → IsDedupedBy R s v w
       → w.capacity ≡ v.capacity → w.alloc ≡ v.alloc
       → w ≡ sifted v (asked_pairs same (judge_of s) v.items)
@@ -104,9 +105,9 @@ module _ {F T A J : Type 0} (g : Mut F (MutBor T × Unit {0}) (ℕ × (MutBor T 
     (judge_of : F → J) (key : J → T → ℕ × T × J)
     (told : (f : F) (x : T) (k : ℕ) (f' : F) (x' : T) → CalledAtMut g f x k f' x'
     → (k, x', judge_of f') ≡ key (judge_of f) x) where
-  -- Suppose that `dedup_by_key`, called with a closure that asks the judge, turned the list `v`
-  -- into `w`. Then `w` contains exactly the items of `v` that the judge keeps (`sifted`). Of two
-  -- compared items, the key of the later one is computed first.
+  -- Suppose that `dedup_by_key` turned the list `v` into `w`, and that its closure asked the judge.
+  -- Then `w` contains exactly the items of `v` that the judge keeps (`sifted`). Of two compared
+  -- items, the key of the later one is computed first.
   pub deduped-by-keys : (f : F) (v w : Thin T A)
       → IsDedupedBy (ComparesKeys g (λ a b. a == b)) f v w → w.capacity ≡ v.capacity
       → w.alloc ≡ v.alloc → w ≡ sifted v (asked_pairs (same_key key) (judge_of f) v.items)
@@ -218,8 +219,8 @@ module _ {T J : Type 0} (E : T → T → Bool) (j : J) where
   dedup-pairs [] = (refl, refl)
   dedup-pairs (x ∷ xs) = let h = dedup-last x xs in (ap moved_down h.0, h.1)
 
-  -- Suppose that `dedup`, which compares items with the test `E`, turned the list `v` into `w`.
-  -- Then `w` contains exactly the items of `v` that a judge with the test `E` keeps (`sifted`).
+  -- Suppose that `dedup` compared items with the test `E`, and turned the list `v` into `w`. Then
+  -- `w` contains exactly the items of `v` that a judge with the test `E` keeps (`sifted`).
   pub deduped-alike : {A : Type 0} (v w : Thin T A) → w.items ≡ dedup E v.items → w.cost
       ≡ moving (moved_down (unlike E v.items)) v.cost
       → w.capacity ≡ v.capacity → w.alloc ≡ v.alloc → w ≡ sifted v (asked_pairs tells j v.items)

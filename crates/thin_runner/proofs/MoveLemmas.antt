@@ -30,19 +30,19 @@ few-repeats k x = omega (arith, length-replicate (k - 1) x)
 
 module _ {T A : Type 0} (v w : Thin T A) where
   -- If the lists `w` and `u` are equal, and the costs of `u` and `v` count the same number of
-  -- moves, then the cost of `w` counts at most `k` more moves than the cost of `v`.
+  -- moves, then, for every `k`, the cost of `w` counts at most `k` more moves than the cost of `v`.
   same-moves : (u : Thin T A) (k : ℕ) → w ≡ u → u.cost.moves ≡ v.cost.moves
       → w.cost.moves ≤ v.cost.moves + k
   same-moves u k e same = omega (arith, ap (λ z. z.cost.moves) e, same)
 
-  -- If `w` is `edited v xs m`, the list `v` with the items `xs` and `m` more moves, then the cost
-  -- of `w` counts at most `m` more moves than the cost of `v`.
+  -- `edited v xs m` is the list `v` with the items `xs` and `m` more moves. If `w` is this list,
+  -- then the cost of `w` counts at most `m` more moves than the cost of `v`.
   edited-moves : (xs : List T) (m : ℕ) → w ≡ edited v xs m → w.cost.moves ≤ v.cost.moves + m
   edited-moves xs m e = omega (arith, ap (λ z. z.cost.moves) e)
 
-  -- If `w` is `grown v w.capacity xs m`, the list `v` with a new capacity, the items `xs` and `m`
-  -- more moves, then the cost of `w` counts at most `m` more moves than the cost of `v`. The change
-  -- of capacity counts no moves.
+  -- `grown v c xs m` is the list `v` with the capacity `c`, the items `xs` and `m` more moves. If
+  -- `w` is this list for some `c`, then the cost of `w` counts at most `m` more moves than the cost
+  -- of `v`, because the change of capacity counts no moves.
   grown-moves : (xs : List T) (m : ℕ) → w ≡ grown v w.capacity xs m
       → w.cost.moves ≤ v.cost.moves + m
   grown-moves xs m e = omega (arith, ap (λ z. z.cost.moves) e, cost_at-moves v w.capacity)
@@ -63,7 +63,7 @@ module _ {T A : Type 0} (v w : Thin T A) where
           few,
         )
 
-    -- A failed splice adds to the cost at most one move for each item of its iterator, plus 2 moves
+    -- A failed splice adds at most one move to the cost for each item of its iterator, plus 2 moves
     -- for each item after the replaced range.
     stopped-moves : (xs held : List T) (lower : ℕ) (cause : ThinVecError) (in_hand : Option T)
         (rest : Hinted T A) → StopsBetween rule R v a b xs held lower cause in_hand rest w

@@ -1,6 +1,6 @@
--- A list is cheap (`IsCheap`) if growing it has cost little. A sequence of commands without
--- `ReserveExact` and `ShrinkToFit` keeps a cheap list cheap. The number of items that growth copies
--- during these commands is at most the increase of the capacity.
+-- A list is cheap (`IsCheap`) if growing it has cost little. A sequence of commands that contains
+-- neither `ReserveExact` nor `ShrinkToFit` keeps a cheap list cheap. The number of items that
+-- growth copies during these commands is at most the increase of the capacity.
 use Rattle.std.proofs.Common.{◌≡◌, ℕ, suc, ◌+◌, ◌-◌, ◌^◌, ◌<◌, ◌≤◌, List, [], ◌∷◌, ◌++◌, Some, None, length, arith, ap, sym, subst, ◌∙◌, refl, inl, inr}
 use Rattle.std.proofs.lemmas.Bool.{cases_lt}
 use Rattle.std.proofs.lemmas.List.{length-append, length-set, length_push, length-drop, length-take}
@@ -30,7 +30,7 @@ use Rattle.thin_runner.specs.declared.command.Reply.{Reply}
 use Rattle.thin_runner.specs.declared.command.Reply.TheVariants.{Answers, Done, Item, List as Made, Other, Returned, Refused, Stopped, OutOfRange}
 
 -- If two costs count the same number of blocks and the same number of copied items, and the first
--- cost is cheap for the capacity `c`, then the second cost is cheap for `c`, too.
+-- cost is within the bound `IsCheapAt` for the capacity `c`, then so is the second cost.
 cheap-same : (c : ℕ) (k k' : Cost) → k'.blocks ≡ k.blocks → k'.grown ≡ k.grown
     → IsCheapAt c k → IsCheapAt c k'
 cheap-same c k k' blocks grown h = record {
@@ -42,9 +42,10 @@ cheap-same c k k' blocks grown h = record {
       omega (arith, same, b);
 }
 
--- `IsPaid v w` states three facts about a change of the list `v` to `w`. First, if `v` is cheap,
--- then `w` is cheap. Second, the number of items that growth copied is at most the increase of the
--- capacity. Third, the items of `w` fit into its capacity.
+-- `IsPaid v w` states three facts about a change of the list `v` to `w`. First, if `v` satisfies
+-- the bound `IsCheap` on the cost of growth, then so does `w`. Second, the number of items that
+-- growth copied is at most the increase of the capacity. Third, the items of `w` fit into its
+-- capacity.
 pub record IsPaid {T A : Type 0} (v w : Thin T A) : Type 0 where
   pub cheap : IsCheap v → IsCheap w
   pub copied : w.cost.grown + v.capacity ≤ v.cost.grown + w.capacity
@@ -64,13 +65,13 @@ module _ {T A : Type 0} where
   }
 
 module _ {T A : Type 0} (v w : Thin T A) (room : length v.items ≤ v.capacity) where
-  -- If `w` is `v`, then `IsPaid v w` holds.
+  -- If the items of `v` fit into its capacity, and `w` equals `v`, then `IsPaid v w` holds.
   same-paid : w ≡ v → IsPaid v w
   same-paid e = subst (IsPaid v) (sym e) (none-paid v room)
 
-  -- Suppose that `w` equals a list `u`, which has the capacity of `v` and at most `length v.items`
-  -- items. If the costs of `u` and `v` count the same blocks and the same copied items, then
-  -- `IsPaid v w` holds.
+  -- Suppose that the items of `v` fit into its capacity, and that `w` equals a list `u` with the
+  -- capacity of `v` and at most `length v.items` items. If the costs of `u` and `v` count the same
+  -- blocks and the same copied items, then `IsPaid v w` holds.
   kept-paid : (u : Thin T A) → w ≡ u → u.capacity ≡ v.capacity
       → u.cost.blocks ≡ v.cost.blocks → u.cost.grown ≡ v.cost.grown
       → length u.items ≤ length v.items → IsPaid v w
@@ -85,9 +86,9 @@ module _ {T A : Type 0} (v w : Thin T A) (room : length v.items ≤ v.capacity) 
 
 module _ {T A J : Type 0} (here : Setting T A J) (law : KeepsLaw here.rule) (v w : Thin T A)
     (room : length v.items ≤ v.capacity) where
-  -- Suppose that the capacity of `w` is the one that the growth rule requires for `n` more items,
-  -- and that at most `n` items were added. If the cost of `w` counts the blocks and the copied
-  -- items of this growth, then `IsPaid v w` holds.
+  -- Suppose that the items of `v` fit into its capacity. Suppose also that `w` has the capacity
+  -- that the growth rule requires for `n` more items, and that at most `n` items were added. If the
+  -- cost of `w` counts the blocks and the copied items of this growth, then `IsPaid v w` holds.
   ruled-paid : (u : Thin T A) (n : ℕ) → capacity_for here.rule here.R v n ≡ Some w.capacity
       → w ≡ u → u.cost.blocks ≡ (cost_at v w.capacity).blocks
       → u.cost.grown ≡ (cost_at v w.capacity).grown
@@ -110,8 +111,9 @@ module _ {T A J : Type 0} (here : Setting T A J) (law : KeepsLaw here.rule) (v w
         ];
       }
 
-  -- If a call that clones items fails and turns the list `v` into `w`, then `IsPaid v w` holds.
-  -- Such a call fails if there is no room for `n` more items, or if an item cannot be cloned.
+  -- Suppose that the items of `v` fit into its capacity. If a call that clones items fails and
+  -- turns the list `v` into `w`, then `IsPaid v w` holds. Such a call fails if there is no room for
+  -- `n` more items, or if an item cannot be cloned.
   refused-paid : (n : ℕ) (sources : List T) (cause : ThinVecError)
       → RefusesClone here v n sources cause w → IsPaid v w
   refused-paid n sources cause r = stopped r.2

@@ -1,4 +1,4 @@
--- An example: the items and the replies that `items_after` and `reply_to` compute for eight
+-- This example shows the items and the replies that `items_after` and `reply_to` compute for eight
 -- commands on a list of numbers.
 use Rattle.std.proofs.Common.{◌≡◌, ℕ, List, [], ◌∷◌, Some, refl}
 use Rattle.std.specs.List.{fold, scan}

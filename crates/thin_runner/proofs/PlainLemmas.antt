@@ -127,8 +127,8 @@ module _ {T : Type 0} where
       ∙ ((λ i. before ++ (kept ++ left_at-stay after i)) ∙ sym (append_assoc before kept after)))
 
 module _ {T A G J : Type 0} (here : Setting T A J) (equal : ClonesEqual here.clones) where
-  -- If each clone equals its source, then `granted` computes the reply to each command that is in
-  -- range and does not fail, and the items after this command.
+  -- Suppose that each clone equals its source. Then, for each command that is in range and does not
+  -- fail, `granted` computes the reply and the resulting items.
   does-granted : (v w : Thin T A) (command : Command T A G) (reply : Reply T A G)
       → IsGranted reply → Does here v command reply w
       → (seen reply, w.items) ≡ granted here v.items command
@@ -188,8 +188,8 @@ module _ {T A G J : Type 0} (here : Setting T A J) (equal : ClonesEqual here.clo
       λ j. (yields (d.0 j), d.1.items j)
   does-granted v w command reply ok d = absurd d
 
-  -- If each clone equals its source, then `plain_step` computes the reply to each command that does
-  -- not fail, and the items after this command.
+  -- Suppose that each clone equals its source. Then `plain_step` computes the reply and the
+  -- resulting items for each command that does not fail, even if the command is out of range.
   step-plain : (v w : Thin T A) (command : Command T A G) (reply : Reply T A G)
       → IsGranted reply → Steps here v command reply w
       → (seen reply, w.items) ≡ plain_step here v.items command

@@ -17,9 +17,10 @@ use Rattle.thin_runner.specs.declared.command.Command.TheVariants.{Push, Pop}
 use Rattle.thin_runner.specs.declared.command.Reply.{Reply}
 use Rattle.thin_runner.specs.declared.command.Reply.TheVariants.{Done, Item, Returned, OutOfRange}
 
--- Combines a bound on the capacity for the first step of a run with a bound for the later steps.
--- The capacity is `before` at the start, `mid` after the first step, and `after` at the end. The
--- length is `len` at the start, `long` after the first step, and at most `rest` from then on.
+-- Suppose that the capacity is `before` at the start of a run, `mid` after its first step, and
+-- `after` at its end. Suppose also that the length is `len` at the start, `long` after the first
+-- step, and at most `rest` from then on. Then a bound for the first step and a bound for the other
+-- steps imply a bound for the whole run.
 slack-join : (before mid after len long rest : ℕ) → mid ≤ max before (max 4 (2 * long))
     → after ≤ max mid (max 4 (2 * rest)) → long ≤ rest
     → after ≤ max before (max 4 (2 * max len rest))

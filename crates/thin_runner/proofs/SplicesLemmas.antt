@@ -1,5 +1,5 @@
--- These lemmas derive the predicates of `specs/commands/Splices` from the contracts of the methods
--- `finish` (of a `Splice`) and `extend`.
+-- These lemmas derive the predicates of `specs/commands/Splices` from the contracts of
+-- `Splice::finish` and `ThinVec::extend`.
 use Rattle.std.proofs.Common.{◌≡◌, ℕ, ◌-◌, ◌*◌, ◌<◌, List, [], ◌∷◌, ◌++◌, None, Option, Some, ap, append_assoc, arith, drop, inl, inr, length, refl, subst, sym, take, ◌∙◌}
 use Rattle.std.proofs.lemmas.Bool.{false≢true}
 use Rattle.std.proofs.Math.Seq.{drop-length, take-length}
@@ -51,8 +51,9 @@ module _ {T A : Type 0} (s : Hinted T A) (placed : List T)
   Broke = Stopped (HintedSteps {T = T} {A = A}) (can_next-default (Hinted T A) T) hinted_count s
       placed error
 
-  -- Suppose that `finish` failed. Then the items of the iterator `s` are, in this order: the placed
-  -- items, the items in `held`, the item in `in_hand` (if any), and the items of `rest`.
+  -- Suppose that `finish` failed with `error`. Then the items of the iterator `s` are, in this
+  -- order: the placed items, the items in `error.held`, the item in `error.in_hand` (if any), and
+  -- the items of `error.rest`.
   pub stopped-items : Broke → hinted_items s ≡ placed
       ++ (error.held.items ++ (option_to_list error.in_hand ++ hinted_items error.rest))
   stopped-items (inl gave) =
@@ -69,8 +70,8 @@ module _ {T A : Type 0} (s : Hinted T A) (placed : List T)
       ∙ (ap (λ (l : List T). (placed ++ held) ++ l) (ended.2.2.0.0 ∙ sym left)
       ∙ append_assoc placed held (option_to_list in_hand ++ hinted_items rest))
 
-  -- If `finish` failed, then the size hint of `rest`, which is the remaining iterator, has the same
-  -- lower bound as the size hint of the iterator `s` before the call.
+  -- If `finish` failed, then the lower bound of the size hint did not change: it is the same for
+  -- the remaining iterator `error.rest` as for the iterator `s` before the call.
   pub stopped-claim : Broke → hinted_claim error.rest ≡ hinted_claim s
   stopped-claim (inl gave) =
       yields-claim s error.rest ((placed ++ error.held.items) ++ option_to_list error.in_hand)
@@ -86,9 +87,9 @@ module _ {T A : Type 0} (s : Hinted T A) (placed : List T)
   stopped-ended (inr ended) none some = ended.2.2.0.1
 
 module _ {T A : Type 0} (old : Thin T A) (a b : ℕ) where
-  -- `IsOpened block alloc` holds if `block` is the block of the list `old` while a splice replaces
-  -- the items `a..b`. Such an open block may have a gap between its items. The allocator of the
-  -- list is `alloc`.
+  -- `IsOpened block alloc` holds if `block` is the block of the list `old` during a splice that
+  -- replaces the items `a..b`, and `alloc` is the allocator of the list. Such an open block may
+  -- have a gap between its items.
   pub record IsOpened (block : Open T A) (alloc : A) : Type 0 where
     pub front : block.front ≡ take a old.items
     pub tail : block.tail ≡ drop b old.items
@@ -97,8 +98,8 @@ module _ {T A : Type 0} (old : Thin T A) (a b : ℕ) where
     pub cost : block.cost ≡ old.cost
 
   module _ (block : Open T A) (alloc : A) (is : IsOpened block alloc) where
-    -- `left_of block alloc`, the list of the front items and the tail items of the open block, is
-    -- `cut old a b`: the list `old` without the items `a..b`.
+    -- `left_of block alloc` is the list of the items before and after the gap of the open block. It
+    -- equals `cut old a b`, which is the list `old` without the items `a..b`.
     pub left-is : left_of block alloc ≡ cut old a b
     left-is = λ i. record {
       items = is.front i ++ is.tail i;
@@ -143,7 +144,8 @@ module _ {T A : Type 0} (old : Thin T A) (a b : ℕ) where
         subst (λ (n : ℕ). HasRoomFor (left_of block alloc) n) (sym count)
         (subst (λ (v : Thin T A). HasRoomFor v most) (sym left-is) room)
 
--- The lemmas of this module show that `Replaces` and `StopsBetween` also hold for an equal list.
+-- The lemmas of this module show that if `Replaces` or `StopsBetween` holds for a list, then it
+-- also holds for every list equal to it.
 module _ {T A : Type 0} {rule : Rule} {R : RattleType} {old v w : Thin T A} {a b : ℕ} where
   -- If `Replaces` holds for the list `v`, and `v` equals `w`, then `Replaces` holds for `w`.
   pub replaces-of : {placed : List T} {most : ℕ} → v ≡ w → Replaces rule R old a b placed most v
@@ -160,7 +162,7 @@ module _ {T A : Type 0} {rule : Rule} {R : RattleType} {old v w : Thin T A} {a b
   stops-of {xs} {held} {lower} {cause} {in_hand} {rest} same =
       subst (λ (u : Thin T A). StopsBetween rule R old a b xs held lower cause in_hand rest u) same
 
--- In this module, the range is the empty range at the end of the list `old`.
+-- This module is about the empty range at the end of the list `old`.
 module _ {T A : Type 0} (old : Thin T A) where
   -- Removing the empty range at the end does not change the list.
   pub cut-end : cut old (length old.items) (length old.items) ≡ old
@@ -172,8 +174,9 @@ module _ {T A : Type 0} (old : Thin T A) where
       → HasRoomFor old most
   room-end most = subst (λ (v : Thin T A). HasRoomFor v most) cut-end
 
-  -- If `HasPlacesFor` holds for the empty range at the end, then `most` is 0, or the list has room
-  -- for `most` more items. So `P` holds if each of these two cases implies `P`.
+  -- If `HasPlacesFor` holds for `most` items and the empty range at the end of the list, then
+  -- `most` is 0, or the list has room for `most` more items. So `P` holds if each of these two
+  -- cases implies `P`.
   pub places-end : (P : Type 0) (most : ℕ) → (most ≡ 0 → P) → (HasRoomFor old most → P)
       → HasPlacesFor old (length old.items) (length old.items) most → P
   places-end P most none fits (inl few) = none (omega (arith, few))
@@ -182,8 +185,8 @@ module _ {T A : Type 0} (old : Thin T A) where
 -- The lemmas of this module show that appending items to a list is the same as replacing the empty
 -- range at its end.
 module _ {T A : Type 0} (rule : Rule) (R : RattleType) (old new : Thin T A) where
-  -- `IsFilled placed most` holds if a call to `extend` appended the items `placed`, and thereby
-  -- turned the list `old` into `new`. The iterator could yield at most `most` items. The fields are
+  -- `IsFilled placed most` holds if a call to `extend` turned the list `old` into `new` by
+  -- appending the items `placed`, and the iterator could yield at most `most` items. The fields are
   -- clauses of the contract of `extend`.
   pub record IsFilled (placed : List T) (most : ℕ) : Type 0 where
     pub items : new.items ≡ old.items ++ placed

@@ -1,5 +1,5 @@
--- These functions describe commands that do not fail. They are defined on plain lists of items.
--- They compute the items after each command and the reply to the command.
+-- For a command that does not fail, these functions compute the reply and the resulting items. They
+-- are defined on plain lists of items.
 use Rattle.std.specs.Prelude.{◌-◌, Bool, true, false, ◌&&◌, List, [], ◌∷◌, ◌++◌, Option, None, drop, if◌then◌else◌, insert, length, nat_le, nat_lt, remove, replicate, slice_get, slice_range, slice_set, take}
 use Rattle.std.specs.List.{dedup, remove_range, replace_range, swap_remove}
 use Rattle.std.specs.Option.{option_map_or, unwrap_or}
@@ -14,7 +14,7 @@ use Rattle.thin_runner.specs.declared.command.Reply.{Reply}
 use Rattle.thin_runner.specs.declared.command.Reply.TheVariants.{Answers, Done, Item, List as Made, Other, OutOfRange}
 use Rattle.thin_runner.specs.declared.command.Step.TheVariants.{Front}
 
--- `Seen` is the type of the part of a reply that the main theorem determines. For the reply
+-- A value of the type `Seen` is the part of a reply that the main theorem determines. For the reply
 -- `Answers`, this part is the list of the results in its vector. For any other reply, it is the
 -- whole reply.
 pub data Seen (T A G : Type 0) : Type 0 where

@@ -25,8 +25,8 @@ module _ {T A G : Type 0} where
   IsPushOrPop Pop = Unit {0}
   IsPushOrPop command = ⊥
 
-  -- `KeepsCheap` holds for the commands that keep a cheap list cheap. These are all commands except
-  -- `ReserveExact` and `ShrinkToFit`.
+  -- `KeepsCheap` holds for every command except `ReserveExact` and `ShrinkToFit`. A command that
+  -- satisfies it preserves the bound `IsCheap` on the cost of growing the list.
   abbrev pub KeepsCheap : Command T A G → Type 0
   KeepsCheap (ReserveExact k) = ⊥
   KeepsCheap ShrinkToFit = ⊥
@@ -42,10 +42,11 @@ module _ {T A G J : Type 0} (here : Setting T A J) where
       (mid : Thin T A) × (Steps here old command reply mid × Runs mid commands replies new)
   Runs old commands replies new = ⊥
 
-  -- `may_move xs command reply` is an upper bound on the number of items that the command moves, if
-  -- the items before it are `xs` and it gets this reply. Items that growth copies are not counted.
-  -- For a command that tests items and removes some of them, the bound is the number of kept items
-  -- that change their place. If a command fails partway, it may move fewer items than the bound.
+  -- `may_move xs command reply` is an upper bound on the number of items that the command moves if
+  -- it runs on a list with the items `xs` and gets this reply. Items that growth copies are not
+  -- counted. For a command that tests items and removes some of them, the bound is the number of
+  -- kept items that change their place. If a command fails partway, it may move fewer items than
+  -- the bound.
   abbrev pub may_move : List T → Command T A G → Reply T A G → ℕ
   may_move xs command (OutOfRange back) = 0
   may_move xs (Push v) Done = 1

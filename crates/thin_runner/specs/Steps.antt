@@ -1,6 +1,6 @@
 -- `Steps` states how each command may change a list, and which replies it may get. A change or a
--- reply that no case describes is not allowed. `Retain`, `Dedup` and similar commands share one
--- case. The difference of two numbers is 0 if it would be negative.
+-- reply that no case describes is not allowed. If the difference of two numbers would be negative,
+-- it is 0.
 use Rattle.std.specs.Prelude.{◌≡◌, ◌+◌, ◌-◌, ◌==◌, ◌<◌, ◌≤◌, ◌↔◌, List, [], ◌∷◌, ◌++◌, IsSome, MatchOption, None, Some, drop, false, if◌then◌else◌, insert, length, remove, replicate, slice_get, slice_range, slice_set, take}
 use Rattle.std.specs.List.{AllZip, AppendsClones, remove_range, swap_remove}
 use Rattle.std.specs.Option.{option_to_list}
@@ -118,7 +118,7 @@ module _ {T A G J : Type 0} (here : Setting T A J) where
   Does old (Splice a b steps xs lower) (Refused cause) new =
       (0 < length steps.items) × (cause ≡ OutOfMemory) × (new ≡ old)
   -- After `Retain`, `RetainMut`, `Dedup`, `DedupBy` or `DedupByKey`, the list contains only the
-  -- items that were kept by the tests.
+  -- items that the tests keep.
   Does old command Done new =
       MatchOption (answered here old.items command) ⊥ (λ verdicts. new ≡ sifted old verdicts)
   Does old command reply new = ⊥

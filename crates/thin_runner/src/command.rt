@@ -69,18 +69,18 @@ pub enum Command<T, A: Allocator = Global, G: Growth = Doubling> {
     DedupByKey,
     /// Calls `drain` on the range from the first index up to, but not including, the second. Then
     /// takes the steps in order, and drops the `Drain`. The reply is `Answers`, or `Refused` if
-    /// there is no memory for the results of the steps.
+    /// there is not enough memory for the results of the steps.
     Drain(usize, usize, Vec<Step, A>),
     /// Calls `extract_if` on the range from the first index up to, but not including, the second,
     /// with the method `take` of the judge. The third number says how often `next` is called before
-    /// the `ExtractIf` is dropped. The reply is `Answers`, or `Refused` if there is no memory for
-    /// the results of these calls.
+    /// the `ExtractIf` is dropped. The reply is `Answers`, or `Refused` if there is not enough
+    /// memory for the results of these calls.
     ExtractIf(usize, usize, usize),
     /// Calls `splice` on the range from the first index up to, but not including, the second. Then
     /// takes the steps in order, and calls `finish`. The new items are the items of the second
     /// vector. The last number is the lower bound of the size hint of their iterator. The reply is
-    /// `Answers`, `Stopped` if `finish` fails, or `Refused` if there is no memory for the results
-    /// of the steps.
+    /// `Answers`, `Stopped` if `finish` fails, or `Refused` if there is not enough memory for the
+    /// results of the steps.
     Splice(usize, usize, Vec<Step, A>, Vec<T, A>, usize),
 }
 
@@ -102,7 +102,7 @@ pub enum Reply<T, A: Allocator = Global, G: Growth = Doubling> {
     Returned(T, ThinVecError),
     /// The cause of the failure.
     Refused(ThinVecError),
-    /// A call to `extend`, or of `finish` on a splice, failed.
+    /// A call to `extend`, or to `finish` on a `Splice`, failed.
     Stopped {
         /// The results of the steps that were taken before `finish` was called. If `extend` failed,
         /// this vector is empty.
@@ -114,7 +114,7 @@ pub enum Reply<T, A: Allocator = Global, G: Growth = Doubling> {
         held: Vec<T, A>,
         /// The last item that was taken from the iterator, if there was no room for it.
         in_hand: Option<T>,
-        /// The iterator. It yields the items that have not been taken from it.
+        /// The iterator, which still yields the items that have not been taken from it.
         rest: Hinted<T, A>,
     },
     /// The command itself. Its index or range is out of bounds, so no call was made.

@@ -1,8 +1,8 @@
 //! The trait `Judge`. Commands such as `Retain` call the methods of a judge instead of a closure.
 ghost use Rattle.std.specs.Prelude.{◌≡◌};
 
-/// Decides which items are kept. Commands use a judge instead of the closures that methods such as
-/// `retain` take.
+/// A value that decides which items are kept. Commands use a judge instead of the closures that
+/// methods such as `retain` take.
 ///
 /// Each command that asks a judge gets its own copy of the judge that was passed to `run` or
 /// `step`. So the state of the judge is not carried from one command to the next.
@@ -25,7 +25,8 @@ pub trait Judge<T>: Copy {
         ensures value { (result, later.new, kept.new, self.new)
             ≡ judging.same self.old later.old kept.old };
 
-    /// Returns the key by which `dedup_by_key` compares `item`. May write to `item`.
+    /// Returns the key that `dedup_by_key` uses to compare `item` with other items. May write to
+    /// `item`.
     fn key(&mut self, item: &mut T) -> u64
         ensures value { (result, item.new, self.new) ≡ judging.key self.old item.old };
 

@@ -94,8 +94,8 @@ pub fn step<T: Clone + Eq, A: Allocator + Copy, G: Growth, J: Judge<T>>(
 ///
 /// # Errors
 ///
-/// Fails with `OutOfMemory` if there is no memory for the replies. In this case, no command is
-/// carried out, and all commands are dropped. A command that fails does not make `run` fail: the
+/// Fails with `OutOfMemory` if there is not enough memory for the replies. In this case, no command
+/// is carried out, and all commands are dropped. A command that fails does not make `run` fail: the
 /// cause is in the reply to that command.
 pub fn run<T: Clone + Eq, A: Allocator + Copy, G: Growth, J: Judge<T>>(
     alloc: A,
@@ -118,8 +118,9 @@ pub fn run<T: Clone + Eq, A: Allocator + Copy, G: Growth, J: Judge<T>>(
         × (vec_capacity replies.new ≡ vec_capacity replies.old)) }
     ensures cause { IfErr result (λ cause. cause ≡ ThinVecError.OutOfMemory) }
 {
-    // Only the prover needs this call. The contract of `capacity` says that the old items fit into
-    // the old capacity. The proof of the clause `ok` uses this fact, even if there are no commands.
+    // Only the prover needs this call. The contract of `capacity` states that, before any command
+    // runs, the items of the list fit into its capacity. The proof of the clause `ok` uses this
+    // fact.
     let _capacity = list.capacity();
     match replies.reserve(commands.len()) {
         Ok(()) => (),

@@ -44,7 +44,7 @@ pub trait Family {
     ///
     /// # Errors
     ///
-    /// Fails if there is no memory.
+    /// Fails if there is not enough memory.
     fn tree(alloc: Global, depth: usize, width: usize) -> Outcome;
 }
 
@@ -104,7 +104,7 @@ pub trait Numbers: List<u64> {
 
     fn shrink_to_fit(&mut self) -> Result<(), AllocError>;
 
-    /// Makes a list of copies of the items.
+    /// Makes a new list that contains copies of the items of this list.
     fn copy(&self, alloc: Global) -> Result<Self, AllocError>;
 
     /// Splits off the second half of the list, using `split_off`, and then appends it to the first

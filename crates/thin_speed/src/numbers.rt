@@ -108,11 +108,11 @@ pub trait Source<T: Drop> {
     ///
     /// # Errors
     ///
-    /// Fails if there is no memory.
+    /// Fails if there is not enough memory.
     fn item(alloc: Global, number: usize) -> Result<T, AllocError>;
 }
 
-/// Makes the items 0, 1, 2 and so on. Each number is truncated to the width of the item type.
+/// A source of the items 0, 1, 2 and so on. Each number is truncated to the width of the item type.
 pub struct InTurn;
 
 impl Source<u8> for InTurn {
@@ -150,7 +150,7 @@ impl Source<u64> for InTurn {
     }
 }
 
-/// Makes each item from its index. The item at index `i` is `i ^ 5`.
+/// A source that makes each item from its index. The item at index `i` is `i ^ 5`.
 pub struct Turned;
 
 impl Source<u64> for Turned {
@@ -160,7 +160,7 @@ impl Source<u64> for Turned {
     }
 }
 
-/// Makes each number twice: 0, 0, 1, 1, 2 and so on.
+/// A source that makes each number twice: 0, 0, 1, 1, 2, 2 and so on.
 pub struct Pairs;
 
 impl Source<u64> for Pairs {
@@ -170,7 +170,7 @@ impl Source<u64> for Pairs {
     }
 }
 
-/// Makes items of 24 bytes.
+/// A source of items of 24 bytes.
 pub struct Triples;
 
 impl Source<Triple> for Triples {
@@ -181,7 +181,7 @@ impl Source<Triple> for Triples {
     }
 }
 
-/// Makes items of 320 bytes.
+/// A source of items of 320 bytes.
 pub struct Wides;
 
 impl Source<Wide> for Wides {
@@ -195,7 +195,7 @@ impl Source<Wide> for Wides {
     }
 }
 
-/// Makes a new string for each item. All these strings have the same text.
+/// A source that makes a new string for each item. All these strings have the same text.
 pub struct Words;
 
 impl Source<String> for Words {
@@ -283,7 +283,7 @@ pub trait Pick {
     fn picks(number: u64) -> bool;
 }
 
-/// Picks the even numbers. Of the numbers 0, 1, 2 and so on, it picks every second one.
+/// A test that picks the even numbers. Of the numbers 0, 1, 2 and so on, it picks every second one.
 pub struct Even;
 
 impl Pick for Even {
@@ -293,8 +293,8 @@ impl Pick for Even {
     }
 }
 
-/// Picks a number if the highest bit of its hash is 0. Of the numbers 0, 1, 2 and so on, it picks
-/// about half, in an irregular pattern.
+/// A test that picks a number if the highest bit of its hash is 0. Of the numbers 0, 1, 2 and so
+/// on, it picks about half, in an irregular pattern.
 pub struct Random;
 
 impl Pick for Random {
@@ -304,7 +304,8 @@ impl Pick for Random {
     }
 }
 
-/// Picks all numbers except 1. Of the numbers 0, 1, 2 and so on, it picks all except the second.
+/// A test that picks all numbers except 1. Of the numbers 0, 1, 2 and so on, it picks all except
+/// the second.
 pub struct NotOne;
 
 impl Pick for NotOne {
@@ -314,8 +315,8 @@ impl Pick for NotOne {
     }
 }
 
-/// Picks the numbers whose last two bits are not both 0. Of the numbers 0, 1, 2 and so on, it picks
-/// three out of four.
+/// A test that picks the numbers whose last two bits are not both 0. Of the numbers 0, 1, 2 and so
+/// on, it picks three out of four.
 pub struct ThreeOfFour;
 
 impl Pick for ThreeOfFour {
@@ -325,8 +326,8 @@ impl Pick for ThreeOfFour {
     }
 }
 
-/// Picks the numbers below a million. All numbers in the lists of the workloads are below a
-/// million, so every item is picked.
+/// A test that picks the numbers below a million. All numbers in the lists of the workloads are
+/// below a million, so every item is picked.
 pub struct All;
 
 impl Pick for All {
@@ -336,8 +337,8 @@ impl Pick for All {
     }
 }
 
-/// Picks the numbers above a million. All numbers in the lists of the workloads are below a
-/// million, so no item is picked.
+/// A test that picks the numbers above a million. All numbers in the lists of the workloads are
+/// below a million, so no item is picked.
 pub struct Nothing;
 
 impl Pick for Nothing {
@@ -347,8 +348,8 @@ impl Pick for Nothing {
     }
 }
 
-/// Picks the numbers whose last four bits are not all 1. Of the numbers 0, 1, 2 and so on, it picks
-/// fifteen in a row, skips one, picks the next fifteen, and so on.
+/// A test that picks the numbers whose last four bits are not all 1. Of the numbers 0, 1, 2 and so
+/// on, it picks fifteen in a row, skips one, picks the next fifteen, and so on.
 pub struct InARun;
 
 impl Pick for InARun {

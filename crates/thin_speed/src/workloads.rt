@@ -24,7 +24,7 @@ use std::alloc::Global;
 ///
 /// # Errors
 ///
-/// Fails if there is no memory.
+/// Fails if there is not enough memory.
 pub fn run<F: Family>(alloc: Global, workload: Workload, size: usize, times: usize) -> Outcome {
     match workload {
         Workload::Growing(growing) => run_growing::<F>(alloc, growing, size, times),

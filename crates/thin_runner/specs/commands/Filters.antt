@@ -35,16 +35,18 @@ module _ {T J : Type 0} (ask : J → T → Bool × T × J) where
 
 module _ {T J : Type 0} (same : J → T → T → Bool × T × T × J) where
   -- `asked_last j k xs` compares each item of `xs` with the last item kept before it. The first
-  -- item is compared with `k`. An item is removed if the judge decides that the two items are the
-  -- same. The result is the item `k` after its comparisons, and the verdicts on the items of `xs`.
+  -- item is compared with `k`. The judge starts in the state `j`, and an item is removed if the
+  -- judge decides that the two compared items are the same. The result is the item `k` after its
+  -- comparisons, and the verdicts on the items of `xs`.
   abbrev pub asked_last : J → T → List T → T × Verdicts T
   asked_last j k [] = (k, [])
   asked_last j k (x ∷ xs) =
       let a = same j x k in let b = asked_last a.3 (if a.0 then a.2 else a.1) xs in
       if a.0 then (b.0, (false, a.1) ∷ b.1) else (a.2, (true, b.0) ∷ b.1)
 
-  -- `asked_pairs j xs` is the list of the verdicts on the items `xs` if the first item is kept, and
-  -- each later item is compared with the last item kept before it.
+  -- `asked_pairs j xs` is the list of the verdicts on the items `xs` if the first item is kept,
+  -- each later item is compared with the last item kept before it, and the judge starts in the
+  -- state `j`.
   abbrev pub asked_pairs : J → List T → Verdicts T
   asked_pairs j [] = []
   asked_pairs j (x ∷ xs) = let b = asked_last j x xs in (true, b.0) ∷ b.1

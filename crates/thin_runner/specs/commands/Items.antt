@@ -27,8 +27,9 @@ module _ {T A : Type 0} where
       ¬ (HasRoomFor old k) × ((named ≡ None) ↔ (cause ≡ CapacityOverflow)) × (new ≡ old)
 
 module _ {T A J : Type 0} (here : Setting T A J) where
-  -- `Grows old k xs m new` holds if the capacity becomes the one that the growth rule requires for
-  -- `k` more items (`capacity_for`), and the items become `xs` at the cost of `m` moves.
+  -- `Grows old k xs m new` holds if `new` is the list `old` with the items `xs`, with `m` more
+  -- moves in its cost, and with the capacity that the growth rule requires for `k` more items
+  -- (`capacity_for`).
   abbrev pub Grows : Thin T A → ℕ → List T → ℕ → Thin T A → Type 0
   Grows old k xs m new = (capacity_for here.rule here.R old k ≡ Some new.capacity)
       × (new ≡ edited (at_capacity old new.capacity) xs m)

@@ -8,10 +8,10 @@ use Rattle.thin_runner.specs.Setting.{Setting}
 use Rattle.thin_runner.specs.commands.Items.{Grows}
 
 module _ {T A J : Type 0} (here : Setting T A J) where
-  -- `RefusesClone old k sources cause new` states that a call that clones the items `sources` and
-  -- needs room for `k` more items failed without changing the items of the list. Either nothing
-  -- else changed, or there was room (perhaps after growth), but the source at index `at` could not
-  -- be cloned. In the second case, each source before index `at` counts as one move.
+  -- `RefusesClone old k sources cause new` states that a call failed without changing the items of
+  -- the list. The call clones the items `sources` and needs room for `k` more items. Either nothing
+  -- else changed, or there was room (perhaps after growth) but a source could not be cloned. In the
+  -- second case, each source before that source counts as one move.
   abbrev pub RefusesClone : Thin T A → ℕ → List T → ThinVecError → Thin T A → Type 0
   RefusesClone old k sources cause new =
       ((capacity_for here.rule here.R old k ≡ None) ↔ (cause ≡ CapacityOverflow))

@@ -1,5 +1,5 @@
--- This definition states what calls to `next` and `next_back` on a range of items return. (std:
--- `Vec::drain`, `DoubleEndedIterator`)
+-- This definition computes the results of calls to `next` and `next_back` on a range of items.
+-- (std: `Vec::drain`, `DoubleEndedIterator`)
 use Rattle.std.specs.Prelude.{◌-◌, List, [], ◌∷◌, Option, drop, length, slice_get, take}
 use Rattle.thin_runner.specs.declared.command.Step.{Step}
 use Rattle.thin_runner.specs.declared.command.Step.TheVariants.{Front, Back}

@@ -19,18 +19,18 @@ module _ {T A : Type 0} (old : Thin T A) (a b : ℕ) where
   abbrev pub cut : Thin T A
   cut = record old { items = remove_range old.items a b }
 
-  -- `HasPlacesFor most` holds if `most` items can be placed without new memory. Either the range
-  -- `a..b` has at least `most` items, or no item follows the range, and the list without the range
-  -- has room for `most` more items.
+  -- `HasPlacesFor most` holds if `most` items can replace the range `a..b` without new memory. This
+  -- is the case if the range has at least `most` items. It is also the case if no item follows the
+  -- range, and the list without the range has room for `most` more items.
   abbrev pub HasPlacesFor : ℕ → Type 0
   HasPlacesFor most = (most ≤ b - a) ⊎ ((b ≡ length old.items) × HasRoomFor cut most)
 
 module _ {T A : Type 0} (rule : Rule) (R : RattleType) (old : Thin T A) (a b : ℕ) where
   -- `Replaces placed most new` states that the items `placed` replaced the items `a..b` of the list
-  -- `old`, which became `new`. The iterator could yield at most `most` items. Each placed item was
-  -- moved once, and each item after the range at most twice. If the capacity changed, the growth
-  -- rule requires the new capacity, either for at most the final number of items or for a size hint
-  -- of at most `most`.
+  -- `old`, which became `new`. `most` is an upper bound on the number of items that the iterator
+  -- could yield. Each placed item was moved once, and each item after the range at most twice. If
+  -- the capacity changed, the growth rule requires the new capacity, either for at most the final
+  -- number of items or for a size hint of at most `most`.
   pub record Replaces (placed : List T) (most : ℕ) (new : Thin T A) : Type 0 where
     pub items : new.items ≡ (take a old.items ++ placed) ++ drop b old.items
     pub capacity : IsLoose rule R old.capacity new.capacity
@@ -61,7 +61,7 @@ module _ {T A : Type 0} (rule : Rule) (R : RattleType) (old : Thin T A) (a b : �
     pub by_held : 0 < length held → in_hand ≡ None
         → (cause ≡ CapacityOverflow) ↔ (capacity_for rule R new (length held) ≡ None)
     -- If `in_hand` has an item, and items follow the range, then the cause is `OutOfMemory`: there
-    -- was no memory to hold the item.
+    -- was not enough memory to hold the item.
     pub by_in_hand : b < length old.items → IsSome in_hand → cause ≡ OutOfMemory
     -- If `in_hand` has an item, and no item follows the range, then the cause is `CapacityOverflow`
     -- if and only if the growth rule has no capacity for one more item.
@@ -72,7 +72,7 @@ module _ {T A : Type 0} (rule : Rule) (R : RattleType) (old : Thin T A) (a b : �
     -- If items follow the range `a..b`, then the number of placed items is at least the length of
     -- the range.
     pub range : b < length old.items → b - a ≤ length placed
-    -- If no item follows the range, then `held` is empty. If in this case `in_hand` has an item,
+    -- If no item follows the range, then `held` is empty. If, in addition, `in_hand` has an item,
     -- then the list is full.
     pub at_end : b ≡ length old.items → (held ≡ [])
         × (IsSome in_hand → length new.items ≡ new.capacity)

@@ -5,7 +5,7 @@ use crate::numbers::{Count, Outcome, Pick, Triple, Unhinted, Wide, mixed};
 use std::alloc::{AllocError, Global};
 use std::collections::BTreeMap;
 
-/// Selects the `Vec` of Rattle's library as the kind of list.
+/// The kind of list that uses the `Vec` of Rattle's library.
 pub struct Kit;
 
 impl Family for Kit {
@@ -266,7 +266,8 @@ struct Node {
     children: Vec<Node>,
 }
 
-// Builds a tree of depth `depth`. Each node that is not a leaf has `width` children.
+// Builds a tree of depth `depth`, in which each node that is not a leaf has `width` children. The
+// children of a node are stored in a `Vec`.
 fn build(alloc: Global, depth: usize, width: usize) -> Result<Node, AllocError> {
     let mut children = Vec::new(alloc);
     if depth > 0 {

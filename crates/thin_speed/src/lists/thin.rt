@@ -6,7 +6,7 @@ use std::alloc::{AllocError, Global};
 use thin_rows::Rows;
 use thin_vec::ThinVec;
 
-/// Selects `ThinVec` as the kind of list.
+/// The kind of list that uses `ThinVec`.
 pub struct Thin;
 
 impl Family for Thin {
@@ -269,7 +269,8 @@ struct Node {
     children: ThinVec<Node>,
 }
 
-// Builds a tree of depth `depth`. Each node that is not a leaf has `width` children.
+// Builds a tree of depth `depth`, in which each node that is not a leaf has `width` children. The
+// children of a node are stored in a `ThinVec`.
 fn build(alloc: Global, depth: usize, width: usize) -> Result<Node, AllocError> {
     let mut children = ThinVec::new(alloc);
     if depth > 0 {

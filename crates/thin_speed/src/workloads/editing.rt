@@ -30,7 +30,7 @@ pub enum Editing {
 ///
 /// # Errors
 ///
-/// Fails if there is no memory.
+/// Fails if there is not enough memory.
 pub fn run_editing<F: Family>(
     alloc: Global,
     workload: Editing,
@@ -61,7 +61,7 @@ pub fn run_editing<F: Family>(
     }
 }
 
-/// Inserts a number before the first item, and pops the last item.
+/// A workload that inserts a number before the first item, and pops the last item.
 pub struct InsertFirst;
 
 impl<L: Numbers> Work<L, u64> for InsertFirst {
@@ -75,8 +75,8 @@ impl<L: Numbers> Work<L, u64> for InsertFirst {
     }
 }
 
-/// Removes the first item, or the item in the middle if `IN_MIDDLE` is true. Then pushes the
-/// removed number plus 1.
+/// A workload that removes the first item, or the item in the middle if `IN_MIDDLE` is true. It
+/// then pushes the removed number plus 1.
 pub struct Remove<const IN_MIDDLE: bool>;
 
 impl<L: Numbers, const IN_MIDDLE: bool> Work<L, u64> for Remove<IN_MIDDLE> {
@@ -99,7 +99,7 @@ impl<L: Numbers, const IN_MIDDLE: bool> Work<L, u64> for Remove<IN_MIDDLE> {
 ///
 /// # Errors
 ///
-/// Fails if there is no memory.
+/// Fails if there is not enough memory.
 #[inline(never)]
 pub fn swap_remove<L: Numbers>(alloc: Global, size: usize, times: usize) -> Outcome {
     let mut list: L = filled(alloc, size)?;
@@ -120,7 +120,7 @@ pub fn swap_remove<L: Numbers>(alloc: Global, size: usize, times: usize) -> Outc
 ///
 /// # Errors
 ///
-/// Fails if there is no memory.
+/// Fails if there is not enough memory.
 #[inline(never)]
 pub fn split_append<L: Numbers>(alloc: Global, size: usize, times: usize) -> Outcome {
     let mut list: L = filled(alloc, size)?;
@@ -132,7 +132,7 @@ pub fn split_append<L: Numbers>(alloc: Global, size: usize, times: usize) -> Out
     Ok(sum)
 }
 
-/// Drains the middle half of a list.
+/// A workload that drains the middle half of a list.
 pub struct Drain;
 
 impl<L: Numbers> Work<L, u64> for Drain {
@@ -143,8 +143,8 @@ impl<L: Numbers> Work<L, u64> for Drain {
     }
 }
 
-/// Drains the items from `START` up to, but not including, `END`. Then pushes the same number of
-/// items.
+/// A workload that drains the items from `START` up to, but not including, `END`. It then pushes
+/// the same number of items.
 pub struct DrainFew<const START: usize, const END: usize>;
 
 impl<L: Numbers, const START: usize, const END: usize> Work<L, u64> for DrainFew<START, END> {
@@ -158,8 +158,8 @@ impl<L: Numbers, const START: usize, const END: usize> Work<L, u64> for DrainFew
     }
 }
 
-/// Replaces the two items from `START` up to, but not including, `END` with one or two items. If
-/// only one item is inserted, also pushes an item.
+/// A workload that replaces the two items from `START` up to, but not including, `END` with one or
+/// two items. If only one item is inserted, it also pushes an item.
 pub struct SpliceFew<C, const START: usize, const END: usize> {
     count: PhantomData<C>,
 }
@@ -176,7 +176,7 @@ impl<L: Numbers, C: Count, const START: usize, const END: usize> Work<L, u64>
     }
 }
 
-/// Replaces the first item with three numbers. Then pops two items.
+/// A workload that replaces the first item with three numbers, and then pops two items.
 pub struct SpliceMore;
 
 impl<L: Numbers> Work<L, u64> for SpliceMore {
@@ -187,7 +187,8 @@ impl<L: Numbers> Work<L, u64> for SpliceMore {
     }
 }
 
-/// Replaces two items with four items, alternately at index 5 and at index 6. Then pops two items.
+/// A workload that replaces two items with four items, alternately at index 5 and at index 6. It
+/// then pops two items.
 pub struct ReplaceMore;
 
 impl<L: Numbers> Work<L, u64> for ReplaceMore {
@@ -199,8 +200,8 @@ impl<L: Numbers> Work<L, u64> for ReplaceMore {
     }
 }
 
-/// Shrinks the capacity to the length. Then pushes a number, so that the list has to grow, and pops
-/// this number.
+/// A workload that shrinks the capacity to the length. It then pushes a number, so that the list
+/// has to grow, and pops this number.
 pub struct ShrinkPush;
 
 impl<L: Numbers> Work<L, u64> for ShrinkPush {
@@ -227,8 +228,8 @@ fn pop_two<L: Numbers>(list: &mut L, sum: u64) -> u64 {
     sum
 }
 
-/// Replaces the middle half of a list of `size` items with `size` numbers. The size hint of their
-/// iterator is exact.
+/// A workload that replaces the middle half of a list of `size` items with `size` numbers. The
+/// numbers are inserted from an iterator whose size hint is exact.
 pub struct SpliceHinted;
 
 impl<L: Numbers> Work<L, u64> for SpliceHinted {
@@ -239,8 +240,8 @@ impl<L: Numbers> Work<L, u64> for SpliceHinted {
     }
 }
 
-/// Replaces the middle half of a list of `size` items with `size` numbers. The size hint of their
-/// iterator has a lower bound of 0.
+/// A workload that replaces the middle half of a list of `size` items with `size` numbers. The
+/// numbers are inserted from an iterator whose size hint has a lower bound of 0.
 pub struct SpliceUnhinted;
 
 impl<L: Numbers> Work<L, u64> for SpliceUnhinted {

@@ -32,7 +32,7 @@ pub enum Filtering {
 ///
 /// # Errors
 ///
-/// Fails if there is no memory.
+/// Fails if there is not enough memory.
 pub fn run_filtering<F: Family>(
     alloc: Global,
     workload: Filtering,
@@ -74,7 +74,7 @@ pub fn run_filtering<F: Family>(
     }
 }
 
-/// Keeps only the items that `P` picks, using `retain`.
+/// A workload that keeps only the items that `P` picks, using `retain`.
 pub struct Retain<P> {
     picks: PhantomData<P>,
 }
@@ -87,7 +87,7 @@ impl<L: List<T>, T: Item, P: Pick> Work<L, T> for Retain<P> {
     }
 }
 
-/// Removes the second item of each pair of equal neighbors, using `dedup`.
+/// A workload that removes the second item of each pair of equal neighbors, using `dedup`.
 pub struct Dedup;
 
 impl<L: Numbers> Work<L, u64> for Dedup {
@@ -98,8 +98,8 @@ impl<L: Numbers> Work<L, u64> for Dedup {
     }
 }
 
-/// Removes every second item, using `dedup_by_key`. The key of an item is half of the item, rounded
-/// down.
+/// A workload that removes every second item, using `dedup_by_key`. The key of an item is half of
+/// the item, rounded down.
 pub struct DedupByKey;
 
 impl<L: Numbers> Work<L, u64> for DedupByKey {
@@ -110,7 +110,7 @@ impl<L: Numbers> Work<L, u64> for DedupByKey {
     }
 }
 
-/// Extracts the items that `P` picks, using `extract_if`.
+/// A workload that extracts the items that `P` picks, using `extract_if`.
 pub struct Extract<P> {
     picks: PhantomData<P>,
 }

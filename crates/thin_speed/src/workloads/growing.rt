@@ -41,7 +41,7 @@ pub enum Growing {
 ///
 /// # Errors
 ///
-/// Fails if there is no memory.
+/// Fails if there is not enough memory.
 pub fn run_growing<F: Family>(
     alloc: Global,
     workload: Growing,
@@ -81,7 +81,7 @@ pub fn run_growing<F: Family>(
 ///
 /// # Errors
 ///
-/// Fails if there is no memory.
+/// Fails if there is not enough memory.
 #[inline(never)]
 pub fn push<L: List<T>, T: Item, S: Source<T>>(
     alloc: Global,
@@ -104,7 +104,7 @@ pub fn push<L: List<T>, T: Item, S: Source<T>>(
 ///
 /// # Errors
 ///
-/// Fails if there is no memory.
+/// Fails if there is not enough memory.
 #[inline(never)]
 pub fn push_pop<L: Numbers>(alloc: Global, size: usize, times: usize) -> Outcome {
     let mut sum = 0;
@@ -122,7 +122,7 @@ pub fn push_pop<L: Numbers>(alloc: Global, size: usize, times: usize) -> Outcome
     Ok(sum)
 }
 
-/// Makes a list with enough capacity, and pushes numbers onto it.
+/// A workload that makes a list with enough capacity, and pushes numbers onto it.
 pub struct Reserved;
 
 impl<L: Numbers> Make<L> for Reserved {
@@ -132,7 +132,7 @@ impl<L: Numbers> Make<L> for Reserved {
     }
 }
 
-/// Extends a new list with numbers from an iterator whose size hint is exact.
+/// A workload that extends a new list with numbers from an iterator whose size hint is exact.
 pub struct ExtendHinted;
 
 impl<L: Numbers> Make<L> for ExtendHinted {
@@ -144,7 +144,8 @@ impl<L: Numbers> Make<L> for ExtendHinted {
     }
 }
 
-/// Extends a new list with numbers from an iterator whose size hint has a lower bound of 0.
+/// A workload that extends a new list with numbers from an iterator whose size hint has a lower
+/// bound of 0.
 pub struct ExtendUnhinted;
 
 impl<L: Numbers> Make<L> for ExtendUnhinted {
@@ -156,7 +157,8 @@ impl<L: Numbers> Make<L> for ExtendUnhinted {
     }
 }
 
-/// Extends a new list with the even numbers of a slice. The iterator skips the odd numbers.
+/// A workload that extends a new list with the even numbers of a slice. The iterator skips the odd
+/// numbers.
 pub struct ExtendFilter;
 
 impl<L: Numbers> Make<L> for ExtendFilter {
@@ -168,8 +170,8 @@ impl<L: Numbers> Make<L> for ExtendFilter {
     }
 }
 
-/// Makes a list with enough capacity. Then extends it with the two halves of a slice, using two
-/// calls to `extend`.
+/// A workload that makes a list with enough capacity. It then extends the list with the two halves
+/// of a slice, using two calls to `extend`.
 pub struct ExtendTwice;
 
 impl<L: Numbers> Make<L> for ExtendTwice {
@@ -181,7 +183,7 @@ impl<L: Numbers> Make<L> for ExtendTwice {
     }
 }
 
-/// Collects the items of an iterator into a new list.
+/// A workload that collects the items of an iterator into a new list.
 pub struct Collect;
 
 impl<L: Numbers> Make<L> for Collect {
@@ -191,7 +193,7 @@ impl<L: Numbers> Make<L> for Collect {
     }
 }
 
-/// Extends a new list with copies of the items of a slice, in one call.
+/// A workload that extends a new list with copies of the items of a slice, in one call.
 pub struct ExtendSlice;
 
 impl<L: Numbers> Make<L> for ExtendSlice {
@@ -203,7 +205,7 @@ impl<L: Numbers> Make<L> for ExtendSlice {
     }
 }
 
-/// Extends a new list several times, each time with copies of sixteen items.
+/// A workload that extends a new list several times, each time with copies of sixteen items.
 pub struct ExtendSixteen;
 
 impl<L: Numbers> Make<L> for ExtendSixteen {
@@ -217,7 +219,7 @@ impl<L: Numbers> Make<L> for ExtendSixteen {
     }
 }
 
-/// Resizes a new list to the length `size`.
+/// A workload that resizes a new list to the length `size`.
 pub struct Resize;
 
 impl<L: Numbers> Make<L> for Resize {
@@ -229,7 +231,7 @@ impl<L: Numbers> Make<L> for Resize {
     }
 }
 
-/// Makes a copy of a list.
+/// A workload that makes a copy of a list.
 pub struct Copied;
 
 impl<L: Numbers> Make<L> for Copied {
@@ -243,7 +245,7 @@ impl<L: Numbers> Make<L> for Copied {
 ///
 /// # Errors
 ///
-/// Fails if there is no memory.
+/// Fails if there is not enough memory.
 #[inline(never)]
 pub fn write_five<L: List<u8> + Write>(alloc: Global, size: usize, times: usize) -> Outcome {
     let mut sum = 0;
@@ -263,7 +265,7 @@ pub fn write_five<L: List<u8> + Write>(alloc: Global, size: usize, times: usize)
 ///
 /// # Errors
 ///
-/// Fails if there is no memory.
+/// Fails if there is not enough memory.
 #[inline(never)]
 pub fn into_iter<L: Numbers>(alloc: Global, size: usize, times: usize) -> Outcome {
     let mut sum = 0;

@@ -19,7 +19,7 @@ pub enum Many {
 ///
 /// # Errors
 ///
-/// Fails if there is no memory.
+/// Fails if there is not enough memory.
 pub fn run_many<F: Family>(alloc: Global, workload: Many, size: usize, times: usize) -> Outcome {
     match workload {
         Many::EmptyLists => empty_lists::<F::Lists, F::Numbers>(alloc, size, times),
@@ -36,7 +36,7 @@ pub fn run_many<F: Family>(alloc: Global, workload: Many, size: usize, times: us
 ///
 /// # Errors
 ///
-/// Fails if there is no memory.
+/// Fails if there is not enough memory.
 #[inline(never)]
 pub fn empty_lists<L: List<N>, N: List<u64>>(alloc: Global, size: usize, times: usize) -> Outcome {
     let mut sum = 0;
@@ -55,7 +55,7 @@ pub fn empty_lists<L: List<N>, N: List<u64>>(alloc: Global, size: usize, times: 
 ///
 /// # Errors
 ///
-/// Fails if there is no memory.
+/// Fails if there is not enough memory.
 #[inline(never)]
 pub fn sparse_lists<L: List<N>, N: List<u64>>(alloc: Global, size: usize, times: usize) -> Outcome {
     let mut sum = 0;
@@ -75,7 +75,7 @@ pub fn sparse_lists<L: List<N>, N: List<u64>>(alloc: Global, size: usize, times:
     Ok(sum)
 }
 
-// Returns the number of `lists`, plus the sum of their items.
+// Returns the length of `lists`, plus the sum of the items of all these lists.
 fn items_of<L: List<u64>>(lists: &[L]) -> u64 {
     let mut sum = lists.len() as u64;
     for list in lists {
@@ -91,7 +91,7 @@ fn items_of<L: List<u64>>(lists: &[L]) -> u64 {
 ///
 /// # Errors
 ///
-/// Fails if there is no memory.
+/// Fails if there is not enough memory.
 #[inline(never)]
 pub fn styles<L: List<S>, S: List<u32>>(alloc: Global, size: usize, times: usize) -> Outcome {
     let mut sum = 0;
@@ -105,8 +105,8 @@ pub fn styles<L: List<S>, S: List<u32>>(alloc: Global, size: usize, times: usize
     Ok(sum)
 }
 
-// Makes a style with up to three rules. Every second style with three rules gets a fourth rule at
-// the front.
+// Makes a style with `number % 4` rules. If `number % 8` is 7, also inserts a fourth rule at the
+// front.
 fn style<S: List<u32>>(alloc: Global, number: usize) -> Result<S, AllocError> {
     let mut style = S::new(alloc);
     for rule in 0..number & 3 {
@@ -134,7 +134,7 @@ fn repeated<S: List<u32>>(styles: &[S]) -> u64 {
 ///
 /// # Errors
 ///
-/// Fails if there is no memory.
+/// Fails if there is not enough memory.
 #[inline(never)]
 pub fn undo<L: List<B>, B: List<u8>>(alloc: Global, size: usize, times: usize) -> Outcome {
     let mut steps = L::new(alloc);
@@ -161,7 +161,7 @@ pub fn undo<L: List<B>, B: List<u8>>(alloc: Global, size: usize, times: usize) -
 ///
 /// # Errors
 ///
-/// Fails if there is no memory.
+/// Fails if there is not enough memory.
 #[inline(never)]
 pub fn tree<F: Family>(alloc: Global, depth: usize, width: usize, times: usize) -> Outcome {
     let mut sum = 0;

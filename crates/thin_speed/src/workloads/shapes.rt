@@ -13,11 +13,11 @@ pub trait Work<L, T> {
     ///
     /// # Errors
     ///
-    /// Fails if there is no memory.
+    /// Fails if there is not enough memory.
     fn work(list: &mut L, alloc: Global, number: usize, sum: u64) -> Outcome;
 }
 
-/// Does no work, so that the workload only fills a list.
+/// Work that does nothing, so that the workload only fills a list.
 pub struct Idle;
 
 impl<L, T> Work<L, T> for Idle {
@@ -32,7 +32,7 @@ impl<L, T> Work<L, T> for Idle {
 ///
 /// # Errors
 ///
-/// Fails if there is no memory.
+/// Fails if there is not enough memory.
 #[inline(never)]
 pub fn refill<L: List<T>, T: Drop, S: Source<T>>(
     alloc: Global,
@@ -46,11 +46,12 @@ pub fn refill<L: List<T>, T: Drop, S: Source<T>>(
     Ok(())
 }
 
-/// Makes a list. Then, `times` times, refills the list and does the work `W` on it.
+/// Makes a list. Then performs `times` rounds. Each round refills the list, and does the work `W`
+/// on it.
 ///
 /// # Errors
 ///
-/// Fails if there is no memory.
+/// Fails if there is not enough memory.
 #[inline(never)]
 pub fn refilled<L: List<T>, T: Item, S: Source<T>, W: Work<L, T>>(
     alloc: Global,
@@ -71,7 +72,7 @@ pub fn refilled<L: List<T>, T: Item, S: Source<T>, W: Work<L, T>>(
 ///
 /// # Errors
 ///
-/// Fails if there is no memory.
+/// Fails if there is not enough memory.
 #[inline(never)]
 pub fn filled<L: List<u64>>(alloc: Global, size: usize) -> Result<L, AllocError> {
     let mut list = L::with_capacity(alloc, size)?;
@@ -85,7 +86,7 @@ pub fn filled<L: List<u64>>(alloc: Global, size: usize) -> Result<L, AllocError>
 ///
 /// # Errors
 ///
-/// Fails if there is no memory.
+/// Fails if there is not enough memory.
 #[inline(never)]
 pub fn repeated<L: Numbers, W: Work<L, u64>>(alloc: Global, size: usize, times: usize) -> Outcome {
     let mut list: L = filled(alloc, size)?;
@@ -98,12 +99,12 @@ pub fn repeated<L: Numbers, W: Work<L, u64>>(alloc: Global, size: usize, times: 
 
 /// The way in which a workload makes a new list.
 pub trait Make<L> {
-    /// Makes a new list. Either `size` determines the number of its items, or it is made from the
-    /// items of `source`. The length of `source` is `size`.
+    /// Makes a new list from the items of `source`, or a new list whose length depends on `size`.
+    /// The length of `source` is `size`.
     ///
     /// # Errors
     ///
-    /// Fails if there is no memory.
+    /// Fails if there is not enough memory.
     fn make(alloc: Global, size: usize, source: &L) -> Result<L, AllocError>;
 }
 
@@ -111,7 +112,7 @@ pub trait Make<L> {
 ///
 /// # Errors
 ///
-/// Fails if there is no memory.
+/// Fails if there is not enough memory.
 #[inline(never)]
 pub fn made_anew<L: Numbers, M: Make<L>>(alloc: Global, size: usize, times: usize) -> Outcome {
     let source: L = filled(alloc, size)?;

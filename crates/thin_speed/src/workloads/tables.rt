@@ -14,7 +14,7 @@ pub enum Tables {
 ///
 /// # Errors
 ///
-/// Fails if there is no memory.
+/// Fails if there is not enough memory.
 pub fn run_tables<F: Family>(
     alloc: Global,
     workload: Tables,
@@ -31,7 +31,7 @@ pub fn run_tables<F: Family>(
 ///
 /// # Errors
 ///
-/// Fails if there is no memory.
+/// Fails if there is not enough memory.
 #[inline(never)]
 pub fn set_all<C: Table>(alloc: Global, size: usize, times: usize) -> Outcome {
     let mut sum = 0;
@@ -47,7 +47,7 @@ pub fn set_all<C: Table>(alloc: Global, size: usize, times: usize) -> Outcome {
 ///
 /// # Errors
 ///
-/// Fails if there is no memory.
+/// Fails if there is not enough memory.
 #[inline(never)]
 pub fn get_all<C: Table>(alloc: Global, size: usize, times: usize) -> Outcome {
     let table: C = filled_table(alloc, size)?;
@@ -61,8 +61,8 @@ pub fn get_all<C: Table>(alloc: Global, size: usize, times: usize) -> Outcome {
     Ok(sum)
 }
 
-// Makes a table with an entry at each of the first `size` places, counted row by row. The entries
-// are written in a different order. If `size` is a multiple of 7919, some places get no entry.
+// Makes a table, and writes entries at its first `size` places, counted row by row. The entries are
+// written in a different order. If `size` is a multiple of 7919, some of these places get no entry.
 #[inline(never)]
 fn filled_table<C: Table>(alloc: Global, size: usize) -> Result<C, AllocError> {
     let mut table = C::with_rows(alloc, size / 30 + 1)?;

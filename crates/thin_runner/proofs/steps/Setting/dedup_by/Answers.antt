@@ -1,5 +1,5 @@
--- Each call of the closure returns the decision of the method `same` of the judge. So the judge
--- decides which items `dedup_by` keeps.
+-- Each call to the closure returns what the judge's method `same` decides. So the judge determines
+-- which items `dedup_by` keeps.
 use Rattle.std.proofs.Common.{rules}
 use Rattle.thin_runner.proofs.JudgedLemmas.{deduped-by}
 use Rattle.thin_runner.proofs.steps.Setting.dedup_by.Goals as goal

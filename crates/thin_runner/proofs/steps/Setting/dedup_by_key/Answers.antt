@@ -1,5 +1,5 @@
--- Each call of the closure returns the key that the method `key` of the judge computes. So the
--- judge decides which items `dedup_by_key` keeps.
+-- Each call to the closure returns the key that the judge's method `key` computes. So the judge
+-- determines which items `dedup_by_key` keeps.
 use Rattle.std.proofs.Common.{rules}
 use Rattle.thin_runner.proofs.JudgedLemmas.{deduped-by-keys}
 use Rattle.thin_runner.proofs.steps.Setting.dedup_by_key.Goals as goal

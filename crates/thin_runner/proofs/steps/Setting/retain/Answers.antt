@@ -1,5 +1,5 @@
--- Each call of the closure returns the decision of the method `look` of the judge. So the judge
--- decides which items `retain` keeps.
+-- Each call to the closure returns what the judge's method `look` decides. So the judge determines
+-- which items `retain` keeps.
 use Rattle.std.proofs.Common.{rules}
 use Rattle.thin_runner.proofs.JudgedLemmas.{looked, retained-by}
 use Rattle.thin_runner.proofs.steps.Setting.retain.Goals as goal

@@ -1,5 +1,5 @@
--- Each call of the closure returns the decision of the method `keep` of the judge. So the judge
--- decides which items `retain_mut` keeps.
+-- Each call to the closure returns what the judge's method `keep` decides. So the judge determines
+-- which items `retain_mut` keeps.
 use Rattle.std.proofs.Common.{rules}
 use Rattle.thin_runner.proofs.JudgedLemmas.{retained-by}
 use Rattle.thin_runner.proofs.steps.Setting.retain_mut.Goals as goal

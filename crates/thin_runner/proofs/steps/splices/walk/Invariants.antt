@@ -1,5 +1,5 @@
--- The results of all steps are the results so far, followed by the results that the remaining steps
--- will return.
+-- The results of all steps on the `Splice` are the results so far, followed by the results that the
+-- remaining steps will return.
 use Rattle.std.proofs.Common.{◌≡◌, ◌++◌, ◌≤◌, ◌+◌, length, vec_len}
 use Rattle.std.specs.Vec.{vec_capacity}
 use Rattle.std.specs.Vec.Iter.{into_iter_items}

@@ -1,5 +1,5 @@
--- The recursion of `build` terminates, because `build` calls itself only with a smaller depth.
--- Inside the loop of `build`, the depth is greater than 0.
+-- The function `build` for trees of `Vec`s terminates, because it calls itself only with a smaller
+-- depth. Inside its loop, the depth is greater than 0.
 use Rattle.std.proofs.Common.{◌<◌}
 use Rattle.thin_speed.proofs.lists.kit.+build.Given as goal
 
