@@ -128,7 +128,7 @@ module _ {T A : Type 0} where
         cap = l;
       }
 
-  -- In the block of an iterator, `end` is at most the number of slots.
+  -- In the block of an iterator, the index `end` is at most the number of slots.
   pub walked-room : (b : Block T A) (a : A) (start end : ℕ)
       → IsWalked b a start end → end ≤ length b.slots
   walked-room b a start end t =
@@ -275,8 +275,8 @@ module _ {T A : Type 0} where
       (omega (arith, t.len, length_refill (length xs) xs ws refl)) (walked-room b a start end t)
       (from-same b b' a t.from (ap (λ v. v.alloc) w))
 
-  -- If the items `ws` are written into the block from slot `start` onward, then the iterator
-  -- appears in contracts with `ws` written over its items.
+  -- Suppose that the items `ws` are written into the block of an iterator from slot `start` onward.
+  -- Then contracts describe the new iterator as the old one with `ws` written over its items.
   pub view-written : (b : Block T A) (a : A) (start end : ℕ) (ws : List T) → IsWalked b a start end
       → thin_of (block_with_items b start ws) a ≡ with_items (thin_of b a) ws
   view-written b a start end ws t =

@@ -11,8 +11,8 @@ use Rattle.thin_vec.specs.declared.open_block.OpenBlock.TheInside.{Inside}
 use Rattle.thin_vec.proofs.OpenBlockLemmas.{Found, reached, spare-empty, tail-filled, widen-step, widened, widened-seen}
 use Rattle.thin_vec.proofs.open_block.OpenBlock.widen.Goals as goal
 
--- If `h` appears in contracts as the open block `v`, and at least `k` slots of `v` follow its tail
--- items, then `h` has at least `k` slots from index `h.len` onward.
+-- Suppose that contracts describe `h` as the open block `v`. If at least `k` slots of `v` follow
+-- its tail items, then `h` has at least `k` slots from index `h.len` onward.
 fits : {T A : Type 0} (h : Inside T A) (v : Open T A) (k : ℕ) → Shows h (open_of h) → open_of h ≡ v
     → reach v + k ≤ v.capacity → h.len + k ≤ (open_of h).capacity
 fits h v k shows is room =
