@@ -43,8 +43,8 @@ module _ {F T : Type 0} (R : F → T → Bool → F → T → Type 0) where
       answered false more m = omega (arith, more m.0 m.1, ap length m.2)
 
   module _ {S : Type 0} (of : S → F) where
-    -- `J` describes a test that keeps exactly the items that the closure does not extract. `of s`
-    -- is the state of the closure in the state `s` of the test.
+    -- `J` describes a test that keeps exactly the items that the closure does not extract. If `s`
+    -- is a state of the test, then `of s` is the state of the closure.
     abbrev J : S → T → Bool → S → T → Type 0
     J s x b t y = R (of s) x (not b) (of t) y
 
@@ -114,7 +114,8 @@ module _ {F T : Type 0} (R : F → T → Bool → F → T → Type 0) where
       end-is : drop m ys ≡ h.end
       end-is = ap (drop m) now ∙ drop_at h.left h.end m reached
 
-      -- The list `ys` contains at least `m` items.
+      -- If the tests kept the first `m` items, then the list `ys` after the tests contains at least
+      -- `m` items.
       pub picked-room : m ≤ length ys
       picked-room = omega (arith, reached, ap length now, length-append h.left h.end)
 
@@ -144,7 +145,7 @@ module _ {F T : Type 0} (R : F → T → Bool → F → T → Type 0) where
           h.stops (sym end-is ∙ some))
 
 -- If the list `xs` contains at least `k` items, then moving `k` items costs the same as moving the
--- items `take k xs`. If there is no gap, nothing is moved, and the cost does not change.
+-- items `take k xs`. If there is no gap, then no item is moved, and the cost does not change.
 pub cost-of : {T : Type 0} (gap : ℕ) (cost : Cost) (k : ℕ) (xs : List T) → k ≤ length xs
     → (if gap == 0 then cost else moving k cost)
     ≡ (if gap == 0 then cost else moving (length (take k xs)) cost)
