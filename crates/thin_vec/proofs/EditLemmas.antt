@@ -188,7 +188,7 @@ module _ {T F A G : Type 0} {g : Ghosts G}
 
     -- If `IsExtracting` holds and `next` returns `None`, then the loop has appended exactly the
     -- items of the range that pass the test. After the `ExtractIf` is dropped, the `ThinVec`
-    -- contains all other items.
+    -- contains the other items of the range and the items outside the range.
     pub extract_end : {start now new : ExtractIf T F A G (Holder (Extracting T F A)) g h}
         {old held : List T} {item : Option T} → IsExtracting start now old held
         → ExtractSteps R now item new → item ≡ None

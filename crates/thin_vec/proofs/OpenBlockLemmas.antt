@@ -497,8 +497,8 @@ module _ {T A : Type 0} where
         (slot-in-full pre all-after (past_tail w) j (omega (arith, start))
         (omega (arith, start, count-after none)))
 
-    -- The number of all items is the number of front items, plus the number of middle items and
-    -- tail items together.
+    -- The number of all items is the number of front items plus the length of `all-after`, the list
+    -- of the middle items and the tail items.
     count-all : length (items_of (open_of h)) ≡ h.front_end + length all-after
     count-all = omega (arith, length-append (open_of h).front all-after, o.front)
 
@@ -534,8 +534,8 @@ module _ {T A : Type 0} where
         (replicate-append-replicate w.gap (w.capacity - reach w) None
         ∙ ap (λ (k : ℕ). empty k) left))))
 
-    -- If an open block has no gap between its items, then its slots are the slots of all its items,
-    -- followed by empty slots.
+    -- Suppose that there is no gap before the middle items and no gap before the tail items. Then
+    -- the slots of the open block are the slots of all its items, followed by empty slots.
     pub closed-row : (open_of h).gap_after ≡ 0 → h.front_end ≡ h.rest_start
         → h.block.slots ≡ front (items_of (open_of h)) (length h.block.slots)
     closed-row none here =
@@ -733,7 +733,7 @@ module _ {T A : Type 0} where
         }
 
     -- The slots of `h` are, in this order: the slots before the tail items, the tail items, `count`
-    -- empty slots, and further empty slots.
+    -- empty slots, and the remaining empty slots.
     spare : h.block.slots ≡ to_tail (open_of h)
         ++ (full (open_of h).tail
         ++ (empty count ++ empty ((open_of h).capacity - reach (open_of h) - count)))

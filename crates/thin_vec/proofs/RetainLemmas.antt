@@ -615,8 +615,8 @@ module _ {S T : Type 0} (R : S → T → Bool → S → T → Type 0) where
           });
         }
 
--- In this module, a test is a struct that calls a closure and returns its result. `J` is the type
--- of the test, and `inside` maps a state of the test to the state of its closure.
+-- In this module, a test of an item is a struct that calls a closure and returns its result. `J` is
+-- the type of the test, and `inside` maps a state of the test to the state of its closure.
 module _ {J S T : Type 0} (R : S → T → Bool → S → T → Type 0) (inside : J → S) where
   -- `through` describes the calls to the test. It is the relation `R` of the closure, applied to
   -- the states of the closure inside the test.
@@ -631,8 +631,8 @@ module _ {J S T : Type 0} (R : S → T → Bool → S → T → Type 0) (inside 
   asked-through (x ∷ xs) s t a h =
       (h.0, h.1, inside h.2, h.3, h.4, asked-through xs h.2 t h.3 h.5, h.6)
 
-  -- If the list `w` contains exactly the items of the list `v` that the test keeps, then it
-  -- contains exactly the items that the closure of the test keeps.
+  -- If the list `w` contains exactly the items of the list `v` that the test of `retain` keeps,
+  -- then it contains exactly the items that the closure of this test keeps.
   pub retained-through : {A : Type 0} (s : J) (v w : Thin T A) (t : J)
       → IsRetainedTo through s v w t → IsRetained R (inside s) v w
   retained-through s v w t h = (

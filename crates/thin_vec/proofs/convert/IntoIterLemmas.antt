@@ -297,13 +297,15 @@ module _ {T A : Type 0} where
 
 -- In this module, `T` is the item type and `A` is the allocator type of an `IntoIter`.
 module _ (T A : Type 0) where
-  -- Repeated calls to `next` yield the items that have not been yielded yet, in order.
+  -- Repeated calls to `next` on an `IntoIter` yield the items that have not been yielded yet, in
+  -- order.
   pub rest_in_order : RestInOrder T A
   rest_in_order p s =
       as_is p (rest p.from)
       (from_front (YieldsFirst rest) (λ x. x) rest (λ s t h. ap length h.0) (λ s x t h. h) p s)
 
-  -- Repeated calls to `next_back` yield the items that have not been yielded yet, in reverse order.
+  -- Repeated calls to `next_back` on an `IntoIter` yield the items that have not been yielded yet,
+  -- in reverse order.
   pub rest_in_reverse : RestInReverse T A
   rest_in_reverse p s =
       as_is_back p (rest p.from)

@@ -194,8 +194,8 @@ module _ {S T : Type 0} (R : OnPairs S T) where
     next-asked b u zs a = subst (λ (k : T). R t a.later k b u a.later_left a.kept_left)
         (next-pair b u zs a).last a.asked
 
-    -- The list `xs` consists of its first item, the items that were tested before the test `a`, the
-    -- item that `a` tested, and the items that have not been tested yet.
+    -- The list `xs` consists of, in this order: its first item, the items that were tested before
+    -- the test `a`, the item that `a` tested, and the untested items.
     next-was : (b : Bool) (u : S) (zs : List T) (a : IsPairAskedAt R m t ys b u zs)
         → xs ≡ h.first ∷ ((h.done ++ a.later ∷ []) ++ a.after)
     next-was b u zs a = h.was ∙ ap (λ (l : List T). h.first ∷ l)
@@ -541,8 +541,8 @@ module _ {S T : Type 0} (R : OnPairs S T) where
           });
         }
 
--- In this module, a test is a struct that calls a closure and returns its result. `J` is the type
--- of the test, and `inside` maps a state of the test to the state of its closure.
+-- In this module, a test of two items is a struct that calls a closure and returns its result. `J`
+-- is the type of the test, and `inside` maps a state of the test to the state of its closure.
 module _ {J S T : Type 0} (R : OnPairs S T) (inside : J → S) where
   -- `through` describes the calls to the test. It is the relation `R` of the closure, applied to
   -- the states of the closure inside the test.
@@ -573,8 +573,8 @@ module _ {J S T : Type 0} (R : OnPairs S T) (inside : J → S) where
   pairs-through [] s t f ys h = (h.0, h.1, ap inside h.2)
   pairs-through (x ∷ xs) s t f ys h = last-through xs s t x f ys h
 
-  -- If the list `w` contains exactly the items of the list `v` that the test keeps, then it
-  -- contains exactly the items that the closure of the test keeps.
+  -- If the list `w` contains exactly the items of the list `v` that the test of `dedup_by` keeps,
+  -- then it contains exactly the items that the closure of this test keeps.
   pub deduped-through : {A : Type 0} (s : J) (v w : Thin T A) (t : J) → IsDedupedTo through s v w t
       → IsDedupedBy R (inside s) v w
   deduped-through s v w t h = (

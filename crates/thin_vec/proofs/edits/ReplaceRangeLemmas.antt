@@ -54,7 +54,7 @@ module _ {T : Type 0} where
 module _ {T : Type 0} (xs : List T) (i j : ℕ) (order : i ≤ j) (within : j ≤ length xs) where
   -- Suppose that the items `zs` were inserted into the list `xs` at index `j`, and that the items
   -- `ys` were appended. If the items `ys` are then moved from the end to index `i` and replace the
-  -- items `i..j`, the result is `xs` with `ys ++ zs` in place of the items `i..j`.
+  -- items `i..j`, then the result is `xs` with `ys ++ zs` in place of the items `i..j`.
   pub brought-in : (ys zs : List T) {w : List T} {n : ℕ} → length ys ≡ n
       → w ≡ replace_range xs j j zs ++ ys
       → (take i w ++ drop (length w - n) w) ++ take (length w - n - j) (drop j w)

@@ -260,8 +260,9 @@ module _ {S T A : Type 0} (rule : Rule) (R : RattleType) (v : Thin T A) (tail : 
   }
 
 module _ (rule : Rule) (R : RattleType) where
-  -- If the growth rule chooses the capacity `d` for the list `v` and `k` more items, and `n` is at
-  -- least the length of `v` plus `k`, then `IsKeptOrRuled` holds for `d` and `n`.
+  -- Suppose that the growth rule chooses the capacity `d` for the list `v` with `k` more items. If
+  -- `n` is at least the new length, `length v.items + k`, then `IsKeptOrRuled` holds for `d` and
+  -- `n`.
   pub kept-or-ruled : KeepsLaw rule → {T A : Type 0} (v : Thin T A) (k d n : ℕ)
       → capacity_for rule R v k ≡ Some d → length v.items + k ≤ n
       → IsKeptOrRuled rule R v.capacity d n
@@ -359,8 +360,9 @@ module _ (rule : Rule) (R : RattleType) {T A : Type 0} where
 
   module _ (law : KeepsLaw rule) where
     -- Suppose that the list `v` grew to the capacity that the growth rule chooses for `h` more
-    -- items, and that `h` is at most `left`, the bound on the items of the iterator. Then
-    -- `HasTaken` holds for `v` and the new list `w`, without a move of old items.
+    -- items. Suppose also that `h` is at most `left`, the upper bound on the number of items that
+    -- the iterator may yield. Then `HasTaken` holds for `v` and the new list `w`, with the bound 0
+    -- on the moves of old items.
     pub taken-reserved : (v w : Thin T A) (h : ℕ) (left : Count)
         → capacity_for rule R v h ≡ Some w.capacity → w.items ≡ v.items → w.alloc ≡ v.alloc
         → w.cost ≡ cost_at v w.capacity → (IsCheap v → IsCheap w) → h ≤ size left
@@ -374,9 +376,9 @@ module _ (rule : Rule) (R : RattleType) {T A : Type 0} where
       cheap = cheap;
     }
 
-    -- If `HasTaken` holds for `v` and `u` with the bound `m` on the moves of old items, and for `u`
-    -- and `w` with the bound `n`, then it holds for `v` and `w` with each bound `k` that is at
-    -- least `m + n`.
+    -- Suppose that `HasTaken` holds for `v` and `u` with the bound `m` on the moves of old items,
+    -- and for `u` and `w` with the bound `n`. Then it holds for `v` and `w` with each bound `k`
+    -- that is at least `m + n`.
     pub taken-join : (v u w : Thin T A) (m n k : ℕ) (left more : Count) → m + n ≤ k
         → length v.items ≤ length u.items
         → (HasRoomFor v (size left) → u.capacity ≡ v.capacity → HasRoomFor u (size more))

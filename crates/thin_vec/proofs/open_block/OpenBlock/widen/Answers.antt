@@ -1,5 +1,6 @@
--- At least `count` empty slots follow the tail items (the items after the range), so the tail items
--- can be moved up by `count` slots. The gap before them becomes longer by `count` slots.
+-- The tail items are the items after the range. At least `count` empty slots follow the tail items,
+-- so these items can be moved up by `count` slots. The gap before them becomes longer by `count`
+-- slots.
 use Rattle.std.proofs.Common.{◌≡◌, ℕ, ◌+◌, ◌-◌, ◌≤◌, ◌∙◌, ap, arith, length, subst, sym}
 use Rattle.std.specs.Prelude.{IsSome}
 use Rattle.thin_block.specs.Block.{seen}
