@@ -91,8 +91,8 @@ module _ {T : Type 0} (test : T → Bool) where
   module _ {S : Type 0} (R : S → T → Bool → S → T → Type 0)
       (says : (s : S) (x : T) (b : Bool) (t : S) (y : T) → R s x b t y
       → (b ≡ test x) × (y ≡ x)) where
-    -- This is the induction step of the lemma `parts`: if `parts` holds for the list `xs`, it also
-    -- holds for the list `x ∷ xs`.
+    -- This is the induction step of the lemma `parts`: if `parts` holds for the list `xs`, then it
+    -- also holds for the list `x ∷ xs`.
     part : (x : T) (xs : List T) (item : Option T) (t u : S) (y : T) (kept rest : List T)
         (b : Bool) → b ≡ test x → y ≡ x
         → ((ks : List T) → ExtractsNext R u xs item t ks rest → Parts xs item ks rest)

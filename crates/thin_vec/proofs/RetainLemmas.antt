@@ -69,8 +69,8 @@ module _ {T : Type 0} where
   left_at-append ((true, x) ∷ a) b = ap (λ (l : List T). x ∷ l) (left_at-append a b)
   left_at-append ((false, x) ∷ a) b = left_at-append a b
 
-  -- The number of kept items of the test results `a ++ b` is the sum of the numbers for `a` and
-  -- `b`.
+  -- The number of kept items of the test results `a ++ b` is the number of kept items of `a` plus
+  -- the number of kept items of `b`.
   pub trues-append : (a b : Verdicts T) → trues (flags_of (a ++ b)) ≡ trues
       (flags_of a) + trues (flags_of b)
   trues-append [] b = omega arith
@@ -260,7 +260,7 @@ module _ {S T : Type 0} (R : S → T → Bool → S → T → Type 0) where
       )
 
   -- If the tests keep all items of the list `xs`, then the list `ys` after the tests has the same
-  -- length.
+  -- length as `xs`.
   stay-count : (xs : List T) (s t : S) (ys : List T) → Asked R s xs (stay ys) t
       → length xs ≡ length ys
   stay-count [] s t [] h = refl
@@ -270,8 +270,8 @@ module _ {S T : Type 0} (R : S → T → Bool → S → T → Type 0) where
       ap suc (stay-count xs h.2 t ys
       (subst (λ (a : Verdicts T). Asked R h.2 xs a t) (sym (cons-tail h.6)) h.5))
 
-  -- Stopping at an item to be removed, or at the end of the list, does not change the number of
-  -- items.
+  -- If the tests stop at an item to be removed, or at the end of the list, then the number of items
+  -- does not change.
   stop-count : (u : S) (b : List T) (t : S) (e : List T) → Stops R u b t e → length e ≡ length b
   stop-count u [] t e h = ap length h.0
   stop-count u (x ∷ b) t e h = ap length h.2
@@ -435,9 +435,9 @@ module _ {S T : Type 0} (R : S → T → Bool → S → T → Type 0) where
   -- Section: open blocks
 
   module _ {A : Type 0} (v w : Open T A) where
-    -- Suppose that some of the middle items of the open block `v`, from the first onward, were
-    -- tested. Suppose also that the `m` kept items were moved to the end of the front items, at the
-    -- cost of one move each. Then `Sifts` relates `v` to the new open block `w`.
+    -- Suppose that some middle items of the open block `v`, beginning with the first, were tested
+    -- in order. Suppose also that the `m` kept items were moved to the end of the front items, at
+    -- the cost of one move each. Then `Sifts` relates `v` to the new open block `w`.
     pub sifts-of : (m : ℕ) (s t : S) (kept : List T) → Part m s v.rest t kept w.rest
         → 0 < w.gap → w ≡ record v {
           front = v.front ++ kept;

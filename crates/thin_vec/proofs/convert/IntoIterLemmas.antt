@@ -194,8 +194,8 @@ module _ {T A : Type 0} where
         let same : y ≡ v = cc in
         (ap (λ (x : T). x ∷ ys) same, set-first start k y ys)
 
-    -- If slot `start` of the block `b` holds `v`, then `v` is the first item. If this slot is
-    -- emptied, then `start + 1` empty slots precede the other items.
+    -- If slot `start` of the block `b` holds `v`, then `v` is the first item of the iterator. If
+    -- this slot is emptied, then `start + 1` empty slots precede the other items.
     first : slot b.slots start ≡ Some v → (xs ≡ v ∷ drop 1 xs)
         × (set b.slots start None ≡ empty (start + 1) ++ (full (drop 1 xs) ++ empty gap))
     first e =

@@ -46,8 +46,8 @@ trues-all : (n : ℕ) → trues (replicate n true) ≡ n
 trues-all zero = refl
 trues-all (suc n) = ap suc (trues-all n)
 
--- If the first `n` items of a list are kept, they are not moved. So their `n` true flags do not
--- change `moved_down`, the number of moved items.
+-- If the first `n` items of a list are kept, then they are not moved. So their `n` true flags do
+-- not change `moved_down`, the number of moved items.
 moved-all : (n : ℕ) (b : List Bool) → moved_down (replicate n true ++ b) ≡ moved_down b
 moved-all zero b = refl
 moved-all (suc n) b = moved-all n b

@@ -1,5 +1,5 @@
--- These lemmas are about the item that a call to `next` on an `ExtractIf` extracts. It is the first
--- untested item for which the closure returns true.
+-- These lemmas are about the item that a call to `next` on an `ExtractIf` extracts. This item is
+-- the first untested item for which the closure returns true.
 use Rattle.std.proofs.Common.{◌≡◌, ℕ, ◌+◌, ◌≤◌, Bool, true, false, List, [], ◌∷◌, ◌++◌, Option, None, Some, length, take, drop, refl, sym, ap, subst, ◌∙◌, arith, length-append}
 use Rattle.std.proofs.lemmas.List.{drop_at, length-take-le, nil_from_length, take_at}
 use Rattle.std.specs.List.Retain.{ExtractsNext}
@@ -52,9 +52,8 @@ module _ {F T : Type 0} (R : F → T → Bool → F → T → Type 0) where
     -- `between`. It extracts the first of these items, unless there are none.
     module _ (between : S) (after : List T) (item : Option T) (t : F) (rest : List T)
         (e : ExtractsNext R (of between) after item t [] rest) where
-      -- Suppose that all items of the list `run` are kept, and that the items `after` follow them.
-      -- Then the closure keeps the items of `run` and extracts the first item of `after`, if there
-      -- is one.
+      -- Suppose that the closure keeps all items of the list `run`. Then, if it is called with the
+      -- items `run ++ after`, it extracts the first item of `after`, if there is one.
       picked-after : (s : S) (run left : List T) → Asked J s run (stay left) between
           → ExtractsNext R (of s) (run ++ after) item t left rest
       picked-after s [] [] a =

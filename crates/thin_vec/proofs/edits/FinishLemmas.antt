@@ -78,7 +78,8 @@ module _ {S T A : Type 0} {steps : S → Option T → S → Type 0} {can : S →
       nearer = p.0.nearer more;
     }
 
-    -- If the iterator has ended, then the inserted items are all items that it yields.
+    -- If the iterator has ended, then the inserted items are all the items that the iterator
+    -- yielded.
     pub filled-drains : f.ended ≡ true → Drains steps s p.0.items
     filled-drains done = (f.rest, subst (λ b. Gives steps s p.0.items b f.rest) done p.0.gave)
 
