@@ -10,16 +10,17 @@ use Rattle.thin_vec.specs.List.Extend.{IsMadeOf}
 use Rattle.thin_vec.specs.ThinVec.{Thin}
 
 module _ {T A E : Type 0} where
-  -- Suppose that every list with the property `P` also has the property `Q`. If the list in the
-  -- result `r` has the property `P`, then it also has the property `Q`. If `r` is an error, the
-  -- lemma claims nothing.
+  -- Suppose that every list with the property `P` also has the property `Q`. If the result `r`
+  -- contains a list with the property `P`, then this list also has the property `Q`. If `r` is an
+  -- error, then the lemma claims nothing.
   if_ok : {P Q : Thin T A → Type 0} (r : Result (Thin T A) E) → ((v : Thin T A) → P v → Q v)
       → IfOk r P → IfOk r Q
   if_ok (Ok v) implies p = implies v p
   if_ok (Err e) implies p = p
 
   -- If the iterator yields exactly the items `all`, and `collect` returns a `ThinVec`, then this
-  -- `ThinVec` contains exactly the items `all`. (std: `items_from_collect`)
+  -- `ThinVec` contains exactly the items `all`. This lemma corresponds to std's
+  -- `items_from_collect`.
   pub items_from_collect : {S : Type 0} {steps : S → Option T → S → Type 0} {s : S} {all : List T}
       (R : RattleType) (r : Result (Thin T A) E)
       → IfOk r (λ v. (xs : List T) × DrainsIf steps ⊤ s xs × IsMadeOf R xs v)

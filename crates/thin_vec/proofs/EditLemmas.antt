@@ -18,7 +18,7 @@ use Rattle.thin_vec.specs.declared.edits.holder.Holds.{Ghosts as HoldsGhosts}
 
 -- Section: `dedup_by` and `dedup_by_key`
 
--- In this module, `R` describes the calls of a closure that compares two items. For each call, `R`
+-- In this module, `R` describes the calls to a closure that compares two items. For each call, `R`
 -- relates the old state of the closure, the two items, the result, the new state, and the two items
 -- after the call.
 module _ {S T : Type 0} (R : S → T → T → Bool → S → T → T → Type 0) where
@@ -91,8 +91,8 @@ module _ {T : Type 0} (test : T → Bool) where
   module _ {S : Type 0} (R : S → T → Bool → S → T → Type 0)
       (says : (s : S) (x : T) (b : Bool) (t : S) (y : T) → R s x b t y
       → (b ≡ test x) × (y ≡ x)) where
-    -- This is the induction step of the lemma `parts`: if `parts` holds for the list `xs`, it also
-    -- holds for the list `x ∷ xs`.
+    -- This is the induction step of the lemma `parts`: if `parts` holds for the list `xs`, then it
+    -- also holds for the list `x ∷ xs`.
     part : (x : T) (xs : List T) (item : Option T) (t u : S) (y : T) (kept rest : List T)
         (b : Bool) → b ≡ test x → y ≡ x
         → ((ks : List T) → ExtractsNext R u xs item t ks rest → Parts xs item ks rest)
@@ -118,8 +118,8 @@ module _ {T : Type 0} (test : T → Bool) where
           ended = then.ended;
         }
 
-    -- Suppose that the items `xs` have not been tested when `next` is called. If the closure
-    -- changes no item and always returns the result of `test`, then `Parts` describes this call.
+    -- Suppose that the untested items are `xs` when `next` is called. If the closure changes no
+    -- item and always returns the result of `test`, then `Parts` describes this call.
     pub parts : (s : S) (xs : List T) (item : Option T) (t : S) (kept rest : List T)
         → ExtractsNext R s xs item t kept rest → Parts xs item kept rest
     parts s [] item t kept rest e = record {
@@ -132,7 +132,7 @@ module _ {T : Type 0} (test : T → Bool) where
         part x xs item t e.1 e.2 kept rest e.0 answer.0 answer.1
         (λ ks n. parts e.1 xs item t ks rest n) e.4
 
--- In this module, `test` is a predicate on items. Each `ExtractIf` has the type that the method
+-- In this module, `test` is a predicate on items. An `ExtractIf` is the iterator that the method
 -- `extract_if` returns.
 module _ {T F A G : Type 0} {g : Ghosts G}
     {h : HoldsGhosts (Holder (Extracting T F A)) (Extracting T F A)} (test : T → Bool) where
@@ -188,7 +188,7 @@ module _ {T F A G : Type 0} {g : Ghosts G}
 
     -- If `IsExtracting` holds and `next` returns `None`, then the loop has appended exactly the
     -- items of the range that pass the test. After the `ExtractIf` is dropped, the `ThinVec`
-    -- contains all other items.
+    -- contains the other items of the range and the items outside the range.
     pub extract_end : {start now new : ExtractIf T F A G (Holder (Extracting T F A)) g h}
         {old held : List T} {item : Option T} → IsExtracting start now old held
         → ExtractSteps R now item new → item ≡ None

@@ -50,15 +50,15 @@ either_few : (b : Bool) (m n : ℕ) → m < 2 ^ 31 → n < 2 ^ 31 → (if b then
 either_few true m n few less = few
 either_few false m n few less = less
 
--- `first s` is the capacity that the growth rule `doubling` chooses for the first block of a list
--- with items of `s` bytes. This capacity is less than `2 ^ 31`.
+-- `first s` is the least capacity that the growth rule `doubling` chooses for the first block of a
+-- list with items of `s` bytes. It is less than `2 ^ 31`.
 first_few : (s : ℕ) → first s < 2 ^ 31
 unfolding first
 first_few s = either_few (nat_lt (2 ^ 61 - 1) s) 1 4 (omega arith) (omega arith)
 
 -- Suppose that a list needs room for `w` items. If `w` is less than `2 ^ 30`, and the size of an
--- item in bytes is less than `2 ^ 31`, then the growth rule `doubling` chooses a capacity that does
--- not overflow.
+-- item in bytes is less than `2 ^ 31`, then the growth rule `doubling` chooses a capacity instead
+-- of reporting an overflow.
 pub doubling-few : (R : RattleType) (c w : ℕ) → w < 2 ^ 30 → type_size R < 2 ^ 31
     → (n : ℕ) × (ruled_capacity doubling R c w ≡ Some n)
 unfolding doubling fitting
@@ -95,20 +95,20 @@ either_most : (b : Bool) → (if b then 1 else 4) ≤ 4
 either_most true = omega arith
 either_most false = omega arith
 
--- `first s` is the capacity that the growth rule `doubling` chooses for the first block of a list
--- with items of `s` bytes. This capacity is at most 4.
+-- `first s` is the least capacity that the growth rule `doubling` chooses for the first block of a
+-- list with items of `s` bytes. It is at most 4.
 first_most : (s : ℕ) → first s ≤ 4
 unfolding first
 first_most s = either_most (nat_lt (2 ^ 61 - 1) s)
 
--- If the old capacity `c` is less than `w`, then the capacities that the growth rule `doubling` may
--- choose are at most `max 4 (2 * w)`. These capacities are `first s` and `2 * c`.
+-- Suppose that a list of capacity `c` needs room for `w` items, and that `c < w`. Then the
+-- capacities `first s` and `2 * c` are both at most `max 4 (2 * w)`.
 twice-most : (b : Bool) (s c w : ℕ) → c < w → (if b then first s else 2 * c) ≤ max 4 (2 * w)
 twice-most true s c w more = omega (arith, first_most s)
 twice-most false s c w more = omega (arith, more)
 
 -- If the old capacity `c` is less than `w`, and the growth rule `doubling` chooses the capacity `n`
--- for `w` items, then `n` is at most `max 4 (2 * w)`.
+-- for a list that needs room for `w` items, then `n` is at most `max 4 (2 * w)`.
 pub doubling-most : (R : RattleType) (c w n : ℕ) → c < w → ruled_capacity doubling R c w ≡ Some n
     → n ≤ max 4 (2 * w)
 unfolding doubling fitting

@@ -58,8 +58,8 @@ module _ {T : Type 0} where
   pub full-same : (xs ys : List T) → full xs ≡ full ys → xs ≡ ys
   full-same xs ys e = sym (items-full-alone xs) ∙ (ap items_in e ∙ items-full-alone ys)
 
-  -- If `i` is less than the length of `xs`, then slot `i` of `full xs ++ s` holds the item at index
-  -- `i` of `xs`.
+  -- If `i` is less than the length of `xs`, then slot `i` of `full xs ++ s` holds `get_or xs i d`,
+  -- the item at index `i` of `xs`.
   pub slot-full : (xs : List T) (s : List (Option T)) (i : ℕ) (d : T) → i < length xs
       → slot (full xs ++ s) i ≡ Some (get_or xs i d)
   slot-full xs s i d h =
@@ -117,8 +117,8 @@ module _ {T : Type 0} where
       (replicate-append-replicate (c - length xs) (d - c) None
       ∙ ap (λ (q : ℕ). replicate q None) m)
 
-  -- If `i` is less than the length of `xs`, then slot `i` of `full xs ++ s` holds the item at index
-  -- `i` of `xs`.
+  -- If `i` is less than the length of `xs`, then the content of slot `i` of `full xs ++ s` is equal
+  -- to `slice_get xs i`.
   pub slot-get : (xs : List T) (s : List (Option T)) (i : ℕ) → i < length xs
       → slot (full xs ++ s) i ≡ slice_get xs i
   slot-get [] s i h = absurd (omega arith)
@@ -160,9 +160,8 @@ module _ {T A : Type 0} where
         cap = l;
       }
 
-  -- If the new block `b'` has `c` slots, the items `xs` and the cost `k`, then it appears in
-  -- contracts as the old list `v` with the new capacity `c`, the new items `xs` and the new cost
-  -- `k`.
+  -- If the new block `b'` has `c` slots, the items `xs` and the cost `k`, then contracts describe
+  -- it as the old list `v` with the capacity `c`, the items `xs` and the cost `k`.
   pub thin_of-becomes : {w v : Thin T A} → w ≡ v → (b' : Block T A) {xs : List T} {c : ℕ} {k : Cost}
       → length b'.slots ≡ c → items_in b'.slots ≡ xs → b'.cost ≡ k
       → thin_of b' w.alloc ≡ record v { items = xs; capacity = c; cost = k }
@@ -173,8 +172,8 @@ module _ {T A : Type 0} where
     cost = cost i;
   }
 
-  -- If the new block `b'` has the old number of slots, the items `xs` and the cost `k`, then it
-  -- appears in contracts as the old list `v` with the new items `xs` and the new cost `k`.
+  -- If the new block `b'` has the old number of slots, the items `xs` and the cost `k`, then
+  -- contracts describe it as the old list `v` with the items `xs` and the cost `k`.
   pub thin_of-keeps : {w v : Thin T A} → w ≡ v → (b' : Block T A) {xs : List T} {k : Cost}
       → length b'.slots ≡ w.capacity → items_in b'.slots ≡ xs → b'.cost ≡ k
       → thin_of b' w.alloc ≡ record v { items = xs; cost = k }

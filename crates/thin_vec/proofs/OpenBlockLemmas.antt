@@ -1,6 +1,6 @@
 -- An open block is the block of a list during an edit. It holds front items, middle items and tail
--- items, with gaps of empty slots between these groups. These lemmas state how an open block `h`
--- appears in contracts after each operation on it.
+-- items, with gaps of empty slots between these groups. These lemmas state how contracts describe
+-- an open block `h` after each operation on it.
 use Rattle.std.proofs.Common.{◌≡◌, ℕ, suc, ◌+◌, ◌-◌, ◌<◌, ◌≤◌, List, [], ◌∷◌, ◌++◌, Option, Some, None, length, take, drop, refl, sym, ap, ◌∙◌, subst, arith, length-append, append_assoc}
 use Rattle.std.proofs.lemmas.List.{drop_at, get_or-append_right, get_or-replicate, get_or_append_left, get_or_at, length-drop, length-take, length-take-le, length_push, map_push, replicate-append-replicate, set_at, take_at}
 use Rattle.std.proofs.lemmas.List.Edits.{split_between}
@@ -49,13 +49,13 @@ module _ {T : Type 0} where
       ∙ (get_or_append_left (empty k) post None (j - length pre) (omega (arith, length-empty T k))
       ∙ get_or-replicate k (j - length pre) None None n)
 
-  -- If `g` empty slots are followed by one more empty slot, there are `g + 1` empty slots.
+  -- If `g` empty slots are followed by one more empty slot, then there are `g + 1` empty slots.
   pub empty-more : (g : ℕ) (z : List (Option T)) → empty g ++ (None ∷ z) ≡ empty (g + 1) ++ z
   empty-more g z = sym (append_assoc (empty g) (None ∷ []) z) ∙ ap (λ (e : List (Option T)). e ++ z)
       (replicate-append-replicate g 1 None)
 
 module _ {T A : Type 0} where
-  -- `Found h v` holds if `h` is a valid open block that appears in contracts as `v`.
+  -- `Found h v` holds if `h` is a valid open block and contracts describe it as `v`.
   pub record Found (h : Inside T A) (v : Open T A) : Type 0 where
     pub lies : IsOpen h
     pub view : open_of h ≡ v
@@ -139,7 +139,7 @@ module _ {T A : Type 0} where
     pub reached : reach v ≡ h.len
     reached = omega (arith, s.front, s.gap, s.rest, s.gap_after, s.tail)
 
-    -- The number of slots of the open block `h` is `v.capacity`, its capacity in contracts.
+    -- The number of slots of the open block `h` is `v.capacity`.
     shown-cap : length h.block.slots ≡ v.capacity
     shown-cap =
         omega (
@@ -188,8 +188,8 @@ module _ {T A : Type 0} where
         ∙ ap (λ (k : ℕ). full v.tail ++ empty k) (sym some)))
         ∙ items-front v.tail (length v.tail + (v.capacity - reach v))
 
-    -- If `h` and `v` agree on the slots and the indices (`Shows`), on the allocator and on the
-    -- cost, then `h` appears in contracts as `v`.
+    -- Suppose that the slots and the indices of `h` agree with `v`, as `Shows` states. If `h` and
+    -- `v` also have the same allocator and the same cost, then contracts describe `h` as `v`.
     pub found : h.block.alloc ≡ v.alloc → h.block.cost ≡ v.cost → Found h v
     found alloc cost =
         let gap : h.rest_start - h.front_end ≡ v.gap = omega (arith, s.gap) in
@@ -237,13 +237,13 @@ module _ {T A : Type 0} where
       → xs ≡ (open_of h).rest
   rest-run h xs e = sym (items-full-alone xs) ∙ ap items_in e
 
-  -- Section: the steps of an edit. For each step, two definitions describe the open block after the
-  -- step: as it is stored, and as it appears in contracts. A lemma proves that the two descriptions
-  -- agree.
+  -- Section: the steps of an edit. For each step, one definition is the open block after the step
+  -- as it is stored, and another definition is this open block as contracts describe it. A lemma
+  -- proves that the two agree.
 
   module _ (h : Inside T A) (o : IsOpen h) (b : Block T A)
       (some : 0 < length (open_of h).rest) where
-    -- `v` is the open block before the step, as it appears in contracts.
+    -- `v` is the open block before the step, as contracts describe it.
     abbrev v : Open T A
     v = open_of h
 
@@ -258,9 +258,9 @@ module _ {T A : Type 0} where
       len = h.len;
     }
 
-    -- `first-seen ys` is the open block after its first middle item was removed, as it appears in
-    -- contracts. The list `ys` contains the remaining middle items, and the gap before them has one
-    -- more slot.
+    -- `first-seen ys` is the open block after its first middle item was removed, as contracts
+    -- describe it. The remaining middle items are `ys`, and the gap before them has become one slot
+    -- longer.
     abbrev pub first-seen : List T → Open T A
     first-seen ys = record {
       front = v.front;
@@ -274,7 +274,7 @@ module _ {T A : Type 0} where
     }
 
     -- Suppose that the slot of the first middle item held `x` and was emptied. Then the middle
-    -- items were `x`, followed by a list `ys`, and the new open block appears in contracts as
+    -- items were `x`, followed by a list `ys`, and contracts describe the new open block as
     -- `first-seen ys`.
     pub first-step : (x : T) → slot h.block.slots h.rest_start ≡ Some x
         → seen b ≡ record (seen h.block) { slots = set h.block.slots h.rest_start None }
@@ -328,9 +328,9 @@ module _ {T A : Type 0} where
       len = h.len;
     }
 
-    -- `last-seen ys` is the open block after its last middle item was removed, as it appears in
-    -- contracts. The list `ys` contains the remaining middle items, and the gap after them has one
-    -- more slot.
+    -- `last-seen ys` is the open block after its last middle item was removed, as contracts
+    -- describe it. The remaining middle items are `ys`, and the gap after them has become one slot
+    -- longer.
     abbrev pub last-seen : List T → Open T A
     last-seen ys = record {
       front = v.front;
@@ -344,7 +344,7 @@ module _ {T A : Type 0} where
     }
 
     -- Suppose that the slot of the last middle item held `x` and was emptied. Then the middle items
-    -- were a list `ys`, followed by `x`, and the new open block appears in contracts as
+    -- were a list `ys`, followed by `x`, and contracts describe the new open block as
     -- `last-seen ys`.
     pub last-step : (x : T) → slot h.block.slots (h.rest_end - 1) ≡ Some x
         → seen b ≡ record (seen h.block) { slots = set h.block.slots (h.rest_end - 1) None }
@@ -418,8 +418,8 @@ module _ {T A : Type 0} where
       len = h.len;
     }
 
-    -- `joined-seen` is the open block `joined` as it appears in contracts. Its first gap contains
-    -- the slots of both gaps of `h`, and its second gap is empty.
+    -- `joined-seen` is the open block `joined` as contracts describe it. Its first gap contains the
+    -- slots of both gaps of `h`, and its second gap is empty.
     abbrev pub joined-seen : Open T A
     joined-seen = let w : Open T A = open_of h in
         record {
@@ -433,7 +433,7 @@ module _ {T A : Type 0} where
           cost = w.cost;
         }
 
-    -- If there are no middle items, then the open block `joined` appears in contracts as
+    -- If there are no middle items, then contracts describe the open block `joined` as
     -- `joined-seen`.
     pub join-step : (open_of h).rest ≡ [] → Found joined joined-seen
     join-step none =
@@ -497,8 +497,8 @@ module _ {T A : Type 0} where
         (slot-in-full pre all-after (past_tail w) j (omega (arith, start))
         (omega (arith, start, count-after none)))
 
-    -- The number of all items is the number of front items, plus the number of middle items and
-    -- tail items together.
+    -- The number of all items is the number of front items plus the length of `all-after`, the list
+    -- of the middle items and the tail items.
     count-all : length (items_of (open_of h)) ≡ h.front_end + length all-after
     count-all = omega (arith, length-append (open_of h).front all-after, o.front)
 
@@ -534,8 +534,8 @@ module _ {T A : Type 0} where
         (replicate-append-replicate w.gap (w.capacity - reach w) None
         ∙ ap (λ (k : ℕ). empty k) left))))
 
-    -- If an open block has no gap between its items, then its slots are the slots of all its items,
-    -- followed by empty slots.
+    -- Suppose that there is no gap before the middle items and no gap before the tail items. Then
+    -- the slots of the open block are the slots of all its items, followed by empty slots.
     pub closed-row : (open_of h).gap_after ≡ 0 → h.front_end ≡ h.rest_start
         → h.block.slots ≡ front (items_of (open_of h)) (length h.block.slots)
     closed-row none here =
@@ -560,7 +560,7 @@ module _ {T A : Type 0} where
         ∙ ap (λ (k : ℕ). full (items_of w) ++ empty k) left)))
 
   -- In this module, the block `b` of a list becomes an open block. The items `start..end` of the
-  -- list become its middle items.
+  -- list become the middle items of this open block.
   module _ (b : Block T A) (a : A) (start end : ℕ) (t : IsThin b a) (order : start ≤ end)
       (within : end ≤ length (items_in b.slots)) where
     -- `opened len` is the block `b` as an open block: the items `start..end` are its middle items,
@@ -576,7 +576,7 @@ module _ {T A : Type 0} where
           len = len;
         }
 
-    -- `opened-seen` is the open block `opened len` as it appears in contracts.
+    -- `opened-seen` is the open block `opened len` as contracts describe it.
     abbrev pub opened-seen : Open T A
     opened-seen = let xs : List T = items_in b.slots in
         record {
@@ -590,7 +590,7 @@ module _ {T A : Type 0} where
           cost = b.cost;
         }
 
-    -- If `len` is the number of items, then the open block `opened len` appears in contracts as
+    -- If `len` is the number of items, then contracts describe the open block `opened len` as
     -- `opened-seen`.
     pub open-step : (len : ℕ) → len ≡ length (items_in b.slots) → Found (opened len) opened-seen
     open-step len all =
@@ -641,8 +641,8 @@ module _ {T A : Type 0} where
           len = h.len;
         }
 
-    -- `filled-seen` is the open block `filled` as it appears in contracts. The new items have
-    -- become the last front items, and each of them has shortened the gap by one slot.
+    -- `filled-seen` is the open block `filled` as contracts describe it. The new items have become
+    -- the last front items, and each of them has shortened the gap by one slot.
     abbrev pub filled-seen : Open T A
     filled-seen =
         let v : Open T A = open_of h in
@@ -657,8 +657,8 @@ module _ {T A : Type 0} where
           cost = b.cost;
         }
 
-    -- If the items `xs` were written into the slots directly after the front items, then the open
-    -- block `filled` appears in contracts as `filled-seen`.
+    -- If the items `xs` were written into the slots directly after the front items, then contracts
+    -- describe the open block `filled` as `filled-seen`.
     pub fill-step : b.slots ≡ laid h.front_end (full xs) h.block.slots → Found filled filled-seen
     fill-step now =
         let v : Open T A = open_of h in
@@ -716,8 +716,8 @@ module _ {T A : Type 0} where
       len = h.len + count;
     }
 
-    -- `widened-seen` is the open block `widened` as it appears in contracts. The gap before the
-    -- tail items is `count` slots longer than before the move.
+    -- `widened-seen` is the open block `widened` as contracts describe it. The gap before the tail
+    -- items is `count` slots longer than before the move.
     abbrev pub widened-seen : Open T A
     widened-seen =
         let v : Open T A = open_of h in
@@ -733,7 +733,7 @@ module _ {T A : Type 0} where
         }
 
     -- The slots of `h` are, in this order: the slots before the tail items, the tail items, `count`
-    -- empty slots, and further empty slots.
+    -- empty slots, and the remaining empty slots.
     spare : h.block.slots ≡ to_tail (open_of h)
         ++ (full (open_of h).tail
         ++ (empty count ++ empty ((open_of h).capacity - reach (open_of h) - count)))
@@ -763,8 +763,8 @@ module _ {T A : Type 0} where
         (spare ∙ sym (append_assoc (to_tail v) (full v.tail) (empty count ++ end)))
         ∙ slot-in-empty before count end j (omega (arith, long)) (omega (arith, long))
 
-    -- If the tail items were moved up by `count` slots, then the open block `widened` appears in
-    -- contracts as `widened-seen`.
+    -- If the tail items were moved up by `count` slots, then contracts describe the open block
+    -- `widened` as `widened-seen`.
     pub widen-step : b.slots ≡ moved h.tail_start (h.tail_start + count)
         (h.len - h.tail_start) h.block.slots
         → Found widened widened-seen

@@ -37,8 +37,9 @@ module _ {S X : Type 0} {steps : S → Option X → S → Type 0} {can : S → T
   }
 
 module _ {T : Type 0} where
-  -- Writing the slots `ys` from index `i + 1` onward and then the slot `y` at index `i` is the same
-  -- as writing the slots `y ∷ ys` from index `i` onward.
+  -- Suppose that the slots `ys` are written from index `i + 1` onward, and that the slot `y` is
+  -- then written at index `i`. Then the result is the same as if the slots `y ∷ ys` were written
+  -- from index `i` onward.
   laid-before : (i k : ℕ) (y : Option T) (ys s : List (Option T)) → k ≡ i + 1 → i < length s
       → set (laid k ys s) i y ≡ laid i (y ∷ ys) s
   laid-before i k y ys s next low =
@@ -54,7 +55,7 @@ module _ {T : Type 0} where
 
   -- `IsMoving` is the invariant of a loop that moves the items `xs` into the slots from index
   -- `start` onward, beginning with the last item. The items `left` have not been moved yet. The
-  -- moves of the other items of `xs` have turned the slots `r` into the slots `s`.
+  -- moves so far have turned the slots `r` into the slots `s`.
   pub record IsMoving (xs left : List T) (start : ℕ) (r s : List (Option T)) : Type 0 where
     pub rest : List T
     pub parts : xs ≡ left ++ rest

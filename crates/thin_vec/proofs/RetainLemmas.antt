@@ -1,5 +1,5 @@
 -- These lemmas state which items are kept when a closure tests the items of a list, and how the
--- results of consecutive tests combine. In this file, `R` describes the calls of the closure, and
+-- results of consecutive tests combine. In this file, `R` describes the calls to the closure, and
 -- `s`, `t` and `u` are states of the closure. To test an item is to call the closure with this
 -- item.
 use Rattle.std.proofs.Common.{◌≡◌, ℕ, zero, suc, ◌+◌, ◌<◌, ◌≤◌, Bool, true, false, List, [], ◌∷◌, ◌++◌, length, take, drop, refl, sym, ap, subst, ◌∙◌, arith, length-append, append_assoc}
@@ -69,8 +69,8 @@ module _ {T : Type 0} where
   left_at-append ((true, x) ∷ a) b = ap (λ (l : List T). x ∷ l) (left_at-append a b)
   left_at-append ((false, x) ∷ a) b = left_at-append a b
 
-  -- The number of kept items of the test results `a ++ b` is the sum of the numbers for `a` and
-  -- `b`.
+  -- The number of kept items of the test results `a ++ b` is the number of kept items of `a` plus
+  -- the number of kept items of `b`.
   pub trues-append : (a b : Verdicts T) → trues (flags_of (a ++ b)) ≡ trues
       (flags_of a) + trues (flags_of b)
   trues-append [] b = omega arith
@@ -115,15 +115,15 @@ module _ {S T : Type 0} (R : S → T → Bool → S → T → Type 0) where
       ap (λ (c : Verdicts T). c ++ b) h.6,
     )
 
-  -- If the single item `x` was tested, then `Asked` holds for the list `x ∷ []`.
+  -- If a single item `x` was tested, then `Asked` holds for the list `x ∷ []`.
   pub asked-one : (s t : S) (x y : T) (b : Bool) → R s x b t y → Asked R s (x ∷ []) ((b, y) ∷ []) t
   asked-one s t x y b h = (b, y, t, [], h, (refl, refl), refl)
 
   -- Section: sequences of adjacent items that are all kept
 
-  -- `Stays` states that the items `k..m` of the list `xs` were tested and are all kept, and that
-  -- the tests changed the state of the closure from `s` to `t`. `ys` is `xs` with the tested items
-  -- as the closure left them.
+  -- `Stays` states that the items `k..m` of the list `xs` were tested, that all of them were kept,
+  -- and that the tests changed the state of the closure from `s` to `t`. `ys` is the list `xs`
+  -- after these tests.
   pub record Stays (k m : ℕ) (s : S) (xs : List T) (t : S) (ys : List T) : Type 0 where
     pub before : List T
     pub run : List T
@@ -152,8 +152,7 @@ module _ {S T : Type 0} (R : S → T → Bool → S → T → Type 0) where
       }
 
   module _ (k m : ℕ) (s : S) (xs : List T) (t : S) (ys : List T) (h : Stays k m s xs t ys) where
-    -- `asked-part` is the list of the items before the next item to be tested, as the earlier tests
-    -- left them.
+    -- `asked-part` is the list of all items before index `m`, as they are after the tests.
     abbrev asked-part : List T
     asked-part = h.before ++ h.left
 
@@ -207,8 +206,8 @@ module _ {S T : Type 0} (R : S → T → Bool → S → T → Type 0) where
               (sym (append_assoc h.left (a.left ∷ []) a.after));
         }
 
-    -- If the test decides that the item at index `m` is removed, then the tests stop at index `m`,
-    -- as `AskedUpTo` states.
+    -- If the test of the item at index `m` decides to remove this item, then the tests stop at
+    -- index `m`, as `AskedUpTo` states.
     pub stays-goes : (u : S) (zs : List T) → IsAskedAt R m t ys false u zs
         → AskedUpTo R k m s xs u zs
     stays-goes u zs a =
@@ -261,7 +260,7 @@ module _ {S T : Type 0} (R : S → T → Bool → S → T → Type 0) where
       )
 
   -- If the tests keep all items of the list `xs`, then the list `ys` after the tests has the same
-  -- length.
+  -- length as `xs`.
   stay-count : (xs : List T) (s t : S) (ys : List T) → Asked R s xs (stay ys) t
       → length xs ≡ length ys
   stay-count [] s t [] h = refl
@@ -271,8 +270,8 @@ module _ {S T : Type 0} (R : S → T → Bool → S → T → Type 0) where
       ap suc (stay-count xs h.2 t ys
       (subst (λ (a : Verdicts T). Asked R h.2 xs a t) (sym (cons-tail h.6)) h.5))
 
-  -- Stopping at an item to be removed, or at the end of the list, does not change the number of
-  -- items.
+  -- If the tests stop at an item to be removed, or at the end of the list, then the number of items
+  -- does not change.
   stop-count : (u : S) (b : List T) (t : S) (e : List T) → Stops R u b t e → length e ≡ length b
   stop-count u [] t e h = ap length h.0
   stop-count u (x ∷ b) t e h = ap length h.2
@@ -293,19 +292,19 @@ module _ {S T : Type 0} (R : S → T → Bool → S → T → Type 0) where
         stop-count r.between r.after t r.end r.stops,
       )
 
-  -- If the first item was tested and is kept, then `Stays` holds for this one item.
+  -- If the first item was tested and kept, then `Stays` holds for this one item.
   pub one-stays : (s : S) (xs : List T) (t : S) (ys : List T)
       → IsAskedAt R 0 s xs true t ys → Stays 0 1 s xs t ys
   one-stays s xs t ys a = stays-more 0 0 s xs s xs (stays-start 0 s xs (omega arith)) t ys a
 
-  -- If the first two items were tested and are kept, then `Stays` holds for these two items.
+  -- If the first two items were tested and kept, then `Stays` holds for these two items.
   pub two-stay : (s : S) (xs : List T) (t : S) (ys : List T) (u : S) (zs : List T)
       → IsAskedAt R 0 s xs true t ys → IsAskedAt R 1 t ys true u zs → Stays 0 2 s xs u zs
   two-stay s xs t ys u zs a b = stays-more 0 1 s xs t ys (one-stays s xs t ys a) u zs b
 
   module _ (m n : ℕ) where
-    -- If all items before index `m` were tested and are kept, and the tests from index `m` onward
-    -- stopped at index `n`, then all tests from index 0 onward stopped at index `n`.
+    -- If all items before index `m` were tested and kept, and the tests from index `m` onward
+    -- stopped at index `n`, then the tests from index 0 onward stopped at index `n`.
     pub runs-join : (s : S) (xs : List T) (t : S) (ys : List T) (u : S) (zs : List T)
         → Stays 0 m s xs t ys → AskedUpTo R m n t ys u zs → AskedUpTo R 0 n s xs u zs
     runs-join s xs t ys u zs h r =
@@ -342,7 +341,7 @@ module _ {S T : Type 0} (R : S → T → Bool → S → T → Type 0) where
   -- Section: the kept items before the first item to be removed
 
   -- `Part` states that the items of the list `xs` before `rest` were tested, and that `m` of them
-  -- are kept. `kept` contains the kept items as the closure left them. The tests changed the state
+  -- were kept. `kept` contains the kept items as the closure left them. The tests changed the state
   -- of the closure from `s` to `t`.
   pub record Part (m : ℕ) (s : S) (xs : List T) (t : S) (kept rest : List T) : Type 0 where
     pub done : List T
@@ -420,7 +419,7 @@ module _ {S T : Type 0} (R : S → T → Bool → S → T → Type 0) where
     stop-ends u [] e h k = (refl, h.1)
     stop-ends u (x ∷ b) e h k = absurd (cons-not-nil (sym h.2 ∙ k))
 
-    -- If no item follows the kept items, then all items were tested and all are kept.
+    -- If no item follows the kept items, then all items were tested and kept.
     pub part-ends : drop m ys ≡ [] → Part m s xs t (take m ys) []
     part-ends k =
         let g = stop-ends r.between r.after r.end r.stops (sym run-end ∙ k) in
@@ -436,9 +435,9 @@ module _ {S T : Type 0} (R : S → T → Bool → S → T → Type 0) where
   -- Section: open blocks
 
   module _ {A : Type 0} (v w : Open T A) where
-    -- Suppose that the first middle items of the open block `v` were tested, and that the `m` kept
-    -- items were moved to the end of the front items, at the cost of one move each. Then `Sifts`
-    -- holds for `v` and the new open block `w`.
+    -- Suppose that some middle items of the open block `v`, beginning with the first, were tested
+    -- in order. Suppose also that the `m` kept items were moved to the end of the front items, at
+    -- the cost of one move each. Then `Sifts` relates `v` to the new open block `w`.
     pub sifts-of : (m : ℕ) (s t : S) (kept : List T) → Part m s v.rest t kept w.rest
         → 0 < w.gap → w ≡ record v {
           front = v.front ++ kept;
@@ -462,8 +461,8 @@ module _ {S T : Type 0} (R : S → T → Bool → S → T → Type 0) where
         }
 
   -- In this module, the open block `v` has a gap of empty slots before its middle items. These
-  -- items were tested in order, up to the first item that is to be removed. The open block after
-  -- the tests is `w`.
+  -- items were tested in order until the test found an item to be removed, or no item remained. The
+  -- open block after the tests is `w`.
   module _ {A : Type 0} (s t : S) (v w : Open T A) (gap : 0 < v.gap)
       (h : Advances R s v t w) where
     -- `kept` is the list of the tested items that are kept, as the closure left them.
@@ -474,8 +473,8 @@ module _ {S T : Type 0} (R : S → T → Bool → S → T → Type 0) where
     moved : w.cost ≡ moving h.count v.cost
     moved = ap (λ u. u.cost) h.now ∙ moving-after v.gap h.count v.cost gap
 
-    -- Suppose that the last tested item, `value`, is removed from the open block `w` after the
-    -- tests. Then `Sifts` holds for `v`, the open block before the tests, and `z`, the open block
+    -- Suppose that the last tested item, `value`, is then removed from the open block `w`. Then
+    -- `Sifts` relates the open block `v` before the tests to the open block `z`, which is `w`
     -- without `value`.
     pub advanced-goes : (value : T) (z : Open T A) → w.rest ≡ value ∷ z.rest
         → z ≡ record w { rest = z.rest; gap = w.gap + 1 } → Sifts R s v t z
@@ -488,7 +487,7 @@ module _ {S T : Type 0} (R : S → T → Bool → S → T → Type 0) where
         { gap = sym (ap (λ u. u.gap) same) i; rest = z.rest; cost = moved i }))
 
     -- If the open block `w` has no middle items after the tests, then no item has to be removed,
-    -- and `Sifts` holds for `v` and `w`.
+    -- and `Sifts` relates `v` to `w`.
     pub advanced-ends : w.rest ≡ [] → Sifts R s v t w
     advanced-ends none =
         sifts-of v w h.count s t kept
@@ -506,8 +505,7 @@ module _ {S T : Type 0} (R : S → T → Bool → S → T → Type 0) where
       runs-count 0 h.count s v.rest t h.left h.run,
     )
 
-  -- If an open block has a gap of empty slots, then `Sifts` holds for this open block and itself
-  -- before the first test.
+  -- Before the first test, `Sifts` relates an open block with a gap of empty slots to itself.
   pub sifts-start : {A : Type 0} (s : S) (v : Open T A) → 0 < v.gap → Sifts R s v s v
   sifts-start s v gap =
       record {
@@ -520,8 +518,7 @@ module _ {S T : Type 0} (R : S → T → Bool → S → T → Type 0) where
             { front = sym (append-nil v.front) i; cost = sym (moving-none v.cost) i };
       }
 
-  -- `Sifts` is transitive: if it holds for `v` and `w`, and for `w` and `z`, then it holds for `v`
-  -- and `z`.
+  -- `Sifts` is transitive: if it relates `v` to `w`, and `w` to `z`, then it relates `v` to `z`.
   pub sifts-then : {A : Type 0} {s t u : S} {v w z : Open T A} → Sifts R s v t w
       → Sifts R t w u z → Sifts R s v u z
   sifts-then {s = s} {t} {u} {v} {w} {z} h k =
@@ -558,9 +555,9 @@ module _ {S T : Type 0} (R : S → T → Bool → S → T → Type 0) where
     Passed = w ≡ record v
         { front = v.front ++ take m ys; gap = w.gap; rest = w.rest }
 
-    -- Suppose that `value`, the first item after the kept items, is removed, and that all later
-    -- items were tested. Then `IsSifted` holds for `v`, the open block before all tests, and `z`,
-    -- the open block after them.
+    -- Suppose that `value`, the first item after the kept items, was removed, and that all later
+    -- items were then tested. Then `IsSifted` relates the open block `v` before all tests to the
+    -- open block `z` after them.
     pub sifted-goes : (value : T) (u : S) (z : Open T A) → Passed → drop m ys ≡ value ∷ w.rest
         → Sifts R t w u z → z.rest ≡ [] → IsSifted R s v u z
     unfolding part-goes
@@ -597,8 +594,8 @@ module _ {S T : Type 0} (R : S → T → Bool → S → T → Type 0) where
               }));
         }
 
-    -- If the tests found no item to be removed, then all items are kept, and `IsSifted` holds for
-    -- the open blocks `v` and `w`.
+    -- If the tests found no item to be removed, then all items were kept, and `IsSifted` relates
+    -- the open block `v` before the tests to the open block `w` after them.
     pub sifted-ends : Passed → drop m ys ≡ [] → w.rest ≡ [] → IsSifted R s v t w
     unfolding part-ends
     sifted-ends p k none =
@@ -618,10 +615,10 @@ module _ {S T : Type 0} (R : S → T → Bool → S → T → Type 0) where
           });
         }
 
--- In this module, a test is a struct that calls a closure and returns its result. `J` is the type
--- of the test, and `inside` maps a state of the test to the state of its closure.
+-- In this module, a test of an item is a struct that calls a closure and returns its result. `J` is
+-- the type of the test, and `inside` maps a state of the test to the state of its closure.
 module _ {J S T : Type 0} (R : S → T → Bool → S → T → Type 0) (inside : J → S) where
-  -- `through` describes the calls of the test. It is the relation `R` of the closure, applied to
+  -- `through` describes the calls to the test. It is the relation `R` of the closure, applied to
   -- the states of the closure inside the test.
   abbrev through : J → T → Bool → J → T → Type 0
   through s x b t y = R (inside s) x b (inside t) y
@@ -634,8 +631,8 @@ module _ {J S T : Type 0} (R : S → T → Bool → S → T → Type 0) (inside 
   asked-through (x ∷ xs) s t a h =
       (h.0, h.1, inside h.2, h.3, h.4, asked-through xs h.2 t h.3 h.5, h.6)
 
-  -- If the list `w` contains exactly the items of the list `v` that the test keeps, then it
-  -- contains exactly the items that the closure of the test keeps.
+  -- If the list `w` contains exactly the items of the list `v` that the test of `retain` keeps,
+  -- then it contains exactly the items that the closure of this test keeps.
   pub retained-through : {A : Type 0} (s : J) (v w : Thin T A) (t : J)
       → IsRetainedTo through s v w t → IsRetained R (inside s) v w
   retained-through s v w t h = (
@@ -650,7 +647,7 @@ module _ {J S T : Type 0} (R : S → T → Bool → S → T → Type 0) (inside 
 
 -- Section: for callers
 
--- In this module, `R` describes the calls of a closure that only reads the item.
+-- In this module, `R` describes the calls to a closure that only reads the item.
 module _ {S T : Type 0} (R : S → T → Bool → S → Type 0) where
   -- Suppose that the items `xs` were tested by a closure that only reads them. Then the closure
   -- returned one Boolean flag for each item, in order. The kept items are the items of `xs` whose
@@ -670,9 +667,9 @@ module _ {S T : Type 0} (R : S → T → Bool → S → Type 0) where
       let left : y ≡ x = ap (λ (p : Bool × T). p.1) same ∙ h.4.1 in
       (ap suc rest.0, (h.2, answer, rest.1), first b y x a xs left rest.2)
     where
-      -- This is the induction step of the lemma `told`. If the kept items of `xs` are the items
-      -- whose flag is true, and the test left the item `x` unchanged, then the same holds for
-      -- `x ∷ xs`.
+      -- This is the induction step of the lemma `told`. Suppose that the kept items of `xs` are the
+      -- items whose flag is true. If the test left the item `x` unchanged, then the kept items of
+      -- `x ∷ xs` are also the items whose flag is true.
       first : (b : Bool) (y x : T) (a : Verdicts T) (xs : List T) → y ≡ x
           → left_at true a ≡ items_where_true (flags_of a) xs
           → left_at true ((b, y) ∷ a) ≡ items_where_true (b ∷ flags_of a) (x ∷ xs)

@@ -13,7 +13,7 @@ refill_all xs ws same =
     ap (λ n. take n (ws ++ drop (length ws) xs)) (sym same) ∙ take-append_seam ws _
 
 -- If `ws` has the same length as the list `v`, then writing `ws` over the items of `v` yields a
--- list with exactly the items `ws`. (std: `with_items_is`)
+-- list with exactly the items `ws`. This lemma corresponds to std's `with_items_is`.
 pub with_items_is : {T A : Type 0} (v : Thin T A) (ws : List T) → length ws ≡ length v.items
     → (with_items v ws).items ≡ ws
 with_items_is v ws same = refill_all v.items ws same

@@ -15,7 +15,7 @@ module _ {T A : Type 0} where
   taken_front s (x ∷ xs) t y = y.1 ∙ ap (λ ys. x ∷ ys) (taken_front y.0 xs t y.2)
 
   -- If calls to `next` have yielded the items `xs` and then returned `None`, then the iterator held
-  -- exactly the items `xs` before these calls. (std: `All-taken`)
+  -- exactly the items `xs` before these calls. This lemma corresponds to std's `All-taken`.
   pub all_taken : (s : Thin T A) (xs : List T) → Drains (YieldsFirst rest) s xs → xs ≡ s.items
   all_taken s xs d = sym (taken_front s xs d.1.0 d.1.1
       ∙ (ap (λ ys. xs ++ ys) d.1.2.0 ∙ append-nil xs))

@@ -1,6 +1,6 @@
--- These lemmas are about the capacity of a list and about the cost of its growth. They are for this
--- crate and for its callers. The definitions that they use are in `specs/ThinVec.antt` and
--- `specs/Cheap.antt`.
+-- These lemmas are about the capacity of a list, and about the cost that is recorded when the list
+-- grows: requests for memory and copied items. They are for this crate and for its callers. The
+-- definitions that they use are in `specs/ThinVec.antt` and `specs/Cheap.antt`.
 use Rattle.thin_block.proofs.Outcomes.{some-same}
 use Rattle.std.proofs.Common.{if◌then◌else◌, Bool, ◌≡◌, ℕ, zero, suc, ◌+◌, ◌*◌, ◌^◌, ◌<◌, ◌≤◌, true, false, Some, ap, List, [], arith, eqb, inl, inr, length, refl, subst, sym, ◌∙◌}
 use Rattle.std.specs.Borrow.{RattleType}
@@ -84,11 +84,12 @@ module _ {T A : Type 0} (v : Thin T A) (c : ℕ) where
   pub cost_at-same : c ≡ v.capacity → cost_at v c ≡ v.cost
   cost_at-same e = let t : eqb c v.capacity ≡ true = grind (arith, nat_tests) in rw t refl
 
-  -- If the capacity grew to `c`, then the cost includes one more block and a copy of each item.
+  -- If the capacity grew to `c`, then the new cost is the old cost plus one request for memory that
+  -- copied every item.
   pub cost_at-more : v.capacity < c → cost_at v c ≡ growing (length v.items) v.cost
   cost_at-more e = let t : eqb c v.capacity ≡ false = grind (arith, nat_tests) in rw t refl
 
-  -- A change of the capacity does not change the number of counted moves.
+  -- A change of the capacity does not change the number of moves in the recorded cost.
   pub cost_at-moves : (cost_at v c).moves ≡ v.cost.moves
   cost_at-moves = go (eqb c v.capacity)
     where
@@ -130,8 +131,8 @@ module _ {T A : Type 0} (rule : Rule) (R : RattleType) (law : KeepsLaw rule)
   pub cap-kept : length v.items + k ≤ v.capacity → capacity_for rule R v k ≡ Some c → c ≡ v.capacity
   cap-kept room e = some-same (sym e ∙ ruled-same rule R v.capacity (length v.items + k) room)
 
-  -- If the list `v` has room for `k` more items, then reserving this room does not change the cost
-  -- of the list.
+  -- If the list `v` has room for `k` more items, then reserving this room does not change the
+  -- recorded cost of the list.
   pub cost_at-kept : length v.items + k ≤ v.capacity
       → capacity_for rule R v k ≡ Some c → cost_at v c ≡ v.cost
   cost_at-kept room e = cost_at-same v c (cap-kept room e)
@@ -144,8 +145,8 @@ module _ {T A : Type 0} (rule : Rule) (R : RattleType) (law : KeepsLaw rule)
   cap-grown more e = let g = ruled-grows rule R v.capacity (length v.items + k) c law more e in
       (g.enough, g.doubled)
 
-  -- If the list `v` has no room for `k` more items, then growing it to the capacity `c` that the
-  -- rule chooses costs one block, into which all items are copied.
+  -- Suppose that the list `v` has no room for `k` more items. If it grows to the capacity `c` that
+  -- the rule chooses, then its cost increases by one request for memory that copies every item.
   pub cost_at-grown : v.capacity < length v.items + k → capacity_for rule R v k ≡ Some c
       → cost_at v c ≡ growing (length v.items) v.cost
   cost_at-grown more e =

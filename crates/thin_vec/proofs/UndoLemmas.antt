@@ -18,6 +18,5 @@ module _ {T : Type 0} where
   slice_get-insert [] (suc i) x h = absurd (omega arith)
   slice_get-insert (y ∷ xs) (suc i) x h = slice_get-insert xs i x (omega arith)
 
--- These rewrite rules simplify a list into which an item was inserted and from which it was then
--- removed.
+-- These rewrite rules simplify `remove (insert xs i x) i` and `slice_get (insert xs i x) i`.
 pub ruleset undone = (remove-insert, slice_get-insert)

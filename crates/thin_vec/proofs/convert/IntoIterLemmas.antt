@@ -128,7 +128,7 @@ module _ {T A : Type 0} where
         cap = l;
       }
 
-  -- In the block of an iterator, `end` is at most the number of slots.
+  -- In the block of an iterator, the index `end` is at most the number of slots.
   pub walked-room : (b : Block T A) (a : A) (start end : ℕ)
       → IsWalked b a start end → end ≤ length b.slots
   walked-room b a start end t =
@@ -194,8 +194,8 @@ module _ {T A : Type 0} where
         let same : y ≡ v = cc in
         (ap (λ (x : T). x ∷ ys) same, set-first start k y ys)
 
-    -- If slot `start` of the block `b` holds `v`, then `v` is the first item. If this slot is
-    -- emptied, then `start + 1` empty slots precede the other items.
+    -- If slot `start` of the block `b` holds `v`, then `v` is the first item of the iterator. If
+    -- this slot is emptied, then `start + 1` empty slots precede the other items.
     first : slot b.slots start ≡ Some v → (xs ≡ v ∷ drop 1 xs)
         × (set b.slots start None ≡ empty (start + 1) ++ (full (drop 1 xs) ++ empty gap))
     first e =
@@ -275,8 +275,8 @@ module _ {T A : Type 0} where
       (omega (arith, t.len, length_refill (length xs) xs ws refl)) (walked-room b a start end t)
       (from-same b b' a t.from (ap (λ v. v.alloc) w))
 
-  -- If the items `ws` are written into the block from slot `start` onward, then the iterator
-  -- appears in contracts with `ws` written over its items.
+  -- Suppose that the items `ws` are written into the block of an iterator from slot `start` onward.
+  -- Then contracts describe the new iterator as the old one with `ws` written over its items.
   pub view-written : (b : Block T A) (a : A) (start end : ℕ) (ws : List T) → IsWalked b a start end
       → thin_of (block_with_items b start ws) a ≡ with_items (thin_of b a) ws
   view-written b a start end ws t =
@@ -297,13 +297,15 @@ module _ {T A : Type 0} where
 
 -- In this module, `T` is the item type and `A` is the allocator type of an `IntoIter`.
 module _ (T A : Type 0) where
-  -- Repeated calls to `next` yield the items that have not been yielded yet, in order.
+  -- Repeated calls to `next` on an `IntoIter` yield the items that have not been yielded yet, in
+  -- order.
   pub rest_in_order : RestInOrder T A
   rest_in_order p s =
       as_is p (rest p.from)
       (from_front (YieldsFirst rest) (λ x. x) rest (λ s t h. ap length h.0) (λ s x t h. h) p s)
 
-  -- Repeated calls to `next_back` yield the items that have not been yielded yet, in reverse order.
+  -- Repeated calls to `next_back` on an `IntoIter` yield the items that have not been yielded yet,
+  -- in reverse order.
   pub rest_in_reverse : RestInReverse T A
   rest_in_reverse p s =
       as_is_back p (rest p.from)

@@ -46,8 +46,8 @@ trues-all : (n : ℕ) → trues (replicate n true) ≡ n
 trues-all zero = refl
 trues-all (suc n) = ap suc (trues-all n)
 
--- If the first `n` items of a list are kept, they are not moved. So their `n` true flags do not
--- change `moved_down`, the number of moved items.
+-- If the first `n` items of a list are kept, then they are not moved. So their `n` true flags do
+-- not change `moved_down`, the number of moved items.
 moved-all : (n : ℕ) (b : List Bool) → moved_down (replicate n true ++ b) ≡ moved_down b
 moved-all zero b = refl
 moved-all (suc n) b = moved-all n b
@@ -64,8 +64,9 @@ map-answer : (b : Bool) {P Q P' Q' : Type 0} → (P → P') → (Q → Q') → M
 map-answer true f g m = f m
 map-answer false f g m = g m
 
--- Suppose that a list of at least two items begins with `k` and ends with `l`. Then it still ends
--- with `l` without its first item, and it still begins with `k` without its last item.
+-- Suppose that a list of at least two items begins with `k` and ends with `l`. Then the list still
+-- ends with `l` if its first item is removed, and it still begins with `k` if its last item is
+-- removed.
 after-first : {X : Type 0} (pre zs : List X) (k l : X) → pre ++ l ∷ [] ≡ k ∷ zs → 0 < length zs
     → (p : List X) × (zs ≡ p ++ l ∷ []) × (pre ≡ k ∷ p)
 after-first [] zs k l e some = let n = ap length e in absurd (omega (arith, n, some))
@@ -129,9 +130,9 @@ module _ {S T : Type 0} (R : OnPairs S T) where
 
   -- Section: sequences of adjacent items that are all kept
 
-  -- `PairStays` states that the first `m` items of the list `xs` are kept: the first item without a
-  -- test, and the others after a test. The tests turned `xs` into `ys`, and changed the state of
-  -- the closure from `s` to `t`.
+  -- `PairStays` states that the first `m` items of the list `xs` were kept: the first item without
+  -- a test, and each of the others after a test. The tests turned `xs` into `ys`, and changed the
+  -- state of the closure from `s` to `t`.
   pub record PairStays (m : ℕ) (s : S) (xs : List T) (t : S) (ys : List T) : Type 0 where
     pub first : T
     pub done : List T
@@ -193,8 +194,8 @@ module _ {S T : Type 0} (R : OnPairs S T) where
     next-asked b u zs a = subst (λ (k : T). R t a.later k b u a.later_left a.kept_left)
         (next-pair b u zs a).last a.asked
 
-    -- The list `xs` consists of its first item, the items that were tested before the test `a`, the
-    -- item that `a` tested, and the items that have not been tested yet.
+    -- The list `xs` consists of, in this order: its first item, the items that were tested before
+    -- the test `a`, the item that `a` tested, and the untested items.
     next-was : (b : Bool) (u : S) (zs : List T) (a : IsPairAskedAt R m t ys b u zs)
         → xs ≡ h.first ∷ ((h.done ++ a.later ∷ []) ++ a.after)
     next-was b u zs a = h.was ∙ ap (λ (l : List T). h.first ∷ l)
@@ -210,7 +211,7 @@ module _ {S T : Type 0} (R : OnPairs S T) where
         (next-pair b u zs a).front
         ∙ sym (append_assoc h.pre (a.kept_left ∷ []) (a.later_left ∷ a.after)))
 
-    -- If the item at index `m` was tested and is kept, then `PairStays` holds for the first `m + 1`
+    -- If the item at index `m` was tested and kept, then `PairStays` holds for the first `m + 1`
     -- items.
     pub pair-more : (u : S) (zs : List T) → IsPairAskedAt R m t ys false u zs
         → PairStays (m + 1) s xs u zs
@@ -239,8 +240,8 @@ module _ {S T : Type 0} (R : OnPairs S T) where
           now = next-now false u zs a;
         }
 
-    -- If the item at index `m` was tested and is to be removed, then the tests stop at this item,
-    -- and `m` items are kept, as `PairsAskedUpTo` states.
+    -- If the test of the item at index `m` decides to remove this item, then the tests stop at this
+    -- item with `m` kept items, as `PairsAskedUpTo` states.
     pub pair-goes : (u : S) (zs : List T) → IsPairAskedAt R m t ys true u zs
         → PairsAskedUpTo R m s xs u zs
     pair-goes u zs a =
@@ -286,7 +287,8 @@ module _ {S T : Type 0} (R : OnPairs S T) where
           | inr q ↦ absurd (cons-not-nil (sym k ∙ (run-over ∙ (λ i. q.0 i ++ q.1.0 i))))
         ]
 
-    -- If no item follows the `m` kept items, then all items were tested and all are kept.
+    -- If no item follows the `m` kept items, then no untested item remains, and all items were
+    -- kept.
     pub run-ends : drop m ys ≡ [] → (r.after ≡ []) × (r.stays ≡ all-stay r.more)
     run-ends k =
         elim r.stops [
@@ -306,8 +308,8 @@ module _ {S T : Type 0} (R : OnPairs S T) where
   -- Section: open blocks
 
   module _ {A : Type 0} (v w : Open T A) where
-    -- `Moved front cost` holds if the open block `w` is the open block `v` with these front items
-    -- and this cost. The gap and the middle items of `w` may also differ from `v`.
+    -- `Moved front cost` holds if the open block `w` is the open block `v` with the front items
+    -- `front` and the cost `cost`. The gap and the middle items of `w` may also differ from `v`.
     abbrev Moved : List T → Cost → Type 0
     Moved front cost = w ≡ record v
         { front = front; gap = w.gap; rest = w.rest; cost = cost }
@@ -321,8 +323,8 @@ module _ {S T : Type 0} (R : OnPairs S T) where
 
     module _ (s t : S) where
       -- Suppose that the items `done` were tested after the last front item, and that the kept
-      -- items were moved to the end of the front items. Then `Dedups` holds for the open blocks
-      -- before and after these tests.
+      -- items were moved to the end of the front items. Then `Dedups` relates the open block before
+      -- these tests to the open block after them.
       dedups-of : (before : List T) (first : T) (done : List T) (stays : List Bool) (kept : List T)
           → v.front ≡ before ++ first ∷ [] → v.rest ≡ done ++ w.rest
           → AskedLast R s first done stays kept t → 0 < w.gap
@@ -341,8 +343,8 @@ module _ {S T : Type 0} (R : OnPairs S T) where
             now = now;
           }
 
-    -- If the next item `x` was tested and removed, then `Dedups` holds for the open blocks before
-    -- and after this step.
+    -- If the next item `x` was tested and removed, then `Dedups` relates the open block before this
+    -- step to the open block after it.
     pub dedups-goes : {s t : S} (x y : T) (front : List T)
         → IsLastAsked R s x v.front true t y front → v.rest ≡ x ∷ w.rest → 0 < w.gap
         → Moved front v.cost → Dedups R s v t w
@@ -351,8 +353,9 @@ module _ {S T : Type 0} (R : OnPairs S T) where
         (last-goes s t a.kept x y a.kept_left a.asked) gap
         (now ∙ moved (λ i. a.now i) (sym (moving-none v.cost)))
 
-    -- If the next item `x` was tested, is kept, and was moved to the end of the front items at the
-    -- cost of one move, then `Dedups` holds for the open blocks before and after this step.
+    -- Suppose that the next item `x` was tested and kept, and that it was moved to the end of the
+    -- front items at the cost of one move. Then `Dedups` relates the open block before this step to
+    -- the open block after it.
     pub dedups-stays : {s t : S} (x y : T) (front : List T)
         → IsLastAsked R s x v.front false t y front → v.rest ≡ x ∷ w.rest
         → 0 < w.gap → Moved (front ++ y ∷ []) (moving 1 v.cost) → Dedups R s v t w
@@ -365,15 +368,15 @@ module _ {S T : Type 0} (R : OnPairs S T) where
     module _ (s t u : S) (x y z : T) (front ys zs : List T)
         (a : IsLastAsked R s x v.front false t y front) (b : Bool)
         (n : IsNextAsked R t y ys b u z zs) (whole : v.rest ≡ x ∷ ys) where
-      -- Suppose that the item `x` is kept, and that the item after `x` was tested next. Then the
+      -- Suppose that the item `x` was kept, and that the item after `x` was tested next. Then the
       -- last two front items are the old last front item, as the first test left it, and `x`, as
       -- the second test left it.
       two-front : (front ++ z ∷ [] ≡ a.before ++ a.kept_left ∷ z ∷ [])
       two-front = ap (λ (l : List T). l ++ z ∷ []) a.now
           ∙ append_assoc a.before (a.kept_left ∷ []) (z ∷ [])
 
-      -- If the next item is kept, and the item after it is removed, then `Dedups` holds for the
-      -- open blocks before and after these two tests.
+      -- If the next item was kept, and the item after it was removed, then `Dedups` relates the
+      -- open block before these two tests to the open block after them.
       pub dedups-two : b ≡ true → (value : T) → zs ≡ value ∷ w.rest → 0 < w.gap
           → Moved (front ++ z ∷ []) (moving 1 v.cost) → Dedups R s v u w
       dedups-two e value rest gap now =
@@ -387,9 +390,9 @@ module _ {S T : Type 0} (R : OnPairs S T) where
           (a.kept_left ∷ z ∷ []) a.was (whole ∙ ap (λ (l : List T). x ∷ l)
           (n.was ∙ ap (λ (l : List T). n.later ∷ l) same)) asked gap (now ∙ moved two-front refl)
 
-      -- Suppose that the next item and the `m` items after it are kept, and that the item after
-      -- them, if there is one, is removed. Then `Dedups` holds for the open blocks before and after
-      -- these tests.
+      -- Suppose that the next item and the `m` items after it were kept. Suppose also that the item
+      -- after all of these, if there is one, was removed. Then `Dedups` relates the open block
+      -- before these tests to the open block after them.
       pub dedups-run : b ≡ false → (m : ℕ) (q : S) (ws : List T) (r : PairsAskedUpTo R m u zs q ws)
           → r.after ≡ w.rest → suc (trues r.stays) ≡ m
           → 0 < w.gap → Moved ((front ++ z ∷ []) ++ take m ws) (moving m (moving 1 v.cost))
@@ -418,8 +421,8 @@ module _ {S T : Type 0} (R : OnPairs S T) where
           ∙ append_assoc a.before (a.kept_left ∷ z ∷ []) r.left)
           (moving-more m 1 v.cost ∙ ap (λ (k : ℕ). moving k v.cost) paid))
 
-  -- If an open block has a gap and at least one front item, then `Dedups` holds for this open block
-  -- and itself before the first test.
+  -- Before the first test, `Dedups` relates an open block to itself if it has a gap and at least
+  -- one front item.
   pub dedups-start : {A : Type 0} (s : S) (v : Open T A) → 0 < length v.front
       → 0 < v.gap → Dedups R s v s v
   dedups-start s v some gap =
@@ -437,8 +440,7 @@ module _ {S T : Type 0} (R : OnPairs S T) where
         now = λ i. record v { front = p.2 i; cost = sym (moving-none v.cost) i };
       }
 
-  -- `Dedups` is transitive: if it holds for `v` and `w`, and for `w` and `z`, then it holds for `v`
-  -- and `z`.
+  -- `Dedups` is transitive: if it relates `v` to `w`, and `w` to `z`, then it relates `v` to `z`.
   pub dedups-then : {A : Type 0} {s t u : S} {v w z : Open T A} → Dedups R s v t w
       → Dedups R t w u z → Dedups R s v u z
   dedups-then {s = s} {t} {u} {v} {w} {z} h k =
@@ -476,15 +478,15 @@ module _ {S T : Type 0} (R : OnPairs S T) where
 
   module _ {A : Type 0} (v w : Open T A) (m : ℕ) (s t : S) (ys : List T)
       (r : PairsAskedUpTo R m s v.rest t ys) where
-    -- `RunPassed` holds if the front items of `w` are exactly the kept items, as the tests left
-    -- them. Apart from this, `w` may differ from the open block `v` only in the gap and the middle
-    -- items.
+    -- `RunPassed` holds if the front items of the open block `w` are exactly the kept items, as the
+    -- tests left them. Apart from this, `w` may differ from the open block `v` only in the gap and
+    -- the middle items.
     abbrev RunPassed : Type 0
     RunPassed = Moved v w (take m ys) v.cost
 
-    -- Suppose that the first item after the kept items is removed, and that all later items were
-    -- tested. Then `IsDeduped` holds for `v`, the open block before all tests, and `z`, the open
-    -- block after them.
+    -- Suppose that the first item after the kept items was removed, and that all later items were
+    -- then tested. Then `IsDeduped` relates the open block `v` before all tests to the open block
+    -- `z` after them.
     pub deduped-goes : (value : T) (u : S) (z : Open T A) → RunPassed → drop m ys ≡ value ∷ w.rest
         → Dedups R t w u z → z.rest ≡ [] → IsDeduped R s v u z
     deduped-goes value u z p k h none =
@@ -517,8 +519,8 @@ module _ {S T : Type 0} (R : OnPairs S T) where
           });
         }
 
-    -- If the tests found no item to be removed, then all items are kept, and `IsDeduped` holds for
-    -- the open blocks `v` and `w`.
+    -- If the tests found no item to be removed, then all items were kept, and `IsDeduped` relates
+    -- the open block `v` before the tests to the open block `w` after them.
     pub deduped-ends : RunPassed → drop m ys ≡ [] → w.rest ≡ [] → IsDeduped R s v t w
     deduped-ends p k none =
         let g = run-ends m s v.rest t ys r k in
@@ -539,10 +541,10 @@ module _ {S T : Type 0} (R : OnPairs S T) where
           });
         }
 
--- In this module, a test is a struct that calls a closure and returns its result. `J` is the type
--- of the test, and `inside` maps a state of the test to the state of its closure.
+-- In this module, a test of two items is a struct that calls a closure and returns its result. `J`
+-- is the type of the test, and `inside` maps a state of the test to the state of its closure.
 module _ {J S T : Type 0} (R : OnPairs S T) (inside : J → S) where
-  -- `through` describes the calls of the test. It is the relation `R` of the closure, applied to
+  -- `through` describes the calls to the test. It is the relation `R` of the closure, applied to
   -- the states of the closure inside the test.
   abbrev through : OnPairs J T
   through s x k b t y l = R (inside s) x k b (inside t) y l
@@ -571,8 +573,8 @@ module _ {J S T : Type 0} (R : OnPairs S T) (inside : J → S) where
   pairs-through [] s t f ys h = (h.0, h.1, ap inside h.2)
   pairs-through (x ∷ xs) s t f ys h = last-through xs s t x f ys h
 
-  -- If the list `w` contains exactly the items of the list `v` that the test keeps, then it
-  -- contains exactly the items that the closure of the test keeps.
+  -- If the list `w` contains exactly the items of the list `v` that the test of `dedup_by` keeps,
+  -- then it contains exactly the items that the closure of this test keeps.
   pub deduped-through : {A : Type 0} (s : J) (v w : Thin T A) (t : J) → IsDedupedTo through s v w t
       → IsDedupedBy R (inside s) v w
   deduped-through s v w t h = (

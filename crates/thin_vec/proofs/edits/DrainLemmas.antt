@@ -32,7 +32,7 @@ module _ {T A G : Type 0} {g : Ghosts G} {h : HoldsGhosts (Holder (Open T A)) (O
   drain_keeps_along d (x ∷ xs) later e = drain_keeps_more d e.0 later e.1.keeps
       (drain_keeps_along e.0 xs later e.2)
 
-  -- Repeated calls to `next` yield the items that have not been yielded yet, in order.
+  -- Repeated calls to `next` on a `Drain` yield the items that have not been yielded yet, in order.
   pub drains_in_order : YieldsInOrder (DrainSteps {T = T} {A = A} {G = G} {g = g} {h = h})
       drain_rest
   drains_in_order p s =
@@ -40,7 +40,8 @@ module _ {T A G : Type 0} {g : Ghosts G} {h : HoldsGhosts (Holder (Open T A)) (O
       (from_front DrainSteps (λ x. x) drain_rest (λ a b n. ap length n.gave.0)
       (λ a x b n. n.gave) p s)
 
-  -- Repeated calls to `next_back` yield the items that have not been yielded yet, in reverse order.
+  -- Repeated calls to `next_back` on a `Drain` yield the items that have not been yielded yet, in
+  -- reverse order.
   pub drains_in_reverse : YieldsInReverse (DrainStepsBack {T = T} {A = A} {G = G} {g = g} {h = h})
       drain_rest
   drains_in_reverse p s =

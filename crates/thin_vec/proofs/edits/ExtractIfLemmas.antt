@@ -1,5 +1,5 @@
--- These lemmas are about the item that a call to `next` on an `ExtractIf` extracts. It is the first
--- untested item for which the closure returns true.
+-- These lemmas are about the item that a call to `next` on an `ExtractIf` extracts. This item is
+-- the first untested item for which the closure returns true.
 use Rattle.std.proofs.Common.{◌≡◌, ℕ, ◌+◌, ◌≤◌, Bool, true, false, List, [], ◌∷◌, ◌++◌, Option, None, Some, length, take, drop, refl, sym, ap, subst, ◌∙◌, arith, length-append}
 use Rattle.std.proofs.lemmas.List.{drop_at, length-take-le, nil_from_length, take_at}
 use Rattle.std.specs.List.Retain.{ExtractsNext}
@@ -43,8 +43,8 @@ module _ {F T : Type 0} (R : F → T → Bool → F → T → Type 0) where
       answered false more m = omega (arith, more m.0 m.1, ap length m.2)
 
   module _ {S : Type 0} (of : S → F) where
-    -- `J` describes a test that keeps exactly the items that the closure does not extract. `of s`
-    -- is the state of the closure in the state `s` of the test.
+    -- `J` describes a test that keeps exactly the items that the closure does not extract. If `s`
+    -- is a state of the test, then `of s` is the state of the closure.
     abbrev J : S → T → Bool → S → T → Type 0
     J s x b t y = R (of s) x (not b) (of t) y
 
@@ -52,9 +52,8 @@ module _ {F T : Type 0} (R : F → T → Bool → F → T → Type 0) where
     -- `between`. It extracts the first of these items, unless there are none.
     module _ (between : S) (after : List T) (item : Option T) (t : F) (rest : List T)
         (e : ExtractsNext R (of between) after item t [] rest) where
-      -- Suppose that all items of the list `run` are kept, and that the items `after` follow them.
-      -- Then the closure keeps the items of `run` and extracts the first item of `after`, if there
-      -- is one.
+      -- Suppose that the closure keeps all items of the list `run`. Then, if it is called with the
+      -- items `run ++ after`, it extracts the first item of `after`, if there is one.
       picked-after : (s : S) (run left : List T) → Asked J s run (stay left) between
           → ExtractsNext R (of s) (run ++ after) item t left rest
       picked-after s [] [] a =
@@ -114,7 +113,8 @@ module _ {F T : Type 0} (R : F → T → Bool → F → T → Type 0) where
       end-is : drop m ys ≡ h.end
       end-is = ap (drop m) now ∙ drop_at h.left h.end m reached
 
-      -- The list `ys` contains at least `m` items.
+      -- If the tests kept the first `m` items, then the list `ys` after the tests contains at least
+      -- `m` items.
       pub picked-room : m ≤ length ys
       picked-room = omega (arith, reached, ap length now, length-append h.left h.end)
 
@@ -144,7 +144,7 @@ module _ {F T : Type 0} (R : F → T → Bool → F → T → Type 0) where
           h.stops (sym end-is ∙ some))
 
 -- If the list `xs` contains at least `k` items, then moving `k` items costs the same as moving the
--- items `take k xs`. If there is no gap, nothing is moved, and the cost does not change.
+-- items `take k xs`. If there is no gap, then no item is moved, and the cost does not change.
 pub cost-of : {T : Type 0} (gap : ℕ) (cost : Cost) (k : ℕ) (xs : List T) → k ≤ length xs
     → (if gap == 0 then cost else moving k cost)
     ≡ (if gap == 0 then cost else moving (length (take k xs)) cost)

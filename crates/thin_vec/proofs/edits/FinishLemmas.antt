@@ -42,9 +42,9 @@ module _ {S T A : Type 0} (steps : S → Option T → S → Type 0) (can : S →
       × (f.end ≡ length v.front + length by.items)
 
   -- `IsReached` states that the list `u` consists of the front items of the open block `v`, the
-  -- items `xs`, and the tail items of `v`. The items `xs` fill the gap of `v` and end before slot
-  -- `end`. Calls to `next` on the iterator `s` yielded these items, and the rest of the iterator is
-  -- `t`.
+  -- items `xs`, and the tail items of `v`. There are enough items `xs` to fill the gap of `v`, and
+  -- the index after the last of them is `end`. Calls to `next` on the iterator `s` yielded these
+  -- items, and the rest of the iterator is `t`.
   pub record IsReached (v : Open T A) (s : S) (u : Thin T A) (xs : List T) (end : ℕ)
       (t : S) : Type 0 where
     pub items : u.items ≡ with_between v xs
@@ -78,7 +78,8 @@ module _ {S T A : Type 0} {steps : S → Option T → S → Type 0} {can : S →
       nearer = p.0.nearer more;
     }
 
-    -- If the iterator has ended, then the inserted items are all items that it yields.
+    -- If the iterator has ended, then the inserted items are all the items that the iterator
+    -- yielded.
     pub filled-drains : f.ended ≡ true → Drains steps s p.0.items
     filled-drains done = (f.rest, subst (λ b. Gives steps s p.0.items b f.rest) done p.0.gave)
 
@@ -131,9 +132,9 @@ module _ {S T A : Type 0} {steps : S → Option T → S → Type 0} {can : S →
       nearer = p.nearer;
     }
 
-    -- If `HasTaken` holds for the earlier steps of `finish` with the bound `m` on the moves of old
-    -- items, and for the later steps with the bound `n`, then it holds for all steps together with
-    -- each bound `k` that is at least `m + n`.
+    -- Suppose that `HasTaken` holds for the steps of `finish` before the list `u` was reached, with
+    -- the bound `m` on the moves of old items. Suppose also that it holds for the steps after `u`,
+    -- with the bound `n`. Then it holds for all steps with each bound `k` that is at least `m + n`.
     pub reached-taken : (rule : Rule) (R : RattleType) → KeepsLaw rule → (a : A) (w : Thin T A)
         (m n k : ℕ) → m + n ≤ k → HasTaken rule R (left_of v a) u m (remaining s)
         → HasTaken rule R u w n (remaining t) → HasTaken rule R (left_of v a) w k (remaining s)
@@ -144,9 +145,9 @@ module _ {S T A : Type 0} {steps : S → Option T → S → Type 0} {can : S →
         (λ fit same. omega (arith, fit, same, ap length p.items, long, left, p.nearer))
         before now
 
-    -- Suppose that the earlier steps of `finish` did not change the capacity. If the later steps
-    -- satisfy `IsExtended` with the new capacity `d`, then all steps together also satisfy it with
-    -- `d`.
+    -- Suppose that the steps of `finish` before the list `u` was reached did not change the
+    -- capacity. If the steps after `u` satisfy `IsExtended` with the new capacity `d`, then all
+    -- steps together also satisfy it with `d`.
     pub reached-extended : (rule : Rule) (R : RattleType) (a : A) (d n : ℕ)
         → u.capacity ≡ v.capacity → IsExtended rule R u d n (remaining t)
         → IsExtended rule R (left_of v a) d n (remaining s)
@@ -163,8 +164,9 @@ module _ {S T A : Type 0} {steps : S → Option T → S → Type 0} {can : S →
               ((ap (λ n. n + (length xs + e.0)) (length-append v.front v.tail) ∙ want) i)) ∙ e.2,
         )
 
-    -- If more items were inserted at index `end`, and the iterator has not ended yet, then
-    -- `IsReached` also holds with the inserted items included.
+    -- Suppose that more items were inserted into the list `u` at index `end`, and that the iterator
+    -- has not ended yet. Then `IsReached` also holds for the new list `w`, with the inserted items
+    -- included.
     pub reached-more : {w : Thin T A} {room : ℕ} {f : Filled S}
         (by : IsFilledBy steps can remaining room t f)
         → w.items ≡ (take end u.items ++ by.items) ++ drop end u.items
@@ -204,9 +206,9 @@ module _ {S T A : Type 0} {steps : S → Option T → S → Type 0} {can : S →
       cause = tt;
     }
 
-    -- Suppose that at least one tail item follows the placed items `xs`, and that the later steps
-    -- returned the result `r`. Then `IsFinished` holds for the whole call to `finish` with the
-    -- result `r`.
+    -- Suppose that `finish` first placed the items `xs`, and that at least one tail item follows
+    -- them. If the rest of `finish` returns the result `r` and satisfies the conditions below, then
+    -- `IsFinished` holds for the whole call with the result `r`.
     pub finished-from : {t : S} {u : Thin T A} {xs : List T} {end : ℕ}
         (r : Result (Unit {0}) (SpliceRefused T S A))
         → IsReached steps can remaining v s u xs end t → 0 < length v.tail

@@ -1,6 +1,6 @@
 -- These lemmas are about replacing a range of a list with clones. They state what the list contains
--- before the clones are moved into the range, and how the open block appears in contracts after
--- this move.
+-- before the clones are moved into the range, and how contracts describe the open block after this
+-- move.
 use Rattle.std.proofs.Common.{if◌then◌else◌, inl, inr, eqb, min, Bool, true, false, ◌≡◌, ℕ, zero, suc, ◌+◌, ◌-◌, ◌≤◌, List, [], ◌∷◌, ◌++◌, None, Option, append_assoc, ap, arith, drop, length, length-append, refl, sym, take, ◌∙◌}
 use Rattle.std.proofs.lemmas.List.{drop_at, length-drop, length-take-le, replicate-append-replicate, take-append-drop, take-append-le, take_at}
 use Rattle.std.proofs.lemmas.Bool.{cases_lt}
@@ -54,7 +54,7 @@ module _ {T : Type 0} where
 module _ {T : Type 0} (xs : List T) (i j : ℕ) (order : i ≤ j) (within : j ≤ length xs) where
   -- Suppose that the items `zs` were inserted into the list `xs` at index `j`, and that the items
   -- `ys` were appended. If the items `ys` are then moved from the end to index `i` and replace the
-  -- items `i..j`, the result is `xs` with `ys ++ zs` in place of the items `i..j`.
+  -- items `i..j`, then the result is `xs` with `ys ++ zs` in place of the items `i..j`.
   pub brought-in : (ys zs : List T) {w : List T} {n : ℕ} → length ys ≡ n
       → w ≡ replace_range xs j j zs ++ ys
       → (take i w ++ drop (length w - n) w) ++ take (length w - n - j) (drop j w)
@@ -92,7 +92,7 @@ module _ {T : Type 0} (xs : List T) (i j : ℕ) (order : i ≤ j) (within : j �
 
 module _ {T A : Type 0} (h : Inside T A) (o : IsOpen h) (b : Block T A) (k : ℕ)
     (few : k ≤ length (open_of h).tail) (room : k ≤ (open_of h).gap) where
-  -- `v` is the open block before the move, as it appears in contracts.
+  -- `v` is the open block before the move, as contracts describe it.
   abbrev v : Open T A
   v = open_of h
 
@@ -108,7 +108,7 @@ module _ {T A : Type 0} (h : Inside T A) (o : IsOpen h) (b : Block T A) (k : ℕ
     len = h.len - k;
   }
 
-  -- `brought-seen` is the open block `brought` as it appears in contracts. The last `k` tail items
+  -- `brought-seen` is the open block `brought` as contracts describe it. The last `k` tail items
   -- have become the last front items.
   abbrev pub brought-seen : Open T A
   brought-seen = record {
@@ -122,8 +122,8 @@ module _ {T A : Type 0} (h : Inside T A) (o : IsOpen h) (b : Block T A) (k : ℕ
     cost = b.cost;
   }
 
-  -- If the last `k` tail items were moved to the slots directly after the front items, then the
-  -- open block `brought` appears in contracts as `brought-seen`.
+  -- If the last `k` tail items were moved to the slots directly after the front items, then
+  -- contracts describe the open block `brought` as `brought-seen`.
   pub bring-step : b.slots ≡ moved (h.len - k) h.front_end k h.block.slots
       → Found brought brought-seen
   bring-step now =
@@ -277,9 +277,10 @@ pub record IsParted (k r k1 k2 : ℕ) : Type 0 where
   -- The number of all clones is `k1 + k2`.
   pub all : k1 + k2 ≡ k
 
--- Suppose that `t` items follow the range, that `k2` clones are inserted after the range, and that
--- `k1` clones are appended to the list and then moved into the range. Then the number of moves is
--- the number that a replacement with existing items takes, plus one for each of the `k1` clones.
+-- Suppose that `t` items follow a range of `r` items. To replace the range with `k` clones, `k2`
+-- clones are inserted directly after the range, and `k1` clones are appended to the list and then
+-- moved into the range. This takes `min k r` more moves than a replacement with `k` items that
+-- already exist.
 pub cloning-moves : {k r k1 k2 : ℕ} → IsParted k r k1 k2 → (t : ℕ) {z u : ℕ} → z ≡ 0 → u ≡ t + k2
     → ((k2 + (if eqb k2 z then 0 else t)) + k1) + (k1 + (if eqb k1 r then 0 else u))
     ≡ (k + (if eqb k r then 0 else t)) + min k r

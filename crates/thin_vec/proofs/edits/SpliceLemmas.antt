@@ -43,7 +43,7 @@ pub closed-moves : {T A : Type 0} (v w : Open T A) (n : ℕ) → w.cost ≡ movi
     × (w.gap ≡ 0 → m ≡ 0)
 closed-moves v w n paid none same count = go (eqb w.gap 0) refl
   where
-    -- The cost of `w` is the cost of `v` plus `n` moves.
+    -- The cost of the open block `w` is the cost of `v` plus `n` moves.
     filled : w.cost ≡ moving n v.cost
     filled = paid ∙ ap (λ k. moving k v.cost) (sym count)
 
@@ -71,8 +71,8 @@ closed-moves v w n paid none same count = go (eqb w.gap 0) refl
         false-true : false ≡ true → ⊥
         false-true h = cc
 
--- Suppose that `n` items are moved up, unless `count` is 0, and that `k` items are then placed into
--- the gap and `m` items are moved. Then the total number of moves is `k`, plus at most `n + m`.
+-- Suppose that `n` items are moved up unless `count` is 0, and that `k + m` further moves follow.
+-- Then the total number of moves is `k` plus a number that is at most `n + m`.
 pub run-moves : (count n k m : ℕ) (c d : Cost) → d ≡ (if eqb count 0 then c else moving n c)
     → (x : ℕ) × (moving (k + m) d ≡ moving (k + x) c) × (x ≤ n + m)
 run-moves count n k m c d e = go (eqb count 0) e
@@ -107,9 +107,9 @@ module _ {S X : Type 0} (steps : S → Option X → S → Type 0) where
   yields-drawn s u xs o x is all =
       yields-more steps s all.0 u xs x all.1 (subst (λ r. steps all.0 r u) is all.2)
 
-  -- Suppose that a call to `next` yielded `x` and later calls yielded `xs`. If `x ∷ xs` consists of
-  -- the items `held` and the item in the option `o`, then all calls together yielded `held` and the
-  -- item in `o`. If `o` is `None`, they yielded `held` and then returned `None`.
+  -- Suppose that a call to `next` yielded the item `x`, and that later calls yielded the items
+  -- `xs`. If `x ∷ xs` is `held`, followed by the item in the option `o`, then all calls together
+  -- yielded `held` and this item. If `o` is `None`, they yielded `held` and then returned `None`.
   pub drawn-after : (s t u : S) (x : X) (xs held : List X) (o : Option X) → steps s (Some x) t
       → held ++ option_to_list o ≡ x ∷ xs
       → MatchOption o (YieldsThen steps t xs None u) (λ _. Yields steps t xs u)
@@ -226,8 +226,9 @@ module _ {S T A : Type 0} (rule : Rule) (R : RattleType) (v : Thin T A) (tail : 
     by_push = λ no_tail. absurd (omega (arith, some, ap length no_tail));
   }
 
-  -- Suppose that items follow the range, that the error contains at least one item, and that its
-  -- cause satisfies the clause of `IsStopCause` for this case. Then `IsStopCause` holds.
+  -- Suppose that items follow the range, and that the error contains at least one item. Suppose
+  -- also that the cause of the error is the cause that `IsStopCause` requires in this case. Then
+  -- `IsStopCause` holds.
   pub stop-at-held : 0 < length tail → (error.in_hand ≡ None → 0 < length error.held.items)
       → (error.in_hand ≡ None → (error.cause ≡ CapacityOverflow)
       ↔ (capacity_for rule R v (length error.held.items) ≡ None))
@@ -259,8 +260,9 @@ module _ {S T A : Type 0} (rule : Rule) (R : RattleType) (v : Thin T A) (tail : 
   }
 
 module _ (rule : Rule) (R : RattleType) where
-  -- If the growth rule chooses the capacity `d` for the list `v` and `k` more items, and `n` is at
-  -- least the length of `v` plus `k`, then `IsKeptOrRuled` holds for `d` and `n`.
+  -- Suppose that the growth rule chooses the capacity `d` for the list `v` with `k` more items. If
+  -- `n` is at least the new length, `length v.items + k`, then `IsKeptOrRuled` holds for `d` and
+  -- `n`.
   pub kept-or-ruled : KeepsLaw rule → {T A : Type 0} (v : Thin T A) (k d n : ℕ)
       → capacity_for rule R v k ≡ Some d → length v.items + k ≤ n
       → IsKeptOrRuled rule R v.capacity d n
@@ -358,8 +360,9 @@ module _ (rule : Rule) (R : RattleType) {T A : Type 0} where
 
   module _ (law : KeepsLaw rule) where
     -- Suppose that the list `v` grew to the capacity that the growth rule chooses for `h` more
-    -- items, and that `h` is at most `left`, the bound on the items of the iterator. Then
-    -- `HasTaken` holds for `v` and the new list `w`, without a move of old items.
+    -- items. Suppose also that `h` is at most `left`, the upper bound on the number of items that
+    -- the iterator may yield. Then `HasTaken` holds for `v` and the new list `w`, with the bound 0
+    -- on the moves of old items.
     pub taken-reserved : (v w : Thin T A) (h : ℕ) (left : Count)
         → capacity_for rule R v h ≡ Some w.capacity → w.items ≡ v.items → w.alloc ≡ v.alloc
         → w.cost ≡ cost_at v w.capacity → (IsCheap v → IsCheap w) → h ≤ size left
@@ -373,9 +376,9 @@ module _ (rule : Rule) (R : RattleType) {T A : Type 0} where
       cheap = cheap;
     }
 
-    -- If `HasTaken` holds for `v` and `u` with the bound `m` on the moves of old items, and for `u`
-    -- and `w` with the bound `n`, then it holds for `v` and `w` with each bound `k` that is at
-    -- least `m + n`.
+    -- Suppose that `HasTaken` holds for `v` and `u` with the bound `m` on the moves of old items,
+    -- and for `u` and `w` with the bound `n`. Then it holds for `v` and `w` with each bound `k`
+    -- that is at least `m + n`.
     pub taken-join : (v u w : Thin T A) (m n k : ℕ) (left more : Count) → m + n ≤ k
         → length v.items ≤ length u.items
         → (HasRoomFor v (size left) → u.capacity ≡ v.capacity → HasRoomFor u (size more))

@@ -1,5 +1,5 @@
--- These lemmas state how an open block appears in contracts while one of its items is tested
--- against another item. Each lemma is about one step of such a test.
+-- These lemmas state how contracts describe an open block while one of its items is tested against
+-- another item. Each lemma is about one step of such a test.
 use Rattle.std.proofs.Common.{◌≡◌, ◌≢◌, ℕ, zero, suc, ◌+◌, ◌-◌, ◌<◌, ◌≤◌, List, [], ◌∷◌, ◌++◌, Option, Some, None, length, take, drop, refl, sym, ap, ◌∙◌, arith, length-append, append_assoc, get_or}
 use Rattle.std.proofs.lemmas.List.{drop_at, get_or_at, get_or-set_other, length-drop, length-take-le, length_push, set_at, take_at}
 use Rattle.std.specs.Prelude.{IsSome, slice_range}
@@ -92,8 +92,8 @@ module _ {T A : Type 0} where
   -- Section: open blocks
 
   -- `WrittenTwo` states that the middle items `x` and `y`, at the indices `k` and `k + 1`, were
-  -- overwritten with `x'` and `y'`. With the new block `b`, the open block `h` appears in contracts
-  -- with these two items replaced.
+  -- overwritten with `x'` and `y'`. Contracts describe the new open block, with the block `b`, as
+  -- the old one with these two items replaced.
   pub record WrittenTwo (h : Inside T A) (o : IsOpen h) (k : ℕ) (b : Block T A)
       (x y x' y' : T) : Type 0 where
     pub pre : List T
@@ -168,8 +168,8 @@ module _ {T A : Type 0} where
           };
         }
 
-  -- `WrittenLast` states that the last front item `x` was overwritten with `y`. With the new block
-  -- `b`, the open block `h` appears in contracts with `y` in place of `x`.
+  -- `WrittenLast` states that the last front item `x` was overwritten with `y`. Contracts describe
+  -- the new open block, with the block `b`, as the old one with `y` in place of `x`.
   pub record WrittenLast (h : Inside T A) (b : Block T A) (x y : T) : Type 0 where
     pub pre : List T
     pub was : (open_of h).front ≡ pre ++ x ∷ []
@@ -236,8 +236,8 @@ module _ {T A : Type 0} where
             (ap (λ (z : Seen T A). z.cost) now);
       }
 
-  -- If the item `x` was written into the first slot of the gap, then the block appears in contracts
-  -- with `x` as the last front item and with a gap that is shorter by one slot.
+  -- If the item `x` was written into the first slot of the gap, then contracts describe the new
+  -- open block with `x` as the last front item and with a gap that is shorter by one slot.
   pub put-step : (h : Inside T A) (o : IsOpen h) (b : Block T A) (x : T) {c : Cost}
       → 0 < (open_of h).gap
       → seen b ≡ record (seen h.block)

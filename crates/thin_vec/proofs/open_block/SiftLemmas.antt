@@ -1,6 +1,6 @@
--- These lemmas state how an open block appears in contracts after one of its middle items was
--- tested, and after its first middle items became front items. In this file, `h` is an open block
--- as it is stored.
+-- These lemmas state how contracts describe an open block after one of its middle items was tested,
+-- and after its first `k` middle items became front items. In this file, `h` is an open block as it
+-- is stored.
 use Rattle.std.proofs.Common.{◌≡◌, ℕ, zero, suc, ◌+◌, ◌-◌, ◌<◌, ◌≤◌, List, [], ◌∷◌, ◌++◌, Option, Some, None, length, take, drop, refl, sym, ap, ◌∙◌, arith, length-append, append_assoc}
 use Rattle.std.proofs.lemmas.List.{get_or_at, length-drop, length-take-le, set_at, take-append-drop}
 use lib.ListN.{set}
@@ -48,7 +48,8 @@ module _ {T A : Type 0} where
 
   module _ (h : Inside T A) (o : IsOpen h) (b : Block T A) (k : ℕ)
       (low : k < length (open_of h).rest) where
-    -- `v` is the open block before the item was overwritten, as it appears in contracts.
+    -- `v` is the open block before one of its middle items was overwritten, as contracts describe
+    -- it.
     abbrev v : Open T A
     v = open_of h
 
@@ -63,13 +64,13 @@ module _ {T A : Type 0} where
       len = h.len;
     }
 
-    -- `written-seen ys` is the open block after the item was overwritten, as it appears in
-    -- contracts. Its middle items are `ys`.
+    -- `written-seen ys` is the open block `written` as contracts describe it. Its middle items are
+    -- `ys`.
     abbrev pub written-seen : List T → Open T A
     written-seen ys = record v { rest = ys }
 
-    -- `Written x y` holds if the overwritten item was `x`, and the new open block appears in
-    -- contracts as the old one with `y` in place of `x`.
+    -- `Written x y` holds if the overwritten item was `x`, and contracts describe the new open
+    -- block as the old one with `y` in place of `x`.
     pub record Written (x y : T) : Type 0 where
       pub pre : List T
       pub post : List T
@@ -139,12 +140,12 @@ module _ {T A : Type 0} where
 
   -- In this module, the first `k` middle items are moved to the end of the front items.
   module _ (h : Inside T A) (o : IsOpen h) (k : ℕ) (low : k ≤ length (open_of h).rest) where
-    -- `u` is the open block before the move, as it appears in contracts.
+    -- `u` is the open block before the move, as contracts describe it.
     abbrev u : Open T A
     u = open_of h
 
-    -- `moved_run b` is the open block after its first middle items became front items. Its slots
-    -- are the slots of the block `b`.
+    -- `moved_run b` is the open block after its first `k` middle items became front items. Its
+    -- slots are the slots of the block `b`.
     abbrev pub moved_run : Block T A → Inside T A
     moved_run b = record {
       block = b;
@@ -155,14 +156,14 @@ module _ {T A : Type 0} where
       len = h.len;
     }
 
-    -- `moved_run-seen b` is the open block after the move, as it appears in contracts. Its first
+    -- `moved_run-seen b` is the open block `moved_run b` as contracts describe it. The first `k`
     -- middle items have become the last front items.
     abbrev pub moved_run-seen : Block T A → Open T A
     moved_run-seen b = record u
         { front = u.front ++ take k u.rest; rest = drop k u.rest; cost = b.cost }
 
-    -- If the slots of `b` are, in this order, the front items, the moved items, the gap, and the
-    -- other slots, then `moved_run b` appears in contracts as `moved_run-seen b`.
+    -- Suppose that the slots of `b` are, in this order: the front items, the moved items, the gap,
+    -- and all later slots. Then contracts describe `moved_run b` as `moved_run-seen b`.
     moved_run-shows : (b : Block T A)
         → b.slots ≡ full u.front
         ++ (full (take k u.rest) ++ (empty u.gap ++ (full (drop k u.rest) ++ past_rest u)))
@@ -203,14 +204,14 @@ module _ {T A : Type 0} where
         (full-append (take k u.rest) (drop k u.rest)) ∙ append_assoc (full (take k u.rest))
         (full (drop k u.rest)) (past_rest u))
 
-    -- The slots of `h` are, in this order, the front items, the gap, the items to be moved, and the
-    -- other slots.
+    -- The slots of `h` are, in this order: the front items, the gap, the items to be moved, and all
+    -- later slots.
     parted : h.block.slots ≡ full u.front
         ++ (empty u.gap ++ (full (take k u.rest) ++ (full (drop k u.rest) ++ past_rest u)))
     parted = o.row ∙ ap (λ (r : List (Option T)). full u.front ++ (empty u.gap ++ r)) cut
 
-    -- If there is no gap after the front items, then the first middle items become front items and
-    -- stay in their slots.
+    -- If there is no gap after the front items, then the first `k` middle items become front items
+    -- and stay in their slots.
     pub pass-step : u.gap ≡ 0 → Found (moved_run h.block) (moved_run-seen h.block)
     pass-step none =
         moved_run-shows h.block
@@ -220,8 +221,8 @@ module _ {T A : Type 0} where
         ++ (full (take k u.rest) ++ (empty n ++ (full (drop k u.rest) ++ past_rest u))))
         (sym none))) refl
 
-    -- If the first middle items were moved to the slots directly after the front items, then
-    -- `moved_run b` appears in contracts as `moved_run-seen b`.
+    -- If the first `k` middle items were moved to the slots directly after the front items, then
+    -- contracts describe `moved_run b` as `moved_run-seen b`.
     pub move_run_down-step : (b : Block T A) {c : Cost}
         → seen b ≡ record (seen h.block)
         { slots = moved h.rest_start h.front_end k h.block.slots; cost = c }
@@ -236,7 +237,7 @@ module _ {T A : Type 0} where
         (sym o.gap) (sym few))) (ap (λ (z : Seen T A). z.alloc) now)
 
   -- If the first middle item was moved from its slot to the slot directly after the front items,
-  -- then the open block appears in contracts with this item as the last front item.
+  -- then contracts describe it as the last front item.
   pub move_one_down-step : (h : Inside T A) (o : IsOpen h) (some : 1 ≤ length (open_of h).rest)
       → 0 < (open_of h).gap → (b : Block T A) {x : T} {c : Cost}
       → slot h.block.slots h.rest_start ≡ Some x

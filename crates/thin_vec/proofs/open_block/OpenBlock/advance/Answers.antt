@@ -1,5 +1,5 @@
--- If there is no gap after the front items (the items kept so far), then the items before the first
--- item to be removed become front items and stay in their slots.
+-- The front items are the items kept so far. If no gap follows them, then the items before the
+-- first item to be removed become front items and stay in their slots.
 use Rattle.std.proofs.Common.{◌≡◌, ◌<◌, ◌++◌, ◌∙◌, ap, drop, sym, take}
 use Rattle.std.proofs.lemmas.Bool.{false≢true}
 use Rattle.thin_vec.proofs.RetainLemmas.{moving-before}

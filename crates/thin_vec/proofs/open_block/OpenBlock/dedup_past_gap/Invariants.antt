@@ -1,5 +1,5 @@
--- The loop has tested the first middle items, in order, and there is still a gap after the front
--- items. Each iteration reduces the number of untested items.
+-- `Dedups` relates the open block before the loop to the current open block, which still has a gap
+-- after its front items. Each iteration reduces the number of untested items.
 use Rattle.std.proofs.Common.{◌<◌, length}
 use Rattle.thin_vec.specs.OpenBlock.Dedup.{Dedups}
 use Rattle.thin_vec.proofs.open_block.OpenBlock.dedup_past_gap.Given as goal

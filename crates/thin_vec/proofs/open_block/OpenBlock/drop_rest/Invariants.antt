@@ -1,6 +1,5 @@
--- Each iteration of the loop drops the first middle item (the first remaining item of the range),
--- so the number of middle items decreases. The emptied slot becomes part of the gap after the front
--- items, and nothing else changes.
+-- Each iteration of the loop drops the first middle item, so the number of middle items decreases.
+-- The emptied slot becomes part of the gap after the front items. Nothing else changes.
 use Rattle.std.proofs.Common.{◌≡◌, ◌+◌, length}
 use Rattle.thin_vec.proofs.open_block.OpenBlock.drop_rest.Given as goal
 

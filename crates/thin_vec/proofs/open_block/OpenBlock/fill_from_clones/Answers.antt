@@ -1,4 +1,4 @@
--- `put_clones` puts the clones into the gap: the empty slots directly after the front items. So the
+-- `put_clones` puts the clones into the gap of empty slots directly after the front items. So the
 -- clones become front items, and each clone shortens the gap by one slot.
 use Rattle.std.proofs.Common.{◌≡◌, ◌+◌, ◌-◌, ◌++◌, ◌∙◌, ap, arith, length, sym}
 use Rattle.thin_block.specs.Cost.{moving}

@@ -1,4 +1,4 @@
--- `copy_in` puts the copies into the gap: the empty slots directly after the front items. So the
+-- `copy_in` puts the copies into the gap of empty slots directly after the front items. So the
 -- copies become front items, and each copy shortens the gap by one slot.
 use Rattle.thin_block.specs.Cost.{moving}
 use Rattle.std.proofs.Common.{◌≡◌, ◌+◌, ◌-◌, ◌++◌, ◌∙◌, ap, arith, length, refl}

@@ -1,5 +1,5 @@
--- The first `kept` middle items are kept, and only middle items have changed. Each iteration of the
--- loop reduces the number of untested items.
+-- The first `kept` middle items were kept, and only middle items have changed. Each iteration of
+-- the loop reduces the number of untested items.
 use Rattle.std.proofs.Common.{◌≡◌, ◌-◌, length}
 use Rattle.thin_vec.proofs.edits.DedupLemmas.{PairStays}
 use Rattle.thin_vec.proofs.open_block.OpenBlock.test_pairs.Given as goal

@@ -1,5 +1,5 @@
--- The middle items `k..at` were tested and are kept, and only middle items have changed. Each
--- iteration of the loop reduces the number of untested items.
+-- The middle items `k..at` were tested and kept, and only middle items have changed. Each iteration
+-- of the loop reduces the number of untested items.
 use Rattle.std.proofs.Common.{◌≡◌, ◌-◌, length}
 use Rattle.thin_vec.proofs.RetainLemmas.{Stays}
 use Rattle.thin_vec.proofs.open_block.OpenBlock.test_run.Given as goal

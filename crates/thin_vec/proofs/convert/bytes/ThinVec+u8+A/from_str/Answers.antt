@@ -1,6 +1,6 @@
 -- `from_str` fails with the same error as `from_copies`, which it calls. The contract of
--- `from_copies` is about a generic item type, which here has the size and the alignment of `u8`. So
--- the capacity is the same for this type and for `u8`.
+-- `from_copies` computes the capacity from the size and the alignment of a generic item type. Here,
+-- both are the same as for `u8`, so the capacity is also the same.
 use Rattle.std.proofs.Common.{◌∙◌, ap, length, refl, arith}
 use Rattle.std.specs.Borrow.{u8}
 use Rattle.thin_block.proofs.CapacityLemmas.{exact-at}

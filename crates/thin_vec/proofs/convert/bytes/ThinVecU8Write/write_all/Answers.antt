@@ -1,6 +1,6 @@
--- `write_all` reserves capacity with a call to `reserve_run`. The contract of `reserve_run` is
--- about a generic item type, which here has the size and the alignment of `u8`. So the growth rule
--- chooses the same capacity for this type and for `u8`.
+-- `write_all` reserves capacity with a call to `reserve_run`. The contract of `reserve_run`
+-- computes the capacity from the size and the alignment of a generic item type. Here, both are the
+-- same as for `u8`, so the growth rule chooses the same capacity.
 use Rattle.std.proofs.Common.{◌+◌, ◌∙◌, Some, ap, length, refl, sym}
 use Rattle.std.specs.Borrow.{u8}
 use Rattle.thin_block.proofs.CapacityLemmas.{ruled-at}
