@@ -36,8 +36,8 @@ pub struct ExtendRefused<T, I> {
 /// The error of `from_iter`. It holds every item that was taken from the iterator.
 #[derive(Drop)]
 pub struct CollectRefused<T, I, A: Allocator = Global> {
-    /// The list. It holds the items that were appended before the failure, and owns the allocator
-    /// that was passed to `from_iter`.
+    /// The list that `from_iter` was making. It holds the items that were appended before the
+    /// failure, and owns the allocator that was passed to `from_iter`.
     pub list: ThinVec<T, A>,
     /// The reason why the call failed.
     pub cause: ThinVecError,

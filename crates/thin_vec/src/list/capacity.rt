@@ -105,7 +105,7 @@ impl<T, A: Allocator, G: Growth> ThinVec<T, A, G> {
         requires within { IsWithin T.row self.old }
 
         // The call succeeds if `capacity` is 0, and fails with `CapacityOverflow` if `capacity` is
-        // too large. Any other failure is `OutOfMemory`.
+        // too large. The cause of every other failure is `OutOfMemory`.
         ensures succeeds_empty { capacity ≡ 0 → IsOk result }
         ensures overflow { exact_capacity T.row 0 capacity ≡ None
             → IsErrOf result ThinVecError.CapacityOverflow }
