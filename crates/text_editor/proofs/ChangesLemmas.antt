@@ -1,20 +1,23 @@
--- These lemmas show how to undo a change of a text, and which texts result if the changes of a list
--- are carried out one after another.
+-- These lemmas are about changes of a text. They show how to undo a change, and which texts result
+-- if the changes of a list are applied to a text one after another.
 use Rattle.std.proofs.Common.{◌≡◌, ℕ, zero, suc, ◌+◌, ◌-◌, ◌≤◌, List, [], ◌∷◌, ◌++◌, length, take, drop, reverse, slice_range, refl, sym, ap, subst, ◌∙◌, arith, length-append, append_assoc}
 use Rattle.std.proofs.lemmas.List.{drop-drop, drop_at, length-drop, length-reverse, length-take-le, reverse-append, take-append-drop, take_at}
 use Rattle.std.specs.List.{replace_range}
 use Rattle.text_editor.specs.Changes.{AllFit, FitAlong, Fits, changed, texts_along, texts_of}
 use Rattle.text_editor.specs.declared.change.Change.{Change}
 
--- The next lemmas are about a change of the text `text` to the text `new`. The range of the change
--- is within `text`, and `n` is the number of characters that the change inserts.
+-- The next lemmas are about a change `change` that turns the text `text` into the text `new`. The
+-- range of the change is within `text`, and `n` is the number of characters that the change
+-- inserts.
 module _ (change : Change) (n : ℕ) (text new : List ℕ) (fits : Fits change text)
     (count : n ≡ length change.characters.items) (made : new ≡ changed change text) where
-  -- The part of `text` before the range of the change has `change.start` characters.
+  -- The change begins at index `change.start`, which is at most the length of `text`. So the part
+  -- of `text` before that index has exactly `change.start` characters.
   short : length (take change.start text) ≡ change.start
   short = length-take-le change.start text (omega (arith, fits.start_le_end, fits.in_bounds))
 
-  -- The range of the inserted characters is within the new text.
+  -- The `n` inserted characters begin at index `change.start` of the text `new`, and their range is
+  -- within `new`.
   pub comes_in : change.start + n ≤ length new
   comes_in =
       let front : List ℕ = take change.start text in
@@ -26,8 +29,8 @@ module _ (change : Change) (n : ℕ) (text new : List ℕ) (fits : Fits change t
         length-append front change.characters.items,
       )
 
-  -- If `old` contains the characters that the change removed from `text`, then replacing the
-  -- inserted characters with `old` restores `text`.
+  -- Suppose that `old` consists of the characters that the change removed from `text`. Then
+  -- replacing the inserted characters with `old` turns `new` back into `text`.
   pub takes_back : (old : List ℕ) → old ≡ slice_range text change.start change.end
       → text ≡ replace_range new change.start (change.start + n) old
   takes_back old is =
@@ -47,23 +50,25 @@ module _ (change : Change) (n : ℕ) (text new : List ℕ) (fits : Fits change t
       ∙ (ap (λ (l : List ℕ). take s text ++ l) (take-append-drop (e - s) (drop s text))
       ∙ take-append-drop s text)))
 
--- In the next lemmas, `changes` is the list `rest` followed by `change`. Carrying out `change` on
--- the text `text` results in the text `after`.
+-- In the next lemmas, `changes` is the list `rest` followed by `change`. Applying `change` to the
+-- text `text` results in the text `after`.
 module _ (changes rest : List Change) (change : Change) (text after : List ℕ)
     (is : changes ≡ rest ++ change ∷ []) (made : after ≡ changed change text) where
   -- The reverse of `changes` is `change` followed by the reverse of `rest`.
   turned : reverse changes ≡ change ∷ reverse rest
   turned = ap (λ (cs : List Change). reverse cs) is ∙ reverse-append rest (change ∷ [])
 
-  -- `texts_of` carries out changes from the last to the first. If the last change turns `text` into
-  -- `after`, then `after` is the first text, and `texts_of rest after` contains the other texts.
+  -- `texts_of` applies changes from the last to the first. The last change of `changes` turns
+  -- `text` into `after`. So `after` is the first resulting text, and `texts_of rest after` contains
+  -- all further texts.
   pub texts_of-last : texts_of changes text ≡ after ∷ texts_of rest after
   texts_of-last =
       ap (λ (cs : List Change). texts_along cs text) turned
       ∙ ap (λ (t : List ℕ). t ∷ texts_along (reverse rest) t) (sym made)
 
-  -- `AllFit` carries out changes from the last to the first. If the last change fits `text` and
-  -- turns it into `after`, and the other changes (`rest`) fit `after`, then all changes fit `text`.
+  -- `AllFit` considers changes from the last to the first. The last change of `changes` turns
+  -- `text` into `after`. If this change fits `text`, and the other changes (the list `rest`) fit
+  -- `after`, then all changes fit `text`.
   pub AllFit-last : Fits change text → AllFit rest after → AllFit changes text
   AllFit-last fits all =
       subst (λ (cs : List Change). FitAlong cs text) (sym turned)
@@ -87,7 +92,8 @@ pub length-texts_of : (changes : List Change) (text : List ℕ)
 length-texts_of changes text =
     length-texts_along (reverse changes) text ∙ length-reverse changes
 
--- The first `k` changes of a list produce the first `k` of the texts that the whole list produces.
+-- If only the first `k` changes of a list are applied to a text, they produce the first `k` of the
+-- texts that all changes of the list produce.
 texts_along-take : (k : ℕ) (changes : List Change) (text : List ℕ)
     → texts_along (take k changes) text ≡ take k (texts_along changes text)
 texts_along-take zero changes text = refl
@@ -96,8 +102,8 @@ texts_along-take (suc k) (change ∷ changes) text =
     ap (λ (ts : List (List ℕ)). changed change text ∷ ts)
     (texts_along-take k changes (changed change text))
 
--- If the changes of a list, carried out in order, fit a text, then the first `k` changes fit the
--- text, too.
+-- If all changes of a list fit a text when they are applied in order, then the first `k` changes
+-- fit the text, too.
 FitAlong-take : (k : ℕ) (changes : List Change) (text : List ℕ) → FitAlong changes text
     → FitAlong (take k changes) text
 FitAlong-take zero changes text all = tt
@@ -119,16 +125,16 @@ reverse-drop m changes =
 
 -- The next lemmas are about a list of changes from which the first `m` changes are removed.
 module _ (m : ℕ) (changes : List Change) (text : List ℕ) where
-  -- If the first `m` changes of a list are removed, the other changes produce the same texts as
-  -- before, but not the last `m` texts. The reason is that `texts_of` carries out the first changes
-  -- last.
+  -- `texts_of` applies the first changes of a list last. So if the first `m` changes are removed
+  -- from a list, only the last `m` of the resulting texts are lost.
   pub texts_of-drop : texts_of (drop m changes) text
       ≡ take (length changes - m) (texts_of changes text)
   texts_of-drop =
       ap (λ (cs : List Change). texts_along cs text) (reverse-drop m changes)
       ∙ texts_along-take (length changes - m) (reverse changes) text
 
-  -- If all changes of a list fit a text, then all changes except the first `m` fit the text, too.
+  -- `AllFit` considers the first changes of a list last. So if all changes of a list fit a text,
+  -- then all changes except the first `m` fit the text, too.
   pub AllFit-drop : AllFit changes text → AllFit (drop m changes) text
   AllFit-drop all =
       subst (λ (cs : List Change). FitAlong cs text) (sym (reverse-drop m changes))

@@ -3,7 +3,7 @@ use Rattle.std.specs.Prelude.{ℕ, ◌≤◌, List, [], ◌∷◌, length, rever
 use Rattle.std.specs.List.{replace_range}
 use Rattle.text_editor.specs.declared.change.Change.{Change}
 
--- `changed change text` is the text that results if `change` is carried out on `text`.
+-- `changed change text` is the text that results if `change` is applied to `text`.
 abbrev pub changed : Change → List ℕ → List ℕ
 changed change text = replace_range text change.start change.end change.characters.items
 
@@ -12,27 +12,27 @@ pub record Fits (change : Change) (text : List ℕ) : Type 0 where
   pub start_le_end : change.start ≤ change.end
   pub in_bounds : change.end ≤ length text
 
--- `texts_along changes text` contains the text after each change. The first change is carried out
--- on `text`, and each later change on the text that results from the previous change.
+-- `texts_along changes text` contains the text after each change. The first change is applied to
+-- `text`, and each later change to the text that results from the previous change.
 abbrev pub texts_along : List Change → List ℕ → List (List ℕ)
 texts_along [] text = []
 texts_along (change ∷ changes) text =
     changed change text ∷ texts_along changes (changed change text)
 
--- `FitAlong changes text` holds if each change fits the text on which it is carried out. The first
--- change is carried out on `text`, and each later change on the text that results from the previous
+-- `FitAlong changes text` holds if each change fits the text to which it is applied. The first
+-- change is applied to `text`, and each later change to the text that results from the previous
 -- change.
 abbrev pub FitAlong : List Change → List ℕ → Type 0
 FitAlong [] text = Unit {0}
 FitAlong (change ∷ changes) text = Fits change text × FitAlong changes (changed change text)
 
--- `texts_of changes text` contains the text after each change. The changes are carried out from the
--- last to the first. The last change is carried out on `text`, and each other change on the text
--- that the previous step produced.
+-- `texts_of changes text` contains the text after each change. The changes are applied from the
+-- last to the first: the last change is applied to `text`, and each other change to the text that
+-- the previous step produced.
 abbrev pub texts_of : List Change → List ℕ → List (List ℕ)
 texts_of changes text = texts_along (reverse changes) text
 
--- `AllFit changes text` holds if each change fits the text on which it is carried out. The changes
--- are carried out from the last to the first, and the last change is carried out on `text`.
+-- `AllFit changes text` holds if each change fits the text to which it is applied. The changes are
+-- applied from the last to the first, and the last change is applied to `text`.
 abbrev pub AllFit : List Change → List ℕ → Type 0
 AllFit changes text = FitAlong (reverse changes) text

@@ -5,7 +5,7 @@ use Rattle.text_editor.specs.History.{History}
 use Rattle.text_editor.specs.declared.command.Command.{Command}
 use Rattle.text_editor.specs.declared.command.Command.TheVariants.{Forget, Print, Redo, Replace, Undo}
 
--- `Does command old new` states that `command`, if it succeeds, changes the state of the editor
+-- `Does command old new` states that a successful run of `command` changes the state of the editor
 -- from `old` to `new`.
 abbrev pub Does : Command → History → History → Type 0
 Does (Replace start end characters) old new =

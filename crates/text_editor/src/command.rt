@@ -6,7 +6,7 @@ use crate::editor::Editor;
 use std::alloc::Global;
 use thin_vec::ThinVec;
 
-/// A command, which is read from one line of the input.
+/// A command of the editor. Each line of the input is parsed as one command.
 #[derive(Drop)]
 pub enum Command {
     /// Replaces the characters from the index in the first field up to, but not including, the
@@ -17,8 +17,8 @@ pub enum Command {
     Undo,
     /// Redoes the edit that was undone last. In the input, the command is written `redo`.
     Redo,
-    /// Forgets the oldest edits. After this command, at most COUNT edits can be undone. In the
-    /// input, the command is written `forget COUNT`.
+    /// Forgets the oldest edits. The field is the greatest number of edits that can still be undone
+    /// after this command. In the input, the command is written `forget COUNT`.
     Forget(usize),
     /// Prints the text. In the input, the command is written `print`.
     Print,

@@ -11,9 +11,9 @@ use std::alloc::Global;
 use std::marker::Model;
 use thin_vec::{ThinVec, ThinVecError};
 
-/// A text with the history of its edits. In contracts, an editor is a `History`: the text, the
-/// texts that repeated calls to `undo` restore, and the texts that repeated calls to `redo`
-/// restore.
+/// A text with the history of its edits. In contracts, an editor is a `History`. It contains the
+/// text, the texts that repeated calls to `undo` restore, and the texts that repeated calls to
+/// `redo` restore.
 #[derive(Drop)]
 pub struct Editor {
     text: ThinVec<char>,
@@ -144,8 +144,9 @@ impl Editor {
     }
 }
 
-// Removes the last change from the list `from`, carries it out on `text`, and appends to the list
-// `to` a change that undoes it. On failure, `text` and the items of both lists are unchanged.
+// Removes the last change from the list `from`, and applies it to `text`. Appends to the list `to`
+// a second change that undoes the first. On failure, `text` and the items of both lists are
+// unchanged.
 fn step(
     text: &mut ThinVec<char>,
     from: &mut ThinVec<Change>,

@@ -17,17 +17,17 @@ use thin_block::ThinVecError;
 pub struct Rejected<S> {
     /// The argument, unchanged. The caller owns it again.
     pub value: S,
-    /// Says why the call failed.
+    /// The reason why the call failed.
     pub cause: ThinVecError,
 }
 
 /// The error of `extend`. The items that were appended before the failure stay in the list.
 #[derive(Drop)]
 pub struct ExtendRefused<T, I> {
-    /// Says why the call failed.
+    /// The reason why the call failed.
     pub cause: ThinVecError,
-    /// The last item that was taken from the iterator. The list had no room for this item. If no
-    /// item was taken, because room for the size hint could not be reserved, `in_hand` is `None`.
+    /// The last item that was taken from the iterator. The list had no room for this item. If room
+    /// for the size hint could not be reserved, no item was taken, and `in_hand` is `None`.
     pub in_hand: Option<T>,
     /// The rest of the iterator: it yields the items that have not been taken yet.
     pub rest: I,
@@ -36,13 +36,13 @@ pub struct ExtendRefused<T, I> {
 /// The error of `from_iter`. It holds every item that was taken from the iterator.
 #[derive(Drop)]
 pub struct CollectRefused<T, I, A: Allocator = Global> {
-    /// The list. It holds the items that were appended before the failure, and owns the allocator
-    /// that was passed to `from_iter`.
+    /// The list that `from_iter` was making. It holds the items that were appended before the
+    /// failure, and owns the allocator that was passed to `from_iter`.
     pub list: ThinVec<T, A>,
-    /// Says why the call failed.
+    /// The reason why the call failed.
     pub cause: ThinVecError,
-    /// The last item that was taken from the iterator. The list had no room for this item. If no
-    /// item was taken, because room for the size hint could not be reserved, `in_hand` is `None`.
+    /// The last item that was taken from the iterator. The list had no room for this item. If room
+    /// for the size hint could not be reserved, no item was taken, and `in_hand` is `None`.
     pub in_hand: Option<T>,
     /// The rest of the iterator: it yields the items that have not been taken yet.
     pub rest: I,
@@ -51,14 +51,14 @@ pub struct CollectRefused<T, I, A: Allocator = Global> {
 /// The error of `Splice::finish`. The items that were placed before the failure stay in the list.
 #[derive(Drop)]
 pub struct SpliceRefused<T, I, A: Allocator = Global> {
-    /// Says why the call failed.
+    /// The reason why the call failed.
     pub cause: ThinVecError,
     /// The items that were collected from the iterator, but could not be moved into the list. The
     /// vector uses the allocator that was passed to `finish`.
     pub held: Vec<T, A>,
     /// The last item that was taken from the iterator, after the items in `held`. There was no room
-    /// for this item. If the list could not reserve room for the size hint, or for the items in
-    /// `held`, `in_hand` is `None`.
+    /// for this item. `in_hand` is `None` if room for the size hint, or for the items in `held`,
+    /// could not be reserved.
     pub in_hand: Option<T>,
     /// The rest of the iterator: it yields the items that have not been taken yet. If `held` is not
     /// empty and `in_hand` is `None`, the iterator has returned `None`, and `next` must not be

@@ -161,8 +161,8 @@ impl<T, A: Allocator, G: Growth> ThinVec<T, A, G> {
         ensures err { OnErr result (self.new ≡ self.old) }
         ensures value_returned { IfErr result (λ error. error.value ≡ value) }
 
-        // In every case. The call changes the capacity exactly as `reserve(1)` does, and fails in
-        // the same cases.
+        // In every case, the call changes the capacity exactly as `reserve(1)` would, and it fails
+        // if and only if `reserve(1)` would fail.
         ensures reserves { Reserves G.rule T.row 1 self.old self.new (causes result) }
         ensures keeps { Keeps T.row self.old self.new }
     {
@@ -283,7 +283,7 @@ impl<T: Drop, A: Allocator, G: Growth> Drop for ThinVec<T, A, G> {
     }
 }
 
-// Drops the items of the block of a list, and frees the block.
+// Drops the items in the block of a list, and then frees the block.
 fn drop_block<T: Drop, A: Allocator>(mut block: Block<T, A>, alloc: A)
     requires packed { IsPacked block.slots block.len }
     requires from { IsFrom block.alloc alloc }

@@ -81,7 +81,7 @@ macro_rules! count_items {
     };
 }
 
-/// Appends `value` to a list, which then owns it. The list must have room for one more item.
+/// Appends `value` to a list, which must have room for one more item. The list then owns `value`.
 /// `thin_vec!` calls this function once for each item.
 #[doc(hidden)]
 pub fn place<T, A: Allocator>(list: &mut ThinVec<T, A>, value: T)

@@ -80,8 +80,8 @@ impl<T, A: Allocator> Model for OpenBlock<T, A> {
 }
 
 impl<T, A: Allocator, G: Growth> ThinVec<T, A, G> {
-    // Takes the block out of the list. The items `start..end` become the middle run: the range that
-    // is edited. After the call, the list is empty and has no block.
+    // Takes the block out of the list. The items `start..end` are the range that is edited. They
+    // become the middle run of the open block. After the call, the list is empty and has no block.
     pub(crate) fn open(&mut self, start: usize, end: usize) -> OpenBlock<T, A>
         requires start_le_end { start ≤ end }
         requires in_bounds { end ≤ length self.old.items }

@@ -5,9 +5,9 @@ ghost use Rattle.thin_vec.specs.Ranges.{range_between};
 
 use std::ops::Bound;
 
-/// Converts the bounds `start` and `end` of a range into two indices. The range begins at the first
-/// index, and ends before the second index. `len` is the length of the list. Returns `None` if the
-/// range begins after its end, or if it ends after the end of the list.
+/// Converts the bounds `start` and `end` of a range into two indices: the inclusive start and the
+/// exclusive end of the range. `len` is the length of the list. Returns `None` if the range begins
+/// after its end, or if it ends after the end of the list.
 ///
 /// The two indices satisfy the preconditions of `drain`, `extract_if` and `splice`. Rust's
 /// `slice::range` returns the same indices, and panics in all cases in which this function returns

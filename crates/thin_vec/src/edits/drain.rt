@@ -36,8 +36,8 @@ pub struct Drain<
 
 impl<'a, T: Drop, A: Allocator, G: Growth, H: Holds<Inner = OpenBlock<T, A>>> Drop
     for Drain<'a, T, A, G, H> {
-    // Drops the items that were not yielded. Moves the items after the range down to the start of
-    // the range, and puts the block of the list back into the list.
+    // Drops the items that were not yielded. Moves the items after the drained range down to the
+    // start of this range, and puts the block back into the list.
     #[inline(always)]
     fn drop(self)
         ensures items { self.exit.0.now.items ≡ (H.inner self.entry.holder).front
@@ -49,8 +49,8 @@ impl<'a, T: Drop, A: Allocator, G: Growth, H: Holds<Inner = OpenBlock<T, A>>> Dr
         let Drain { list, holder } = self;
         let mut block = holder.into_inner();
         block.drop_rest();
-        // The list is already empty, but this must be proved, because `close` requires an empty
-        // list. The call is needed only for this proof.
+        // The list is already empty. This call is needed only to prove that, because `close`
+        // requires an empty list.
         list.clear();
         list.close(block);
     }
@@ -81,7 +81,7 @@ impl<T: Drop, A: Allocator, G: Growth> ThinVec<T, A, G> {
         ensures runs_back { DrainsInReverse result }
 
         // After the `Drain` is dropped, the list has the following items, capacity, allocator and
-        // cost.
+        // recorded cost.
         ensures kept { drain_kept result ≡ remove_range self.old.items start end }
         ensures capacity { drain_capacity result ≡ self.old.capacity }
         ensures alloc { drain_alloc result ≡ self.old.alloc }

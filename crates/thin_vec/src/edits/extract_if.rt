@@ -70,9 +70,8 @@ impl<T, F: FnMut(&mut T) -> bool> Test<T> for Picks<F> {
 
 impl<'a, T: Drop, F: Drop, A: Allocator, G: Growth, H: Holds<Inner = Extracting<T, F, A>>> Drop
     for ExtractIf<'a, T, F, A, G, H> {
-    // Closes the gap that the removed items left: the items that were not tested and the items
-    // after the range are moved down. Then puts the block back into the list, and drops the
-    // closure.
+    // Closes the gap that the removed items left, by moving down the items that were not tested and
+    // the items after the range. Then puts the block back into the list, and drops the closure.
     fn drop(self)
         ensures items { self.exit.0.now.items ≡ items_of (H.inner self.entry.holder).block }
         ensures capacity { self.exit.0.now.capacity ≡ (H.inner self.entry.holder).block.capacity }
@@ -82,8 +81,8 @@ impl<'a, T: Drop, F: Drop, A: Allocator, G: Growth, H: Holds<Inner = Extracting<
         let ExtractIf { list, holder } = self;
         let Extracting { block, picks } = holder.into_inner();
         let Picks { pick } = picks;
-        // The list is already empty, but this must be proved, because `close` requires an empty
-        // list. The call is needed only for this proof.
+        // The list is already empty. This call is needed only to prove that, because `close`
+        // requires an empty list.
         list.clear();
         list.close(block);
         drop(pick);
@@ -116,8 +115,9 @@ impl<T: Drop, A: Allocator, G: Growth> ThinVec<T, A, G> {
     /// Returns an iterator that removes the items in the range `start..end` for which `pick`
     /// returns true. The iterator yields the removed items in order.
     ///
-    /// `extract_if` itself does not call `pick`. Calls to `next` test the items of the range in
-    /// order, each with one call to `pick`, which may change the item.
+    /// `extract_if` itself does not call `pick`. Each call to `next` tests items of the range, in
+    /// order, until `pick` returns true for one of them. `pick` is called at most once for each
+    /// item, and may change the item.
     ///
     /// After the `ExtractIf` is dropped, the list holds every item that was not yielded, and has
     /// its old capacity and allocator. Items that were not tested are kept, as with Rust's
@@ -144,8 +144,8 @@ impl<T: Drop, A: Allocator, G: Growth> ThinVec<T, A, G> {
         ensures gone { extract_gone result ≡ 0 }
         ensures callee { extract_callee result ≡ pick }
 
-        // The `ExtractIf` borrows this list, and keeps the capacity, the allocator and the cost of
-        // the list.
+        // The `ExtractIf` borrows this list. It keeps the list's capacity, allocator and recorded
+        // cost.
         ensures same_reference { extract_lender result ≡ self.entry.ghost_name }
         ensures capacity { extract_capacity result ≡ self.old.capacity }
         ensures alloc { extract_alloc result ≡ self.old.alloc }

@@ -76,7 +76,7 @@ impl<T, A: Allocator, G: Growth> ThinVec<T, A, G> {
         ensures cause { IfErr result
             (λ rejected. FailsAtHint G.rule T.row self.new (I.remaining iter) rejected.cause) }
 
-        // In every case. Each item from index `at` onward moves at most twice. If the iterator
+        // In every case, each item from index `at` onward moves at most twice. If the iterator
         // fills the reserved room, each of these items moves at most once.
         ensures taken { HasTaken G.rule T.row self.old self.new
             (2 * (length self.old.items - at)) (I.remaining iter) }
@@ -183,8 +183,8 @@ impl<T: Drop, A: Allocator, G: Growth> ThinVec<T, A, G> {
         iter: I,
         alloc: A,
     ) -> Result<(), SpliceRefused<T, I, A>>
-        // `block` is the block that was taken out of this list. There are items after the range
-        // (`tail`), but no item of the range remains in the block (`rest`).
+        // `block` was taken out of this list. It contains items that follow the removed range
+        // (`tail`), but no item of the range itself (`rest`).
         requires some { 0 < length block.tail }
         requires empty { self.old.items ≡ [] }
         requires none { block.rest ≡ [] }
@@ -195,7 +195,7 @@ impl<T: Drop, A: Allocator, G: Growth> ThinVec<T, A, G> {
         requires can_next { I.can_next iter }
         requires finite { IsFinite (I.remaining iter) }
 
-        // The clauses of `Splice::finish` follow from this clause.
+        // All clauses of `Splice::finish` follow from this clause.
         ensures { IsFinished I.next_gives I.can_next I.remaining G.rule T.row block self.old.alloc
             iter self.new result }
     {
@@ -223,16 +223,16 @@ impl<T: Drop, A: Allocator, G: Growth> ThinVec<T, A, G> {
         }
     }
 
-    // Puts `block` back into the list, and then appends the items of `iter`, as `extend` does. No
-    // item may follow the removed range.
+    // Puts `block` back into the list, and then appends the items of `iter`, as `extend` does. The
+    // block must not contain any item after the removed range.
     pub(crate) fn finish_at_end<I: Iterator<Item = T>>(
         &mut self,
         block: OpenBlock<T, A>,
         iter: I,
         alloc: A,
     ) -> Result<(), SpliceRefused<T, I, A>>
-        // `block` is the block that was taken out of this list. There are no items after the range
-        // (`tail`), and no item of the range remains in the block (`rest`).
+        // `block` was taken out of this list. It contains no item that follows the removed range
+        // (`tail`), and no item of the range itself (`rest`).
         requires no_tail { block.tail ≡ [] }
         requires within { reach block ≤ block.capacity }
         requires empty { self.old.items ≡ [] }
@@ -244,7 +244,7 @@ impl<T: Drop, A: Allocator, G: Growth> ThinVec<T, A, G> {
         requires can_next { I.can_next iter }
         requires finite { IsFinite (I.remaining iter) }
 
-        // The clauses of `Splice::finish` follow from this clause.
+        // All clauses of `Splice::finish` follow from this clause.
         ensures { IsFinished I.next_gives I.can_next I.remaining G.rule T.row block self.old.alloc
             iter self.new result }
     {
@@ -273,8 +273,8 @@ impl<T: Drop, A: Allocator, G: Growth> ThinVec<T, A, G> {
 struct Drawn<T, I, A: Allocator> {
     /// The items, in order.
     held: Vec<T, A>,
-    /// The item that the iterator yielded directly after the items in `held`, and for which the
-    /// vector has no room. If the iterator has ended, `in_hand` is `None`.
+    /// The item that the iterator yielded directly after the items in `held`. The vector has no
+    /// room for this item. If the iterator has ended, `in_hand` is `None`.
     in_hand: Option<T>,
     /// The rest of the iterator: it yields the items that have not been taken yet.
     rest: I,

@@ -1,13 +1,14 @@
 //! The trait `Holds`, through which `Drain`, `ExtractIf` and `Splice` own the block of a list.
 //!
-//! Each of these structs has a field with a `&mut` to the list, and a field with the block of the
+//! Each of these structs has one field for a `&mut` to the list, and one field for the block of the
 //! list. The block contains a raw pointer. If a struct declares one field with a raw pointer and
 //! another field with a `&mut`, the contract of its `drop` cannot describe the value behind the
-//! `&mut` after the call. So the type of the field with the block is a type parameter with the
-//! bound `Holds`, which hides the raw pointer.
+//! `&mut` after the call. So the type of the field for the block is a type parameter with the bound
+//! `Holds`, which hides the raw pointer.
 ghost use Rattle.std.specs.Prelude.{◌≡◌};
 
-/// A type whose values each hold one inner value, and can be converted into it.
+/// A type whose values each hold one inner value. A value of such a type can be converted into its
+/// inner value.
 pub trait Holds {
     /// The type of the inner value.
     type Inner;

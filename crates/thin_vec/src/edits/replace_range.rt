@@ -1,4 +1,4 @@
-//! The method `replace_range`, which replaces the items of a range with clones of other items. If
+//! The method `replace_range`, which replaces the items of a range with clones of given items. If
 //! the call fails, the list keeps its old items.
 ghost use Rattle.std.specs.Prelude.{◌≡◌, ◌+◌, ◌-◌, ◌*◌, ◌==◌, ◌<◌, ◌≤◌, ◌++◌, All, IfErr, IsOk, OnErr, OnOk, drop, if◌then◌else◌, length, take};
 ghost use Rattle.std.specs.List.{replace_range};
@@ -19,15 +19,15 @@ impl<T: Clone, A: Allocator, G: Growth> ThinVec<T, A, G> {
     /// This method is our own: neither Rust's `Vec` nor the Rust crate thin-vec has it.
     ///
     /// Making a clone can fail, and in this case the list must keep its old items. So the clones
-    /// are made in other slots, and the old items are dropped only after the last clone is made.
+    /// are made in empty slots, and the old items are dropped only after the last clone is made.
     /// That is why the call needs a capacity of at least `self.len() + items.len()`, even if the
     /// range is longer than `items`.
     ///
-    /// The clones that will fill the slots of the range are made at the end of the list. If `items`
-    /// is longer than the range, the other clones are made in a gap directly after the range. On
-    /// success, each item after the range moves at most once, and each clone at the end of the list
-    /// moves into the range. On failure, each item after the range moves at most three times: once
-    /// when the gap is made, and twice while the gap is closed.
+    /// The clones that will fill the slots of the range are made directly after the last item of
+    /// the list. If `items` is longer than the range, the other clones are made in a gap directly
+    /// after the range. On success, each item after the range moves at most once, and each clone
+    /// after the last item moves into the range. On failure, each item after the range moves at
+    /// most three times: once when the gap is made, and twice while the gap is closed.
     ///
     /// # Errors
     ///
@@ -122,8 +122,9 @@ impl<T: Clone, A: Allocator, G: Growth> ThinVec<T, A, G> {
         Ok(())
     }
 
-    // Inserts clones of `items` before the item at index `at`. The list does not grow. If a clone
-    // fails, the clones that were already made are dropped, and the list has its old items.
+    // Inserts clones of `items` before the item at index `at`. The list must have room for the
+    // clones. If a clone fails, the clones that were already made are dropped, and the list has its
+    // old items.
     fn insert_clones_reserved(&mut self, at: usize, items: &[T]) -> Result<(), ThinVecError>
         requires in_bounds { at ≤ length self.old.items }
         requires room { HasRoomFor self.old (length items.now) }

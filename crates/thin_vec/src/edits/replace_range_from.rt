@@ -1,5 +1,5 @@
 //! The methods `replace_range_from_copies` and `replace_range_from_list`. They replace the items of
-//! a range with copies of other items, or with the items of another list. If a call fails, nothing
+//! a range with copies of given items, or with the items of another list. If a call fails, nothing
 //! changes.
 ghost use Rattle.std.specs.Prelude.{◌≡◌, ◌+◌, ◌-◌, ◌==◌, ◌<◌, ◌≤◌, ◌++◌, [], IsOk, OnErr, OnOk, drop, if◌then◌else◌, length, take};
 ghost use Rattle.std.specs.List.{replace_range};
@@ -20,9 +20,9 @@ impl<T: Copy, A: Allocator, G: Growth> ThinVec<T, A, G> {
     ///
     /// This method is our own: neither Rust's `Vec` nor the Rust crate thin-vec has it.
     ///
-    /// Copying cannot fail. So the old items are dropped before the new items are copied, and the
-    /// call needs room for only `items.len() - (end - start)` more items. If this number is 0 or
-    /// less, the call cannot fail. Each item after the range moves at most once.
+    /// Copying an item cannot fail. So the old items are dropped before the new items are copied,
+    /// and the call needs room for only `items.len() - (end - start)` more items. If this number is
+    /// 0 or less, the call cannot fail. Each item after the range moves at most once.
     ///
     /// # Errors
     ///
@@ -92,9 +92,9 @@ impl<T: Drop, A: Allocator, G: Growth> ThinVec<T, A, G> {
     ///
     /// This method is our own: neither Rust's `Vec` nor the Rust crate thin-vec has it.
     ///
-    /// Moving cannot fail. So the old items are dropped before the new items are moved, and the
-    /// call needs room for only `other.len() - (end - start)` more items. If this number is 0 or
-    /// less, the call cannot fail. Each item after the range moves at most once.
+    /// Moving an item cannot fail. So the old items are dropped before the new items are moved, and
+    /// the call needs room for only `other.len() - (end - start)` more items. If this number is 0
+    /// or less, the call cannot fail. Each item after the range moves at most once.
     ///
     /// # Errors
     ///
@@ -168,9 +168,9 @@ impl<T: Drop, A: Allocator, G: Growth> ThinVec<T, A, G> {
         self.close(block);
     }
 
-    // Takes the block out of the list, and drops the items `start..end`, whose slots become a gap
-    // of empty slots. If the gap has fewer than `count` slots, the items after the gap are moved up
-    // until it has `count` slots. After the call, the list is empty and has no block.
+    // Takes the block out of the list, and drops the items `start..end`. Their slots become a gap
+    // of empty slots. If this gap has fewer than `count` slots, it is widened to `count` slots, by
+    // moving up the items after it. After the call, the list is empty and has no block.
     fn open_range(&mut self, start: usize, end: usize, count: usize) -> OpenBlock<T, A>
         requires start_le_end { start ≤ end }
         requires in_bounds { end ≤ length self.old.items }

@@ -61,7 +61,7 @@ impl<T, A: Allocator, G: Growth> ThinVec<T, A, G> {
         ensures iter { splice_iter result ≡ iter }
 
         // The `Splice` owns the items before the range and the items after the range. It keeps the
-        // capacity, the allocator and the cost of the list.
+        // list's capacity, allocator and recorded cost.
         ensures front { (splice_block result).front ≡ take start self.old.items }
         ensures tail { (splice_block result).tail ≡ drop end self.old.items }
         ensures capacity { (splice_block result).capacity ≡ self.old.capacity }
@@ -221,8 +221,8 @@ impl<
         let Splice { list, holder, iter } = self;
         let mut block = holder.into_inner();
         block.drop_rest();
-        // The list is already empty, but this must be proved, because `close` requires an empty
-        // list. The call is needed only for this proof.
+        // The list is already empty. This call is needed only to prove that, because `close`
+        // requires an empty list.
         list.clear();
         let answer = if block.has_tail() {
             list.finish_before_tail(block, iter, alloc)
@@ -230,7 +230,7 @@ impl<
             list.finish_at_end(block, iter, alloc)
         };
         // This call is needed only for the proof: the contract of `len` says that the list
-        // satisfies `IsWithin`.
+        // satisfies `IsWithin`, which limits its length and its capacity.
         let _len = list.len();
         answer
     }

@@ -34,8 +34,8 @@ impl<T, A: Allocator, G: Growth> ThinVec<T, A, G> {
         ensures err { OnErr result (self.new ≡ self.old) }
         ensures other_err { OnErr result (other.new ≡ other.old) }
 
-        // In every case. The call changes the capacity exactly as `reserve(other.len())` does, and
-        // fails in the same cases.
+        // In every case, the call changes the capacity exactly as `reserve(other.len())` would, and
+        // it fails if and only if `reserve(other.len())` would fail.
         ensures reserves { Reserves G.rule T.row (length other.old.items) self.old self.new result }
         ensures keeps { Keeps T.row self.old self.new }
         ensures other_within { IsWithin T.row other.old × IsWithin T.row other.new }

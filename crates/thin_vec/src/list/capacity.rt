@@ -1,5 +1,5 @@
-//! The methods that reserve room in a list. Only `capacity_for` calls the growth rule, and only
-//! `grow_to` grows a list.
+//! The methods that reserve room in a list. Every growth of a list goes through `grow_to`, and
+//! every call of the growth rule through `capacity_for`.
 ghost use Rattle.std.specs.Prelude.{◌≡◌, ◌+◌, ◌<◌, ◌≤◌, [], IfErr, IfOk, IfSome, IsErrOf, IsFalse, IsOk, IsTrue, None, OnErr, OnOk, Some, length};
 ghost use Rattle.thin_block.specs.Capacity.{Fits};
 ghost use Rattle.thin_block.specs.Cost.{growing};
@@ -26,7 +26,8 @@ impl<T, A: Allocator, G: Growth> ThinVec<T, A, G> {
     ///
     /// Fails only if there is not enough room. On failure, the list is unchanged.
     ///
-    /// - `CapacityOverflow`: the growth rule chooses no capacity, because it would be too large.
+    /// - `CapacityOverflow`: the growth rule chooses no capacity, because the new capacity would be
+    ///   too large.
     /// - `OutOfMemory`: the allocator failed.
     ///
     /// A capacity is too large if it exceeds `isize::MAX`, or if its block would take more than
@@ -104,7 +105,7 @@ impl<T, A: Allocator, G: Growth> ThinVec<T, A, G> {
         requires within { IsWithin T.row self.old }
 
         // The call succeeds if `capacity` is 0, and fails with `CapacityOverflow` if `capacity` is
-        // too large. Any other failure is `OutOfMemory`.
+        // too large. The cause of every other failure is `OutOfMemory`.
         ensures succeeds_empty { capacity ≡ 0 → IsOk result }
         ensures overflow { exact_capacity T.row 0 capacity ≡ None
             → IsErrOf result ThinVecError.CapacityOverflow }
@@ -207,8 +208,8 @@ impl<T, A: Allocator, G: Growth> ThinVec<T, A, G> {
     }
 
     // Returns the capacity that the growth rule chooses for `additional` more items, or `None` if
-    // the rule chooses none. The list must have too little room for these items. No other function
-    // of the list calls the growth rule.
+    // the rule chooses none. The list must have too little room for these items. Every call of the
+    // growth rule goes through this function.
     #[tactic(auto, using(thin_block::proofs::CapacityLemmas::ruled))]
     fn capacity_for(&self, additional: usize) -> Option<usize>
         requires more { self.now.capacity < length self.now.items + additional }
@@ -223,9 +224,9 @@ impl<T, A: Allocator, G: Growth> ThinVec<T, A, G> {
         }
     }
 
-    // Grows the list to the capacity `cap`. No other function grows a list. This function is
-    // inlined, and so is `Block::grow`. So growing a new list needs no test for an old block at run
-    // time.
+    // Grows the list to the capacity `cap`. Every growth of a list goes through this function. Both
+    // this function and `Block::grow` are inlined, so growing a new list needs no test for an old
+    // block at run time.
     #[inline(always)]
     pub(crate) fn grow_to(&mut self, cap: usize) -> Result<(), ThinVecError>
         requires larger { self.old.capacity < cap }
@@ -252,10 +253,10 @@ impl<T, A: Allocator, G: Growth> ThinVec<T, A, G> {
         self.block.grow(&self.alloc, cap)
     }
 
-    // Makes an empty list whose capacity is exactly `capacity`. `fits` must return true for
-    // `capacity`. If `capacity` is 0, the list has no block. Every method that makes a list with an
-    // exact capacity calls this function. The only exception is `from_iter`, which calls
-    // `reserve_first`.
+    // Makes an empty list whose capacity is exactly `capacity`. The function `fits` must return
+    // true for `capacity`, which means that a block of this capacity is not too large. If
+    // `capacity` is 0, the list has no block. Every method that makes a list with an exact capacity
+    // calls this function. The only exception is `from_iter`, which calls `reserve_first`.
     pub(crate) fn with_fitting_capacity(
         alloc: A,
         capacity: usize,

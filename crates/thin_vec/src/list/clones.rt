@@ -46,8 +46,8 @@ impl<T: Clone, A: Allocator, G: Growth> ThinVec<T, A, G> {
         ensures err_cost { OnErr result ((self.new ≡ self.old)
             ⊎ CostsUpToClone T.is_infallible items.now self.old self.new) }
 
-        // In every case. The call changes the capacity exactly as `reserve(items.len())` does, and
-        // fails with `CapacityOverflow` in the same cases.
+        // In every case, the call changes the capacity exactly as `reserve(items.len())` would. It
+        // fails with `CapacityOverflow` if and only if `reserve(items.len())` would.
         ensures reserves { Reserves G.rule T.row (length items.now) self.old self.new result }
         ensures keeps { Keeps T.row self.old self.new }
     {
@@ -83,7 +83,8 @@ impl<T: Clone, A: Allocator, G: Growth> ThinVec<T, A, G> {
     }
 
     // Makes a list of clones of `items`, in order. The list uses the allocator `alloc`. The
-    // capacity of the list is exactly the number of items. `fits` must return true for this number.
+    // capacity of the list is exactly the number of items. The function `fits` must return true for
+    // this number, which means that a block of this capacity is not too large.
     pub(crate) fn from_fitting_slice(
         alloc: A,
         items: &[T],
@@ -212,8 +213,8 @@ impl<T: Clone, A: Allocator, G: Growth> ThinVec<T, A, G> {
             ⊎ CostsUpToClone T.is_infallible (slice_range self.old.items start end)
             self.old self.new) }
 
-        // In every case. The call changes the capacity exactly as `reserve(end - start)` does, and
-        // fails with `CapacityOverflow` in the same cases.
+        // In every case, the call changes the capacity exactly as `reserve(end - start)` would. It
+        // fails with `CapacityOverflow` if and only if `reserve(end - start)` would.
         ensures reserves { Reserves G.rule T.row (end - start) self.old self.new result }
         ensures keeps { Keeps T.row self.old self.new }
     {
@@ -263,7 +264,7 @@ impl<T: Clone, A: Allocator, G: Growth> ThinVec<T, A, G> {
 
     // Appends clones of the items `start..end` of the list, in order, until a clone fails. Returns
     // the number of clones that were made. The list must have room for all these clones. The stored
-    // length is updated after each clone, because the items are read from the same list.
+    // length is updated after each clone, because the items to clone are read from the list itself.
     fn push_clones_within(&mut self, start: usize, end: usize) -> usize
         requires start_le_end { start ≤ end }
         requires in_bounds { end ≤ length self.old.items }

@@ -34,8 +34,8 @@ impl<T: Copy, A: Allocator, G: Growth> ThinVec<T, A, G> {
         // On failure, the list is unchanged.
         ensures err { OnErr result (self.new ≡ self.old) }
 
-        // In every case. The call changes the capacity exactly as `reserve(items.len())` does, and
-        // fails in the same cases.
+        // In every case, the call changes the capacity exactly as `reserve(items.len())` would, and
+        // it fails if and only if `reserve(items.len())` would fail.
         ensures reserves { Reserves G.rule T.row (length items.now) self.old self.new result }
         ensures keeps { Keeps T.row self.old self.new }
     {

@@ -1,4 +1,4 @@
-//! The methods that add the items of an iterator to a list.
+//! The methods `extend` and `from_iter`, which move the items of an iterator into a list.
 ghost use Rattle.std.specs.Prelude.{◌≡◌, ◌+◌, ◌-◌, ◌<◌, ◌≤◌, List, ◌++◌, IfErr, IfOk, IsOk, IsSome, MatchOption, None, OnErr, OnOk, OnSome, length};
 ghost use Rattle.std.specs.Iterator.Runs.{SomeRun, WholeRun};
 ghost use Rattle.std.specs.Iterator.{Drains, IsFinite, YieldsThen, size};
@@ -137,8 +137,8 @@ impl<T, A: Allocator, G: Growth> ThinVec<T, A, G> {
     }
 
     // Moves items of `iter` into the spare capacity until the list is full or `iter` ends. If the
-    // list is full, takes one more item from `iter`. Returns the iterator, and this last item if
-    // there is one.
+    // list is full, takes one more item from `iter`. Returns two values: the iterator, and this
+    // further item if there is one.
     fn extend_reserved<I: Iterator<Item = T>>(&mut self, iter: I) -> (I, Option<T>)
         requires can_next { I.can_next iter }
         requires finite { IsFinite (I.remaining iter) }
@@ -152,7 +152,8 @@ impl<T, A: Allocator, G: Growth> ThinVec<T, A, G> {
         } }
 
         // If the call returns an item, the list is full, and `next` may be called on the returned
-        // iterator. This iterator can yield fewer items than `iter` before the call.
+        // iterator. The greatest number of items that this iterator can still yield is smaller than
+        // before the call.
         ensures full { OnSome result.1 (length self.new.items ≡ self.new.capacity) }
         ensures rest { OnSome result.1 (I.can_next result.0 × IsFinite (I.remaining result.0)) }
         ensures nearer { OnSome result.1

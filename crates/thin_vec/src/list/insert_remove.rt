@@ -15,7 +15,7 @@ use thin_block::{Growth, ThinVecError};
 impl<T, A: Allocator, G: Growth> ThinVec<T, A, G> {
     ghost use Rattle.thin_vec.specs.ThinVec.{HasRoomFor, IsWithin, capacity_for};
 
-    /// Inserts `value`, which the list then owns, at `index`. Each item from this index onward
+    /// Inserts `value` at `index`. The list then owns `value`. Each item from this index onward
     /// moves to the next higher index. `index` must be at most the length. If there is no spare
     /// capacity, the list first grows to the capacity that the growth rule chooses.
     ///
@@ -40,8 +40,8 @@ impl<T, A: Allocator, G: Growth> ThinVec<T, A, G> {
         ensures err { OnErr result (self.new ≡ self.old) }
         ensures value_returned { IfErr result (λ error. error.value ≡ value) }
 
-        // In every case. The call changes the capacity exactly as `reserve(1)` does, and fails in
-        // the same cases.
+        // In every case, the call changes the capacity exactly as `reserve(1)` would, and it fails
+        // if and only if `reserve(1)` would fail.
         ensures reserves { Reserves G.rule T.row 1 self.old self.new (causes result) }
         ensures keeps { Keeps T.row self.old self.new }
     {
@@ -52,7 +52,7 @@ impl<T, A: Allocator, G: Growth> ThinVec<T, A, G> {
         Ok(())
     }
 
-    /// Inserts `value`, which the list then owns, at `index`. Each item from this index onward
+    /// Inserts `value` at `index`. The list then owns `value`. Each item from this index onward
     /// moves to the next higher index. `index` must be at most the length. The list must already
     /// have room for one more item; `reserve(1)` makes such room. So the list does not grow, and
     /// the call cannot fail.
@@ -71,8 +71,8 @@ impl<T, A: Allocator, G: Growth> ThinVec<T, A, G> {
         self.block.put_and_store(index, value, len + 1);
     }
 
-    /// Appends `value`, which the list then owns, and returns a mutable reference to `value` in the
-    /// list. Writing through the reference changes the item of the list. If there is no spare
+    /// Appends `value`, and returns a mutable reference to `value` in the list. The list then owns
+    /// `value`. Writing through the reference changes the item of the list. If there is no spare
     /// capacity, the list first grows to the capacity that the growth rule chooses.
     ///
     /// Rust's `Vec` has a method of this name, but the Rust crate thin-vec does not.
@@ -107,11 +107,11 @@ impl<T, A: Allocator, G: Growth> ThinVec<T, A, G> {
         Ok(&mut self[len])
     }
 
-    /// Inserts `value`, which the list then owns, at `index`, and returns a mutable reference to
-    /// `value` in the list. Each item from this index onward moves to the next higher index.
-    /// `index` must be at most the length. Writing through the reference changes the item of the
-    /// list. If there is no spare capacity, the list first grows to the capacity that the growth
-    /// rule chooses.
+    /// Inserts `value` at `index`, and returns a mutable reference to `value` in the list. The list
+    /// then owns `value`. Writing through the reference changes the item of the list. Each item
+    /// from this index onward moves to the next higher index. `index` must be at most the length.
+    /// If there is no spare capacity, the list first grows to the capacity that the growth rule
+    /// chooses.
     ///
     /// Rust's `Vec` has a method of this name, but the Rust crate thin-vec does not.
     ///

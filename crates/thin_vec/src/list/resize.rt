@@ -49,8 +49,9 @@ impl<T: Clone, A: Allocator, G: Growth> ThinVec<T, A, G> {
         ensures err_cost { OnErr result ((self.new ≡ self.old) ⊎ CostsUpToClone T.is_infallible
             (replicate (len - length self.old.items - 1) value) self.old self.new) }
 
-        // In every case. The call changes the capacity exactly as a call to `reserve` with the
-        // number of new items does, and fails with `CapacityOverflow` in the same cases.
+        // Let `n` be the number of new items. In every case, the call changes the capacity exactly
+        // as `reserve(n)` would. It fails with `CapacityOverflow` if and only if `reserve(n)`
+        // would.
         ensures reserves { Reserves G.rule T.row (len - length self.old.items) self.old self.new
             result }
         ensures keeps { Keeps T.row self.old self.new }
@@ -160,8 +161,8 @@ impl<T: Drop, A: Allocator, G: Growth> ThinVec<T, A, G> {
         // On failure, the list is unchanged.
         ensures err { OnErr result (self.new ≡ self.old) }
 
-        // In every case. The call changes the capacity exactly as a call to `reserve` with the
-        // number of new items does, and fails in the same cases.
+        // Let `n` be the number of new items. In every case, the call changes the capacity exactly
+        // as `reserve(n)` would, and it fails if and only if `reserve(n)` would fail.
         ensures reserves { Reserves G.rule T.row (len - length self.old.items) self.old self.new
             result }
         ensures keeps { Keeps T.row self.old self.new }

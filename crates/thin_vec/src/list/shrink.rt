@@ -10,8 +10,8 @@ use thin_block::{Block, Growth, ThinVecError};
 impl<T, A: Allocator, G: Growth> ThinVec<T, A, G> {
     ghost use Rattle.thin_vec.specs.ThinVec.{IsWithin, cost_shrunk, cost_shrunk_to};
 
-    /// Shrinks the capacity to `min_capacity`, or to the length if the length is greater. If the
-    /// capacity is already that small, nothing changes. If the new capacity is 0, the block is
+    /// Shrinks the capacity to `min_capacity`, or to the length if the length is greater. If this
+    /// would not reduce the capacity, nothing changes. If the new capacity is 0, the block is
     /// freed, and the `cost` of the list in contracts becomes 0.
     ///
     /// Rust's `Vec` has a method of this name, but the Rust crate thin-vec does not.

@@ -20,8 +20,8 @@ pub(crate) trait PairTest<T> {
     /// removed, the state after the call, and both items after the call.
     ghost tests: { Self → T → T → Bool → Self → T → T → Type 0 };
 
-    /// Holds if a test in this state can be called with any two items. Each call preserves this
-    /// property.
+    /// Holds for a state in which the test can be called with any two items. The state after such a
+    /// call has the same property.
     ghost ready: { Self → Type 0 };
 
     /// Returns whether the item `later` is removed. `kept` is the last item that was kept before
@@ -151,8 +151,8 @@ impl<T: Drop, A: Allocator> OpenBlock<T, A> {
 
     // Tests the remaining items, in order, up to the first item that is removed. Drops that item,
     // and appends the items before it to the kept items. At least two items must remain before the
-    // call. The first remaining item is taken out of the block before its test, because the block
-    // cannot lend this item and the last kept item at the same time: there are empty slots between
+    // call. The first remaining item is taken out of the block before its test. The block cannot
+    // lend this item and the last kept item at the same time, because there are empty slots between
     // the two.
     fn dedup_two<J: PairTest<T>>(&mut self, test: &mut J)
         requires some { 0 < length self.old.front }

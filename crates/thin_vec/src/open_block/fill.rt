@@ -16,7 +16,7 @@ use thin_block::{Block, Growth};
 
 impl<T, A: Allocator> OpenBlock<T, A> {
     // Moves items of `iter` into the gap of empty slots, until the gap is full or `iter` returns
-    // `None`. The field `end` of the result is the number of items before the gap after the call.
+    // `None`. The field `end` of the result is the new number of items before the gap.
     pub(crate) fn fill<I: Iterator<Item = T>>(&mut self, iter: I) -> Filled<I>
         requires can_next { I.can_next iter }
         requires finite { IsFinite (I.remaining iter) }

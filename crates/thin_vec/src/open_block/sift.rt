@@ -21,8 +21,8 @@ pub(crate) trait Test<T> {
     /// the call.
     ghost tests: { Self → T → Bool → Self → T → Type 0 };
 
-    /// Holds if a test in this state can be called with any item. Each call preserves this
-    /// property.
+    /// Holds for a state in which the test can be called with any item. The state after such a call
+    /// has the same property.
     ghost ready: { Self → Type 0 };
 
     /// Returns whether `item` is kept.
@@ -127,8 +127,8 @@ impl<T, A: Allocator> OpenBlock<T, A> {
     }
 
     // Returns whether at least two items remain. There must be a gap, so `rest_end` is not 0, and
-    // the subtraction cannot overflow. The comparison is written in this form so that
-    // `rest_end - 1` can stay in a register during a loop.
+    // `rest_end - 1` cannot overflow. The code compares with `rest_end - 1` because this number can
+    // stay in a register during a loop.
     pub(crate) fn has_two(&self) -> bool
         requires gap { 0 < self.now.gap }
         ensures value { IsTrue result ↔ (1 < length self.now.rest) }
@@ -193,7 +193,7 @@ impl<T, A: Allocator> OpenBlock<T, A> {
     }
 
     // Does the same as `advance`, for a block with empty slots after the kept items and at least
-    // two remaining items. The first two items are tested before the loop, so that no counter is
+    // two remaining items. The first two items are tested before the loop. So no loop counter is
     // needed if fewer than two items are kept before a removal.
     fn advance_two<J: Test<T>>(&mut self, test: &mut J) -> bool
         requires two { 1 < length self.old.rest }

@@ -1,6 +1,6 @@
--- `forget` removes the oldest changes of an editor, and keeps at most `count` changes. Of the texts
--- that the changes could restore before the call, the kept changes restore the first `count` texts,
--- or all if there were fewer.
+-- `forget` removes the oldest changes of an editor, so that at most `count` changes remain. This
+-- proof shows that repeated calls to `undo` then restore the first `count` of the texts that they
+-- would have restored before the call to `forget`.
 use Rattle.std.proofs.Common.{◌≡◌, ℕ, ◌-◌, ap, arith, drop, length, rules, sym, take, ◌∙◌}
 use Rattle.std.proofs.lemmas.List.{take_all}
 use Rattle.text_editor.proofs.ChangesLemmas.{AllFit-drop, length-texts_of, texts_of-drop}
