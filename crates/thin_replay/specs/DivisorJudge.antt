@@ -39,9 +39,9 @@ judging = record {
   take = λ judge x. (chooses judge x, written judge x, counted judge);
 }
 
--- `SpellsJudge divisor stride added judge` holds if the texts `divisor`, `stride` and `added` spell
--- the numbers in the fields of `judge` with the same names, and the judge has not made any decision
--- yet.
+-- `SpellsJudge divisor stride added judge` holds if each of the texts `divisor`, `stride` and
+-- `added` spells the number in the field of `judge` that has the same name, and `judge` has not
+-- made any decision yet.
 pub record SpellsJudge (divisor stride added : List ℕ) (judge : DivisorJudge) : Type 0 where
   pub divisor_is : Spells divisor judge.divisor
   pub stride_is : Spells stride judge.stride

@@ -283,9 +283,9 @@ impl<T: Sample, G: Ruled> Case<T, G> {
         );
     }
 
-    /// Checks the list from which a call moves all items to another list. On success, this list
-    /// must be empty and keep its capacity. On failure, it must be unchanged. `shape` and `first`
-    /// describe the list before the call.
+    /// Checks a list after a call that moves all its items to another list. On success, the list
+    /// must be empty and keep its capacity. On failure, it must be unchanged. Before the call, the
+    /// list had the shape `shape`, and its items were made from `first` and the following numbers.
     pub fn assert_moved_from<R: Abort>(
         &self,
         rt: &R,

@@ -7,7 +7,7 @@ use crate::sweep::Call;
 use std::process::Abort;
 use thin_testing::Ruled;
 
-// Test items are made from numbers. The first item of the second list is made from this number.
+// Each test item is made from a number. The first item of the second list is made from this number.
 const FRESH: u64 = 80_000;
 
 /// A test that calls `append` with a second list of various lengths. Each length is tried without

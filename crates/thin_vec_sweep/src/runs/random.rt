@@ -122,7 +122,7 @@ fn are_alike<'a, T: Numbered<Lender<'a>>, G: Ruled, J: Judge<T> + From<u64>>(
 }
 
 // Executes up to 30 random commands, and records them in `done`. Returns `true` if `ThinVec` and
-// the model agree on all commands and all blocks are freed at the end.
+// the model agree on every command, and all blocks have been freed at the end.
 fn runs_alike<'a, T: Numbered<Lender<'a>>, G: Ruled, J: Judge<T> + From<u64>>(
     alloc: Lender<'a>,
     seed: u64,
@@ -136,7 +136,7 @@ fn runs_alike<'a, T: Numbered<Lender<'a>>, G: Ruled, J: Judge<T> + From<u64>>(
 }
 
 /// Executes the random commands that `seed` determines, and records them in `done`. Asserts that
-/// `ThinVec` and the model agree on all commands, and that all blocks are freed at the end.
+/// `ThinVec` and the model agree on every command, and that all blocks have been freed at the end.
 pub fn assert_alike<'a, T: Numbered<Lender<'a>>, G: Ruled, J: Judge<T> + From<u64>, R: Abort>(
     rt: &R,
     alloc: Lender<'a>,
