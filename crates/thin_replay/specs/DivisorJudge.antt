@@ -23,8 +23,9 @@ written judge x = (x + judge.added) % 2 ^ 64
 abbrev pub chooses : DivisorJudge → ℕ → Bool
 chooses judge x = number_for judge x % judge.divisor == 0
 
--- `judging` consists of one function for each method of the trait `Judge`. Each function says what
--- the method returns, and what the method writes to the items.
+-- `judging` specifies how `DivisorJudge` implements the trait `Judge`. For each method, it contains
+-- a function that says what the method returns, what it writes to the items, and how the judge
+-- changes.
 abbrev pub judging : Judging ℕ DivisorJudge
 judging = record {
   look = λ judge x. (chooses judge x, counted judge);

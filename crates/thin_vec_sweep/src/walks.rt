@@ -84,9 +84,9 @@ impl Remaining {
         }
     }
 
-    /// Removes from the range the item that the next step must yield, and returns the number from
-    /// which this item was made. The step is from the back if `is_back` is true. `numbers` contains
-    /// the number of each item.
+    /// Removes the index of the item that the next step must yield, and returns the number from
+    /// which this item was made. Returns `None` if no item remains. The step is from the back if
+    /// `is_back` is true. `numbers` contains the number of each item.
     pub fn take(&mut self, is_back: bool, numbers: &[u64]) -> Option<u64> {
         if self.start >= self.end {
             return None;

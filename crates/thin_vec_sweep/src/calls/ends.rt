@@ -58,8 +58,8 @@ impl<T: Sample, G: Ruled> Call<T, G> for PushMut {
 }
 
 // Checks the result of `push_mut` or `insert_mut`. If the call succeeded, the test has replaced the
-// added item in the list, and has kept it in `hand`. So `hand` must be the item that was passed to
-// the call. If the call failed, it must have returned this item.
+// added item in the list, and `hand` must be the replaced item. If the call failed, it must have
+// returned the item.
 fn lent<T: Sample, G: Ruled, R: Abort>(
     rt: &R,
     case: &mut Case<T, G>,

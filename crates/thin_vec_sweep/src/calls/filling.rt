@@ -133,8 +133,8 @@ pub fn coming<R: Abort>(
     numbers
 }
 
-/// Asserts that the numbers of calls to `next` and `size_hint` of the iterator are the numbers that
-/// `ending` specifies.
+/// Asserts that the iterator's `next` and `size_hint` were called exactly as many times as `ending`
+/// specifies.
 pub fn assert_iterator_calls<T: Sample, G: Ruled, R: Abort>(
     rt: &R,
     case: &Case<T, G>,

@@ -96,8 +96,8 @@ fn moved_up<R: Abort>(rt: &R, global: Global, count: usize, pattern: usize) -> V
 }
 
 /// A test that calls `pop_if`. The closure owns a new item, and swaps it with the last item of the
-/// list. The old last item is then dropped together with the closure. The closure returns `true` in
-/// one test case, and `false` in the other.
+/// list. The old last item is then dropped together with the closure. There are two test cases: the
+/// closure returns `true` in one of them, and `false` in the other.
 pub struct PopIf {}
 
 impl<T: Sample, G: Ruled> Call<T, G> for PopIf {

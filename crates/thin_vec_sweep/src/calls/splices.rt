@@ -94,8 +94,8 @@ impl Plan {
     }
 }
 
-// Returns the number of the walk in the test case `number`, on a list of at most 6 items. A walk is
-// a sequence of calls to `next` and `next_back`.
+// A walk is a sequence of calls to `next` and `next_back`. Returns the number of the walk in the
+// test case `number`, on a list of at most 6 items.
 fn few_steps(number: usize) -> usize {
     let crossed = SHORT_WALKS.saturating_mul(FILLS);
     match number.checked_sub(crossed) {

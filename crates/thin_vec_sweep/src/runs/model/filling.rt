@@ -1,6 +1,6 @@
-//! How the model, a program that specifies the commands, executes the commands `Splice` and
-//! `Extend`. The model treats an `Extend` as a splice at the end of the list, without calls to
-//! `next` and `next_back`.
+//! The commands `Splice` and `Extend` in the model. The model is a program that specifies the
+//! commands. It treats an `Extend` as a splice at the end of the list, without calls to `next` and
+//! `next_back`.
 use super::{Model, walked};
 use crate::runs::orders::{Kind, Order};
 use crate::runs::samples::{Numbered, samples};

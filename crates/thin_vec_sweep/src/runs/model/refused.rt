@@ -1,6 +1,6 @@
-//! What a command does in the model if an allocation request is refused: which items and which
-//! capacity the list then has, and what the reply is. The model is a program that specifies the
-//! commands.
+//! The model is a program that specifies the commands. This file specifies what a command does if
+//! one of its allocation requests is refused: the items and the capacity of the list after the
+//! command, and the reply.
 use super::Model;
 use crate::runs::orders::{Kind, Order};
 use crate::runs::samples::{Numbered, samples};
