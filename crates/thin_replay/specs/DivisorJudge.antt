@@ -10,7 +10,7 @@ use Rattle.thin_replay.specs.declared.divisor_judge.DivisorJudge.{DivisorJudge}
 abbrev pub number_for : DivisorJudge → ℕ → ℕ
 number_for judge x = (x + judge.offset) % 2 ^ 64
 
--- `counted judge` is the judge after it has made one more decision.
+-- `counted judge` is the state of `judge` after one more decision.
 abbrev pub counted : DivisorJudge → DivisorJudge
 counted judge = record judge { offset = (judge.offset + judge.stride) % 2 ^ 64 }
 

@@ -68,7 +68,8 @@ pub fn some_steps(count: usize, number: usize) -> usize {
     }
 }
 
-/// The items that remain after some steps from the front and from the back, as a range of indices.
+/// The range of the indices of the items that remain after some steps from the front and from the
+/// back.
 #[derive(Drop)]
 pub struct Remaining {
     start: usize,

@@ -1,5 +1,5 @@
-//! The runner executes a command on a `ThinVec`, a model executes the same command, and the two
-//! results are compared. The model is a simple program that specifies the commands.
+//! Compares the runner with the model. The runner executes a command on a `ThinVec`, and the model,
+//! a simple program that specifies the commands, executes the same command.
 use crate::runs::model::Model;
 use crate::runs::orders::{Order, command_of};
 use crate::runs::samples::{Lender, Numbered};
