@@ -1,5 +1,6 @@
--- These lemmas say that a run of a single command has exactly one reply, and that `Headline`, the
--- main theorem of `thin_runner`, holds for this reply.
+-- A run executes a list of commands, and produces one reply for each command. These lemmas state
+-- that a run of a single command has exactly one reply, and that the main theorem of `thin_runner`,
+-- which is called `Headline`, holds for this reply.
 use Rattle.std.proofs.Common.{◌≡◌, List, [], ◌∷◌, ◌++◌, Option, Some, ap, arith, length, length-append, refl, subst, sym, ◌∙◌}
 use Rattle.std.specs.Option.{option_to_list}
 use Rattle.thin_vec.specs.ThinVec.{Thin}
@@ -15,8 +16,8 @@ alone : {X : Type 0} (front : List X) (x : X) → length (front ++ x ∷ []) ≡
 alone [] x one = refl
 alone (y ∷ front) x one = absurd (omega (arith, length-append front (x ∷ [])))
 
--- This module assumes that `commands` consists of the single command `command`, that there are no
--- replies before the run, and that the main theorem `Headline` holds for the run.
+-- This module assumes that `commands` consists of the single command `command`, that the list of
+-- replies was empty before the run, and that the main theorem `Headline` holds for the run.
 module _ {T A G J : Type 0} (here : Setting T A J) (old new : Thin T A)
     (command : Command T A G) (commands : List (Command T A G)) (before after : List (Reply T A G))
     (one : commands ≡ command ∷ []) (none : before ≡ [])
@@ -28,15 +29,17 @@ module _ {T A G J : Type 0} (here : Setting T A J) (old new : Thin T A)
   has_one (reply ∷ []) run = refl
   has_one (reply ∷ more ∷ replies) run = absurd run.1.1
 
-  -- The list of replies has exactly one item after the run.
+  -- After the run of the single command, the list of all replies, `after`, contains exactly one
+  -- reply.
   pub one_reply : length after ≡ 1
   one_reply =
       ap length (headline.appended ∙ ap (λ (l : List (Reply T A G)). l ++ headline.replies) none)
       ∙ has_one headline.replies
       (subst (λ cs. Runs here old cs headline.replies new) one headline.allowed)
 
-  -- Suppose that popping from `after`, the list of replies after the run, returns `reply`. Then the
-  -- main theorem `Headline` holds for the single command with the single reply `reply`.
+  -- Let `after` be the list of replies after the run, and suppose that popping its last item yields
+  -- `reply`. Then the main theorem `Headline` holds for the single command with the single reply
+  -- `reply`.
   pub headline-one : (left : List (Reply T A G)) (popped : Option (Reply T A G))
       (reply : Reply T A G) → after ≡ left ++ option_to_list popped → popped ≡ Some reply
       → Headline here old (command ∷ []) [] (reply ∷ []) new

@@ -1,5 +1,5 @@
--- These lemmas are about words that are parsed one by one. The relation `R` relates each word to
--- the value that the word is parsed as.
+-- These lemmas are about words that are parsed one by one. The relation `R` holds between a word
+-- and the value that parsing this word yields.
 use Rattle.std.proofs.Common.{ℕ, ◌+◌, ◌<◌, ◌≤◌, List, [], ◌∷◌, ◌++◌, get_or, length, subst, take}
 use Rattle.std.proofs.lemmas.List.{take_all, take_more}
 use Rattle.std.specs.List.{AllZip}
@@ -14,16 +14,17 @@ module _ {X Y : Type 0} (R : X → Y → Type 0) where
   zip-push [] (b ∷ ys) x y all one = absurd all
   zip-push (a ∷ xs) [] x y all one = absurd all
 
-  -- If `R` relates the first `i` items of `xs` to the items of `ys`, and relates the item of `xs`
-  -- at the index `i` to `y`, then `R` relates the first `i + 1` items of `xs` to the items of
-  -- `ys ++ y ∷ []`.
+  -- Suppose that `R` relates the first `i` items of `xs` to the items of `ys` one by one, and
+  -- relates the item of `xs` at index `i` to `y`. Then `R` relates the first `i + 1` items of `xs`
+  -- to the items of `ys ++ y ∷ []` one by one.
   pub zip-next : (xs : List X) (i : ℕ) (d : X) (ys : List Y) (y : Y) → i < length xs
       → AllZip R (take i xs) ys → R (get_or xs i d) y → AllZip R (take (i + 1) xs) (ys ++ y ∷ [])
   zip-next xs i d ys y within all one =
       rw (take_more xs i d within) (zip-push (take i xs) ys (get_or xs i d) y all one)
 
-  -- If `n` is at least the length of `xs`, and `R` relates the items of `take n xs` to the items of
-  -- `ys`, then `R` relates the items of `xs` to the items of `ys`.
+  -- Suppose that `n` is at least the length of `xs`, and that `R` relates the items of `take n xs`
+  -- to the items of `ys` one by one. Then `R` relates the items of `xs` to the items of `ys` one by
+  -- one.
   pub zip-all : (xs : List X) (n : ℕ) (ys : List Y) → length xs ≤ n → AllZip R (take n xs) ys
       → AllZip R xs ys
   zip-all xs n ys past all = subst (λ l. AllZip R l ys) (take_all n xs past) all

@@ -10,7 +10,7 @@ use Rattle.thin_replay.specs.declared.divisor_judge.DivisorJudge.{DivisorJudge}
 abbrev pub number_for : DivisorJudge → ℕ → ℕ
 number_for judge x = (x + judge.offset) % 2 ^ 64
 
--- `counted judge` is the judge after it has made one more decision.
+-- `counted judge` is the state of `judge` after one more decision.
 abbrev pub counted : DivisorJudge → DivisorJudge
 counted judge = record judge { offset = (judge.offset + judge.stride) % 2 ^ 64 }
 
@@ -23,8 +23,9 @@ written judge x = (x + judge.added) % 2 ^ 64
 abbrev pub chooses : DivisorJudge → ℕ → Bool
 chooses judge x = number_for judge x % judge.divisor == 0
 
--- `judging` consists of one function for each method of the trait `Judge`. Each function says what
--- the method returns, and what the method writes to the items.
+-- `judging` specifies how `DivisorJudge` implements the trait `Judge`. For each method, it contains
+-- a function that says what the method returns, what it writes to the items, and how the judge
+-- changes.
 abbrev pub judging : Judging ℕ DivisorJudge
 judging = record {
   look = λ judge x. (chooses judge x, counted judge);
@@ -39,9 +40,9 @@ judging = record {
   take = λ judge x. (chooses judge x, written judge x, counted judge);
 }
 
--- `SpellsJudge divisor stride added judge` holds if the texts `divisor`, `stride` and `added` spell
--- the numbers in the fields of `judge` with the same names, and the judge has not made any decision
--- yet.
+-- `SpellsJudge divisor stride added judge` holds if each of the texts `divisor`, `stride` and
+-- `added` spells the number in the field of `judge` that has the same name, and `judge` has not
+-- made any decision yet.
 pub record SpellsJudge (divisor stride added : List ℕ) (judge : DivisorJudge) : Type 0 where
   pub divisor_is : Spells divisor judge.divisor
   pub stride_is : Spells stride judge.stride

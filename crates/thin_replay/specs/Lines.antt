@@ -19,9 +19,9 @@ use Rattle.thin_replay.specs.declared.line.Line.TheVariants.{Carry, Help, New}
 abbrev pub BeginsForm : Words → List ℕ → ℕ → Type 0
 BeginsForm words name count = (count ≤ length words) × (word words 0 ≡ name)
 
--- `Says words command` holds if the words have the form of the command, and spell the numbers,
--- items and steps of the command. If the command needs a judge to decide about items, the words for
--- the judge may be arbitrary.
+-- `Says words command` holds if the words have the form of a line with the command `command`, and
+-- spell the arguments of this command. If the command needs a judge to decide about items, the
+-- words for the judge may be arbitrary.
 abbrev pub Says : {A G : Type 0} → Words → Command ℕ A G → Type 0
 Says words (Push item) = HasForm words (codes "push") 2 × Spells (word words 1) item
 Says words Pop = HasForm words (codes "pop") 1
@@ -103,8 +103,9 @@ IsFilter name command = ⊥
 abbrev pub IsCall : Words → Call → Type 0
 IsCall words call = Says words call.command × SaysJudge words call.command call.judge
 
--- `IsLine words line` holds if the words describe the line. The line `Help` is described by the
--- word `help`, the line `New` by the word `new`, and any other line by the words of its call.
+-- `IsLine words line` holds if the words describe the line. The word `help` describes the line
+-- `Help`, and the word `new` describes the line `New`. Any other line contains a call, and the
+-- words must describe this call.
 abbrev pub IsLine : Words → Line → Type 0
 IsLine words Help = HasForm words (codes "help") 1
 IsLine words New = HasForm words (codes "new") 1

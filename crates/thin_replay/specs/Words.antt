@@ -1,5 +1,5 @@
--- This file defines the meaning of the words of a line. A word stands for a number, for an item, or
--- for steps of an iterator.
+-- This file defines the meaning of the words of a line. A word that is not the name of a command
+-- stands for a number, for an item, or for steps, which are calls to `next` or `next_back`.
 use Rattle.std.specs.Prelude.{◌≡◌, ℕ, ◌⊎◌, List, [], codes, length, slice_index_or}
 use Rattle.std.specs.Borrow.{Bor}
 use Rattle.std.specs.List.{AllZip}
@@ -7,11 +7,11 @@ use Rattle.std.specs.Str.Parse.{IsNumeral, digits_value, without_leading_plus}
 use Rattle.thin_runner.specs.declared.command.Step.{Step}
 use Rattle.thin_runner.specs.declared.command.Step.TheVariants.{Back, Front}
 
--- `Words` is the type of the words of a line. A value of this type is the contents of a `&[&str]`.
+-- `Words` is the type of the words of a line. It describes the contents of a `&[&str]`.
 abbrev pub Words : Type 0
 Words = List (Bor (List ℕ))
 
--- `word words i` is the text of the word at the index `i`. It is the empty text if there is no such
+-- `word words i` is the text of the word at index `i`. It is the empty text if there is no such
 -- word.
 abbrev pub word : Words → ℕ → List ℕ
 word words i = (slice_index_or words i (record { ref_ptr = (0, 0); now = [] })).now

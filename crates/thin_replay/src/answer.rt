@@ -7,8 +7,8 @@ use thin_runner::command::Reply;
 use thin_runner::hinted::Hinted;
 use thin_vec::{ThinVec, ThinVecError};
 
-/// Writes the text of `help`: first the forms that a line can have, and then notes that explain the
-/// words in capitals.
+/// Writes the text that the line `help` prints: first the forms that a line can have, and then
+/// notes that explain the words in capitals in these forms.
 pub fn write_help(out: &mut impl Write) -> io::Result<()> {
     for form in &FORMS {
         writeln!(out, "{form}")?;

@@ -14,7 +14,7 @@ use crate::line_error::LineError;
 use std::alloc::Global;
 use thin_runner::command::Command;
 
-/// A command and its judge, which decides about items in place of a closure. If the command needs
+/// A command and a judge. The judge decides about items in place of a closure. If the command needs
 /// no judge, `judge` may have any value.
 #[derive(Drop)]
 pub struct Call {
@@ -28,8 +28,8 @@ impl Call {
 
     /// Parses the words of a line as a command. If the command needs a judge to decide about items,
     /// parses the judge, too. Returns `None` if the words do not have the form of a command. Fails
-    /// if they have this form but one of them cannot be parsed, or if there is no memory for the
-    /// command.
+    /// if they have this form but one of them cannot be parsed, or if there is not enough memory
+    /// for the command.
     pub fn parse(alloc: Global, words: &[&str]) -> Result<Option<Call>, LineError>
         ensures says { IfOk result (λ found. IfSome found (IsCall words.now)) }
     {

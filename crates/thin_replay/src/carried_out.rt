@@ -10,8 +10,8 @@ use thin_runner::runner::run;
 use thin_vec::{Growth, ThinVec, ThinVecError};
 
 /// Carries out a command with the function `run`, and returns the reply to the command. Fails with
-/// `OutOfMemory` if there is no memory for the command or the reply. On failure, the list is
-/// unchanged.
+/// `OutOfMemory` if there is not enough memory for the vector of the command or for the vector of
+/// the reply. On failure, the list is unchanged.
 pub fn carry_out<T: Clone + Eq, A: Allocator + Copy, G: Growth, J: Judge<T>>(
     alloc: A,
     list: &mut ThinVec<T, A, G>,

@@ -74,7 +74,7 @@ impl DivisorJudge {
         self.number(item) % self.divisor == 0
     }
 
-    // Adds `added` to the item.
+    // Adds `added` to the item, modulo 2^64.
     fn write(&self, item: &mut u64)
         ensures written { item.new ≡ written self.now item.old }
     {

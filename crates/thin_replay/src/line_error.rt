@@ -1,9 +1,9 @@
-//! The errors that are reported for wrong lines of the input.
+//! The errors that are reported for invalid lines of the input.
 
 use std::alloc::AllocError;
 use thiserror::Error;
 
-/// The reason why a line of the input is wrong. The messages contain words in capitals, such as
+/// The reason why a line of the input is invalid. The messages contain words in capitals, such as
 /// `INDEX`, from the forms that `help` prints.
 #[derive(Debug, Drop, Error)]
 pub enum LineError {
@@ -24,7 +24,7 @@ pub enum LineError {
     /// The word for the steps is not `-`, and contains a letter other than `f` and `b`.
     #[error("STEPS is neither `-` nor a word of the letters `f` and `b`")]
     BadSteps,
-    /// There is no memory for the parsed line.
+    /// There is not enough memory for the parsed line.
     #[error("out of memory")]
     Memory(#[from(alloc)] AllocError),
 }

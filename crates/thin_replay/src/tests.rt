@@ -1,10 +1,10 @@
-//! Tests of the error messages for wrong lines of the input.
+//! Tests of the error messages for invalid lines of the input.
 
 use crate::line::Line;
 use crate::read_lines;
 use std::test::Fail;
 
-// Wrong lines of the input, each with its error message.
+// Invalid lines of the input, each with its error message.
 static WRONG: [(&str, &str); 9] = [
     (
         "pus 3",

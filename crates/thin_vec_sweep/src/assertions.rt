@@ -67,9 +67,9 @@ pub fn assert_same_items<T: Sample, R: Abort>(rt: &R, at: &At, items: &[T], numb
     assert_same(rt, at, "first item that differs", difference, None);
 }
 
-/// Asserts that exactly `items` items have not been dropped, if the ledger counts items of type
-/// `T`. Also checks the number of allocated blocks: one for each item if items own blocks, plus one
-/// for the list if `capacity` is not 0.
+/// If the ledger counts items of type `T`, asserts that exactly `items` items have not been
+/// dropped. Also asserts that the number of allocated blocks is correct: one block for each item if
+/// items own blocks, plus one block for the list if `capacity` is not 0.
 pub fn assert_live<T: Sample, R: Abort>(
     rt: &R,
     at: &At,

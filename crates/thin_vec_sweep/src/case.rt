@@ -105,25 +105,25 @@ impl<T: Sample, G: Ruled> Case<T, G> {
         fitting::<T>(want.max(self.capacity))
     }
 
-    /// Returns whether the call must be skipped because a list of this capacity would take too much
-    /// memory, and stores the result in `is_left_out`. A call whose first request is refused takes
-    /// no memory, so it is not skipped.
+    /// Determines whether the call must be skipped because a list of this capacity would take too
+    /// much memory. Stores the result in `is_left_out`, and returns it. A call whose first request
+    /// is refused takes no memory, so it is not skipped.
     pub fn is_too_much(&mut self, capacity: Option<usize>) -> bool {
         let is_great = capacity.is_some_and(|capacity| capacity > 1_000_000);
         self.is_left_out = is_great && self.at.refused != 1 && T::LIMIT < isize::MAX as usize;
         self.is_left_out
     }
 
-    /// Returns how many requests of the call can be refused, each in a test case of its own. If the
-    /// call was skipped, this number is 1, because the call takes no memory if its first request is
-    /// refused.
+    /// Returns how many requests of the call are refused in turn, each in its own test case. If the
+    /// call was skipped, this number is 1: the test case that refuses the first request takes no
+    /// memory, so it can still be run.
     pub fn requests_in_turn(&self) -> u64 {
         if self.is_left_out { 1 } else { self.requests }
     }
 
     /// Returns the expected outcome of a call that changes the capacity of the list to `capacity`
-    /// and then clones `clones` items. `None` stands for a capacity overflow. Also updates the
-    /// expected capacity and the expected numbers of requests and clones.
+    /// and then clones `clones` items. If `capacity` is `None`, the capacity overflows. Also
+    /// updates the expected capacity and the expected numbers of requests and clones.
     pub fn growth(&mut self, capacity: Option<usize>, clones: usize) -> Verdict {
         let Some(capacity) = capacity else {
             return Verdict::Overflow;
@@ -283,9 +283,9 @@ impl<T: Sample, G: Ruled> Case<T, G> {
         );
     }
 
-    /// Checks the list from which a call moves all items to another list. On success, this list
-    /// must be empty and keep its capacity. On failure, it must be unchanged. `shape` and `first`
-    /// describe the list before the call.
+    /// Checks a list after a call that moves all its items to another list. On success, the list
+    /// must be empty and keep its capacity. On failure, it must be unchanged. Before the call, the
+    /// list had the shape `shape`, and its items were made from `first` and the following numbers.
     pub fn assert_moved_from<R: Abort>(
         &self,
         rt: &R,

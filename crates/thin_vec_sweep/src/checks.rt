@@ -18,16 +18,19 @@ use std::alloc::Global;
 use std::process::Abort;
 use thin_vec::Doubling;
 
-// Checks the counts of the sweep of `resize` on two empty lists. On the list of capacity 0, adding
-// `k` items makes `k` allocation requests: one for the block, and one for each of the `k - 1`
-// clones. (The last new item is the passed value itself.) For each `k`, there is one case without a
-// refusal, and one case for each refused request, but no more than 50 cases.
+// Checks the counts of a sweep of `resize` on two empty lists: one of capacity 0, and one of
+// capacity 1.
+//
+// If `k` items are added to the list of capacity 0, `resize` makes `k` allocation requests: one for
+// the block, and one for each of the `k - 1` clones. (The last new item is the passed value
+// itself.) For each `k`, there is one test case without a refusal, and one test case for each
+// refused request, but no more than 50 test cases.
 //
 // The tested values of `k` are 0 (twice), 1 to 9, 17, and 100. On the list of capacity 0, there are
-// 2 + (2 + .. + 10) + 18 + 50 = 124 cases. In (1 + .. + 9) + 17 + 49 = 111 of these cases, a
+// 2 + (2 + .. + 10) + 18 + 50 = 124 test cases. In (1 + .. + 9) + 17 + 49 = 111 of these cases, a
 // request is refused. On the list of capacity 1, adding one item makes no request, so there are 123
-// cases, with 110 refusals. Each case makes ten comparisons: one of the return value, seven in
-// `check`, and two in `end`.
+// test cases, with 110 refusals. Each test case makes ten comparisons: one of the return value,
+// seven in `check`, and two in `end`.
 #[test]
 fn small_sweep_runs_each_case(rt: HostRuntime) {
     let ledger = Ledger::new(&rt, rt.alloc());
@@ -48,7 +51,7 @@ fn few<R: Abort>(rt: &R, alloc: Global) -> Scope {
 }
 
 // For each group of calls, the numbers of test cases, of refused requests, and of comparisons on
-// the lists of `few`. If a call is added to a group, only the line of this group changes.
+// the lists that `few` selects. If a call is added to a group, only the line of this group changes.
 const COUNTS: [(u64, u64, u64); 12] = [
     // every_growth
     (6334, 2380, 81767),

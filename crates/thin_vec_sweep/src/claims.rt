@@ -1,5 +1,5 @@
-//! An iterator whose size hint may be wrong. The iterator counts the calls to `next` and of
-//! `size_hint`.
+//! An iterator whose size hint may be wrong. The iterator counts the calls to its methods `next`
+//! and `size_hint`.
 ghost use Rattle.std.specs.Prelude.{◌+◌, length};
 ghost use Rattle.std.specs.Iterator.{at_most};
 
@@ -19,7 +19,7 @@ pub struct Claims<T> {
 
 impl<T> Claims<T> {
     /// Returns an iterator over `items`. The lower bound of its size hint is `lower`. The ledger
-    /// counts each call to `next` and of `size_hint`.
+    /// counts the calls to `next` and `size_hint` of the iterator.
     pub fn new(items: Vec<T>, lower: usize, ledger: &'static Ledger) -> Claims<T> {
         Claims {
             items,

@@ -37,7 +37,8 @@ pub fn number_at(index: usize) -> u64 {
     (index as u64).saturating_add(1)
 }
 
-/// The number of calls of a closure, and the number of calls with a wrong item.
+/// Two counters for a closure: the number of calls to the closure, and the number of calls with a
+/// wrong item.
 pub struct ClosureCalls {
     asked: Cell<usize>,
     wrong: Cell<u64>,

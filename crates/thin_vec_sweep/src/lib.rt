@@ -30,7 +30,7 @@
 //! The file `closures.rt` determines what closures return, and `walks.rt` determines in which order
 //! items are taken from the two ends of an iterator. On lists of at most 6 items, all possibilities
 //! are tried. An iterator that is passed to a call is a `Claims` (`claims.rt`), which counts the
-//! calls of its methods. For a new call, one line of the expected counts in `checks.rt` changes.
+//! calls to its methods. For a new call, one line of the expected counts in `checks.rt` changes.
 //!
 //! To add a growth rule, add an impl of `Ruled` (`thin_testing`) and a test. To add an item type,
 //! add an impl of `Sample` (`samples.rt`) and tests. A `Scope` (`sweep.rt`) says which lists a test

@@ -31,8 +31,9 @@ const MANY: [usize; 2] = [1, 300];
 
 const MOST: [usize; 2] = [1, 100_000];
 
-/// The number of test cases of a call on `k` items, for each `k` from 0 to 6. On a list of at most
-/// 6 items, all these test cases are run, either on the whole list or on each range.
+/// For each `k` from 0 to 6, the number of test cases of a call on `k` items. These items are
+/// either the whole list or a range of the list. On lists of at most 6 items, all these test cases
+/// are run.
 pub type Cases = [usize; 7];
 
 // The number of ranges that are tried on a list of more than 6 items.

@@ -1,9 +1,9 @@
-//! Walks over an iterator. A walk is a sequence of steps, each of which is a call to `next` or of
+//! Walks over an iterator. A walk is a sequence of steps, each of which is a call to `next` or
 //! `next_back`. This file also determines the item that each step must yield.
 use crate::shapes::Cases;
 
-/// The number of walks of at most `k + 1` steps over `k` items, for each `k` from 0 to 6. Each step
-/// takes an item from the front or from the back.
+/// The number of walks of at most `k + 1` steps over `k` items, for each `k` from 0 to 6. A walk is
+/// a sequence of steps, each of which takes an item from the front or from the back.
 pub const WALKS: Cases = [3, 7, 15, 31, 63, 127, 255];
 
 // Four sequences of steps over more than 6 items. Each bit stands for one step: 1 is a step from
@@ -68,7 +68,8 @@ pub fn some_steps(count: usize, number: usize) -> usize {
     }
 }
 
-/// The items that remain after some steps from the front and from the back, as a range of indices.
+/// The range of the indices of the items that remain after some steps from the front and from the
+/// back.
 #[derive(Drop)]
 pub struct Remaining {
     start: usize,
@@ -84,9 +85,9 @@ impl Remaining {
         }
     }
 
-    /// Removes from the range the item that the next step must yield, and returns the number from
-    /// which this item was made. The step is from the back if `is_back` is true. `numbers` contains
-    /// the number of each item.
+    /// Removes the index of the item that the next step must yield, and returns the number from
+    /// which this item was made. Returns `None` if no item remains. The step is from the back if
+    /// `is_back` is true. `numbers` contains the number of each item.
     pub fn take(&mut self, is_back: bool, numbers: &[u64]) -> Option<u64> {
         if self.start >= self.end {
             return None;
@@ -101,7 +102,7 @@ impl Remaining {
         numbers.get(place).copied()
     }
 
-    /// Returns the remaining items, as the numbers from which they were made.
+    /// Returns the numbers from which the remaining items were made.
     pub fn of(self, numbers: &[u64]) -> &[u64] {
         numbers.get(self.start..self.end).unwrap_or(&[])
     }

@@ -33,8 +33,9 @@ pub fn parse(words: &[&str]) -> Result<Option<Call>, LineError>
     }
 }
 
-// Returns the command with the name `name` if its line consists of the name and three words that
-// describe a judge. Otherwise, returns `None`. A judge decides about items in place of a closure.
+// Returns the command with the name `name` if a line with this command consists of the name and
+// three words that describe a judge. Otherwise, returns `None`. A judge decides about items in
+// place of a closure.
 fn filter(name: &str) -> Option<Command<u64>>
     ensures filter { IfSome result (IsFilter name.now) }
 {

@@ -147,9 +147,9 @@ fn become_array<T: Sample, const N: usize, R: Abort>(rt: &R, case: &mut Case<T, 
     }
 }
 
-// Converts `list` to an array of `N` items, and the array back to a list. Returns the list, whether
-// the first conversion succeeded, and the result of the second conversion. If the second conversion
-// failed, `None` is returned instead of the list.
+// Converts `list` to an array of `N` items, and the array back to a list. Returns three values: the
+// resulting list (`None` if the second conversion failed), whether the first conversion succeeded,
+// and the result of the second conversion.
 fn there_and_back<T: Sample, A: Allocator, const N: usize, R: Abort>(
     rt: &R,
     at: &At,

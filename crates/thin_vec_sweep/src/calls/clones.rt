@@ -9,7 +9,8 @@ use std::process::Abort;
 use thin_testing::Ruled;
 use thin_vec::ThinVecError;
 
-// Test items are made from numbers. This is the smallest number from which a new item is made.
+// Each test item is made from a number. For the new items in the tests of `resize` and
+// `resize_with`, this is the smallest number.
 const FRESH: u64 = 80_000;
 
 /// A test that calls `resize` with several new lengths. Some of them are at most the old length,
@@ -78,8 +79,8 @@ impl<T: Sample, G: Ruled> Call<T, G> for ResizeWith {
     }
 }
 
-// Calls `resize_with`. The closure returns the items of `made` from last to first, and
-// `closure_calls` counts the calls of the closure.
+// Calls `resize_with`. The closure returns the items of `made` from last to first, and counts its
+// calls in `closure_calls`.
 fn resize_with<T: Sample, G: Ruled, R: Abort>(
     rt: &R,
     list: &mut List<T, G>,

@@ -10,7 +10,8 @@ use std::process::Abort;
 use thin_testing::{Refusing, Ruled};
 use thin_vec::{Doubling, Rejected, ThinVec, ThinVecError, thin_vec};
 
-// Test items are made from numbers. Each new item is made from this number.
+// Each test item is made from a number. In the test `Repeated`, all items are made from this
+// number.
 const FRESH: u64 = 70_000;
 
 // The allocator of the lists under test. It can refuse one request.

@@ -10,12 +10,13 @@ use std::process::Abort;
 use thin_testing::Ruled;
 use thin_vec::Rejected;
 
-// Test items are made from numbers. The new item is made from this number.
+// Each test item is made from a number. The item that a test adds to a list is made from this
+// number.
 const FRESH: u64 = 70_000;
 
-// Test items are made from numbers. The item that is passed to `push_mut` or `insert_mut` is made
-// from this number. After the call, the test replaces this item with the item that is made from
-// `FRESH`.
+// Each test item is made from a number. The item that is passed to `push_mut` or `insert_mut` is
+// made from this number. After the call, the test replaces this item with the item that is made
+// from `FRESH`.
 const PASSED: u64 = 71_000;
 
 /// A test that calls `push`.
@@ -56,8 +57,8 @@ impl<T: Sample, G: Ruled> Call<T, G> for PushMut {
     }
 }
 
-// Checks the result of `push_mut` or `insert_mut`. If the call succeeded, the test has moved the
-// added item from the list to `hand`, so `hand` must be this item. If the call failed, it must have
+// Checks the result of `push_mut` or `insert_mut`. If the call succeeded, the test has replaced the
+// added item in the list, and `hand` must be the replaced item. If the call failed, it must have
 // returned the item.
 fn lent<T: Sample, G: Ruled, R: Abort>(
     rt: &R,

@@ -14,7 +14,7 @@ use std::process::Abort;
 use thin_testing::Ruled;
 use thin_vec::{Doubling, ThinVec};
 
-// Test items are made from numbers. The first item that an iterator yields is made from this
+// Each test item is made from a number. The first item that an iterator yields is made from this
 // number. Each further item is made from the next lower number.
 const FRESH: u64 = 800_000;
 
@@ -44,11 +44,11 @@ pub struct Ending {
     pub verdict: Verdict,
     /// The number of items that are moved into the list.
     pub placed: usize,
-    /// The number of items that are taken from the iterator but stored in a temporary vector, not
-    /// in the list.
+    /// The number of items that are taken from the iterator and then stored in a temporary vector
+    /// instead of the list.
     pub held: usize,
-    /// The number of items for which no room is found after they are taken from the iterator: 0 or
-    /// 1. Such an item is called an item in hand.
+    /// The number of items in hand: 0 or 1. An item is in hand if it is taken from the iterator,
+    /// but no room is found for it.
     pub in_hand: usize,
     /// The number of times the iterator returns `None`: 0 or 1.
     pub ends: usize,
@@ -92,8 +92,8 @@ impl Ending {
 }
 
 /// Returns the expected outcome of a call that appends `count` items from an iterator. Also appends
-/// the expected items to `case.items`. Because of the size hint, the call first grows the list to
-/// the capacity `hinted`. After this, it grows the list whenever the list is full.
+/// the expected items to `case.items`. The call first makes the capacity of the list equal to
+/// `hinted`, because of the size hint. After this, it grows the list whenever the list is full.
 pub fn fill<T: Sample, G: Ruled, R: Abort>(
     rt: &R,
     case: &mut Case<T, G>,
@@ -117,8 +117,8 @@ pub fn fill<T: Sample, G: Ruled, R: Abort>(
     Ending::done(count)
 }
 
-/// Returns the items that the iterator yields at the positions `before..before + count`, as the
-/// numbers from which they are made.
+/// Returns the numbers from which the iterator's items at the positions `before..before + count`
+/// are made.
 pub fn coming<R: Abort>(
     rt: &R,
     ledger: &'static Ledger,
@@ -133,8 +133,8 @@ pub fn coming<R: Abort>(
     numbers
 }
 
-/// Asserts that `next` and `size_hint` of the iterator were called the number of times that
-/// `ending` specifies.
+/// Asserts that the iterator's `next` and `size_hint` were called exactly as many times as `ending`
+/// specifies.
 pub fn assert_iterator_calls<T: Sample, G: Ruled, R: Abort>(
     rt: &R,
     case: &Case<T, G>,
@@ -247,8 +247,8 @@ fn done<T: Sample, G: Ruled, R: Abort>(rt: &R, case: &Case<T, G>, ending: &Endin
     );
 }
 
-// Returns an iterator whose items are to be appended, the number of these items, and the expected
-// outcome of the call. Returns `None` if the call would need too much memory.
+// Returns three values: an iterator whose items are to be appended, the number of these items, and
+// the expected outcome of the call. Returns `None` if the call would need too much memory.
 fn extension<T: Sample, G: Ruled, R: Abort>(
     rt: &R,
     case: &mut Case<T, G>,
@@ -329,8 +329,8 @@ impl<T: Sample> Call<T, Doubling> for Collect {
     }
 }
 
-// Drops the list under test. Returns an iterator, and the expected outcome of a call that makes a
-// list from this iterator. Returns `None` if the call would need too much memory.
+// Drops the list under test. Returns two values: an iterator, and the expected outcome of a call
+// that makes a list from this iterator. Returns `None` if the call would need too much memory.
 fn collection<T: Sample, R: Abort>(
     rt: &R,
     case: &mut Case<T, Doubling>,

@@ -11,7 +11,8 @@ use std::mem;
 use std::process::Abort;
 use thin_testing::Ruled;
 
-// Test items are made from numbers. The new item is made from this number.
+// Each test item is made from a number. The new item that the closure of `retain_mut` or `pop_if`
+// moves into the list is made from this number.
 const FRESH: u64 = 70_000;
 
 /// A test that calls `retain`. The closure only reads the items.
@@ -38,8 +39,8 @@ impl<T: Sample, G: Ruled> Call<T, G> for Retain {
     }
 }
 
-// Returns the items that remain in a list of `count` items after `retain`, as the numbers from
-// which they were made. `pattern` determines which items the closure keeps.
+// Returns the numbers from which the remaining items were made, after `retain` was called on a list
+// of `count` items. `pattern` determines which items the closure keeps.
 fn kept<R: Abort>(rt: &R, global: Global, count: usize, pattern: usize) -> Vec<u64, Global> {
     let mut left = Vec::new(global);
     for index in 0..count {
@@ -79,9 +80,9 @@ impl<T: Sample, G: Ruled> Call<T, G> for RetainMut {
     }
 }
 
-// Returns the items that remain after the test `RetainMut` on `count` items, as the numbers from
-// which they were made. The closure replaces the first item with a new item, and each later item
-// with the item before it. `pattern` determines which indices are kept.
+// Returns the numbers from which the remaining items were made, after the test `RetainMut` on a
+// list of `count` items. The closure replaces the first item with a new item, and each later item
+// with the item before it. `pattern` determines at which indices an item is kept.
 fn moved_up<R: Abort>(rt: &R, global: Global, count: usize, pattern: usize) -> Vec<u64, Global> {
     let mut left = Vec::new(global);
     let mut number = FRESH;
@@ -95,8 +96,8 @@ fn moved_up<R: Abort>(rt: &R, global: Global, count: usize, pattern: usize) -> V
 }
 
 /// A test that calls `pop_if`. The closure owns a new item, and swaps it with the last item of the
-/// list. The old last item is then dropped together with the closure. The closure returns `true` in
-/// one test case, and `false` in the other.
+/// list. The old last item is then dropped together with the closure. There are two test cases: the
+/// closure returns `true` in one of them, and `false` in the other.
 pub struct PopIf {}
 
 impl<T: Sample, G: Ruled> Call<T, G> for PopIf {
@@ -125,9 +126,9 @@ impl<T: Sample, G: Ruled> Call<T, G> for PopIf {
     }
 }
 
-// Updates the expected items for the test `PopIf`. Replaces the last number in `items`, if there is
-// one, with the number from which the new item is made. If `goes` is true, removes and returns the
-// new number.
+// Updates the expected items for the test `PopIf`. If `items` is not empty, replaces its last
+// number with the number from which the new item is made. If the closure returns `true` (the
+// parameter `goes`), also removes and returns this new number.
 fn popped<R: Abort>(rt: &R, items: &mut Vec<u64, Global>, goes: bool) -> Option<u64> {
     let _last = items.pop()?;
     if goes {
@@ -168,9 +169,9 @@ impl<T: Sample, G: Ruled> Call<T, G> for DedupBy {
     }
 }
 
-// Returns the items that remain after the test `DedupBy` on `count` items, as the numbers from
-// which they were made. The closure swaps each item with the last item that was kept. Then
-// `pattern` determines whether the item at the later index is removed.
+// Returns the numbers from which the remaining items were made, after the test `DedupBy` on a list
+// of `count` items. The closure swaps each item with the last item that was kept. Then `pattern`
+// determines whether the item at the later index is removed.
 fn exchanged<R: Abort>(rt: &R, global: Global, count: usize, pattern: usize) -> Vec<u64, Global> {
     let mut left = Vec::new(global);
     let mut last = number_at(0);
@@ -225,8 +226,8 @@ impl<T: Sample, G: Ruled> Call<T, G> for DedupByKey {
     }
 }
 
-// Returns the items that remain after the test `DedupByKey` on `count` items, as the numbers from
-// which they were made. The first item always remains, and `pattern` determines which later items
+// Returns the numbers from which the remaining items were made, after the test `DedupByKey` on a
+// list of `count` items. The first item always remains, and `pattern` determines which later items
 // remain.
 fn first_kept<R: Abort>(rt: &R, global: Global, count: usize, pattern: usize) -> Vec<u64, Global> {
     let mut left = Vec::new(global);

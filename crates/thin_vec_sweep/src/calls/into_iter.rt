@@ -12,12 +12,13 @@ use std::process::Abort;
 use thin_testing::Ruled;
 use thin_vec::Growth;
 
-// Test items are made from numbers. The new item is made from this number.
+// Each test item is made from a number. The test `IntoIter` replaces an item of the iterator with
+// the item that is made from this number.
 const FRESH: u64 = 70_000;
 
-// Before a test clones the iterator, it calls `next` or `next_back` a certain number of times.
-// Returns how many such numbers are tried. On a list of at most 4 items, they are
-// `0..=length + 2`.
+// Returns how many values of `steps` the test `IntoIterClone` tries. Before the test clones the
+// iterator, it calls `next` or `next_back` `steps` times. On a list of at most 4 items, the values
+// are `0..=length + 2`.
 fn steps(shape: Shape) -> usize {
     shape.indices().saturating_add(2)
 }
@@ -75,8 +76,8 @@ fn remains<T: Sample, A: Allocator, G: Growth, R: Abort>(
     assert_same_items(rt, at, rest.as_slice(), numbers);
 }
 
-// Calls `next` and `next_back` in the order that `walk` specifies, and checks each item that is
-// yielded. Returns the remaining items, as the numbers from which they were made.
+// Calls `next` and `next_back` of `rest` in the order that `walk` specifies, and checks each item
+// that is yielded. Returns the numbers from which the remaining items were made.
 fn step_through<'a, T: Sample, A: Allocator, G: Growth, R: Abort>(
     rt: &R,
     at: &At,

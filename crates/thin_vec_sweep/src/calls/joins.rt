@@ -7,11 +7,11 @@ use crate::sweep::Call;
 use std::process::Abort;
 use thin_testing::Ruled;
 
-// Test items are made from numbers. The first item of the second list is made from this number.
+// Each test item is made from a number. The first item of the second list is made from this number.
 const FRESH: u64 = 80_000;
 
-/// A test that calls `append` with a second list of various lengths. Each length is tried without
-/// spare capacity, and with one empty slot.
+/// A test that calls `append` with a second list of various lengths. For each length, the second
+/// list is tried once without spare capacity, and once with one empty slot.
 pub struct Append {}
 
 impl<T: Sample, G: Ruled> Call<T, G> for Append {

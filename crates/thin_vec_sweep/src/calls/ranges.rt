@@ -1,4 +1,4 @@
-//! Tests of `drain` and `extract_if`, which remove items of a range, and of the function `bounds`.
+//! Tests of the function `bounds`, and of `drain` and `extract_if`, which remove items of a range.
 //! The iterators that `drain` and `extract_if` return are dropped after they have yielded some
 //! items.
 use crate::assertions::{At, assert_same, assert_same_item, assert_same_items};
@@ -34,8 +34,7 @@ impl<T: Sample, G: Ruled> Call<T, G> for Drained {
     }
 }
 
-// Returns the items outside `range` in a list of `length` items, as the numbers from which they
-// were made.
+// Returns the numbers from which the items outside `range` were made, in a list of `length` items.
 fn outside<R: Abort>(rt: &R, global: Global, range: Ranged, length: usize) -> Vec<u64, Global> {
     let mut left = Vec::new(global);
     for index in 0..length {
@@ -79,8 +78,8 @@ fn remains<T: Sample, A: Allocator, G: Growth, R: Abort>(
     assert_same_items(rt, at, drain.as_slice(), numbers);
 }
 
-// Calls `next` and `next_back` in the order that `walk` specifies, and checks each item that is
-// yielded. Returns the remaining items, as the numbers from which they were made.
+// Calls `next` and `next_back` of `drain` in the order that `walk` specifies, and checks each item
+// that is yielded. Returns the numbers from which the remaining items were made.
 fn step_through<'a, T: Sample, A: Allocator, G: Growth, R: Abort>(
     rt: &R,
     at: &At,
@@ -223,9 +222,9 @@ fn extract<T: Sample, A: Allocator, G: Growth, R: Abort>(
 // numbers `n`.
 const BOUNDS: usize = 19;
 
-/// A test that calls `bounds` with each pair of 19 bounds: `Unbounded`, and inclusive and exclusive
-/// bounds at nine numbers. These numbers are 0 to 4, the length, the length plus 1, and the two
-/// greatest values of `usize`.
+/// A test that calls `bounds` with every pair of bounds from a set of 19. The set consists of
+/// `Unbounded`, and of inclusive and exclusive bounds at nine numbers: 0 to 4, the length, the
+/// length plus 1, and the two greatest values of `usize`.
 pub struct Bounds {}
 
 impl<T: Sample, G: Ruled> Call<T, G> for Bounds {
@@ -264,8 +263,8 @@ fn bound(number: usize, length: usize) -> Bound<usize> {
     }
 }
 
-// Returns the expected result of `bounds` for these two bounds and a list of `length` items. The
-// additions may saturate, because no list has `usize::MAX` items.
+// Returns the expected result of `bounds` for the bounds `start` and `end` and a list of `length`
+// items. Each addition may saturate, because no list has `usize::MAX` items.
 fn between(start: Bound<usize>, end: Bound<usize>, length: usize) -> Option<(usize, usize)> {
     let first = match start {
         Bound::Included(place) => place,

@@ -9,7 +9,8 @@ use std::mem;
 use std::process::Abort;
 use thin_testing::Ruled;
 
-// Test items are made from numbers. The new item is made from this number.
+// Each test item is made from a number. The item that a test writes to a list is made from this
+// number.
 const FRESH: u64 = 70_000;
 
 /// A test that calls `len`, `is_empty`, `has_capacity` and `allocator`.
@@ -129,8 +130,8 @@ impl<T: Sample, G: Ruled> Call<T, G> for IndexMut {
     }
 }
 
-/// A test that calls `get_mut` with several indices, some of which are out of bounds. If the call
-/// returns a reference, the test replaces the item at this index.
+/// A test that calls `get_mut` for several indices, one at a time. Some of the indices are out of
+/// bounds. If the call returns a reference, the test replaces the item through this reference.
 pub struct GetMut {}
 
 impl<T: Sample, G: Ruled> Call<T, G> for GetMut {

@@ -8,7 +8,8 @@ use crate::sweep::Call;
 use std::process::Abort;
 use thin_testing::Ruled;
 
-// Test items are made from numbers. The first new item is made from this number.
+// Each test item is made from a number. The first item that a test puts in place of a range is made
+// from this number.
 const FRESH: u64 = 80_000;
 
 // The number of test cases on each range. They differ in the number of new items.

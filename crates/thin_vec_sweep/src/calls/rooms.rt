@@ -7,8 +7,8 @@ use crate::sweep::Call;
 use std::process::Abort;
 use thin_testing::Ruled;
 
-/// A test that calls `reserve` with various numbers of items. Some of them are near the greatest
-/// possible capacity, and one is `usize::MAX`.
+/// A test that calls `reserve` with various numbers of items. Some of these numbers are near the
+/// greatest possible capacity, and one number is `usize::MAX`.
 pub struct Reserve {}
 
 impl<T: Sample, G: Ruled> Call<T, G> for Reserve {
@@ -96,7 +96,7 @@ impl<T: Sample, G: Ruled> Call<T, G> for ShrinkToFit {
     }
 }
 
-// How many of the tried numbers of additional items are very large.
+// The number of test cases in which the number of additional items is very large.
 const GREAT: usize = 6;
 
 // Returns the number of additional items to reserve. The `GREAT` highest values of `argument`

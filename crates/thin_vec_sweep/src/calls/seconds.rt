@@ -60,7 +60,7 @@ impl<T: Sample, G: Ruled> MakesSecond<T, G> for CloneOn {
     }
 }
 
-/// A call of the method `clone` of the trait `Clone`.
+/// A call to the method `clone` of the trait `Clone`.
 pub struct CloneAsTrait {}
 
 impl<T: Sample, G: Ruled> MakesSecond<T, G> for CloneAsTrait {

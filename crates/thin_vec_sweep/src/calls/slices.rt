@@ -10,7 +10,7 @@ use std::process::Abort;
 use thin_testing::Ruled;
 use thin_vec::ThinVecError;
 
-// Test items are made from numbers. The first new item is made from this number.
+// Each test item is made from a number. The first item of the slice is made from this number.
 const FRESH: u64 = 80_000;
 
 /// A call that appends the items of a slice to a list of `T` with the growth rule `G`.
@@ -21,7 +21,7 @@ pub trait AppendsSlice<T: Sample, G: Ruled> {
     /// Whether the call clones each item.
     const CLONES: bool = false;
 
-    /// Whether the call requires that the list has enough spare capacity for all items.
+    /// Whether the call requires the list to have enough spare capacity for all items of the slice.
     const IS_RESERVED: bool = false;
 
     /// Makes the call.

@@ -1,6 +1,6 @@
 //! Tests of `splice`. They take some items of the replaced range from the `Splice`, and then call
-//! `finish`, which moves the new items into the list. The size hint of the new items has a lower
-//! bound that is too small, exact, or too large.
+//! `finish`, which moves the new items into the list. The iterator over the new items has a size
+//! hint whose lower bound is too small, exact, or too large.
 ghost use Rattle.std.specs.Iterator.{IsFinite};
 ghost use Rattle.std.specs.Prelude.{◌≤◌, length};
 ghost use Rattle.thin_vec.specs.Edits.Splice.{SpliceKeeps};
@@ -32,7 +32,8 @@ const SHORT_WALKS: usize = 3;
 
 // The number of test cases on a range, for each length of the range from 0 to 6. Each sequence of
 // at most one call to `next` or `next_back` is combined with each size hint and each number of new
-// items. Each longer sequence is tried once. On an empty range, only 3 test cases make such a call.
+// items. Each longer sequence is tried once. The empty range is an exception: only three of its
+// test cases call `next`, and none of them calls `next_back`.
 const AFTER_STEPS: Cases = [33, 94, 102, 118, 150, 214, 342];
 
 // The number of test cases that take no item before `finish`, for each length of a range from 0 to
@@ -40,7 +41,8 @@ const AFTER_STEPS: Cases = [33, 94, 102, 118, 150, 214, 342];
 const AT_ONCE: Cases = [FILLS; 7];
 
 // Returns the number of test cases for each length of a range. Spare capacity affects only
-// `finish`, so the cases with spare capacity call `finish` without taking an item first.
+// `finish`. So if the list has spare capacity, the test cases call `finish` without taking an item
+// first.
 fn cases(shape: Shape) -> Cases {
     if shape.spare == 0 {
         AFTER_STEPS
@@ -92,8 +94,8 @@ impl Plan {
     }
 }
 
-// Returns the number of the walk in the test case `number`, on a list of at most 6 items. A walk is
-// a sequence of calls to `next` and `next_back`.
+// A walk is a sequence of calls to `next` and `next_back`. Returns the number of the walk in the
+// test case `number`, on a list of at most 6 items.
 fn few_steps(number: usize) -> usize {
     let crossed = SHORT_WALKS.saturating_mul(FILLS);
     match number.checked_sub(crossed) {
@@ -268,8 +270,8 @@ fn splice<T: Sample, A: Allocator, G: Growth, I: Iterator<Item = T>>(
     (walked, splice.finish(alloc))
 }
 
-// Calls `next` and `next_back` in the order that `plan` specifies. Returns the first call that
-// yielded a wrong item, and the number of remaining items.
+// Calls `next` and `next_back` in the order that `plan` specifies. Returns the index of the first
+// call that yielded a wrong item, and the number of remaining items.
 fn walk<T: Sample, A: Allocator, G: Growth, I>(
     splice: &mut Splice<'_, I, T, A, G>,
     plan: &Plan,

@@ -1,6 +1,6 @@
 //! Tests of the commands, each of which describes a call on a list. Random runs must produce every
-//! possible reply to every command, and two runs must have the results that were computed by hand.
-//! Another test checks that each kind of difference from the model is detected.
+//! possible reply to every command, and two other runs must have results that were computed by
+//! hand. Another test checks that each kind of difference from the model is detected.
 use crate::runs::compared::both;
 use crate::runs::judges::{EACH_SECOND, Evens};
 use crate::runs::model::Model;
@@ -119,7 +119,7 @@ fn random_runs_get_each_reply_of_each_command(rt: HostRuntime) {
 }
 
 // Returns an `Order`, which describes a command with plain numbers. The command has no steps (calls
-// of `next` and `next_back`).
+// to `next` and `next_back`).
 const fn plain(kind: Kind, at: usize, to: usize, count: usize, lower: usize, number: u64) -> Order {
     Order {
         kind,
@@ -239,7 +239,7 @@ fn run_under_power_bytes_reaches_states_computed_by_hand(rt: HostRuntime) {
     );
 }
 
-// Executes a command of this kind on an empty list and on `model`. Returns the variant of the
+// Executes a command of the kind `kind` on an empty list and on `model`. Returns the variant of the
 // reply, or `Never` if the two replies differ, or if the list and `model` differ after the command.
 fn form_against_model<'a, R: Abort>(
     rt: &R,

@@ -1,5 +1,5 @@
-//! The runner executes a command on a `ThinVec`, a model executes the same command, and the two
-//! results are compared. The model is a simple program that specifies the commands.
+//! Compares the runner with the model. The runner executes a command on a `ThinVec`, and the model,
+//! a simple program that specifies the commands, executes the same command.
 use crate::runs::model::Model;
 use crate::runs::orders::{Order, command_of};
 use crate::runs::samples::{Lender, Numbered};
@@ -29,8 +29,8 @@ fn has_its_blocks<'a, T: Numbered<Lender<'a>>, G: Ruled>(
 }
 
 // Lets the runner execute a command on a `ThinVec`. The allocator refuses the request with the
-// number `nth`, or no request if `nth` is 0. Returns the reply, divided into its parts, and whether
-// a request was refused.
+// number `nth`, or no request if `nth` is 0. Returns two values: the reply, divided into its parts,
+// and whether a request was refused.
 fn shown_by_runner<'a, T: Numbered<Lender<'a>>, G: Ruled, J: Judge<T>>(
     alloc: Lender<'a>,
     list: &mut ThinVec<T, Lender<'a>, G>,
@@ -47,9 +47,9 @@ fn shown_by_runner<'a, T: Numbered<Lender<'a>>, G: Ruled, J: Judge<T>>(
 }
 
 /// Lets the runner and the model execute the same command. While the runner executes it, the
-/// allocator refuses the request with the number `nth`, or no request if `nth` is 0. Returns the
-/// variant of the reply (`Never` if the runner and the model differ), and the cause if the command
-/// failed.
+/// allocator refuses the request with the number `nth`, or no request if `nth` is 0. Returns two
+/// values: the variant of the reply (or `Never` if the runner and the model differ), and the cause
+/// of the failure, if any.
 pub fn both<'a, T: Numbered<Lender<'a>>, G: Ruled, J: Judge<T>>(
     alloc: Lender<'a>,
     list: &mut ThinVec<T, Lender<'a>, G>,

@@ -1,5 +1,5 @@
-//! Long runs of commands, and a run that fails. These runs are not compared with the model, because
-//! the model would be too slow for long runs.
+//! Long runs of commands, and a run that fails. Unlike random runs, these runs are not compared
+//! with the model, a simple program that would be too slow for long runs.
 use crate::runs::judges::EACH_SECOND;
 use crate::runs::samples::{Lender, put};
 use std::alloc::Global;

@@ -1,5 +1,5 @@
-//! The model: a short and slow program that specifies the commands. The model represents a list as
-//! a `Vec` of its items and a number, the capacity.
+//! The model: a short and slow program that specifies the commands. It represents a list as a `Vec`
+//! of the items and a number that is the capacity.
 mod filling;
 mod refused;
 
@@ -122,8 +122,8 @@ fn stays<T, J: Judge<T>>(judge: &mut J, kind: Kind, item: &mut T) -> bool {
     }
 }
 
-// Returns whether a command of this kind considers `later` a duplicate of `kept`, the last item
-// that was kept.
+// Returns whether a command of the kind `kind` considers `later` a duplicate of `kept`. The item
+// `kept` is the last item that the command kept.
 fn is_same<T: Eq, J: Judge<T>>(judge: &mut J, kind: Kind, later: &mut T, kept: &mut T) -> bool {
     match kind {
         Kind::Dedup => *later == *kept,
@@ -173,7 +173,8 @@ impl<T: Numbered<A>, A: Allocator + Copy, G: Ruled> Model<T, A, G> {
         Ok(out)
     }
 
-    // Makes the capacity at least `want`, and returns whether this succeeded.
+    // Increases the capacity if it is less than `want`. Returns `false` if the capacity overflows,
+    // and `true` otherwise.
     fn make_room(&mut self, want: usize) -> bool {
         if want > self.capacity {
             let capacity = G::expected_capacity(T::SIZE, self.capacity, want);
@@ -242,8 +243,9 @@ impl<T: Numbered<A>, A: Allocator + Copy, G: Ruled> Model<T, A, G> {
         Ok(Shown::with_items(Form::List, None, alloc, copy, capacity))
     }
 
-    // If `asked` contains the kind of a command, asks the judge whether to keep the item. Appends
-    // the item to `answers` if the judge removes it, and to the list otherwise.
+    // If `asked` is `None`, appends the item to the list. Otherwise, `asked` is the kind of the
+    // command, and the judge decides about the item. If the judge removes the item, appends the
+    // item to `answers`. If not, appends it to the list.
     fn sift_one<J: Judge<T>>(
         &mut self,
         asked: Option<Kind>,
@@ -262,8 +264,8 @@ impl<T: Numbered<A>, A: Allocator + Copy, G: Ruled> Model<T, A, G> {
     }
 
     // Asks the judge about the items in order, and removes the items that the judge does not keep.
-    // `ExtractIf` asks only about the items of its range, and stops after it has removed
-    // `order.count` items.
+    // The command `ExtractIf` asks only about the items of its range, and stops after it has
+    // removed `order.count` items.
     fn sift<J: Judge<T>>(
         &mut self,
         alloc: A,
@@ -355,8 +357,8 @@ impl<T: Numbered<A>, A: Allocator + Copy, G: Ruled> Model<T, A, G> {
 
     /// Executes a command on the model, and compares the reply with `given`, the reply of the
     /// runner. If `given` says that a request was refused, `nth` is the number of this request.
-    /// Returns the variant of the reply, or `Never` if the two replies differ, and the cause of a
-    /// failure.
+    /// Returns two values: the variant of the reply (or `Never` if the two replies differ), and the
+    /// cause of the failure, if any.
     pub fn follow<J: Judge<T>>(
         &mut self,
         alloc: A,

@@ -86,7 +86,8 @@ pub struct Order {
     pub number: u64,
 }
 
-/// Returns the steps that `order` describes.
+/// Returns the steps that `order` describes. Each step takes an item from the front or from the
+/// back of a range.
 pub fn steps_of<A: Allocator>(alloc: A, order: Order) -> Result<Vec<Step, A>, AllocError> {
     let mut steps = Vec::new(alloc);
     let mut digits = order.number;

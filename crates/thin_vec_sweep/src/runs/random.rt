@@ -45,8 +45,8 @@ impl Dice {
         }
     }
 
-    // Returns a random number for the request that is to be refused, or 0 if no request is to be
-    // refused. The number is small, because most commands make few requests.
+    // Returns the number of the request that is to be refused, or 0 if no request is to be refused.
+    // The number is random but small, because most commands make few requests.
     fn refused(&mut self) -> u64 {
         let few = self.below(4);
         if self.below(2) == 0 {
@@ -122,7 +122,7 @@ fn are_alike<'a, T: Numbered<Lender<'a>>, G: Ruled, J: Judge<T> + From<u64>>(
 }
 
 // Executes up to 30 random commands, and records them in `done`. Returns `true` if `ThinVec` and
-// the model agree on all commands and all blocks are freed at the end.
+// the model agree on every command, and all blocks have been freed at the end.
 fn runs_alike<'a, T: Numbered<Lender<'a>>, G: Ruled, J: Judge<T> + From<u64>>(
     alloc: Lender<'a>,
     seed: u64,
@@ -136,7 +136,7 @@ fn runs_alike<'a, T: Numbered<Lender<'a>>, G: Ruled, J: Judge<T> + From<u64>>(
 }
 
 /// Executes the random commands that `seed` determines, and records them in `done`. Asserts that
-/// `ThinVec` and the model agree on all commands, and that all blocks are freed at the end.
+/// `ThinVec` and the model agree on every command, and that all blocks have been freed at the end.
 pub fn assert_alike<'a, T: Numbered<Lender<'a>>, G: Ruled, J: Judge<T> + From<u64>, R: Abort>(
     rt: &R,
     alloc: Lender<'a>,
@@ -151,9 +151,9 @@ pub fn assert_alike<'a, T: Numbered<Lender<'a>>, G: Ruled, J: Judge<T> + From<u6
 // there are 100,000 runs in total.
 const RUNS: u64 = 5_000;
 
-// The number of executed commands, the number of commands for which a request was to be refused,
-// and the number of commands for which a request really was refused. The last two numbers differ,
-// because some commands made too few requests.
+// Three counts: the executed commands, the commands in which a request was to be refused, and the
+// commands in which a request was actually refused. The last two counts differ, because some
+// commands did not make the request that was to be refused.
 #[derive(Debug, Drop)]
 struct Tally {
     commands: u64,

@@ -5,13 +5,13 @@ use Rattle.thin_replay.proofs.WordsLemmas.{zip-all, zip-next}
 use Rattle.thin_replay.specs.Words.{Spells}
 use Rattle.thin_replay.proofs.words.items_of.Goals as goal
 
--- The loop invariant holds before the first iteration, because no word has been parsed yet, and
--- there are no items yet.
+-- The loop invariant holds before the first iteration, because no word has been parsed yet, and the
+-- `Vec` is empty.
 pub loop-word-init : goal.loop-word-init
 loop-word-init c = rw c.new-items.ensures.items tt
 
 -- Each iteration preserves the loop invariant, because it parses the next word and pushes the
--- resulting number.
+-- resulting number to the `Vec`.
 pub loop-word-preserved : goal.loop-word-preserved
 loop-word-preserved c =
     rw c.in_ok-push.ensures.items
@@ -19,7 +19,8 @@ loop-word-preserved c =
     (record { ref_ptr = (0, 0); now = [] }) c.loop-word.items.items c.in_ok-item_of.field-0
     c.loop-word-test.true c.loop-word.invariant (search rules))
 
--- After the loop, all words have been parsed. So the items are the numbers that the words spell.
+-- After the loop, all words have been parsed. So the `Vec` contains the numbers that the words
+-- spell.
 pub returns : goal.returns
 returns c = record {
   items = zip-all (λ w n. Spells w.now n) c.args.words.now c.loop-word.word-index

@@ -4,6 +4,7 @@ use Rattle.std.proofs.Common.{take}
 use Rattle.thin_replay.specs.Words.{SpellAll}
 use Rattle.thin_replay.proofs.words.items_of.Given as goal
 
--- The items are the numbers that the words parsed so far spell, in the same order.
+-- For each word that has been parsed so far, the `Vec` contains the number that this word spells,
+-- in the same order.
 abbrev pub invariant-loop-word : goal.invariant-loop-word
 invariant-loop-word l = SpellAll (take l.word-index l.words) l.items.items

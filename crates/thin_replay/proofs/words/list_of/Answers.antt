@@ -5,13 +5,13 @@ use Rattle.thin_replay.proofs.WordsLemmas.{zip-all, zip-next}
 use Rattle.thin_replay.specs.Words.{Spells}
 use Rattle.thin_replay.proofs.words.list_of.Goals as goal
 
--- The loop invariant holds before the first iteration, because no word has been parsed yet, and
--- there are no items yet.
+-- The loop invariant holds before the first iteration, because no word has been parsed yet, and the
+-- `ThinVec` is empty.
 pub loop-word-init : goal.loop-word-init
 loop-word-init c = rw c.new-list.ensures.new.items tt
 
 -- Each iteration preserves the loop invariant, because it parses the next word and pushes the
--- resulting number.
+-- resulting number to the `ThinVec`.
 pub loop-word-preserved : goal.loop-word-preserved
 loop-word-preserved c =
     let grown : c.push.new.self.items ≡ c.loop-word.list.items ++ c.in_ok-item_of.field-0 ∷ [] =
@@ -21,7 +21,8 @@ loop-word-preserved c =
     (record { ref_ptr = (0, 0); now = [] }) c.loop-word.list.items c.in_ok-item_of.field-0
     c.loop-word-test.true c.loop-word.invariant (search rules))
 
--- After the loop, all words have been parsed. So the items are the numbers that the words spell.
+-- After the loop, all words have been parsed. So the `ThinVec` contains the numbers that the words
+-- spell.
 pub returns : goal.returns
 returns c = record {
   items = zip-all (λ w n. Spells w.now n) c.args.words.now c.loop-word.word-index

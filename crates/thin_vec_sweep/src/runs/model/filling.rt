@@ -1,5 +1,6 @@
-//! The commands `Splice` and `Extend` in the model, a program that specifies the commands. The
-//! model treats an `Extend` as a splice at the end of the list, without steps.
+//! The commands `Splice` and `Extend` in the model. The model is a program that specifies the
+//! commands. It treats an `Extend` as a splice at the end of the list, without calls to `next` and
+//! `next_back`.
 use super::{Model, walked};
 use crate::runs::orders::{Kind, Order};
 use crate::runs::samples::{Numbered, samples};
@@ -10,7 +11,7 @@ use thin_vec::ThinVecError;
 
 impl<T: Numbered<A>, A: Allocator + Copy, G: Ruled> Model<T, A, G> {
     // If `order` is an `Extend`, returns it with an empty range at the end of the list, and without
-    // steps. Otherwise, returns `order` unchanged.
+    // steps (calls to `next` and `next_back`). Otherwise, returns `order` unchanged.
     pub(crate) fn placed(&self, order: Order) -> Order {
         let len = self.items.len();
         if order.kind == Kind::Extend {
@@ -27,8 +28,9 @@ impl<T: Numbered<A>, A: Allocator + Copy, G: Ruled> Model<T, A, G> {
 
     // Increases the capacity as a splice does, and returns whether this succeeded. If there are no
     // items after the range, the list grows for the size hint, and then for one new item after
-    // another. If there are items after the range, the list grows only if the new items fill the
-    // range: first for the size hint, and then for all new items at once.
+    // another. If there are items after the range, the list grows only if there are enough new
+    // items to fill the range. In this case, it grows first for the size hint, and then for all new
+    // items at once.
     fn make_rooms(&mut self, order: Order) -> bool {
         let len = self.items.len();
         let gap = order.to.saturating_sub(order.at);
@@ -84,17 +86,17 @@ impl<T: Numbered<A>, A: Allocator + Copy, G: Ruled> Model<T, A, G> {
         self.fill(alloc, order, placed, Some(ThinVecError::CapacityOverflow))
     }
 
-    // Returns whether `given` is a possible reply if a request of the command was refused. The
-    // reply contains the new items that were not moved into the list. An item is in hand if no room
-    // was found after it was taken from the iterator. An item is held back if it was stored in a
-    // temporary vector.
+    // Returns whether `given` is a possible reply to a command whose allocation request was
+    // refused. The reply contains the new items that were not moved into the list. An item is in
+    // hand if it was taken from the iterator, but no room was found for it. An item is held back if
+    // it was stored in a temporary vector.
     //
-    // If there are no items after the range, the reply is possible if no item is held back and one
-    // of two conditions holds: an item is in hand and the list is full, or no item is in hand and
-    // no new item was moved into the list.
+    // If there are no items after the range, then no item may be held back. Moreover, either an
+    // item must be in hand and the list full, or no item is in hand and no new item was moved into
+    // the list.
     //
-    // If there are items after the range, the reply is possible if new items have filled the range
-    // and one of three conditions holds: an item is in hand, no item is held back, or the iterator
+    // If there are items after the range, then the new items must have filled the range. Moreover,
+    // one of three conditions must hold: an item is in hand, no item is held back, or the iterator
     // has yielded all its items.
     fn may_stop(&self, order: Order, given: &Shown<T, A>) -> bool {
         let placed = order.count.saturating_sub(given.items.len());

@@ -1,6 +1,6 @@
-//! What a command does in the model if an allocation request is refused: which items and which
-//! capacity the list then has, and what the reply is. The model is a program that specifies the
-//! commands.
+//! The model is a program that specifies the commands. This file specifies what a command does if
+//! one of its allocation requests is refused: the items and the capacity of the list after the
+//! command, and the reply.
 use super::Model;
 use crate::runs::orders::{Kind, Order};
 use crate::runs::samples::{Numbered, samples};
@@ -9,7 +9,7 @@ use std::alloc::{AllocError, Allocator};
 use thin_testing::Ruled;
 use thin_vec::ThinVecError;
 
-// Returns `Refused` if `Refused` is a possible reply to the command, and `Never` otherwise.
+// Returns `Refused` if the reply to the command can be `Refused`, and `Never` otherwise.
 fn form_of(order: Order) -> Form {
     let may_be = match order.kind {
         Kind::Drain | Kind::Splice => order.steps > 0,
