@@ -1,14 +1,6 @@
 -- This file describes what a block owns in memory, and what a `&` to a block lends. In this file,
 -- `R` is the type of an item, including its layout. An address consists of an allocation `b` and an
 -- offset `o`. No public contract refers to this file.
---     place, places   One slot in memory, and several adjacent slots.
---     frame           A block without its slots.
---     word_of         The type of a word. A word consists of one or more items.
---     way             The right to convert memory for the items of a word into memory for the word.
---     backing         The right to convert the parts of a block back into the memory that was
---                     allocated, and the right to free that memory.
---     block_owns      What a block owns.
---     .._lent         What a `&` to a slot, to several slots, to a header or to a block lends.
 use Rattle.std.specs.Prelude.{◌≡◌, ℕ, zero, suc, ◌+◌, ◌-◌, ◌*◌, List, [], ◌∷◌, length, Bool, true, false, Option}
 use Rattle.std.specs.declared.option.Option.TheVariants.{Some, None}
 use Rattle.std.specs.Int.{div_ceil}
@@ -79,20 +71,20 @@ abbrev pub word_of : Ty → ℕ → Ty
 word_of τ m = ty_struct [] (tcons (ty_array τ m) (tcons (ty_array (ty_int w64) 0) tnil))
 
 -- `words_of R` is `Some (m, k)` if `m` items of the type `R` form one word, and `k` words are as
--- large as the header. It is `None` if the items form no words. It depends only on the size of an
--- item.
+-- large as the header. If the items form no words, `words_of R` is `None`. Its value depends only
+-- on the size of an item.
 abbrev pub words_of : RattleType → Option (ℕ × ℕ)
 words_of R = in_words (size (bare R))
 
--- `asked_for` is the type that the allocator sees: the memory of a block is allocated as memory for
--- one value of this type. If the items form words, this type is an array of words, which the
--- allocator can resize in place. Otherwise it is the type of the whole block.
+-- `asked_for` is the type for which the memory of a block is requested: the allocator provides
+-- memory for one value of this type. If the items form words, this type is an array of words, which
+-- the allocator can resize in place. Otherwise it is the type of the whole block.
 abbrev pub asked_for : Option (ℕ × ℕ) → Ty → ℕ → Ty
 asked_for None τ c = whole_of τ c
 asked_for (Some w) τ c = ty_array (word_of τ w.0) (w.1 + div_ceil c w.0)
 
--- `asked R c` is the type that the allocator sees: a block of `c` slots for items of the type `R`
--- is allocated as memory for one value of this type.
+-- `asked R c` is the type for which the memory of a block is requested: the allocator provides
+-- memory for one value of this type. The block has `c` slots for items of the type `R`.
 abbrev pub asked : RattleType → ℕ → Ty
 asked R c = asked_for (words_of R) (bare R) c
 

@@ -1,9 +1,6 @@
 -- This file describes how memory that holds items becomes memory that holds words. A word is a
 -- value of the struct `Words`, which holds `m` items of the type `T`. The const parameter `M` of
 -- the struct has the value `m`. No public contract refers to this file.
---     run_at, runs_from    The items of one word, and the items of several adjacent words, with the
---                          right to convert their memory into memory for words.
---     words_from           Several adjacent words in memory.
 use Rattle.std.specs.Prelude.{ℕ, ◌+◌, List, [], ◌∷◌, map}
 use base.Fraction.{full_share}
 use base.Fml.{Fml, ftrue, ffalse, fsep}
