@@ -74,8 +74,8 @@ unfolding power_bytes
 powers_of_none s a c w none = let test : (s == 0) ≡ true = grind (arith, nat_tests) in rw test refl
 
 -- If items take at least one byte, `power_bytes` adds the size of the header to the size of `max w
--- (2 * c)` items, and rounds the sum up to a power of two. It chooses the number of items for which
--- that many bytes have room after the header, or `None` if this capacity is too large.
+-- (2 * c)` items, and rounds the sum up to a power of two. It chooses the greatest number of items
+-- that fit into that many bytes together with the header, or `None` if this capacity is too large.
 pub powers_of_some : (s a c w : ℕ) → 0 < s → power_bytes s a c w ≡ fitting s a
     ((least_power (items_offset a + max w (2 * c) * s) - items_offset a) / s)
 unfolding power_bytes
@@ -92,8 +92,8 @@ module _ (s a c w n : ℕ) (some : 0 < s) (e : power_bytes s a c w ≡ Some n) w
   abbrev power : ℕ
   power = least_power (items_offset a + wanted)
 
-  -- The capacity `n` is the number of items for which `power` bytes have room after the header, and
-  -- a block of this capacity is small enough to be allocated.
+  -- The capacity `n` is the greatest number of items that fit into `power` bytes together with the
+  -- header, and a block of this capacity is small enough to be allocated.
   named : IsTrue (fits s a ((power - items_offset a) / s)) × ((power - items_offset a) / s ≡ n)
   named = fitting_is s a ((power - items_offset a) / s) n (sym (powers_of_some s a c w some) ∙ e)
 

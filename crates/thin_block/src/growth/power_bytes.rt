@@ -11,10 +11,10 @@ use crate::sizes::{HEADER, item_size};
 
 /// A growth rule under which each block fills a number of bytes that is a power of two. The rule
 /// computes the size of a block for the required number of items, or for twice the old capacity if
-/// that is greater. It rounds this size up to a power of two. The new capacity is the number of
-/// items for which that many bytes have room after the header. If an allocator rounds requests up
-/// to powers of two, a block then wastes less than the size of one item. For items of size 0, the
-/// rule is the same as `Doubling`.
+/// that is greater. It rounds this size up to a power of two. The new capacity is the greatest
+/// number of items that fit into that many bytes together with the header. If an allocator rounds
+/// requests up to powers of two, a block then wastes less than the size of one item. For items of
+/// size 0, the rule is the same as `Doubling`.
 ///
 /// This rule is modeled on a similar rule that the Rust crate thin-vec has for Gecko.
 pub struct PowerBytes {}

@@ -14,7 +14,8 @@ trait Numbered: Copy + PartialEq + Debug + Drop {
     fn numbered(number: usize) -> Self;
 }
 
-// The modulus is odd. So any two neighboring 8-byte words of a list contain different bytes.
+// An item is a number modulo 251. This modulus is odd, so any two neighboring 8-byte words of a
+// list contain different bytes.
 impl Numbered for u8 {
     fn numbered(number: usize) -> u8 {
         (number % 251) as u8
@@ -122,7 +123,7 @@ fn assert_pushes<T: Numbered, B: Allocator, G: Ruled>(
     assert_same(rt, (list.len() >= 600, refusing.blocks()), (true, 1));
 }
 
-// Changes the capacity of the list to `capacity` with one request to the allocator.
+// Changes the capacity of the list to `capacity` with one request for memory.
 fn make_capacity<T: Drop, A: Allocator, G: Growth>(
     list: &mut ThinVec<T, A, G>,
     capacity: usize,
