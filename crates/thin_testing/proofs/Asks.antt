@@ -1,6 +1,6 @@
--- These lemmas are about a call to `refuses`. A shared reference to the counts of the allocator
--- satisfies the precondition of the call, and the call returns a Boolean. The lemmas assume the
--- laws of the separation logic (`Logic`).
+-- These lemmas are about a call to `refuses`. They show that a shared reference to the counts of
+-- the allocator satisfies the precondition of the call, and that the call returns a Boolean. The
+-- lemmas assume the laws of the separation logic (`Logic`).
 use Rattle.std.proofs.Common.{◌≡◌, ℕ, Bool, List, [], ◌∷◌, refl, ap}
 use seplogic.Ra.Ura.{Ura}
 use mir.Val.{Val, vbool, vptr}

@@ -1,6 +1,6 @@
--- These lemmas are about calls to `granted` and `returned`. A shared reference to the counts of the
--- allocator satisfies the preconditions of both functions, and both functions return the unit
--- value. The lemmas assume the laws of the separation logic (`Logic`).
+-- These lemmas are about calls to `granted` and `returned`. They show that a shared reference to
+-- the counts of the allocator satisfies the preconditions of both functions, and that both
+-- functions return the unit value. The lemmas assume the laws of the separation logic (`Logic`).
 use Rattle.std.proofs.Common.{◌≡◌, ℕ, List, [], ◌∷◌, refl, ap}
 use seplogic.Ra.Ura.{Ura}
 use mir.Val.{Val, vunit, vptr}

@@ -38,9 +38,8 @@ pub fn row_15<A: Allocator + Copy>(alloc: A) -> Outcome {
     Ok(checks)
 }
 
-/// Extends an empty list with an iterator of five items, four times. The lower bound of the
-/// iterator's size hint is 0, 3, 5 or 9. Checks the items and the capacity of the list after each
-/// call.
+/// For each of the lower bounds 0, 3, 5 and 9, extends a new list with an iterator of five items
+/// whose size hint has this lower bound. Checks the items and the capacity of the list.
 pub fn row_24<A: Allocator + Copy>(alloc: A) -> Outcome {
     let mut checks = Checks::new();
     for (lower, capacity) in [(0, 8), (3, 8), (5, 5), (9, 9)] {

@@ -18,7 +18,7 @@ fn put<T: Drop, A: Allocator>(items: &mut Vec<T, A>, item: T) -> Result<(), Thin
 }
 
 // Makes three commands: an insert past the end of the list, a push, and a drain of one item. The
-// drain calls `next` twice, and the second call returns `None`.
+// drain calls `next_back` and then `next`, which returns `None`.
 fn past_the_end<A: Allocator + Copy>(alloc: A) -> Result<Vec<Command<i32, A>, A>, ThinVecError> {
     let mut steps = Vec::new(alloc);
     put(&mut steps, Step::Back)?;
@@ -46,7 +46,7 @@ fn check_replies<A: Allocator>(checks: &mut Checks, replies: &[Reply<i32, A>]) {
 }
 
 /// Checks `run` with three commands: an insert past the end of the list, a push, and a drain of one
-/// item that calls `next` twice.
+/// item. The drain calls `next_back` and then `next`.
 pub fn row_41<A: Allocator + Copy>(alloc: A) -> Outcome {
     let mut checks = Checks::new();
     let mut list: ThinVec<i32, A> = ThinVec::new(alloc);

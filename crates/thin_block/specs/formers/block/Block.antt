@@ -52,14 +52,14 @@ module _ (g : Former {0}) where
   slot_count None n = n
   slot_count (Some a) n = g.count a n
 
-  -- Prepends the values in the slot `o` to a row of `n` values.
+  -- `slot_put X o n t` prepends the values in the slot `o` to the row `t` of `n` values.
   abbrev pub slot_put : (X : Type 0) (o : Option (g.Of X)) (n : Count) → Row X n
       → Row X (slot_count (on_slot (g.shape X) o) n)
   slot_put X None n t = t
   slot_put X (Some y) n t = g.put X y n t
 
-  -- Splits a row of values into a slot and the remaining `n` values. The slot has the shape `a`,
-  -- and contains the first values of the row.
+  -- `slot_get` splits a row of values into a slot and the remaining `n` values. The slot has the
+  -- shape `a`, and contains the first values of the row.
   abbrev pub slot_get : (X : Type 0) (a : Option g.Shape) (n : Count) → Row X (slot_count a n)
       → Option (g.Of X) × Row X n
   slot_get X None n v = (None, v)
@@ -83,8 +83,8 @@ module _ (g : Former {0}) where
   slot_put-get X None n v = refl
   slot_put-get X (Some a) n v = λ i. (Some (g.put-get X a n v i).0, (g.put-get X a n v i).1)
 
-  -- Taking a slot from a row of values and applying the function `h` to all values can be done in
-  -- either order.
+  -- A slot can be taken from a row of values before or after the function `h` is applied to all
+  -- values. The results are equal.
   pub slot_get-map : (X Y : Type 0) (h : X → Y) (a : Option g.Shape) (n : Count)
       (v : Row X (slot_count a n))
       → slot_get Y a n (over h (slot_count a n) v) ≡ (
@@ -180,8 +180,8 @@ module _ (g : Former {0}) (Z : Type 0) where
   length_got X (a ∷ as') n v =
       ap suc (length_got X as' n ((slot g).get X a (list_count (slot g) as' n) v).1)
 
-  -- Splits a row of values into a block and the remaining `n` values. The block has the shape `a`,
-  -- and contains the first values of the row.
+  -- `got` splits a row of values into a block and the remaining `n` values. The block has the shape
+  -- `a`, and contains the first values of the row.
   abbrev pub got : (X : Type 0) (a : Block g.Shape Z) (n : Count)
       → Row X (list_count (slot g) a.slots n) → Block (g.Of X) Z × Row X n
   got X a n v = let r : List (Option (g.Of X)) × Row X n = list_get (slot g) X a.slots n v in
@@ -212,8 +212,8 @@ module _ (g : Former {0}) (Z : Type 0) where
     ((list (slot g)).put-get X a.slots n v i).1,
   )
 
-  -- Taking a block from a row of values and applying the function `h` to all values can be done in
-  -- either order.
+  -- A block can be taken from a row of values before or after the function `h` is applied to all
+  -- values. The results are equal.
   pub got-map : (X Y : Type 0) (h : X → Y) (a : Block g.Shape Z) (n : Count)
       (v : Row X (list_count (slot g) a.slots n))
       → got Y a n (over h (list_count (slot g) a.slots n) v)
