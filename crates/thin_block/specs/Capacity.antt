@@ -13,7 +13,7 @@ use denote.RattleType.{RattleType}
 abbrev pub IsAlign : ℕ → Type 0
 IsAlign a = (w : Width) × (a ≡ bytes w)
 
--- `items_offset a` is the offset in bytes of the first item in a block, if the items have the
+-- `items_offset a` is the offset in bytes of the first item in a block whose items have the
 -- alignment `a`. Two words of 8 bytes, and padding if necessary, precede the first item.
 abbrev pub items_offset : ℕ → ℕ
 items_offset a = max 16 a

@@ -23,8 +23,8 @@ below_power zero = omega arith
 below_power (suc n) = omega (arith, below_power n, pow_more 2 n)
 
 -- Suppose that `p` is a power of two with `p / 2 < max 1 n`. Suppose also that, if `p < n`, then
--- `next` is the least power of two that is at least `n`. Then this least power is `p` if `n <= p`,
--- and `next` otherwise.
+-- `next` is the least power of two that is at least `n`. Then the least power of two that is at
+-- least `n` is `p` if `n <= p`, and `next` otherwise.
 one_step : (b : Bool) (n p next : ℕ) → nat_le n p ≡ b → IsPowerOfTwo p → p / 2 < max 1 n
     → (p < n → IsNextPowerOfTwo n next) → IsNextPowerOfTwo n (if b then p else next)
 one_step true n p next e power half later = (power, leb-true n p e, half)
@@ -101,8 +101,8 @@ module _ (s a c w n : ℕ) (some : 0 < s) (e : power_bytes s a c w ≡ Some n) w
   room : items_offset a + wanted ≤ power
   room = (least_power_is (items_offset a + wanted)).1
 
-  -- The capacity `n` has room for `w` items and is at least `2 * c`. A block of capacity `n` is
-  -- small enough to be allocated.
+  -- The capacity `n` that `power_bytes` chooses is at least `w` and at least `2 * c`, and a block
+  -- of capacity `n` is small enough to be allocated.
   pub powers_grow : IsGrown s a c w n
   powers_grow =
       let more : max w (2 * c) ≤ (power - items_offset a) / s =
@@ -113,8 +113,8 @@ module _ (s a c w n : ℕ) (some : 0 < s) (e : power_bytes s a c w ≡ Some n) w
         fits = subst (λ (k : ℕ). IsTrue (fits s a k)) named.1 named.0;
       }
 
-  -- There is a power of two `p` such that `p` bytes have room for the header and `n` items, but not
-  -- for one more item.
+  -- For the capacity `n` that `power_bytes` chooses, there is a power of two `p` such that `p`
+  -- bytes have room for the header and `n` items, but not for one more item.
   pub powers_filled : FillsPower s a n
   powers_filled =
       let parts = div-add-mod' (power - items_offset a) s in

@@ -38,8 +38,8 @@ pub fn one_and_two<A: Allocator + Copy, J: Judge<u64>>(
 ///
 /// # Errors
 ///
-/// If a command fails, the later commands are still carried out, and `carry_out` returns the cause
-/// of the first failure. If there is not enough memory for the replies, `carry_out` fails and
+/// If a command fails, the commands after it are still carried out, and `carry_out` returns the
+/// cause of the first failure. If there is not enough memory for the replies, `carry_out` fails and
 /// carries out no command.
 pub fn carry_out<T: Clone + Eq, A: Allocator + Copy, G: Growth, J: Judge<T>>(
     alloc: A,

@@ -37,8 +37,7 @@ pub fn keep_tens<A: Allocator, G: Growth>(list: &mut ThinVec<u32, A, G>)
     list.dedup_by_key(|number: &mut u32| *number / 10);
 }
 
-/// Removes each number whose last digit is also the last digit of the last number that was kept
-/// before it.
+/// Removes each number that has the same last digit as the previous kept number.
 pub fn keep_last_digits<A: Allocator, G: Growth>(list: &mut ThinVec<u32, A, G>)
     ensures items { list.new.items ≡ dedup (λ later kept. later % 10 == kept % 10) list.old.items }
     ensures capacity { list.new.capacity ≡ list.old.capacity }

@@ -54,8 +54,8 @@ error_tells R S w cause (Err e) size align passed told = record {
 }
 
 -- Suppose that a call fails with the error `cause`, and that `cause` is `CapacityOverflow` if and
--- only if `b` is `None`. If `a` equals `b`, then the call satisfies `TellsOverflow a`, which says
--- the same about `a`.
+-- only if `b` is `None`. If `a` equals `b`, then `TellsOverflow a` holds: `cause` is
+-- `CapacityOverflow` if and only if `a` is `None`.
 pub failure_tells : {X Y : Type 0} {a b : Option ℕ} {cause : ThinVecError} → a ≡ b
     → IsErrOf {T = X} (Err cause) CapacityOverflow ↔ (b ≡ None)
     → TellsOverflow a (let r : Result Y ThinVecError = Err cause in r)
