@@ -1,7 +1,7 @@
--- This file proves that the rule `power_bytes` satisfies the law of growth rules, and that each
--- block under this rule fills a number of bytes that is a power of two, up to less than the size of
--- one item. The proofs are in `specs` and not in `proofs`, because the impl of `Growth` refers to
--- them.
+-- This file proves that the rule `power_bytes` satisfies the law of growth rules. It also proves
+-- that each block under this rule fills `p` bytes for some power of two `p`, except for less than
+-- the size of one item. The proofs are in `specs` and not in `proofs`, because the impl of `Growth`
+-- refers to them.
 use Rattle.std.specs.Prelude.{◌≡◌, ℕ, zero, suc, ◌+◌, ◌-◌, ◌*◌, ◌/◌, ◌^◌, ◌<◌, ◌≤◌, ◌==◌, nat_le, Bool, true, false, IsTrue, if◌then◌else◌, max, refl}
 use Rattle.std.specs.declared.option.Option.TheVariants.{Some}
 use Rattle.std.specs.Int.{IsPowerOfTwo, IsNextPowerOfTwo}

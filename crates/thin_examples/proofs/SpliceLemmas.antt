@@ -1,5 +1,5 @@
--- This file proves that a statement about the items of a list after a splice remains true if its
--- values are replaced with equal values.
+-- This file proves that a statement about the items of a list after a splice remains true if the
+-- values in this statement are replaced with equal values.
 use Rattle.std.proofs.Common.{Option, subst, ◌≡◌, List, ◌++◌}
 use Rattle.std.specs.Iterator.Runs.{WholeRun}
 use Rattle.std.specs.Prelude.{OnOk}

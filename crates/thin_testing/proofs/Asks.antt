@@ -60,8 +60,8 @@ module _ {M : Type 1} {𝓤 : Ura M} (𝓛 : Logic 𝓤) (at_mem : Memory → SP
       nothing ! $ move ! (1 ∷ []) $ fjoin ! $ nothing ! $ move ! (2 ∷ []) $ join ! $ join ! $
       nothing ! $ move ! (1 ∷ []) $ done !
 
-  -- A call to `refuses` returns a Boolean. In the proof, the caller also gets back the token that
-  -- proves that the lifetime `κ` has not ended.
+  -- A call to `refuses` returns a Boolean. In the proof, the caller also gets back the token of the
+  -- lifetime `κ`, which proves that `κ` has not ended.
   pub Asks-gives : (v : Val) → ent 𝓤 ((Asks 𝓛 at_mem run).post (at_asks 𝓛 at_mem run κ q c k) v)
       (H.⇛ (ex 𝓤 (λ (y : Bool). guard 𝓤 (v ≡ vbool y) (A.lft κ q))))
   Asks-gives v =

@@ -79,7 +79,7 @@ module _ {M : Type 1} {𝓤 : Ura M} (𝓛 : Logic 𝓤) (at_mem : Memory → SP
       nothing ! $ move ! (2 ∷ []) $ join ! $ join ! $ nothing ! $ move ! (1 ∷ []) $ done !
 
   -- A call to `granted` returns the unit value. In the proof, the caller also gets back the token
-  -- that proves that the lifetime `κ` has not ended.
+  -- of the lifetime `κ`, which proves that `κ` has not ended.
   pub Granted-gives : (y : Answer.Denot) (w v : Val)
       → ent 𝓤 ((Granted 𝓛 at_mem run).post (at_granted 𝓛 at_mem run κ q c k y w) v)
       (H.⇛ (guard 𝓤 (v ≡ vunit) (A.lft κ q)))
@@ -104,7 +104,7 @@ module _ {M : Type 1} {𝓤 : Ura M} (𝓛 : Logic 𝓤) (at_mem : Memory → SP
       nothing ! $ move ! (1 ∷ []) $ done !
 
   -- A call to `returned` returns the unit value. In the proof, the caller also gets back the token
-  -- that proves that the lifetime `κ` has not ended.
+  -- of the lifetime `κ`, which proves that `κ` has not ended.
   pub Returned-gives : (v : Val)
       → ent 𝓤 ((Returned 𝓛 at_mem run).post (at_returned 𝓛 at_mem run κ q c k) v)
       (H.⇛ (guard 𝓤 (v ≡ vunit) (A.lft κ q)))
