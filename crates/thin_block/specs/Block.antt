@@ -6,7 +6,8 @@ use Rattle.thin_block.specs.Cost.{Cost}
 use Rattle.thin_block.specs.declared.block.Block.{Block}
 
 -- `Seen T A` holds the parts of a block that contracts can mention: the slots, the stored length,
--- the allocator and the cost. The items have the type `T`, and the allocator has the type `A`.
+-- the allocator, and the counts of requests for memory, copied items and moves. The items have the
+-- type `T`, and the allocator has the type `A`.
 pub record Seen (T A : Type 0) : Type 0 where
   pub slots : List (Option T)
   pub len : ℕ

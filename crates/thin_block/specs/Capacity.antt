@@ -1,6 +1,5 @@
--- This file computes the size of a block in bytes, and says which capacities fit. A capacity fits
--- if a block of that capacity is small enough to be allocated. In this file, `s` and `a` are the
--- size and the alignment of an item, in bytes.
+-- This file computes the size of a block in bytes, and defines which capacities are small enough
+-- for an allocation. In this file, `s` and `a` are the size and the alignment of an item, in bytes.
 use Rattle.std.specs.Prelude.{◌≡◌, ℕ, ◌+◌, ◌*◌, ◌-◌, ◌^◌, ◌&&◌, ◌==◌, Bool, IsTrue, Option, if◌then◌else◌, max, nat_lt}
 use Rattle.std.specs.declared.option.Option.TheVariants.{Some, None}
 use Rattle.std.specs.Int.{next_multiple_of}
@@ -10,11 +9,11 @@ use mir.Syntax.{Width}
 use mir.Val.{bytes}
 use denote.RattleType.{RattleType}
 
--- `IsAlign a` holds if `a` is 1, 2, 4, 8 or 16. No type has any other alignment.
+-- `IsAlign a` holds if `a` is 1, 2, 4, 8 or 16. In Rattle, no type has any other alignment.
 abbrev pub IsAlign : ℕ → Type 0
 IsAlign a = (w : Width) × (a ≡ bytes w)
 
--- `items_offset a` is the offset in bytes of the first item in a block, if the items have the
+-- `items_offset a` is the offset in bytes of the first item in a block whose items have the
 -- alignment `a`. Two words of 8 bytes, and padding if necessary, precede the first item.
 abbrev pub items_offset : ℕ → ℕ
 items_offset a = max 16 a
@@ -28,9 +27,9 @@ block_align a = max 8 a
 abbrev pub block_bytes : ℕ → ℕ → ℕ → ℕ
 block_bytes s a c = next_multiple_of (items_offset a + c * s) (block_align a)
 
--- `is_small s a c` is true if `c` is at most `isize::MAX`, and so is the size in bytes of a block
--- for `c` items of size `s` and alignment `a`. In std, `Layout::from_size_align` sets the same
--- limit on sizes.
+-- `is_small s a c` is true if neither the capacity `c` nor the size in bytes of a block for `c`
+-- items exceeds `isize::MAX`. The size and the alignment of an item are `s` and `a`. In std,
+-- `Layout::from_size_align` sets the same limit on sizes.
 abbrev pub is_small : ℕ → ℕ → ℕ → Bool
 is_small s a c = nat_lt c (2 ^ 63) && nat_lt (block_bytes s a c) (2 ^ 63)
 

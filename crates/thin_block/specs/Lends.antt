@@ -30,8 +30,8 @@ module _ {X : Type 0} where
   length-over (Some x ∷ s) zero (w ∷ ws) = ap suc (length-over s zero ws)
 
 module _ {X Z : Type 0} where
-  -- `with_slots b s` is the block `b` with its slots replaced with `s`. The list `s` must have the
-  -- same length as the old list of slots.
+  -- `with_slots b s` is the block `b` after its slots have been replaced with `s`. The list `s`
+  -- must have the same length as the old list of slots.
   abbrev pub with_slots : (b : Block X Z) (s : List (Option X))
       → length s ≡ length b.slots → Block X Z
   with_slots b s same =

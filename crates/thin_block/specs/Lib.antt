@@ -1,6 +1,5 @@
 -- These modules contain the definitions that the contracts use, the proofs that the growth rules
--- satisfy their law, and the type former of `Block`. The type former tells the prover why a type
--- `T` may have a field of the type `Block<T, A>`.
+-- satisfy their law, and the type former of `Block`, which states which values a block contains.
 pub mod Capacity
 pub mod Growth
 pub mod GrowthLaws

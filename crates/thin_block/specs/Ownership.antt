@@ -1,14 +1,6 @@
 -- This file describes what a block owns in memory, and what a `&` to a block lends. In this file,
 -- `R` is the type of an item, including its layout. An address consists of an allocation `b` and an
 -- offset `o`. No public contract refers to this file.
---     place, places   One slot in memory, and several adjacent slots.
---     frame           A block without its slots.
---     word_of         The type of a word. A word consists of one or more items.
---     way             The right to convert memory for the items of a word into memory for the word.
---     backing         The right to convert the parts of a block back into the memory that was
---                     allocated, and the right to free that memory.
---     block_owns      What a block owns.
---     .._lent         What a `&` to a slot, to several slots, to a header or to a block lends.
 use Rattle.std.specs.Prelude.{◌≡◌, ℕ, zero, suc, ◌+◌, ◌-◌, ◌*◌, List, [], ◌∷◌, length, Bool, true, false, Option}
 use Rattle.std.specs.declared.option.Option.TheVariants.{Some, None}
 use Rattle.std.specs.Int.{div_ceil}
@@ -79,20 +71,20 @@ abbrev pub word_of : Ty → ℕ → Ty
 word_of τ m = ty_struct [] (tcons (ty_array τ m) (tcons (ty_array (ty_int w64) 0) tnil))
 
 -- `words_of R` is `Some (m, k)` if `m` items of the type `R` form one word, and `k` words are as
--- large as the header. It is `None` if the items form no words. It depends only on the size of an
--- item.
+-- large as the header. If the items form no words, `words_of R` is `None`. Its value depends only
+-- on the size of an item.
 abbrev pub words_of : RattleType → Option (ℕ × ℕ)
 words_of R = in_words (size (bare R))
 
--- `asked_for` is the type that the allocator sees: the memory of a block is allocated as memory for
--- one value of this type. If the items form words, this type is an array of words, which the
--- allocator can resize in place. Otherwise it is the type of the whole block.
+-- `asked_for` is the type for which the memory of a block is requested: the allocator provides
+-- memory for one value of this type. If the items form words, this type is an array of words, which
+-- the allocator can resize in place. Otherwise it is the type of the whole block.
 abbrev pub asked_for : Option (ℕ × ℕ) → Ty → ℕ → Ty
 asked_for None τ c = whole_of τ c
 asked_for (Some w) τ c = ty_array (word_of τ w.0) (w.1 + div_ceil c w.0)
 
--- `asked R c` is the type that the allocator sees: a block of `c` slots for items of the type `R`
--- is allocated as memory for one value of this type.
+-- `asked R c` is the type for which the memory of a block is requested: the allocator provides
+-- memory for one value of this type. The block has `c` slots for items of the type `R`.
 abbrev pub asked : RattleType → ℕ → Ty
 asked R c = asked_for (words_of R) (bare R) c
 
@@ -102,35 +94,38 @@ abbrev pub header_room : ℕ → ℕ → Fml
 header_room b o = fsep (froom (ty_int w64) b o) (froom (ty_int w64) b (o + 8))
 
 -- `parts_for τ c b o` is uninitialized memory for the three parts of a block: the capacity, the
--- length, and the `c` slots.
+-- length, and `c` slots for items of the type `τ`. The block is at the offset `o` of the allocation
+-- `b`.
 abbrev pub parts_for : Ty → ℕ → ℕ → ℕ → Fml
 parts_for τ c b o = fsep (froom (ty_int w64) b o)
     (fsep (froom (ty_int w64) b (o + 8)) (froom (ty_array τ c) b (o + 16)))
 
--- `parts R c b o` is uninitialized memory for the capacity, the length and the `c` slots of a
--- block. The items of the block have the type `R`.
+-- `parts R c b o` is uninitialized memory for the three parts of a block: the capacity, the length,
+-- and `c` slots for items of the type `R`. The block is at the offset `o` of the allocation `b`.
 abbrev pub parts : RattleType → ℕ → ℕ → ℕ → Fml
 parts R c b o = parts_for (bare R) c b o
 
--- `way τ m b o` is the right to convert uninitialized memory for the `m` items of one word into
--- uninitialized memory for the word.
+-- `way τ m b o` is the right to convert uninitialized memory for `m` items of the type `τ` into
+-- uninitialized memory for one word. The memory is at the offset `o` of the allocation `b`.
 abbrev pub way : Ty → ℕ → ℕ → ℕ → Fml
 way τ m b o = fwand (froom (ty_array τ m) b o) (froom (word_of τ m) b o)
 
 -- `ways τ m w b o` contains one right for each of `w` adjacent words: the right to convert
--- uninitialized memory for the items of the word into uninitialized memory for the word.
+-- uninitialized memory for the `m` items of the word into uninitialized memory for the word. The
+-- first word is at the offset `o` of the allocation `b`.
 abbrev pub ways : Ty → ℕ → ℕ → ℕ → ℕ → Fml
 ways τ m zero b o = ftrue
 ways τ m (suc w) b o = fsep (way τ m b o) (ways τ m w b (o + size (word_of τ m)))
 
 -- `header_way τ m k b o` is the right to convert uninitialized memory for the header into
--- uninitialized memory for `k` words. These `k` words are exactly as large as the header.
+-- uninitialized memory for `k` words, which are exactly as large as the header. The header is at
+-- the offset `o` of the allocation `b`.
 abbrev pub header_way : Ty → ℕ → ℕ → ℕ → ℕ → Fml
 header_way τ m k b o = fwand (header_room b o) (froom (ty_array (word_of τ m) k) b o)
 
 -- `slots_way τ m w c b o` contains everything that is needed to convert the memory of `c` slots
 -- into memory for `w` words: the right to convert each word, and the unused memory directly behind
--- the last slot.
+-- the last slot. The first slot is at the offset `o` of the allocation `b`.
 abbrev pub slots_way : Ty → ℕ → ℕ → ℕ → ℕ → ℕ → Fml
 slots_way τ m w c b o = fsep (ways τ m w b o) (froom (ty_array τ (w * m - c)) b (o + c * size τ))
 
@@ -146,15 +141,15 @@ way_back (Some w) τ c b o = fsep (header_way τ w.0 w.1 b o)
 abbrev pub backing_for : (Ty → Ptr → Fml) → Option (ℕ × ℕ) → Ty → ℕ → ℕ → ℕ → Fml
 backing_for t w τ c b o = fsep (way_back w τ c b o) (t (asked_for w τ c) (block_ptr b o))
 
--- `backing t R c b o` is the backing of a block of `c` slots for items of the type `R`. It consists
--- of the right to convert the parts of the block back into memory for the whole block, and of `t`,
--- the right to free the block.
+-- `backing t R c b o` is the backing of a block of `c` slots for items of the type `R`, at the
+-- offset `o` of the allocation `b`. The backing consists of the right to convert the parts of the
+-- block back into memory for the whole block, and of `t`, the right to free the block.
 abbrev pub backing : (Ty → Ptr → Fml) → RattleType → ℕ → ℕ → ℕ → Fml
 backing t R c b o = backing_for t (words_of R) (bare R) c b o
 
--- `frame t R n c b o` is a block without its slots: the capacity `c` and the length `n` in memory,
--- the fact that the block is small enough to be allocated, and the backing. The backing contains
--- `t`, the right to free the block.
+-- `frame t R n c b o` is a block, except for its slots, at the offset `o` of the allocation `b`. It
+-- consists of the capacity `c` and the length `n` in memory, the fact that the block is small
+-- enough to be allocated, and the backing with the right `t` to free the block.
 abbrev pub frame : (Ty → Ptr → Fml) → RattleType → ℕ → ℕ → ℕ → ℕ → Fml
 frame t R n c b o =
     fsep (lies_at usize full_share (block_ptr b o) c)

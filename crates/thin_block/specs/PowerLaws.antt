@@ -1,6 +1,7 @@
--- This file proves that the rule `power_bytes` satisfies the law of growth rules, and that each
--- block under this rule fills a power of two bytes. The proofs are in `specs` and not in `proofs`,
--- because the impl of `Growth` refers to them.
+-- This file proves that the rule `power_bytes` satisfies the law of growth rules. It also proves
+-- that each block under this rule fills `p` bytes for some power of two `p`, except for less than
+-- the size of one item. The proofs are in `specs` and not in `proofs`, because the impl of `Growth`
+-- refers to them.
 use Rattle.std.specs.Prelude.{◌≡◌, ℕ, zero, suc, ◌+◌, ◌-◌, ◌*◌, ◌/◌, ◌^◌, ◌<◌, ◌≤◌, ◌==◌, nat_le, Bool, true, false, IsTrue, if◌then◌else◌, max, refl}
 use Rattle.std.specs.declared.option.Option.TheVariants.{Some}
 use Rattle.std.specs.Int.{IsPowerOfTwo, IsNextPowerOfTwo}
@@ -21,9 +22,9 @@ below_power : (n : ℕ) → n < 2 ^ n
 below_power zero = omega arith
 below_power (suc n) = omega (arith, below_power n, pow_more 2 n)
 
--- Suppose that a search for the least power of two that is at least `n` has reached the power `p`,
--- and that `p / 2 < max 1 n`. Then the result of the search is `p` if `n <= p`, and otherwise it is
--- the result `next` of the remaining search.
+-- Suppose that `p` is a power of two with `p / 2 < max 1 n`. Suppose also that, if `p < n`, then
+-- `next` is the least power of two that is at least `n`. Then the least power of two that is at
+-- least `n` is `p` if `n <= p`, and `next` otherwise.
 one_step : (b : Bool) (n p next : ℕ) → nat_le n p ≡ b → IsPowerOfTwo p → p / 2 < max 1 n
     → (p < n → IsNextPowerOfTwo n next) → IsNextPowerOfTwo n (if b then p else next)
 one_step true n p next e power half later = (power, leb-true n p e, half)
@@ -72,9 +73,9 @@ pub powers_of_none : (s a c w : ℕ) → s ≡ 0 → power_bytes s a c w ≡ dou
 unfolding power_bytes
 powers_of_none s a c w none = let test : (s == 0) ≡ true = grind (arith, nat_tests) in rw test refl
 
--- If items take at least one byte, `power_bytes` rounds the size of the header and `max w (2 * c)`
--- items up to a power of two bytes. It chooses the number of items that fit in these bytes after
--- the header, or `None` if this capacity is too large.
+-- If items take at least one byte, `power_bytes` adds the size of the header to the size of `max w
+-- (2 * c)` items, and rounds the sum up to a power of two. It chooses the greatest number of items
+-- that fit into that many bytes together with the header, or `None` if this capacity is too large.
 pub powers_of_some : (s a c w : ℕ) → 0 < s → power_bytes s a c w ≡ fitting s a
     ((least_power (items_offset a + max w (2 * c) * s) - items_offset a) / s)
 unfolding power_bytes
@@ -91,17 +92,17 @@ module _ (s a c w n : ℕ) (some : 0 < s) (e : power_bytes s a c w ≡ Some n) w
   abbrev power : ℕ
   power = least_power (items_offset a + wanted)
 
-  -- The capacity `n` is the number of items that have room in `power` bytes after the header, and a
-  -- block of this capacity is small enough to be allocated.
+  -- The capacity `n` is the greatest number of items that fit into `power` bytes together with the
+  -- header, and a block of this capacity is small enough to be allocated.
   named : IsTrue (fits s a ((power - items_offset a) / s)) × ((power - items_offset a) / s ≡ n)
   named = fitting_is s a ((power - items_offset a) / s) n (sym (powers_of_some s a c w some) ∙ e)
 
-  -- `power` bytes have room for the header and for `wanted` more bytes.
+  -- A block of `power` bytes has room for the header and for `wanted` more bytes.
   room : items_offset a + wanted ≤ power
   room = (least_power_is (items_offset a + wanted)).1
 
-  -- The capacity `n` has room for `w` items and is at least `2 * c`. A block of capacity `n` is
-  -- small enough to be allocated.
+  -- The capacity `n` that `power_bytes` chooses is at least `w` and at least `2 * c`, and a block
+  -- of capacity `n` is small enough to be allocated.
   pub powers_grow : IsGrown s a c w n
   powers_grow =
       let more : max w (2 * c) ≤ (power - items_offset a) / s =
@@ -112,8 +113,8 @@ module _ (s a c w n : ℕ) (some : 0 < s) (e : power_bytes s a c w ≡ Some n) w
         fits = subst (λ (k : ℕ). IsTrue (fits s a k)) named.1 named.0;
       }
 
-  -- There is a power of two `p` such that `p` bytes have room for the header and `n` items, but not
-  -- for one more item.
+  -- For the capacity `n` that `power_bytes` chooses, there is a power of two `p` such that `p`
+  -- bytes have room for the header and `n` items, but not for one more item.
   pub powers_filled : FillsPower s a n
   powers_filled =
       let parts = div-add-mod' (power - items_offset a) s in

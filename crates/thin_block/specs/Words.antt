@@ -1,9 +1,6 @@
 -- This file describes how memory that holds items becomes memory that holds words. A word is a
 -- value of the struct `Words`, which holds `m` items of the type `T`. The const parameter `M` of
 -- the struct has the value `m`. No public contract refers to this file.
---     run_at, runs_from    The items of one word, and the items of several adjacent words, with the
---                          right to convert their memory into memory for words.
---     words_from           Several adjacent words in memory.
 use Rattle.std.specs.Prelude.{ℕ, ◌+◌, List, [], ◌∷◌, map}
 use base.Fraction.{full_share}
 use base.Fml.{Fml, ftrue, ffalse, fsep}
@@ -21,13 +18,15 @@ module _ (T M : RattleType) where
   abbrev pub word : List T.Denot → (the_row T M).Denot
   word xs = record { items = xs; aligned = [] }
 
-  -- `run_at xs b o` contains the items `xs` of one word in memory. It also contains the right to
-  -- convert memory for these items into memory for the word.
+  -- `run_at xs b o` contains the items `xs` of one word in memory, at the offset `o` of the
+  -- allocation `b`. It also contains the right to convert memory for these items into memory for
+  -- the word.
   abbrev pub run_at : List T.Denot → ℕ → ℕ → Fml
   run_at xs b o = fsep (part_at (ArrayAt T M) full_share xs b o) (way (bare T) (value_of M) b o)
 
-  -- `runs_at xss b o` contains the items of several adjacent words in memory. For each word, it
-  -- also contains the right to convert memory for the items into memory for the word.
+  -- `runs_at xss b o` contains the items of several adjacent words in memory, starting at the
+  -- offset `o` of the allocation `b`. For each word, it also contains the right to convert memory
+  -- for the items into memory for the word.
   abbrev pub runs_at : List (List T.Denot) → ℕ → ℕ → Fml
   runs_at [] b o = ftrue
   runs_at (xs ∷ xss) b o = fsep (run_at xs b o)

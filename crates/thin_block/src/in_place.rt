@@ -24,7 +24,8 @@ use std::mem::{ManuallyDrop, replace};
 // block.
 pub(crate) const LONG: usize = 32;
 
-// Calls `alloc.grow` if `wanted` is greater than `held`, and `alloc.shrink` otherwise.
+// Resizes an allocation from `held` to `wanted` values of the type `T`. Calls `alloc.grow` if
+// `wanted` is greater than `held`, and `alloc.shrink` otherwise.
 unsafe fn resized<T, A: Allocator>(
     alloc: &A,
     start: *mut T,

@@ -75,8 +75,8 @@ impl<T, A: Allocator> Block<T, A> {
         self.resize(alloc, cap)
     }
 
-    // Sets the ghost cost of this block to the cost of the block `from` plus one request for memory
-    // that copied `from.len()` items. At run time, this function does nothing.
+    // Sets the ghost counters of this block to the counters of the block `from`, plus one request
+    // for memory that copied `from.len()` items. At run time, this function does nothing.
     fn charge_as(&mut self, from: &Block<T, A>)
         ensures changes { seen self.new ≡ record (seen self.old) {
           cost = growing from.now.len from.now.cost;

@@ -253,8 +253,8 @@ impl<T, A: Allocator> Block<T, A> {
     }
 
     // Moves the `k` items that start at slot `from` of this block to the slots `to..to + k` of
-    // `to_block`. These slots of `to_block` must be empty. The ghost parameter `cost` is the cost
-    // of `to_block` after the call.
+    // `to_block`. These slots of `to_block` must be empty. The ghost parameter `cost` contains the
+    // counts of requests, copied items and moves that `to_block` has after the call.
     pub(crate) fn move_run_charging(
         &mut self,
         from: usize,

@@ -8,8 +8,8 @@ ghost use Rattle.thin_block.specs.Capacity.{IsAlign, block_align, block_bytes, F
 
 use std::mem::{align_of, size_of};
 
-// The size of the header in bytes. No type has an alignment above 16, so this is always the offset
-// of the first item in a block.
+// The size of the header in bytes. In Rattle, no type has an alignment above 16, so this is always
+// the offset of the first item in a block.
 pub(crate) const HEADER: usize = 16;
 
 // The size of the header in words of 8 bytes. The two words hold the capacity and the length, and

@@ -152,7 +152,7 @@ impl<T: Copy, A: Allocator> Block<T, A> {
 
 // Fills `row` with copies of `items`, and returns `row`.
 //
-// Up to `FEW` items are copied one by one. For them, a call to `Slots::copy_in` would cost more
+// Up to `FEW` items are copied one by one. For them, a call to `Slots::copy_in` would take longer
 // than the copies, because `Slots::copy_in` first tests whether its source and its target overlap.
 fn copied<T: Copy>(mut row: Slots<T>, items: &[T]) -> Slots<T>
     requires room { slots_len row ≡ length items.now }

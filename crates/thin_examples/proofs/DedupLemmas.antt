@@ -19,8 +19,8 @@ module _ {S T : Type 0} (R : S → T → T → Bool → S → T → T → Type 0
   abbrev Kept : T → List T → List T → Type 0
   Kept k xs zs = zs ≡ dedup_from same k (map f xs)
 
-  -- Suppose that the closure returned `b` for the item `x` and the kept item `k`. Then `Kept` holds
-  -- for the items `x ∷ xs` if `Kept` holds for the items `xs` that follow `x`.
+  -- Suppose that the closure returned `b` for the item `x` and the kept item `k`. If `Kept` holds
+  -- for the items `xs` that follow `x`, then it also holds for `x ∷ xs`.
   one : (b : Bool) (x k x' k' : T) (xs zs : List T) → b ≡ same (f x) k → x' ≡ f x → k' ≡ k
       → MatchBool b (Kept k' xs zs) ((ys : List T) × Kept x' xs ys × (zs ≡ k' ∷ ys))
       → Kept k (x ∷ xs) zs
@@ -48,9 +48,9 @@ module _ {S T : Type 0} (R : S → T → T → Bool → S → T → T → Type 0
         | false ↦ λ m. (m.0, kept_from xs h.1 h.2 m.0 m.1, m.2)
       ]) h.5)
 
-  -- Suppose that the items of `v` are the list `xs`, but with the first item `x`, if there is one,
-  -- replaced with `f x`. If `dedup_by` turns `v` into `w`, then the items of `w` are
-  -- `dedup same (map f xs)`.
+  -- Suppose that the list `v` contains the items `xs`, except that the first item `x` has been
+  -- replaced with `f x`. (If `xs` is empty, `v` is empty, too.) If `dedup_by` turns `v` into `w`,
+  -- then the items of `w` are `dedup same (map f xs)`.
   pub deduped_mapped : {A : Type 0} {s : S} {v w : Thin T A} (xs : List T) (x : T)
       → x ≡ slice_index_or xs 0 x → v.items ≡ slice_set xs 0 (f x) → IsDedupedBy R s v w
       → w.items ≡ dedup same (map f xs)

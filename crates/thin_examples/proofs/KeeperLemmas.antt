@@ -1,5 +1,6 @@
--- These lemmas say which items `retain_mut` keeps if its closure asks a keeper. A keeper is a value
--- whose type implements the trait `Keeper`. It decides for each item whether the item is kept.
+-- A keeper is a value whose type implements the trait `Keeper`. It decides for each item of a list
+-- whether to keep it. These lemmas say which items `retain_mut` keeps if its closure returns the
+-- decisions of a keeper.
 use Rattle.std.proofs.Common.{◌≡◌, Bool, true, List, [], ◌∷◌, sym, ap, ◌∙◌}
 use Rattle.thin_vec.specs.Edits.Retain.{Asked, IsRetained, left_at}
 use Rattle.thin_vec.specs.ThinVec.{Thin}
@@ -9,8 +10,8 @@ module _ {F J T : Type 0} (R : F → T → Bool → F → T → Type 0) (state :
     (keeps : J → T → Bool × (T × J))
     (one : (f : F) (x : T) (b : Bool) (g : F) (y : T) → R f x b g y
     → keeps (state f) x ≡ (b, (y, state g))) where
-  -- If each call of the closure returns what the keeper returns, then the results `qs` of the
-  -- closure for the items `xs` are the results of the keeper for these items.
+  -- Suppose that the closure always returns the decision of the keeper. Then the results `qs` of
+  -- the closure for the items `xs` are the results of the keeper for these items.
   answers-are : (f : F) (xs : List T) (qs : List (Bool × T)) (t : F) → Asked R f xs qs t
       → qs ≡ asked_by keeps (state f) xs
   answers-are f [] qs t a = a.0
@@ -21,8 +22,8 @@ module _ {F J T : Type 0} (R : F → T → Bool → F → T → Type 0) (state :
       ∙ ap (λ (l : List (Bool × T)). here ∷ l) (answers-are a.2 xs a.3 t a.5
       ∙ ap (λ (p : Bool × (T × J)). asked_by keeps p.1.1 xs) (sym e)))
 
-  -- If each call of the closure returns what the keeper returns, then `retain_mut` keeps exactly
-  -- the items that the keeper keeps.
+  -- If the closure always returns the decision of the keeper, then `retain_mut` keeps exactly the
+  -- items that the keeper keeps.
   pub retained-by : {A : Type 0} (f : F) (v w : Thin T A) → IsRetained R f v w
       → w.items ≡ left_at true (asked_by keeps (state f) v.items)
   retained-by f v w r = r.1.items

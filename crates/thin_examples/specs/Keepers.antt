@@ -1,5 +1,5 @@
--- A keeper decides for each item of a list whether the item is kept. This file defines the results
--- of a keeper for all items of a list.
+-- A keeper decides for each item of a list whether to keep it. This file defines the results of a
+-- keeper for all items of a list.
 use Rattle.std.specs.Prelude.{Bool, List, [], ◌∷◌}
 
 -- `asked_by keeps j xs` is the list of the results of a keeper for the items `xs`, in order. The

@@ -3,8 +3,8 @@
 use std::alloc::Allocator;
 use thin_vec::{Growth, ThinVec};
 
-/// Counts how many results were compared with expected values, and how many of these results were
-/// different from the expected ones.
+/// The number of results that were compared with expected values, and the number of results that
+/// were different from the expected ones.
 #[derive(Clone, Copy)]
 pub struct Checks {
     compared: u32,
@@ -43,8 +43,8 @@ impl Checks {
         self.is(found == wanted);
     }
 
-    /// Compares the items of `found` with the items of `wanted`, which are the expected ones. Also
-    /// compares the lengths of the two slices.
+    /// Compares the items of `found` with the expected items `wanted`, and compares the lengths of
+    /// the two slices. Each of these comparisons is counted.
     pub fn items<T: PartialEq>(&mut self, found: &[T], wanted: &[T]) {
         for (found, wanted) in found.iter().zip(wanted) {
             self.is(*found == *wanted);

@@ -17,7 +17,8 @@ use thin_vec::{Growth, ThinVec, ThinVecError};
 ///
 /// # Errors
 ///
-/// Fails if there is no memory for the commands or the replies, or if a call on the list fails.
+/// Fails if there is not enough memory for the commands or the replies, or if a call on the list
+/// fails.
 pub fn one_and_two<A: Allocator + Copy, J: Judge<u64>>(
     alloc: A,
     list: &mut ThinVec<u64, A>,
@@ -37,9 +38,9 @@ pub fn one_and_two<A: Allocator + Copy, J: Judge<u64>>(
 ///
 /// # Errors
 ///
-/// If a command fails, the later commands are still carried out, and `carry_out` returns the cause
-/// of the first failure. If there is no memory for the replies, `carry_out` fails and carries out
-/// no command.
+/// If a command fails, the commands after it are still carried out, and `carry_out` returns the
+/// cause of the first failure. If there is not enough memory for the replies, `carry_out` fails and
+/// carries out no command.
 pub fn carry_out<T: Clone + Eq, A: Allocator + Copy, G: Growth, J: Judge<T>>(
     alloc: A,
     list: &mut ThinVec<T, A, G>,
@@ -70,7 +71,7 @@ fn all_granted<T, A: Allocator, G: Growth>(replies: &[Reply<T, A, G>]) -> Result
     Ok(())
 }
 
-// Appends `item` to `items`. Fails if there is no memory for `item`.
+// Appends `item` to `items`. Fails if there is not enough memory for `item`.
 fn add<T: Drop, A: Allocator>(items: &mut Vec<T, A>, item: T) -> Result<(), ThinVecError>
     ensures items { OnOk result (items.new.items ≡ items.old.items ++ item ∷ []) }
 {

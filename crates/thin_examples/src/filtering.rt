@@ -37,8 +37,7 @@ pub fn keep_tens<A: Allocator, G: Growth>(list: &mut ThinVec<u32, A, G>)
     list.dedup_by_key(|number: &mut u32| *number / 10);
 }
 
-/// Removes each number whose last digit is also the last digit of the number that was kept before
-/// it.
+/// Removes each number that has the same last digit as the previous kept number.
 pub fn keep_last_digits<A: Allocator, G: Growth>(list: &mut ThinVec<u32, A, G>)
     ensures items { list.new.items ≡ dedup (λ later kept. later % 10 == kept % 10) list.old.items }
     ensures capacity { list.new.capacity ≡ list.old.capacity }
@@ -46,7 +45,7 @@ pub fn keep_last_digits<A: Allocator, G: Growth>(list: &mut ThinVec<u32, A, G>)
     list.dedup_by(|later: &mut u32, kept: &mut u32| *later % 10 == *kept % 10);
 }
 
-/// Halves each number, and then removes each half that equals the half that was kept before it. The
+/// Halves each number, and then removes each result that equals the previous kept result. The
 /// closure of `dedup_by` halves only the later of the two numbers that it compares. So the first
 /// number of the list is halved before the call to `dedup_by`.
 pub fn halve_each<A: Allocator, G: Growth>(list: &mut ThinVec<u32, A, G>)
@@ -64,8 +63,8 @@ pub fn halve_each<A: Allocator, G: Growth>(list: &mut ThinVec<u32, A, G>)
     });
 }
 
-/// A keeper decides for each item of a list whether the item is kept. Each decision may change the
-/// state of the keeper.
+/// A keeper decides for each item of a list whether to keep it. Each decision may change the state
+/// of the keeper.
 pub trait Keeper<T>: Copy {
     /// Maps a keeper and an item to the decision, the value of the item after the decision, and the
     /// keeper after the decision.

@@ -7,7 +7,7 @@ use std::alloc::{AllocError, Allocator};
 use thin_vec::{Growth, ThinVec, ThinVecError};
 
 /// Halves each number, rounding down, and returns a list of the results in the same order. Returns
-/// `None` if there is no memory for the list.
+/// `None` if there is not enough memory for the list.
 pub fn halves<A: Allocator>(alloc: A, numbers: &[u32]) -> Option<ThinVec<u32, A>>
     ensures succeeds_empty { length numbers.now ≡ 0 → IsSome result }
     ensures items { IfSome result (λ list. list.items ≡ map (λ number. number / 2) numbers.now) }
@@ -71,7 +71,7 @@ pub fn reserve_eight<A: Allocator>(list: &mut ThinVec<u64, A>) -> Result<(), Thi
 ///
 /// # Errors
 ///
-/// Fails if there is no memory for the numbers.
+/// Fails if there is not enough memory for the numbers.
 pub fn joined<A: Allocator>(
     alloc: A,
     first: &[u32],
@@ -90,7 +90,7 @@ pub fn joined<A: Allocator>(
 ///
 /// # Errors
 ///
-/// Fails if there is no memory for the new list.
+/// Fails if there is not enough memory for the new list.
 pub fn continued<A: Allocator, G: Growth>(
     list: &ThinVec<u32, A, G>,
     alloc: A,

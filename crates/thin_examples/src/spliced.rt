@@ -8,8 +8,9 @@ use thin_vec::{Growth, SpliceRefused, ThinVec};
 
 /// Replaces the items at the indices `range.0..range.1` with the items that `iter` yields.
 ///
-/// The function is generic in the type of the iterator. To prove a splice with an iterator that
-/// borrows, such as an iterator over a slice, call a generic function like this one.
+/// The function is generic in the type of the iterator. If an iterator borrows, like an iterator
+/// over a slice, a caller can prove a splice with it by calling a generic function such as this
+/// one.
 ///
 /// # Errors
 ///

@@ -1,4 +1,4 @@
-//! An example of a syntax tree. A leaf has no allocation for its children.
+//! An example of a syntax tree. The list of the children of a leaf is empty, and has no allocation.
 ghost use Rattle.std.specs.Prelude.{◌≡◌, ◌+◌, ◌-◌, ◌^◌, [], ◌∷◌, ◌++◌, IfErr, IsOk, OnErr, OnOk, min};
 ghost use Rattle.thin_vec.specs.ThinVec.{HasRoomFor, IsNew};
 ghost use Rattle.thin_examples.specs.SyntaxTree.{children_of, kind_of, node_count};

@@ -17,7 +17,7 @@ pub fn count<T: Drop, A: Allocator, G: Growth>(list: ThinVec<T, A, G>) -> usize
     count
 }
 
-/// Returns the least of all items and `start`.
+/// Returns the minimum of `start` and all items of the list.
 pub fn least(list: ThinVec<u32, Global>, start: u32) -> u32
     ensures value { result ≡ fold min start list.items }
 {

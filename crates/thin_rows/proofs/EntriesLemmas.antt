@@ -29,8 +29,8 @@ is_more c k more = grind (arith, nat_tests)
 less_from : (c k : ℕ) → T (is_lt (nat_cmp c k)) → c < k
 less_from c k h = grind (arith, nat_tests)
 
--- `stays c k` is true if the columns `c` and `k` differ. Removing the entry of column `c` keeps
--- exactly the entries of such columns `k`.
+-- `stays c k` is true if the columns `c` and `k` differ. If the entry of column `c` is removed, an
+-- entry of column `k` is kept exactly if `stays c k` is true.
 abbrev pub stays : ℕ → ℕ → Bool
 stays c k = not (eq_by_cmp nat_cmp c k)
 

@@ -10,8 +10,8 @@ use Rattle.std.specs.Ordering.{eq_by_cmp}
 use Rattle.thin_rows.specs.Entries.{IsGapFor, IsPlaceOf, IsRising}
 use Rattle.thin_rows.proofs.EntriesLemmas.{find_at, find_gap, put_at, put_gap, stays, without_at, without_gap}
 
--- If the columns `q` and `k` compare as equal, then removing the entry of column `c` either keeps
--- the entries of both columns or removes the entries of both columns.
+-- If the columns `q` and `k` compare as equal, then removing the entry of column `c` keeps an entry
+-- of column `k` if and only if it keeps an entry of column `q`.
 alike : (c q k : ℕ) → nat_cmp q k ≡ Equal → stays c k ≡ stays c q
 alike c q k e = ap (stays c) (sym (ranked q k Equal (sym e)))
 
@@ -22,7 +22,8 @@ module _ {V : Type 0} (es : List (ℕ × V)) (rising : IsRising es) where
   abbrev row : map.FinMap nat_cmp V
   row = from_sorted es
 
-  -- The number of entries of the row is the length of the list `es`.
+  -- If the list `es` of entries is sorted by column, then the map that it represents has `length
+  -- es` entries.
   pub len_is : map.len row ≡ length es
   len_is = len-entries row ∙ ap length (entries-from_sorted nat_cmp es rising)
 

@@ -1,5 +1,6 @@
--- These lemmas say that the same capacities are chosen for two types of the same size and
--- alignment. So a contract about capacities for one of the types also holds for the other type.
+-- These lemmas say that the chosen capacity depends only on the size and the alignment of the item
+-- type. So a contract about capacities for one type also holds for each type of the same size and
+-- alignment.
 use Rattle.std.proofs.Common.{◌≡◌, ◌↔◌, ℕ, IsErrOf, None, Option, Result, Ok, Err, ap, refl, sym, ◌∙◌}
 use Rattle.std.specs.Borrow.{RattleType}
 use Rattle.std.specs.Mem.{type_size}
@@ -17,16 +18,16 @@ pub exact_of_same : (R S : RattleType) (c w : ℕ) → type_size R ≡ type_size
 unfolding exact_capacity
 exact_of_same R S c w size align = rw (size, align) refl
 
--- If the types `R` and `S` have the same size and the same alignment, then each growth rule chooses
--- the same capacity for both types.
+-- Suppose that the item types `R` and `S` have the same size and alignment, that the old capacities
+-- `c` and `d` are equal, and that the required capacities `v` and `w` are equal. Then each growth
+-- rule chooses the same capacity in both cases.
 pub ruled_of_same : (rule : Rule) (R S : RattleType) (c d v w : ℕ) → type_size R ≡ type_size S
     → type_align R ≡ type_align S → c ≡ d → v ≡ w
     → ruled_capacity rule R c v ≡ ruled_capacity rule S d w
 unfolding ruled_capacity
 ruled_of_same rule R S c d v w size align capacity want = rw (size, align, capacity, want) refl
 
--- The result `Ok x` is not an error, so the assumption that it is the error `e` implies every
--- statement `P`.
+-- The result `Ok x` is not an error. So if it were the error `e`, every statement `P` would follow.
 no_error : {X E P : Type 0} {x : X} {e : E} → IsErrOf (Ok x) e → P
 no_error same = cc
 
@@ -34,9 +35,11 @@ no_error same = cc
 pub same_cause : {X E : Type 0} {d e : E} → IsErrOf {T = X} (Err d) e → d ≡ e
 same_cause same = cc
 
--- Suppose that the operator `?` passes the error `cause` on in `result`, and that the types `R` and
--- `S` have the same size and alignment. If `cause` is `CapacityOverflow` if and only if `w` items
--- of the type `R` are too large for a block, then the same is true of `result` and `S`.
+-- Suppose that `result` fails with `cause`, an error that the operator `?` passed on. Suppose also
+-- that the types `R` and `S` have the same size and alignment, and that `cause` is
+-- `CapacityOverflow` if and only if a block for `w` items of the type `R` is too large. Then
+-- `result` fails with `CapacityOverflow` if and only if a block for `w` items of the type `S` is
+-- too large.
 pub error_tells : {X Y : Type 0} (R S : RattleType) (w : ℕ) (cause : ThinVecError)
     (result : Result Y ThinVecError) → type_size S ≡ type_size R → type_align S ≡ type_align R
     → IsErrAnd result (λ e. e ≡ cause) → TellsOverflowOf {X = X} R w (Err cause)
@@ -51,8 +54,8 @@ error_tells R S w cause (Err e) size align passed told = record {
 }
 
 -- Suppose that a call fails with the error `cause`, and that `cause` is `CapacityOverflow` if and
--- only if `b` is `None`. If `a` equals `b`, then the call satisfies `TellsOverflow a`, which says
--- the same about `a`.
+-- only if `b` is `None`. If `a` equals `b`, then `TellsOverflow a` holds: `cause` is
+-- `CapacityOverflow` if and only if `a` is `None`.
 pub failure_tells : {X Y : Type 0} {a b : Option ℕ} {cause : ThinVecError} → a ≡ b
     → IsErrOf {T = X} (Err cause) CapacityOverflow ↔ (b ≡ None)
     → TellsOverflow a (let r : Result Y ThinVecError = Err cause in r)
@@ -63,9 +66,10 @@ failure_tells same told = record {
   );
 }
 
--- If a call succeeds, `TellsOverflowOf R w` says that `w` items of the type `R` are not too large
--- for a block. If this is true for `R`, it is also true for each type `S` of the same size and
--- alignment.
+-- Suppose that the types `R` and `S` have the same size and alignment. If a successful call
+-- satisfies `TellsOverflowOf R w`, then a successful call also satisfies `TellsOverflowOf S w`. For
+-- a successful call, `TellsOverflowOf R w` says that a block for `w` items of the type `R` is not
+-- too large.
 pub made_tells : {X Y : Type 0} (R S : RattleType) (w : ℕ) (x : X) (y : Y)
     → type_size S ≡ type_size R → type_align S ≡ type_align R
     → TellsOverflowOf R w (Ok x) → TellsOverflowOf S w (Ok y)

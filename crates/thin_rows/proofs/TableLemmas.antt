@@ -51,8 +51,8 @@ module _ {V : Type 0} where
   pub outside : (t : Table V) (i j : ℕ) → length t ≤ i → value_at t i j ≡ None
   outside t i j past = ap (λ r. map.get r j) (get_or_past t i map.empty past) ∙ get-empty nat_cmp j
 
-  -- If row `i` of a table is replaced with a row that has the same value at column `l`, then each
-  -- row keeps its value at column `l`.
+  -- If row `i` of a table is replaced with a row that has the same value at column `l` as the old
+  -- row `i`, then each row `k` of the table keeps its value at column `l`.
   other_columns : (t : Table V) (i k l : ℕ) (row : Columns V)
       → map.get row l ≡ value_at t i l → value_at (set t i row) k l ≡ value_at t k l
   other_columns t i k l row same = elim (cases_eq k i) [
@@ -75,7 +75,8 @@ module _ {V : Type 0} where
     | inr past ↦ outside (set t i row) i l (omega (arith, past, length-set t i row))
   ]
 
-  -- After the value `v` has been written at row `i` and column `j`, the value there is `v`.
+  -- If the table `t` has a row `i`, then writing the value `v` at row `i` and column `j` makes `v`
+  -- the value there.
   pub written : (t : Table V) (i j : ℕ) (v : V) → i < length t
       → value_at (with_value t i j v) i j ≡ Some v
   written t i j v inside =

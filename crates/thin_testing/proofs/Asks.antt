@@ -1,6 +1,6 @@
--- These lemmas are about a call to `refuses`. A shared reference to the counts of the allocator
--- satisfies the precondition of the call, and the call returns a Boolean. The lemmas assume the
--- laws of the separation logic (`Logic`).
+-- These lemmas are about a call to `refuses`. They show that a shared reference to the counts of
+-- the allocator satisfies the precondition of the call, and that the call returns a Boolean. The
+-- lemmas assume the laws of the separation logic (`Logic`).
 use Rattle.std.proofs.Common.{◌≡◌, ℕ, Bool, List, [], ◌∷◌, refl, ap}
 use seplogic.Ra.Ura.{Ura}
 use mir.Val.{Val, vbool, vptr}
@@ -31,8 +31,9 @@ module _ {M : Type 1} {𝓤 : Ura M} (𝓛 : Logic 𝓤) (at_mem : Memory → SP
   Asks = triple_of 𝓛 RF.signature (RF.spec 𝓛 at_mem run)
 
   -- `at_asks κ q c k` consists of the ghost arguments for a call to `refuses`. The call passes a
-  -- reference of the lifetime `κ` to the counts, which have the address `c` and the value `k`. It
-  -- also passes the fraction `q` of the token that proves that `κ` has not ended.
+  -- reference of the lifetime `κ` to the counts, which have the address `c` and the value `k`. In
+  -- the proof, the caller also passes the fraction `q` of the token that proves that `κ` has not
+  -- ended.
   abbrev pub at_asks : Lft → Share → ℕ × ℕ → Row.Denot → Asks.Ghost
   at_asks κ q c k = (
     (
@@ -59,8 +60,8 @@ module _ {M : Type 1} {𝓤 : Ura M} (𝓛 : Logic 𝓤) (at_mem : Memory → SP
       nothing ! $ move ! (1 ∷ []) $ fjoin ! $ nothing ! $ move ! (2 ∷ []) $ join ! $ join ! $
       nothing ! $ move ! (1 ∷ []) $ done !
 
-  -- A call to `refuses` returns a Boolean. It also returns the token that proves that the lifetime
-  -- `κ` has not ended.
+  -- A call to `refuses` returns a Boolean. In the proof, the caller also gets back the token of the
+  -- lifetime `κ`, which proves that `κ` has not ended.
   pub Asks-gives : (v : Val) → ent 𝓤 ((Asks 𝓛 at_mem run).post (at_asks 𝓛 at_mem run κ q c k) v)
       (H.⇛ (ex 𝓤 (λ (y : Bool). guard 𝓤 (v ≡ vbool y) (A.lft κ q))))
   Asks-gives v =

@@ -1,6 +1,6 @@
--- These lemmas are about calls to `granted` and `returned`. A shared reference to the counts of the
--- allocator satisfies the preconditions of both functions, and both functions return the unit
--- value. The lemmas assume the laws of the separation logic (`Logic`).
+-- These lemmas are about calls to `granted` and `returned`. They show that a shared reference to
+-- the counts of the allocator satisfies the preconditions of both functions, and that both
+-- functions return the unit value. The lemmas assume the laws of the separation logic (`Logic`).
 use Rattle.std.proofs.Common.{◌≡◌, ℕ, List, [], ◌∷◌, refl, ap}
 use seplogic.Ra.Ura.{Ura}
 use mir.Val.{Val, vunit, vptr}
@@ -38,8 +38,8 @@ module _ {M : Type 1} {𝓤 : Ura M} (𝓛 : Logic 𝓤) (at_mem : Memory → SP
 
   -- `at_granted κ q c k y v` consists of the ghost arguments for a call to `granted` with the
   -- answer `y`, whose machine value is `v`. The call passes a reference of the lifetime `κ` to the
-  -- counts, which have the address `c` and the value `k`. It also passes the fraction `q` of the
-  -- token that proves that `κ` has not ended.
+  -- counts, which have the address `c` and the value `k`. In the proof, the caller also passes the
+  -- fraction `q` of the token that proves that `κ` has not ended.
   abbrev pub at_granted : Lft → Share → ℕ × ℕ → Row.Denot → Answer.Denot → Val → Granted.Ghost
   at_granted κ q c k y v = (
     (
@@ -53,8 +53,9 @@ module _ {M : Type 1} {𝓤 : Ura M} (𝓛 : Logic 𝓤) (at_mem : Memory → SP
   )
 
   -- `at_returned κ q c k` consists of the ghost arguments for a call to `returned`. The call passes
-  -- a reference of the lifetime `κ` to the counts, which have the address `c` and the value `k`. It
-  -- also passes the fraction `q` of the token that proves that `κ` has not ended.
+  -- a reference of the lifetime `κ` to the counts, which have the address `c` and the value `k`. In
+  -- the proof, the caller also passes the fraction `q` of the token that proves that `κ` has not
+  -- ended.
   abbrev pub at_returned : Lft → Share → ℕ × ℕ → Row.Denot → Returned.Ghost
   at_returned κ q c k =
       (((κ, tt), (q, tt), tt, (record { ref_ptr = c; now = k }, tt), (vptr c.0 c.1 ∷ [], tt)), tt)
@@ -77,8 +78,8 @@ module _ {M : Type 1} {𝓤 : Ura M} (𝓛 : Logic 𝓤) (at_mem : Memory → SP
       move ! (1 ∷ []) $ fjoin ! $
       nothing ! $ move ! (2 ∷ []) $ join ! $ join ! $ nothing ! $ move ! (1 ∷ []) $ done !
 
-  -- A call to `granted` returns the unit value. It also returns the token that proves that the
-  -- lifetime `κ` has not ended.
+  -- A call to `granted` returns the unit value. In the proof, the caller also gets back the token
+  -- of the lifetime `κ`, which proves that `κ` has not ended.
   pub Granted-gives : (y : Answer.Denot) (w v : Val)
       → ent 𝓤 ((Granted 𝓛 at_mem run).post (at_granted 𝓛 at_mem run κ q c k y w) v)
       (H.⇛ (guard 𝓤 (v ≡ vunit) (A.lft κ q)))
@@ -102,8 +103,8 @@ module _ {M : Type 1} {𝓤 : Ura M} (𝓛 : Logic 𝓤) (at_mem : Memory → SP
       nothing ! $ move ! (1 ∷ []) $ fjoin ! $ nothing ! $ move ! (2 ∷ []) $ join ! $ join ! $
       nothing ! $ move ! (1 ∷ []) $ done !
 
-  -- A call to `returned` returns the unit value. It also returns the token that proves that the
-  -- lifetime `κ` has not ended.
+  -- A call to `returned` returns the unit value. In the proof, the caller also gets back the token
+  -- of the lifetime `κ`, which proves that `κ` has not ended.
   pub Returned-gives : (v : Val)
       → ent 𝓤 ((Returned 𝓛 at_mem run).post (at_returned 𝓛 at_mem run κ q c k) v)
       (H.⇛ (guard 𝓤 (v ≡ vunit) (A.lft κ q)))

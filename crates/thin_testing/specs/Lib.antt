@@ -1,3 +1,3 @@
--- This module contains the growth rules of the tests as functions on numbers. It also contains the
--- proofs that these rules satisfy the law of growth rules.
+-- This module defines the growth rules of the tests as functions on numbers, and proves that these
+-- rules satisfy the law of growth rules.
 pub mod Multiples

@@ -66,8 +66,8 @@ impl<B: Allocator> Refusing<B> {
         }
     }
 
-    /// Restarts the count of requests at 0. From now on, the request with the number `refused` is
-    /// refused, or no request if `refused` is 0.
+    /// Sets the count of requests to 0. After that, the request with the number `refused` is
+    /// refused. If `refused` is 0, no request is refused.
     pub fn refuse(&self, refused: u64) {
         self.counts.requests.set(0);
         self.counts.refused.set(refused);

@@ -4,7 +4,7 @@
 use crate::multiples::{Fourfold, Threefold};
 use thin_vec::{Doubling, Growth, PowerBytes};
 
-/// A growth rule with a function that computes the capacities that tests expect.
+/// A growth rule, together with a function that computes the expected capacities.
 pub trait Ruled: Growth {
     /// Returns the capacity to which a list of capacity `capacity` grows if it needs room for
     /// `want` items of `size` bytes each. `want` must be greater than `capacity`.
@@ -22,9 +22,9 @@ impl Ruled for Doubling {
 }
 
 impl Ruled for PowerBytes {
-    // Returns the capacity of a block that fills a power of two bytes. The first 16 bytes of the
-    // block hold the capacity and the length. For items of size 0, the result is the same as under
-    // `Doubling`.
+    // Returns the capacity of a block that fills a number of bytes that is a power of two. The
+    // first 16 bytes of the block hold the capacity and the length. For items of size 0, the result
+    // is the same as under `Doubling`.
     fn expected_capacity(size: usize, capacity: usize, want: usize) -> usize {
         if size == 0 {
             return Doubling::expected_capacity(size, capacity, want);

@@ -1,5 +1,5 @@
--- This file proves that a list has its old items again if a range of the list is replaced, and the
--- old items of the range are then put back.
+-- This file proves that a list has its old items again after a range of the list has been replaced,
+-- and the old items of the range have then been put back.
 use Rattle.std.proofs.Common.{◌≡◌, ℕ, ◌+◌, ◌≤◌, List, ◌++◌, ◌∙◌, ap, append_assoc, arith, drop, length, length-append, sym, take}
 use Rattle.std.proofs.lemmas.List.{drop_at, length-take-le, take_at}
 use Rattle.std.proofs.lemmas.List.Edits.{split_between}

@@ -1,4 +1,5 @@
-//! Defines the growth rule `PowerBytes`, under which each block fills a power of two bytes.
+//! Defines the growth rule `PowerBytes`, under which each block fills a number of bytes that is a
+//! power of two.
 ghost use Rattle.std.specs.Prelude.{◌≡◌, ◌+◌, ◌*◌, ◌^◌, ◌<◌, ◌≤◌, IfNone, IfSome};
 ghost use Rattle.std.specs.Mem.{type_size};
 ghost use Rattle.std.specs.Align.{type_align};
@@ -8,11 +9,12 @@ use crate::growth::doubling::Doubling;
 use crate::growth::{Growth, fitting};
 use crate::sizes::{HEADER, item_size};
 
-/// A growth rule under which each block fills a power of two bytes. The rule computes the size of a
-/// block for the required number of items, or for twice the old capacity if that is greater. It
-/// rounds this size up to a power of two. The new capacity is the number of items that fit in these
-/// bytes after the header. If an allocator rounds requests up to powers of two, a block then wastes
-/// less than the size of one item. For items of size 0, the rule is the same as `Doubling`.
+/// A growth rule under which each block fills a number of bytes that is a power of two. The rule
+/// computes the size of a block for the required number of items, or for twice the old capacity if
+/// that is greater. It rounds this size up to a power of two. The new capacity is the greatest
+/// number of items that fit into that many bytes together with the header. If an allocator rounds
+/// requests up to powers of two, a block then wastes less than the size of one item. For items of
+/// size 0, the rule is the same as `Doubling`.
 ///
 /// This rule is modeled on a similar rule that the Rust crate thin-vec has for Gecko.
 pub struct PowerBytes {}

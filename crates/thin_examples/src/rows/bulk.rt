@@ -1,5 +1,5 @@
-//! Worked examples that check calls that add, move or remove many items at once. A worked example
-//! compares the results of calls with values that were worked out by hand.
+//! Worked examples of calls that add, move or remove many items at once. A worked example compares
+//! the results of calls with values that were worked out by hand.
 use crate::checks::Checks;
 use crate::rows::{Outcome, listed};
 use std::alloc::Allocator;
@@ -11,7 +11,7 @@ use thin_vec::{ExtendRefused, ThinVec, ThinVecError};
 ///
 /// # Errors
 ///
-/// Fails with `OutOfMemory` if there is no memory for the items.
+/// Fails with `OutOfMemory` if there is not enough memory for the items.
 pub fn claiming<A: Allocator, const N: usize>(
     alloc: A,
     items: [i32; N],
@@ -38,8 +38,8 @@ pub fn row_15<A: Allocator + Copy>(alloc: A) -> Outcome {
     Ok(checks)
 }
 
-/// Checks the items and the capacity of a list after a call to `extend` with an iterator of five
-/// items. The lower bound of the size hint is 0, 3, 5 or 9.
+/// For each of the lower bounds 0, 3, 5 and 9, extends a new list with an iterator of five items
+/// whose size hint has this lower bound. Checks the items and the capacity of the list.
 pub fn row_24<A: Allocator + Copy>(alloc: A) -> Outcome {
     let mut checks = Checks::new();
     for (lower, capacity) in [(0, 8), (3, 8), (5, 5), (9, 9)] {

@@ -1,5 +1,6 @@
-//! The worked example that checks `run` of the crate `thin_runner`, which carries out commands on a
-//! list. A worked example compares the results of calls with values that were worked out by hand.
+//! The worked example of the function `run` in the crate `thin_runner`. This function carries out
+//! commands on a list. A worked example compares the results of calls with values that were worked
+//! out by hand.
 use crate::checks::Checks;
 use crate::rows::Outcome;
 use crate::rows::judges::Evens;
@@ -17,7 +18,7 @@ fn put<T: Drop, A: Allocator>(items: &mut Vec<T, A>, item: T) -> Result<(), Thin
 }
 
 // Makes three commands: an insert past the end of the list, a push, and a drain of one item. The
-// drain asks its iterator for an item twice, and gets `None` the second time.
+// drain calls `next_back` and then `next`, which returns `None`.
 fn past_the_end<A: Allocator + Copy>(alloc: A) -> Result<Vec<Command<i32, A>, A>, ThinVecError> {
     let mut steps = Vec::new(alloc);
     put(&mut steps, Step::Back)?;
@@ -45,7 +46,7 @@ fn check_replies<A: Allocator>(checks: &mut Checks, replies: &[Reply<i32, A>]) {
 }
 
 /// Checks `run` with three commands: an insert past the end of the list, a push, and a drain of one
-/// item that asks its iterator for an item twice.
+/// item. The drain calls `next_back` and then `next`.
 pub fn row_41<A: Allocator + Copy>(alloc: A) -> Outcome {
     let mut checks = Checks::new();
     let mut list: ThinVec<i32, A> = ThinVec::new(alloc);

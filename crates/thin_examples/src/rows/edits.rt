@@ -1,5 +1,5 @@
-//! Worked examples that check `drain`, `extract_if`, `bounds`, and formatting with `{:?}`. A worked
-//! example compares the results of calls with values that were worked out by hand.
+//! Worked examples of `drain`, `extract_if`, `bounds`, and formatting with `{:?}`. A worked example
+//! compares the results of calls with values that were worked out by hand.
 use crate::checks::Checks;
 use crate::rows::{Outcome, listed};
 use std::alloc::Allocator;

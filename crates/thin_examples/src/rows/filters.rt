@@ -1,5 +1,5 @@
-//! Worked examples that check `retain_mut`, `dedup_by`, `dedup_by_key` and `dedup`. A worked
-//! example compares the results of calls with values that were worked out by hand.
+//! Worked examples of `retain_mut`, `dedup_by`, `dedup_by_key` and `dedup`. A worked example
+//! compares the results of calls with values that were worked out by hand.
 use crate::checks::Checks;
 use crate::rows::{Outcome, listed};
 use std::alloc::Allocator;

@@ -1,6 +1,6 @@
-//! Worked examples that check `thin_vec!`, and that iterate over, compare, hash, write to and
-//! convert lists. A worked example compares the results of calls with values that were worked out
-//! by hand.
+//! Worked examples of `thin_vec!`, and of iterating over, comparing, hashing, writing to and
+//! converting lists. A worked example compares the results of calls with values that were worked
+//! out by hand.
 use crate::checks::Checks;
 use crate::rows::{Outcome, listed};
 use std::alloc::Allocator;
@@ -90,7 +90,7 @@ pub fn row_30<A: Allocator + Copy>(alloc: A) -> Outcome {
     Ok(checks)
 }
 
-// Writes to the list `bytes` with `write_all` and `write`. Checks the items of the list and the
+// Writes to the list `bytes` with `write_all` and `write`, and checks the items of the list and the
 // numbers that `write` returns.
 fn check_writes<A: Allocator>(checks: &mut Checks, bytes: &mut ThinVec<u8, A>) -> io::Result<()> {
     bytes.write_all(&[3, 4, 5])?;

@@ -1,5 +1,5 @@
-//! Worked examples that check the growth rule `PowerBytes` and a sparse table. A worked example
-//! compares the results of calls with values that were worked out by hand.
+//! Worked examples of the growth rule `PowerBytes` and of a sparse table. A worked example compares
+//! the results of calls with values that were worked out by hand.
 use crate::checks::Checks;
 use crate::rows::Outcome;
 use std::alloc::Allocator;

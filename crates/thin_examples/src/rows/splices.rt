@@ -1,5 +1,5 @@
-//! Worked examples that check `splice`, and a worked example that checks calls on an empty list. A
-//! worked example compares the results of calls with values that were worked out by hand.
+//! Worked examples of `splice`, and one of calls on an empty list. A worked example compares the
+//! results of calls with values that were worked out by hand.
 use crate::checks::Checks;
 use crate::rows::bulk::claiming;
 use crate::rows::{Outcome, listed};

@@ -59,7 +59,7 @@ fn dedup_by_key_drops_its_closure(rt: HostRuntime) {
 
 // In this test, the closure owns an `Rc`, whose reference count shows when the closure is dropped.
 // The closure cannot own a `Counted`, which borrows a cell, because the borrow checker does not
-// support a borrowing closure in this test.
+// accept a closure that borrows in this test.
 #[test]
 fn extract_if_drops_its_closure(rt: HostRuntime) {
     let kept = Rc::new(rt.alloc(), 2).ok().expect(&rt, "memory");

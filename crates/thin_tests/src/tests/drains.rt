@@ -94,8 +94,8 @@ pub fn drain_reversed(
     list.drain(start, end).rev().collect(alloc)
 }
 
-/// Drains the range with the bounds `start` and `end`. Each bound may be included, excluded or
-/// missing, like the bounds of Rust's ranges. Returns `None` if the list has no such range.
+/// Drains the range with the bounds `start` and `end`. Like the bounds of Rust's ranges, each bound
+/// may be included, excluded or missing. Returns `None` if the list has no such range.
 pub fn drain_between<T: Drop, A: Allocator, G: Growth>(
     list: &mut ThinVec<T, A, G>,
     start: Bound<usize>,

@@ -14,7 +14,8 @@ trait Numbered: Copy + PartialEq + Debug + Drop {
     fn numbered(number: usize) -> Self;
 }
 
-// The modulus is odd. So any two neighboring 8-byte words of a list contain different bytes.
+// An item is a number modulo 251. This modulus is odd, so any two neighboring 8-byte words of a
+// list contain different bytes.
 impl Numbered for u8 {
     fn numbered(number: usize) -> u8 {
         (number % 251) as u8
@@ -122,7 +123,7 @@ fn assert_pushes<T: Numbered, B: Allocator, G: Ruled>(
     assert_same(rt, (list.len() >= 600, refusing.blocks()), (true, 1));
 }
 
-// Changes the capacity of the list to `capacity` with one request to the allocator.
+// Changes the capacity of the list to `capacity` with one request for memory.
 fn make_capacity<T: Drop, A: Allocator, G: Growth>(
     list: &mut ThinVec<T, A, G>,
     capacity: usize,
@@ -220,8 +221,8 @@ fn a_list_of_pairs_of_words_grows_and_shrinks_in_place(rt: HostRuntime) {
     assert_type::<u128>(&rt, rt.alloc(), 16);
 }
 
-// Pushes 3000 items to a list that cannot grow in place. Before each growth, another list allocates
-// the memory directly behind the allocation of this list.
+// Pushes 3000 items to a list. Before each growth, another list allocates the memory directly
+// behind the allocation of this list, so this list cannot grow in place.
 fn assert_pushes_beside_neighbours<T: Numbered>(rt: &impl Abort, alloc: Global) {
     let mut neighbours = ThinVec::<ThinVec<u8>>::new(alloc);
     let mut list = ThinVec::<T>::new(alloc);

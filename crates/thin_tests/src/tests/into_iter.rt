@@ -48,8 +48,8 @@ fn assert_cloned<A: Allocator>(
     assert_items(rt, clone.as_slice(), wanted);
 }
 
-// Clones an iterator over 1, 2 and 3 before and after its first step, and asserts the items of the
-// two clones. Then asserts that the iterator itself yields its remaining items.
+// Clones an iterator over 1, 2 and 3 before and after its first call to `next`, and asserts the
+// items of the two clones. Then asserts that the iterator itself yields its remaining items.
 fn clone_between_steps<A: Allocator + Copy>(
     rt: &impl Abort,
     items: &mut IntoIter<i32, A>,

@@ -123,8 +123,9 @@ fn row_12_refused_finish_returns_the_item_in_hand(rt: HostRuntime) {
 
 #[test]
 fn row_39_refused_finish_returns_the_held_items(rt: HostRuntime) {
-    // The first request allocates the list. The second request allocates a vector for the items
-    // that do not fit into the range. The third request, which should grow the list, is refused.
+    // The first request allocates the memory of the list. The second request allocates a vector for
+    // the items that do not fit into the range. The third request, which should grow the list, is
+    // refused.
     let refusing = refusing_nth(&rt, rt.alloc(), 3);
     let iter = Claims::new(&[7, 8, 9], 0);
     let left = (&[1, 7, 3][..], 3);

@@ -1,6 +1,6 @@
--- This file defines the type former of `Block`. The type former tells the prover why a type `T` may
--- have a field of the type `Block<T, A>`. A block is determined by the items in its slots, and by
--- other parts that contain no items.
+-- This file defines the type former of `Block`, which states which values a block contains. With
+-- it, the prover accepts a type `T` that has a field of the type `Block<T, A>`. A block is
+-- determined by the items in its slots, and by other parts that contain no items.
 use Rattle.std.specs.Prelude.{◌≡◌, ℕ, suc, max, ◌+◌, ◌≤◌, List, [], ◌∷◌, map, length, Option}
 use Rattle.std.specs.declared.option.Option.TheVariants.{Some, None}
 use mathlib.Core.Path.{PathP, refl, sym, ap, ◌∙◌}
@@ -52,14 +52,14 @@ module _ (g : Former {0}) where
   slot_count None n = n
   slot_count (Some a) n = g.count a n
 
-  -- Prepends the values in the slot `o` to a row of `n` values.
+  -- `slot_put X o n t` prepends the values in the slot `o` to the row `t` of `n` values.
   abbrev pub slot_put : (X : Type 0) (o : Option (g.Of X)) (n : Count) → Row X n
       → Row X (slot_count (on_slot (g.shape X) o) n)
   slot_put X None n t = t
   slot_put X (Some y) n t = g.put X y n t
 
-  -- Splits a row of values into a slot and the remaining `n` values. The slot has the shape `a`,
-  -- and contains the first values of the row.
+  -- `slot_get` splits a row of values into a slot and the remaining `n` values. The slot has the
+  -- shape `a`, and contains the first values of the row.
   abbrev pub slot_get : (X : Type 0) (a : Option g.Shape) (n : Count) → Row X (slot_count a n)
       → Option (g.Of X) × Row X n
   slot_get X None n v = (None, v)
@@ -83,8 +83,8 @@ module _ (g : Former {0}) where
   slot_put-get X None n v = refl
   slot_put-get X (Some a) n v = λ i. (Some (g.put-get X a n v i).0, (g.put-get X a n v i).1)
 
-  -- Taking a slot from a row of values and applying the function `h` to all values can be done in
-  -- either order.
+  -- A slot can be taken from a row of values before or after the function `h` is applied to all
+  -- values. The results are equal.
   pub slot_get-map : (X Y : Type 0) (h : X → Y) (a : Option g.Shape) (n : Count)
       (v : Row X (slot_count a n))
       → slot_get Y a n (over h (slot_count a n) v) ≡ (
@@ -130,12 +130,12 @@ module _ {g : Former {0}} (w : Weighed g) where
   w_slot = record { weight = slot_weight; puts = slot_puts }
 
 module _ {X Y Z : Type 0} (d : Block X Z) where
-  -- `Fits ys` holds if the block `d` may have the slots `ys`: their number must be at least the
-  -- stored length of `d`, and it must be 0 if and only if `d` has no allocation.
+  -- `Fits ys` holds if the number of the slots `ys` is at least the stored length of the block `d`,
+  -- and is 0 if and only if `d` has no allocation.
   abbrev pub Fits : List (Option Y) → Type 0
   Fits ys = (d.len ≤ length ys) × (is_some d.alloc ≡ any ys)
 
-  -- `holding ys` is the block `d` with its slots replaced with `ys`.
+  -- `holding ys` is the block `d` after its slots have been replaced with `ys`.
   abbrev pub holding : (ys : List (Option Y)) → Fits ys → Block Y Z
   holding ys sound = record {
     at = d.at;
@@ -148,8 +148,8 @@ module _ {X Y Z : Type 0} (d : Block X Z) where
     sound = sound;
   }
 
-  -- If the length of `ys` is the number of slots of the block `d`, then `d` may have the slots
-  -- `ys`.
+  -- If the length of `ys` is the number of slots of the block `d`, then `Fits ys` holds: the slots
+  -- of `d` may be replaced with `ys`.
   pub fits : (ys : List (Option Y)) → length ys ≡ length d.slots → Fits ys
   fits ys e = (let le = d.sound.0 in omega (arith, e, le), d.sound.1 ∙ sym (any_same d.slots ys e))
 
@@ -180,8 +180,8 @@ module _ (g : Former {0}) (Z : Type 0) where
   length_got X (a ∷ as') n v =
       ap suc (length_got X as' n ((slot g).get X a (list_count (slot g) as' n) v).1)
 
-  -- Splits a row of values into a block and the remaining `n` values. The block has the shape `a`,
-  -- and contains the first values of the row.
+  -- `got` splits a row of values into a block and the remaining `n` values. The block has the shape
+  -- `a`, and contains the first values of the row.
   abbrev pub got : (X : Type 0) (a : Block g.Shape Z) (n : Count)
       → Row X (list_count (slot g) a.slots n) → Block (g.Of X) Z × Row X n
   got X a n v = let r : List (Option (g.Of X)) × Row X n = list_get (slot g) X a.slots n v in
@@ -212,8 +212,8 @@ module _ (g : Former {0}) (Z : Type 0) where
     ((list (slot g)).put-get X a.slots n v i).1,
   )
 
-  -- Taking a block from a row of values and applying the function `h` to all values can be done in
-  -- either order.
+  -- A block can be taken from a row of values before or after the function `h` is applied to all
+  -- values. The results are equal.
   pub got-map : (X Y : Type 0) (h : X → Y) (a : Block g.Shape Z) (n : Count)
       (v : Row X (list_count (slot g) a.slots n))
       → got Y a n (over h (list_count (slot g) a.slots n) v)
@@ -263,8 +263,8 @@ the_empty Z z = record {
   sound = (omega arith, refl);
 }
 
--- For the former `this`, each item is itself a value. So the values in a row of slots are the items
--- in these slots.
+-- The type former `this` states that each item contains exactly one value, namely itself. So the
+-- values in a row of slots are the items in these slots.
 pub items_listed : (X : Type 0) (xs : List (Option X))
     → listed _ (children (list (slot this)) X xs) ≡ items_in xs
 items_listed X [] = refl
@@ -275,7 +275,8 @@ items_listed X (Some x ∷ xs) = ap (λ l. x ∷ l) (items_listed X xs)
 abbrev pub the_items : (Z X : Type 0) → Block X Z → List X
 the_items Z X d = items_in d.slots
 
--- For the former `this`, each item is itself a value. So the values in the block `d` are its items.
+-- The type former `this` states that each item contains exactly one value, namely itself. So the
+-- values in the block `d` are its items.
 pub the_items_listed : (Z X : Type 0) (d : Block X Z)
     → listed _ (children (the_former this Z) X d) ≡ the_items Z X d
 the_items_listed Z X d = items_listed X d.slots
@@ -297,16 +298,18 @@ second : {a b c : Gv} → a ≡ b → gcons c a ≡ gcons c b
 second {c = c} e = λ i. gcons c (e i)
 
 module _ (R R' : RattleType) (h : R.Denot → R'.Denot) (a : Alike R R' h) where
-  -- The item types `R` and `R'` have the same size.
+  -- By the assumption `Alike R R' h`, the item types `R` and `R'` have the same size.
   abbrev width : type_size R' ≡ type_size R
   width = λ i. size (lone (a.mir_same i))
 
-  -- A slot owns the same memory as its image under the function `h`.
+  -- If each item owns the same memory as its image under the function `h`, then each slot owns the
+  -- same memory as its image.
   place_placed : (x : Option R.Denot) (b o : ℕ) → place R' (on_slot h x) b o ≡ place R x b o
   place_placed None b o = λ i. room_for (raw (lone (a.mir_same i))) (block_ptr b o)
   place_placed (Some x) b o = lies_placed R R' h a full_share (block_ptr b o) x
 
-  -- A row of slots owns the same memory as its image under the function `h`.
+  -- If each item owns the same memory as its image under the function `h`, then each row of slots
+  -- owns the same memory as its image.
   places_placed : (xs : List (Option R.Denot)) (b o : ℕ)
       → places R' (map (on_slot h) xs) b o ≡ places R xs b o
   places_placed [] b o = refl
@@ -314,7 +317,8 @@ module _ (R R' : RattleType) (h : R.Denot → R'.Denot) (a : Alike R R' h) where
       (λ i. fsep (place_placed x b o i) (places R' (map (on_slot h) xs) b (o + width i)))
       ∙ ap (fsep (place R x b o)) (places_placed xs b (o + type_size R))
 
-  -- A block owns the same memory as its image under the function `h`.
+  -- If each item owns the same memory as its image under the function `h`, then each block owns the
+  -- same memory as its image.
   pub block_placed : {D : Type 0} (t : D → Ty → Ptr → Fml) (p : Ptr) (n : ℕ)
       (xs : List (Option R.Denot)) (w : Option D) → block_owns t R' p n (map (on_slot h) xs)
       w ≡ block_owns t R p n xs w
@@ -324,14 +328,15 @@ module _ (R R' : RattleType) (h : R.Denot → R'.Denot) (a : Alike R R' h) where
       λ i. fsep (frame (t w) (record R { mir = a.mir_same i }) n (length-map xs (on_slot h) i) b o)
       (places_placed xs b (o + 16) i)
 
-  -- A `&` to a slot lends the same memory as a `&` to the image of the slot under the function `h`.
+  -- If a `&` to each item lends the same memory as a `&` to the image of the item under the
+  -- function `h`, then the same is true of each slot and its image.
   place_lent_placed : (x : Option R.Denot) (p : Ptr)
       → place_lent R' (on_slot h x) p ≡ place_lent R x p
   place_lent_placed None p = refl
   place_lent_placed (Some x) p = lent_at_placed R R' h a p x
 
-  -- A `&` to a row of slots lends the same memory as a `&` to the image of the row under the
-  -- function `h`.
+  -- If a `&` to each item lends the same memory as a `&` to the image of the item under the
+  -- function `h`, then the same is true of each row of slots and its image.
   places_lent_placed : (xs : List (Option R.Denot)) (b o : ℕ) → places_lent R' (map (on_slot h) xs)
       b o ≡ places_lent R xs b o
   places_lent_placed [] b o = refl
@@ -340,8 +345,8 @@ module _ (R R' : RattleType) (h : R.Denot → R'.Denot) (a : Alike R R' h) where
       (places_lent R' (map (on_slot h) xs) b (o + width i)))
       ∙ ap (beside (place_lent R x (block_ptr b o))) (places_lent_placed xs b (o + type_size R))
 
-  -- A `&` to a block lends the same memory as a `&` to the image of the block under the function
-  -- `h`.
+  -- If a `&` to each item lends the same memory as a `&` to the image of the item under the
+  -- function `h`, then the same is true of each block and its image.
   pub block_lent_placed : {D : Type 0} (p : Ptr) (n : ℕ) (xs : List (Option R.Denot)) (w : Option D)
       → block_lent R' p n (map (on_slot h) xs) w ≡ block_lent R p n xs w
   block_lent_placed null_ptr n xs w = refl

@@ -1,6 +1,6 @@
-//! Assertions that many tests share. If a test contains such an assertion itself, the proof of the
-//! test takes one or two seconds longer. A call of one of these functions adds almost nothing to
-//! this time.
+//! Assertions that many tests share. If a test contained such an assertion itself, the proof of the
+//! test would take one or two seconds longer. A call to one of these functions takes almost no time
+//! to prove.
 ghost use Rattle.std.specs.Prelude.{◌≡◌, length};
 
 use std::alloc::{Allocator, Global};

@@ -3,8 +3,8 @@ use Rattle.std.proofs.Common.{◌≡◌, ◌+◌, ◌-◌, ◌^◌, ◌<◌, map
 use Rattle.thin_examples.specs.SyntaxTree.{node_count}
 use Rattle.thin_examples.proofs.syntax_tree.Node.+count.Given as goal
 
--- The count so far, plus the node counts of the children that have not been visited yet, equals the
--- node count of this node if both numbers are capped at `u64::MAX`. The count so far is less than
+-- If both numbers are capped at `u64::MAX`, the count so far plus the node counts of the children
+-- that have not been visited yet equals the node count of this node. The count so far is less than
 -- `2 ^ 64`.
 abbrev pub invariant-loop-child : goal.invariant-loop-child
 invariant-loop-child l =

@@ -1,6 +1,6 @@
--- `get_mut` searches for the entry of a column. If the search finds an index, this is the index of
--- the entry of this column among the entries of the map. Otherwise the map has no value at the
--- column.
+-- `get_mut` searches the stored list for the entry of a column. If the search succeeds, it returns
+-- the index of this entry, which is also its index among the entries of the map. Otherwise the map
+-- has no value at the column.
 use Rattle.std.proofs.Common.{nat_cmp, refl, sym}
 use Rattle.std.specs.FinMap.{entries-from_sorted}
 use Rattle.thin_rows.proofs.RowLemmas.{get_gap}

@@ -1,5 +1,6 @@
 -- The caller can change the value of the borrowed entry, but not its column. So a value that is
--- written through the reference becomes the value of the map at this column.
+-- written through the reference becomes the value at this column in the map that the row
+-- represents.
 use Rattle.std.proofs.Common.{◌≡◌, Some, nat_cmp, length-set, refl, sym, ap, ◌∙◌}
 use Rattle.std.proofs.lemmas.Option.{get_or_from_slice_get}
 use Rattle.std.specs.FinMap.{entries-from_sorted}

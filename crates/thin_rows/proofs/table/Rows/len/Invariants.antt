@@ -1,11 +1,12 @@
--- This file states the invariant of the loop in `len`. The count plus the number of entries in the
--- remaining rows is the number of all entries, if both numbers are capped at `usize::MAX`.
+-- This file states the invariant of the loop in `len`. If both numbers are capped at `usize::MAX`,
+-- the count plus the number of entries in the rows that have not been visited yet equals the number
+-- of all entries.
 use Rattle.std.proofs.Common.{◌≡◌, ◌+◌, ◌-◌, ◌^◌, ◌<◌, map, min, sum}
 use Rattle.std.specs.FinMap.{len}
 use Rattle.thin_rows.proofs.table.Rows.len.Given as goal
 
--- If both numbers are capped at `usize::MAX`, the count plus the number of entries in the remaining
--- rows equals the number of all entries. The count fits into a `usize`.
+-- If both numbers are capped at `usize::MAX`, the count plus the number of entries in the rows that
+-- have not been visited yet equals the number of all entries. The count fits into a `usize`.
 abbrev pub invariant-loop-row : goal.invariant-loop-row
 invariant-loop-row g l =
     (min (l.count + sum (map (λ row. len row) l.row-iterator.rest.now)) (2 ^ 64 - 1)

@@ -1,5 +1,5 @@
--- If `set` fails, the row does not change, and so the table does not change either. The cause of
--- the error is the cause that the method `set` of the row returned.
+-- If `set` fails, neither the row nor the table changes, and the error has the cause that the
+-- method `set` of the row returned.
 use Rattle.std.proofs.Common.{◌≡◌, ◌+◌, subst, ℕ, List, OnErr, Result, Ok, Err, Some, slice_get, slice_set, sym, ap, ◌∙◌}
 use Rattle.std.proofs.lemmas.List.{set-get_or}
 use Rattle.std.proofs.lemmas.Option.{get_or_from_slice_get}

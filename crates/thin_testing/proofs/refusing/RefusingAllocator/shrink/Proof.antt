@@ -131,8 +131,8 @@ module _ (Z : Al) (X : RattleType) {M : Type 1} {𝓤 : Ura M} (𝓛 : Logic �
     abbrev c : ℕ × ℕ
     c = (r.ref_ptr.0, r.ref_ptr.1 + up 8 (up (align (α Z)) 0 + size (α Z)))
 
-    -- `left b o y` is the block that the caller owns after a call with the result `y`. Before the
-    -- call, the block was at the offset `o` of the allocation `b`.
+    -- `left b o y` is the block that the caller owns after a call to `shrink` with the result `y`.
+    -- Before the call, the block was at the offset `o` of the allocation `b`.
     abbrev left : ℕ → ℕ → Answer.Denot → Fml
     left b o = left_by Z X (Shrinks X) 𝓛 at_mem run κ κT q qT p r.now.inner b o len old new xs
 
@@ -148,9 +148,9 @@ module _ (Z : Al) (X : RattleType) {M : Type 1} {𝓤 : Ura M} (𝓛 : Logic �
         use0 𝓛 (‵ (Answer.own_val (result_of y b' o') (answer_val y b' o' ∷ [])))
         (result_own 𝓛 y b' o') $ nothing ! $ nothing ! $ fjoin ! $ nothing ! $ fjoin ! $
         nothing ! $ fjoin ! $ nothing ! $ fjoin ! $ nothing ! $ fjoin ! $ join ! $
-        -- These steps combine the following resources into the postcondition: [the result; the
-        -- block; the token of the lifetime `κ`; the token of the lifetime `κT`; the token of the
-        -- lifetime `ρ`].
+        -- These steps combine the following resources into the postcondition of `shrink`: [the
+        -- result; the block; the token of the lifetime `κ`; the token of the lifetime `κT`; the
+        -- token of the lifetime `ρ`].
         nothing ! $ move ! (4 ∷ 0 ∷ []) $ join ! $ move ! (4 ∷ 0 ∷ []) $ join ! $
         move ! (3 ∷ 0 ∷ []) $ join ! $ join ! $ done !
 

@@ -1,5 +1,5 @@
 -- This file proves the contract of `push_full`. The new capacity follows from the growth rule, and
--- the number of copied items and allocated blocks follows from the new capacity.
+-- the numbers of copied items and allocated blocks follow from the new capacity.
 use Rattle.std.proofs.Common.{arith}
 use Rattle.thin_block.proofs.CapacityLemmas.{doubling_first, doubling_next}
 use Rattle.thin_vec.proofs.ThinVecLemmas.{costs}
