@@ -75,20 +75,22 @@ module _ {T A : Type 0} where
   abbrev pub exact_for : RattleType → Thin T A → ℕ → Option ℕ
   exact_for R v k = exact_capacity R v.capacity (length v.items + k)
 
-  -- `cost_at v c` is the cost of the list `v` after its capacity became `c`. If the capacity
-  -- changed, the cost includes one more reallocation, which copied all items.
+  -- `cost_at v c` is the recorded cost of the list `v` after a call that grows its capacity to `c`,
+  -- or that keeps a capacity of `c`. If the capacity changes, the cost includes one more
+  -- reallocation, which copies all items.
   abbrev pub cost_at : Thin T A → ℕ → Cost
   cost_at v c = if c == v.capacity then v.cost else growing (length v.items) v.cost
 
-  -- `cost_shrunk_to v c` is the cost of the list `v` after its capacity shrank to `c`. If the
-  -- capacity does not change, the cost does not change. Otherwise, if `c` is 0, the block is freed,
-  -- and the cost becomes 0. In all other cases, the cost includes one more reallocation, which
-  -- copied all items.
+  -- `cost_shrunk_to v c` is the recorded cost of the list `v` after a call to shrink its capacity
+  -- to `c`. If the capacity does not change, the cost does not change. Otherwise, if `c` is 0, the
+  -- block is freed, and the cost becomes 0. In all other cases, the cost includes one more
+  -- reallocation, which copies all items.
   abbrev pub cost_shrunk_to : Thin T A → ℕ → Cost
   cost_shrunk_to v c = if c == v.capacity then v.cost else
       (if c == 0 then no_cost else growing (length v.items) v.cost)
 
-  -- `cost_shrunk v` is the cost of the list `v` after its capacity shrank to its length.
+  -- `cost_shrunk v` is the recorded cost of the list `v` after a call to shrink its capacity to its
+  -- length.
   abbrev pub cost_shrunk : Thin T A → Cost
   cost_shrunk v = cost_shrunk_to v (length v.items)
 
@@ -97,6 +99,6 @@ module _ {T A : Type 0} where
 abbrev pub IsCause : Option ℕ → ThinVecError → Type 0
 IsCause named cause = cause ≡ CapacityOverflow → named ≡ None
 
--- `cost_new c` is the cost of an empty list that was made with the capacity `c`.
+-- `cost_new c` is the recorded cost of an empty list that was made with the capacity `c`.
 abbrev pub cost_new : ℕ → Cost
 cost_new c = if c == 0 then no_cost else growing 0 no_cost

@@ -221,8 +221,8 @@ impl<
         let Splice { list, holder, iter } = self;
         let mut block = holder.into_inner();
         block.drop_rest();
-        // The list is already empty. This call is needed only to prove that, because `close`
-        // requires an empty list.
+        // The list is already empty. This call is needed only for the proof: the contract of
+        // `close` requires an empty list.
         list.clear();
         let answer = if block.has_tail() {
             list.finish_before_tail(block, iter, alloc)
