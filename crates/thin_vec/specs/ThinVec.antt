@@ -30,8 +30,9 @@ thin_code {T} {A} t a =
     (λ p. record { items = p.0; capacity = p.1.0; alloc = p.1.1.0; cost = p.1.1.1 }) (λ _. refl)
 
 module _ {T A : Type 0} where
-  -- `IsThin b a` states that `b` is the block of a list with the allocator `a`: the items are in
-  -- the first slots, the stored length is the number of items, and the memory came from `a`.
+  -- `IsThin b a` states that `b` is the block of a list with the allocator `a`: the items fill the
+  -- first slots, all other slots are empty, the stored length is the number of items, and the
+  -- memory came from `a`.
   pub record IsThin (b : Block T A) (a : A) : Type 0 where
     pub packed : IsPacked b.slots b.len
     pub from : IsFrom b.alloc a
@@ -65,19 +66,20 @@ module _ {T A : Type 0} where
   abbrev pub HasRoomFor : Thin T A → ℕ → Type 0
   HasRoomFor v k = length v.items + k ≤ v.capacity
 
-  -- `capacity_for rule R v k` is the capacity that the growth rule determines if the list `v` needs
-  -- room for `k` more items of the type `R`. It is `None` if this capacity is too large.
+  -- `capacity_for rule R v k` is the capacity of the list `v` after room for `k` more items of the
+  -- type `R` has been reserved. It is the old capacity if `v` has enough room. Otherwise, the
+  -- growth rule chooses it, and it is `None` if it would be too large.
   abbrev pub capacity_for : Rule → RattleType → Thin T A → ℕ → Option ℕ
   capacity_for rule R v k = ruled_capacity rule R v.capacity (length v.items + k)
 
-  -- `exact_for R v k` is the capacity that the list `v` gets if it needs room for exactly `k` more
-  -- items of the type `R`. It is `None` if a block of this capacity is too large to be allocated.
+  -- `exact_for R v k` is the capacity of the list `v` after room for exactly `k` more items of the
+  -- type `R` has been reserved. It is `None` if a block of this capacity is too large to be
+  -- allocated.
   abbrev pub exact_for : RattleType → Thin T A → ℕ → Option ℕ
   exact_for R v k = exact_capacity R v.capacity (length v.items + k)
 
-  -- `cost_at v c` is the recorded cost of the list `v` after a call that grows its capacity to `c`,
-  -- or that keeps a capacity of `c`. If the capacity changes, the cost includes one more
-  -- reallocation, which copies all items.
+  -- `cost_at v c` is the recorded cost of the list `v` after a call that sets its capacity to `c`.
+  -- If the capacity changes, the cost includes one more reallocation, which copies all items.
   abbrev pub cost_at : Thin T A → ℕ → Cost
   cost_at v c = if c == v.capacity then v.cost else growing (length v.items) v.cost
 

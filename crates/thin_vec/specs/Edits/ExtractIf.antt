@@ -12,7 +12,7 @@ use Rattle.thin_vec.specs.declared.edits.holder.Holder.{Holder}
 use Rattle.thin_vec.specs.declared.edits.holder.Holds.{Ghosts as HoldsGhosts}
 
 -- `R f x b g y` describes one call of the closure with the item `x`, which returned the boolean
--- `b`. The call changed the closure from `f` to `g`, and the item from `x` to `y`.
+-- `b`. The call changed the state of the closure from `f` to `g`, and the item from `x` to `y`.
 module _ {T F A : Type 0} (R : F → T → Bool → F → T → Type 0) where
   -- `Extracts old item new` states that a call to `next` changed `old` to `new` and returned
   -- `item`. The call passed the untested items of the range to the closure, in order, until the

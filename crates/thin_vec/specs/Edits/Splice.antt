@@ -37,7 +37,7 @@ module _ {T A : Type 0} where
   pub record IsStopCause {S : Type 0} (rule : Rule) (R : RattleType) (w : Thin T A) (tail : List T)
       (left : Count) (error : SpliceRefused T S A) : Type 0 where
     -- If `held` is empty and `in_hand` is `None`, the error returns no items. In this case, the
-    -- call could not reserve room for the lower bound of the iterator's size hint.
+    -- call could not reserve room for as many items as the lower bound of the iterator's size hint.
     pub by_hint : error.held.items ≡ [] → error.in_hand ≡ None
         → FailsAtHint rule R w left error.cause
     -- If the vector `held` is not empty, and `in_hand` is `None`, the cause is `CapacityOverflow`

@@ -52,9 +52,9 @@ pub record IsResized {T : Type 0} (clones : T → T → Type 0) (xs : List T) (n
       × (ys ≡ xs ++ (copies ++ x ∷ []))
   pub len : length ys ≡ n
 
--- `StopsAtClone infallible sources before after` states that cloning failed at the item of
--- `sources` with some index `at`. So `infallible` does not hold for this item. The items before it
--- were cloned at the cost of one move each: the cost `after` is the cost `before` plus `at` moves.
+-- `StopsAtClone infallible sources before after` states that cloning the item at some index `at` of
+-- `sources` failed. So `infallible` does not hold for this item. The items before it were cloned at
+-- the cost of one move each: the cost `after` is the cost `before` plus `at` moves.
 pub record StopsAtClone {T : Type 0} (infallible : T → Type 0) (sources : List T)
     (before after : Cost) : Type 0 where
   pub at : ℕ

@@ -60,8 +60,9 @@ IsCollected rule R d n left =
     IsRuled rule R d n ⊎ ((h : ℕ) × IsWithinCount h left × (exact_capacity R 0 h ≡ Some d))
 
 module _ {T A : Type 0} where
-  -- These clauses restrict the capacity after items of an iterator were added to the list `v`,
-  -- which became `w`. `left` is an upper bound on the number of items that the iterator may yield.
+  -- These clauses restrict the capacity of the list `w` after items of an iterator were added to
+  -- the list `v`, which became `w`. `left` is an upper bound on the number of items that the
+  -- iterator may yield.
   pub record GrowsFor (rule : Rule) (R : RattleType) (v w : Thin T A) (left : Count) : Type 0 where
     -- If `v` has room for all items that the iterator may yield, the capacity does not change.
     pub had_room : HasRoomFor v (size left) → w.capacity ≡ v.capacity
@@ -73,9 +74,10 @@ module _ {T A : Type 0} where
     -- size hint.
     pub ruled : IsExtended rule R v w.capacity (length w.items) left
 
-  -- These clauses bound the cost of adding items to the list `v`, which became `w`. Each added item
-  -- counts as one move, and the old items of `v` are moved at most `n` times in total. The first
-  -- two inequalities have sums on both sides, to avoid subtraction.
+  -- These clauses bound the recorded cost (requests for memory, copied items and moves) of adding
+  -- items to the list `v`, which became `w`. Each added item counts as one move, and the old items
+  -- of `v` are moved at most `n` times in total. The first two inequalities have sums on both
+  -- sides, to avoid subtraction.
   pub record CostsAdding (v w : Thin T A) (n : ℕ) : Type 0 where
     pub least : v.cost.moves + length w.items ≤ w.cost.moves + length v.items
     pub moves : w.cost.moves + length v.items ≤ v.cost.moves + n + length w.items
@@ -138,8 +140,8 @@ module _ {T A : Type 0} where
     -- for one more item.
     pub by_push : IsSome error.in_hand
         → (error.cause ≡ CapacityOverflow) ↔ (capacity_for rule R w 1 ≡ None)
-    -- If `in_hand` is `None`, the call could not reserve room for the lower bound of the iterator's
-    -- size hint.
+    -- If `in_hand` is `None`, the call could not reserve room for as many items as the lower bound
+    -- of the iterator's size hint.
     pub by_hint : error.in_hand ≡ None → FailsAtHint rule R w left error.cause
 
   -- These clauses say why a call to `from_iter` failed. `left` is an upper bound on the number of
