@@ -54,20 +54,21 @@ module _ (change : Change) (n : ℕ) (text new : List ℕ) (fits : Fits change t
 -- text `text` results in the text `after`.
 module _ (changes rest : List Change) (change : Change) (text after : List ℕ)
     (is : changes ≡ rest ++ change ∷ []) (made : after ≡ changed change text) where
-  -- The reverse of `changes` is `change` followed by the reverse of `rest`.
+  -- The list `changes` consists of `rest` and then `change`. So its reverse is `change`, followed
+  -- by the reverse of `rest`.
   turned : reverse changes ≡ change ∷ reverse rest
   turned = ap (λ (cs : List Change). reverse cs) is ∙ reverse-append rest (change ∷ [])
 
-  -- `texts_of` applies changes from the last to the first. The last change of `changes` turns
-  -- `text` into `after`. So `after` is the first resulting text, and `texts_of rest after` contains
-  -- all further texts.
+  -- The list `changes` consists of `rest`, followed by a change that turns `text` into `after`.
+  -- `texts_of` applies this last change first. So `after` is the first resulting text, and
+  -- `texts_of rest after` contains all further texts.
   pub texts_of-last : texts_of changes text ≡ after ∷ texts_of rest after
   texts_of-last =
       ap (λ (cs : List Change). texts_along cs text) turned
       ∙ ap (λ (t : List ℕ). t ∷ texts_along (reverse rest) t) (sym made)
 
-  -- `AllFit` considers changes from the last to the first. The last change of `changes` turns
-  -- `text` into `after`. If this change fits `text`, and the other changes (the list `rest`) fit
+  -- The list `changes` consists of `rest`, followed by a change that turns `text` into `after`.
+  -- `AllFit` considers this last change first. If it fits `text`, and the changes in `rest` fit
   -- `after`, then all changes fit `text`.
   pub AllFit-last : Fits change text → AllFit rest after → AllFit changes text
   AllFit-last fits all =
@@ -92,8 +93,8 @@ pub length-texts_of : (changes : List Change) (text : List ℕ)
 length-texts_of changes text =
     length-texts_along (reverse changes) text ∙ length-reverse changes
 
--- If only the first `k` changes of a list are applied to a text, they produce the first `k` of the
--- texts that all changes of the list produce.
+-- Applying only the first `k` changes of a list to a text produces the first `k` of the texts that
+-- all changes of the list produce.
 texts_along-take : (k : ℕ) (changes : List Change) (text : List ℕ)
     → texts_along (take k changes) text ≡ take k (texts_along changes text)
 texts_along-take zero changes text = refl
@@ -111,7 +112,7 @@ FitAlong-take (suc k) [] text all = tt
 FitAlong-take (suc k) (change ∷ changes) text all =
     (all.0, FitAlong-take k changes (changed change text) all.1)
 
--- The reverse of `drop m changes` is the reverse of `changes` without the last `m` items.
+-- `reverse (drop m changes)` contains all items of `reverse changes` except the last `m`.
 reverse-drop : (m : ℕ) (changes : List Change)
     → reverse (drop m changes) ≡ take (length changes - m) (reverse changes)
 reverse-drop m changes =
@@ -125,16 +126,16 @@ reverse-drop m changes =
 
 -- The next lemmas are about a list of changes from which the first `m` changes are removed.
 module _ (m : ℕ) (changes : List Change) (text : List ℕ) where
-  -- `texts_of` applies the first changes of a list last. So if the first `m` changes are removed
-  -- from a list, only the last `m` of the resulting texts are lost.
+  -- `texts_of` applies the changes of a list from the last to the first. So if the first `m`
+  -- changes are removed from the list, only the last `m` of the resulting texts are lost.
   pub texts_of-drop : texts_of (drop m changes) text
       ≡ take (length changes - m) (texts_of changes text)
   texts_of-drop =
       ap (λ (cs : List Change). texts_along cs text) (reverse-drop m changes)
       ∙ texts_along-take (length changes - m) (reverse changes) text
 
-  -- `AllFit` considers the first changes of a list last. So if all changes of a list fit a text,
-  -- then all changes except the first `m` fit the text, too.
+  -- `AllFit` considers the changes of a list from the last to the first. So if all changes of the
+  -- list fit a text, then all changes except the first `m` fit the text, too.
   pub AllFit-drop : AllFit changes text → AllFit (drop m changes) text
   AllFit-drop all =
       subst (λ (cs : List Change). FitAlong cs text) (sym (reverse-drop m changes))

@@ -33,6 +33,7 @@ abbrev pub texts_of : List Change → List ℕ → List (List ℕ)
 texts_of changes text = texts_along (reverse changes) text
 
 -- `AllFit changes text` holds if each change fits the text to which it is applied. The changes are
--- applied from the last to the first, and the last change is applied to `text`.
+-- applied from the last to the first: the last change is applied to `text`, and each other change
+-- to the text that the previous step produced.
 abbrev pub AllFit : List Change → List ℕ → Type 0
 AllFit changes text = FitAlong (reverse changes) text

@@ -89,14 +89,14 @@ fn replacement(alloc: Global, start: usize, end: usize, text: &str) -> Result<Co
     Ok(Command::Replace(start, end, characters))
 }
 
-// Returns the text before the first space, and the text after that space. If there is no space,
-// returns the whole text and an empty string.
+// Splits `text` at its first space. Returns two parts: the text before the space, and the text
+// after it. If there is no space, the first part is the whole text, and the second part is empty.
 fn first_word(text: &str) -> (&str, &str) {
     text.split_once(' ').unwrap_or((text, ""))
 }
 
-// Parses the first word of `text` as a number. Returns the number, and the text after the space
-// that follows the word. Fails with `NotACommand` if the word is not a number.
+// Parses the first word of `text` as a number. Returns two values: the number, and the text after
+// the space that follows the word. Fails with `NotACommand` if the word is not a number.
 fn number(text: &str) -> Result<(usize, &str), EditError> {
     let (word, rest) = first_word(text);
     match word.parse::<usize>() {

@@ -11,7 +11,7 @@ use std::alloc::Global;
 use std::marker::Model;
 use thin_vec::{ThinVec, ThinVecError};
 
-/// A text with the history of its edits. In contracts, an editor is a `History`. It contains the
+/// A text with the history of its edits. In contracts, an editor is a `History`, which contains the
 /// text, the texts that repeated calls to `undo` restore, and the texts that repeated calls to
 /// `redo` restore.
 #[derive(Drop)]

@@ -1,5 +1,6 @@
--- These definitions bound the cost of growing a list. The bound implies that `push` takes amortized
--- constant time. (std: `Vec::push`, "Time complexity")
+-- These definitions bound the cost of growing a list, that is, the number of requests for memory
+-- and the number of copied items. The bound implies that `push` takes amortized constant time.
+-- (std: `Vec::push`, "Time complexity")
 use Rattle.std.specs.Prelude.{◌≡◌, ℕ, ◌*◌, ◌^◌, ◌<◌, ◌≤◌}
 use Rattle.thin_block.specs.Cost.{Cost}
 use Rattle.thin_vec.specs.ThinVec.{Thin}
@@ -13,8 +14,8 @@ pub record IsCheapAt (cap : ℕ) (cost : Cost) : Type 0 where
   pub grown : 0 < cap → cost.grown < cap
   pub blocks : 0 < cap → 2 ^ cost.blocks ≤ 2 * cap
 
--- `IsCheap v` states that the cost of growing the list `v` is within the bound `IsCheapAt`. A new
--- list is within this bound, and every call except `reserve_exact`, `shrink_to` and `shrink_to_fit`
--- preserves the bound.
+-- `IsCheap v` states that the capacity and the recorded cost of the list `v` satisfy `IsCheapAt`.
+-- Every new list satisfies `IsCheap`, and every call except `reserve_exact`, `shrink_to` and
+-- `shrink_to_fit` preserves it.
 abbrev pub IsCheap : {T A : Type 0} → Thin T A → Type 0
 IsCheap v = IsCheapAt v.capacity v.cost

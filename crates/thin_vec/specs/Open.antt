@@ -25,8 +25,7 @@ pub record Open (T A : Type 0) : Type 0 where
   pub capacity : ℕ
   -- The allocator of the block, or `None` if the block has no memory.
   pub alloc : Option A
-  -- The cost of the block so far: the numbers of requests for memory, of copied items and of moved
-  -- items.
+  -- The recorded cost of the block so far (requests for memory, copied items and moves).
   pub cost : Cost
 
 -- A value of type `Open` is encoded as the tuple of its eight fields.
@@ -51,20 +50,20 @@ open_code {T} {A} t a =
     (λ _. refl)
 
 module _ {T A : Type 0} where
-  -- The index of the first slot of the tail, the last part of an open block.
+  -- `tail_start v` is the index of the first slot of the tail, the last part of the open block `v`.
   abbrev pub tail_start : Open T A → ℕ
   tail_start v = length v.front + v.gap + length v.rest + v.gap_after
 
-  -- The index of the first slot after the tail, the last part of an open block.
+  -- `reach v` is the index directly after the tail, the last part of the open block `v`.
   abbrev pub reach : Open T A → ℕ
   reach v = tail_start v + length v.tail
 
-  -- The items of the middle run, the second part of an open block.
+  -- `rest_of v` contains the items of the middle run, the second part of the open block `v`.
   abbrev pub rest_of : Open T A → List T
   rest_of v = v.rest
 
-  -- The number of slots between the front and the tail, the first and the last part of an open
-  -- block.
+  -- `range_len v` is the number of slots between the first part (the front) and the last part (the
+  -- tail) of the open block `v`.
   abbrev pub range_len : Open T A → ℕ
   range_len v = v.gap + length v.rest + v.gap_after
 
@@ -79,13 +78,14 @@ module _ {T A : Type 0} where
   abbrev pub items_of : Open T A → List T
   items_of v = v.front ++ (v.rest ++ v.tail)
 
-  -- The cost of an open block after the gap between its front and its middle run has been closed.
-  -- If the gap has at least one slot, each item of the middle run and of the tail is moved once.
+  -- `cost_closed v` is the recorded cost of the open block `v` after the gap between its front and
+  -- its middle run has been closed. If this gap has at least one slot, each item of the middle run
+  -- and of the tail is moved once.
   abbrev pub cost_closed : Open T A → Cost
   cost_closed v = if v.gap == 0 then v.cost else moving (length v.rest + length v.tail) v.cost
 
-  -- The cost of an open block after its middle items have been removed and its tail items have been
-  -- moved down to the front. If there is at least one slot between the front and the tail, each
-  -- tail item is moved once.
+  -- `cost_drained v` is the recorded cost of the open block `v` after its middle items have been
+  -- removed and its tail items have been moved down to the front. If there is at least one slot
+  -- between the front and the tail, each tail item is moved once.
   abbrev pub cost_drained : Open T A → Cost
   cost_drained v = if range_len v == 0 then v.cost else moving (length v.tail) v.cost

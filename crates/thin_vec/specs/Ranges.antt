@@ -4,8 +4,8 @@ use Rattle.std.specs.Range.Bound.{end_index, start_index}
 use Rattle.std.specs.declared.option.Option.TheVariants.{None, Some}
 use Rattle.std.specs.declared.ops.Bound.{Bound}
 
--- For a range with the bounds `start` and `end`, `range_between start end len` is the pair of
--- indices `(i, j)` for which the range selects the items `i..j` of a list of `len` items. It is
+-- `range_between start end len` is a pair of indices `(i, j)`: the inclusive start and the
+-- exclusive end of the range with the bounds `start` and `end`, in a list of `len` items. It is
 -- `None` if `i` is greater than `j`, or if `j` is greater than `len`. The indices are natural
 -- numbers of any size, so nothing overflows.
 abbrev pub range_between : Bound ℕ → Bound ℕ → ℕ → Option (ℕ × ℕ)

@@ -25,7 +25,8 @@ abbrev tail_of : List Bool → List Bool
 tail_of [] = []
 tail_of (b ∷ bs) = bs
 
--- The flags of a row of `m` empty slots are `replicate m false`.
+-- The flag of a slot says whether the slot is filled. So the flags of a row of `m` empty slots are
+-- `replicate m false`.
 none_shape : (X : Type 0) (m : ℕ) → map is_some (let none : List (Option X) = empty m in
     none) ≡ replicate m false
 none_shape X zero = refl
@@ -38,14 +39,13 @@ front_shape : {X : Type 0} (ys : List X) (m : ℕ)
 front_shape {X} [] m = none_shape X m
 front_shape (y ∷ ys) m = ap (λ l. true ∷ l) (front_shape ys m)
 
--- If the row of slots `s` consists of `n` filled slots, followed by `m` empty slots, then the flags
--- of `s` are `n` times true, followed by `m` times false.
+-- Suppose that the row of slots `s` consists of `n` filled slots, followed by `m` empty slots. Then
+-- `map is_some s` consists of `n` times `true`, followed by `m` times `false`.
 pub to_shape : {X : Type 0} (s : List (Option X)) (m : ℕ) → s ≡ full (items_in s) ++ empty m
     → map is_some s ≡ shape (length (items_in s)) m
 to_shape s m e = ap (map is_some) e ∙ front_shape (items_in s) m
 
--- If the flags of the row of slots `s` are `replicate m false`, then `s` consists of `m` empty
--- slots.
+-- If `map is_some s` is `replicate m false`, then the row of slots `s` consists of `m` empty slots.
 all_none : {X : Type 0} (s : List (Option X)) (m : ℕ)
     → map is_some s ≡ replicate m false → s ≡ empty m
 unfolding head_of
@@ -64,8 +64,9 @@ unfolding head_of
 none_first s [] m e = all_none (None ∷ s) m e
 none_first s (y ∷ ys) m e = let n : 2 ≡ 1 = ap head_of e in absurd (omega (arith, n))
 
--- If the row of slots `s` holds `n` items, and its flags are `n` times true, followed by `m` times
--- false, then `s` consists of slots with these items, followed by `m` empty slots.
+-- Suppose that the row of slots `s` holds `n` items, and that `map is_some s` consists of `n` times
+-- `true`, followed by `m` times `false`. Then `s` consists of `n` filled slots, followed by `m`
+-- empty slots.
 pub from_shape : {X : Type 0} (s : List (Option X)) (m : ℕ)
     → map is_some s ≡ shape (length (items_in s)) m → s ≡ full (items_in s) ++ empty m
 unfolding head_of

@@ -30,8 +30,9 @@ thin_code {T} {A} t a =
     (λ p. record { items = p.0; capacity = p.1.0; alloc = p.1.1.0; cost = p.1.1.1 }) (λ _. refl)
 
 module _ {T A : Type 0} where
-  -- `IsThin b a` states that `b` is the block of a list with the allocator `a`: the items are in
-  -- the first slots, the stored length is the number of items, and the memory came from `a`.
+  -- `IsThin b a` states that `b` is the block of a list with the allocator `a`: the items fill the
+  -- first slots, all other slots are empty, the stored length is the number of items, and the
+  -- memory came from `a`.
   pub record IsThin (b : Block T A) (a : A) : Type 0 where
     pub packed : IsPacked b.slots b.len
     pub from : IsFrom b.alloc a
@@ -65,30 +66,33 @@ module _ {T A : Type 0} where
   abbrev pub HasRoomFor : Thin T A → ℕ → Type 0
   HasRoomFor v k = length v.items + k ≤ v.capacity
 
-  -- `capacity_for rule R v k` is the capacity that the growth rule determines if the list `v` needs
-  -- room for `k` more items of the type `R`. It is `None` if this capacity is too large.
+  -- `capacity_for rule R v k` is the capacity of the list `v` after room for `k` more items of the
+  -- type `R` has been reserved. It is the old capacity if `v` has enough room. Otherwise, the
+  -- growth rule chooses it, and it is `None` if it would be too large.
   abbrev pub capacity_for : Rule → RattleType → Thin T A → ℕ → Option ℕ
   capacity_for rule R v k = ruled_capacity rule R v.capacity (length v.items + k)
 
-  -- `exact_for R v k` is the capacity that the list `v` gets if it needs room for exactly `k` more
-  -- items of the type `R`. It is `None` if a block of this capacity is too large to be allocated.
+  -- `exact_for R v k` is the capacity of the list `v` after room for exactly `k` more items of the
+  -- type `R` has been reserved. It is `None` if a block of this capacity is too large to be
+  -- allocated.
   abbrev pub exact_for : RattleType → Thin T A → ℕ → Option ℕ
   exact_for R v k = exact_capacity R v.capacity (length v.items + k)
 
-  -- `cost_at v c` is the cost of the list `v` after its capacity became `c`. If the capacity
-  -- changed, the cost includes one more reallocation, which copied all items.
+  -- `cost_at v c` is the recorded cost of the list `v` after a call that sets its capacity to `c`.
+  -- If the capacity changes, the cost includes one more reallocation, which copies all items.
   abbrev pub cost_at : Thin T A → ℕ → Cost
   cost_at v c = if c == v.capacity then v.cost else growing (length v.items) v.cost
 
-  -- `cost_shrunk_to v c` is the cost of the list `v` after its capacity shrank to `c`. If the
-  -- capacity does not change, the cost does not change. Otherwise, if `c` is 0, the block is freed,
-  -- and the cost becomes 0. In all other cases, the cost includes one more reallocation, which
-  -- copied all items.
+  -- `cost_shrunk_to v c` is the recorded cost of the list `v` after a call to shrink its capacity
+  -- to `c`. If the capacity does not change, the cost does not change. Otherwise, if `c` is 0, the
+  -- block is freed, and the cost becomes 0. In all other cases, the cost includes one more
+  -- reallocation, which copies all items.
   abbrev pub cost_shrunk_to : Thin T A → ℕ → Cost
   cost_shrunk_to v c = if c == v.capacity then v.cost else
       (if c == 0 then no_cost else growing (length v.items) v.cost)
 
-  -- `cost_shrunk v` is the cost of the list `v` after its capacity shrank to its length.
+  -- `cost_shrunk v` is the recorded cost of the list `v` after a call to shrink its capacity to its
+  -- length.
   abbrev pub cost_shrunk : Thin T A → Cost
   cost_shrunk v = cost_shrunk_to v (length v.items)
 
@@ -97,6 +101,6 @@ module _ {T A : Type 0} where
 abbrev pub IsCause : Option ℕ → ThinVecError → Type 0
 IsCause named cause = cause ≡ CapacityOverflow → named ≡ None
 
--- `cost_new c` is the cost of an empty list that was made with the capacity `c`.
+-- `cost_new c` is the recorded cost of an empty list that was made with the capacity `c`.
 abbrev pub cost_new : ℕ → Cost
 cost_new c = if c == 0 then no_cost else growing 0 no_cost

@@ -26,8 +26,9 @@ pub struct Rejected<S> {
 pub struct ExtendRefused<T, I> {
     /// The reason why the call failed.
     pub cause: ThinVecError,
-    /// The last item that was taken from the iterator. The list had no room for this item. If room
-    /// for the size hint could not be reserved, no item was taken, and `in_hand` is `None`.
+    /// The last item that was taken from the iterator. The list had no room for this item. If the
+    /// call could not reserve room for as many items as the size hint promises, no item was taken,
+    /// and `in_hand` is `None`.
     pub in_hand: Option<T>,
     /// The rest of the iterator: it yields the items that have not been taken yet.
     pub rest: I,
@@ -41,8 +42,9 @@ pub struct CollectRefused<T, I, A: Allocator = Global> {
     pub list: ThinVec<T, A>,
     /// The reason why the call failed.
     pub cause: ThinVecError,
-    /// The last item that was taken from the iterator. The list had no room for this item. If room
-    /// for the size hint could not be reserved, no item was taken, and `in_hand` is `None`.
+    /// The last item that was taken from the iterator. The list had no room for this item. If the
+    /// call could not reserve room for as many items as the size hint promises, no item was taken,
+    /// and `in_hand` is `None`.
     pub in_hand: Option<T>,
     /// The rest of the iterator: it yields the items that have not been taken yet.
     pub rest: I,
@@ -57,8 +59,8 @@ pub struct SpliceRefused<T, I, A: Allocator = Global> {
     /// vector uses the allocator that was passed to `finish`.
     pub held: Vec<T, A>,
     /// The last item that was taken from the iterator, after the items in `held`. There was no room
-    /// for this item. `in_hand` is `None` if room for the size hint, or for the items in `held`,
-    /// could not be reserved.
+    /// for this item. `in_hand` is `None` if the call could not reserve room for as many items as
+    /// the size hint promises, or for the items in `held`.
     pub in_hand: Option<T>,
     /// The rest of the iterator: it yields the items that have not been taken yet. If `held` is not
     /// empty and `in_hand` is `None`, the iterator has returned `None`, and `next` must not be

@@ -30,8 +30,8 @@ module _ {S T : Type 0} (R : S → T → T → Bool → S → T → T → Type 0
   AskedPairs s (x ∷ xs) stays ys t = AskedLast s x xs stays ys t
 
   -- `IsDedupedTo s v w t` states that the list `v` became `w` when its duplicates were removed. The
-  -- cost increased by one move for each item that was kept after the first removed item. The test
-  -- that found the duplicates changed its state from `s` to `t`.
+  -- recorded cost increased by one move for each item that was kept after the first removed item.
+  -- The test that found the duplicates changed its state from `s` to `t`.
   pub record IsDedupedTo {A : Type 0} (s : S) (v w : Thin T A) (t : S) : Type 0 where
     pub stays : List Bool
     pub asked : AskedPairs s v.items stays w.items t
@@ -42,23 +42,23 @@ module _ {S T : Type 0} (R : S → T → T → Bool → S → T → T → Type 0
   abbrev pub IsDedupedBy : {A : Type 0} → S → Thin T A → Thin T A → Type 0
   IsDedupedBy s v w = (t : S) × IsDedupedTo s v w t
 
--- `Compares E` describes a test that only compares two items. The item `x` is removed if `E x k` is
--- true, where `k` is the last item that was kept. The test does not change the items, and its
--- states `s` and `t` are arbitrary.
+-- `Compares E` describes a test that compares two items with the function `E`, and does not change
+-- them. The item `x` is removed if `E x k` is true, where `k` is the last item that was kept. The
+-- state of the test is arbitrary, before and after the call.
 abbrev pub Compares : {S T : Type 0} → (T → T → Bool) → S → T → T → Bool → S → T → T → Type 0
 Compares E s x k b t y l = (b ≡ E x k) × (y ≡ x) × (l ≡ k)
 
 module _ {T : Type 0} (E : T → T → Bool) where
-  -- `unlike_from k xs` contains one flag for each item of the list `xs`, which is true if the item
-  -- is kept. An item is kept if the comparison `E` returns false for the item and the last item
-  -- kept before it. For the first item of `xs`, this last kept item is `k`.
+  -- `unlike_from k xs` contains one flag for each item of the list `xs`. The flag is true if the
+  -- item is kept, that is, if the comparison `E` returns false for the item and the last item kept
+  -- before it. For the first item of `xs`, this last kept item is `k`.
   abbrev pub unlike_from : T → List T → List Bool
   unlike_from k [] = []
   unlike_from k (x ∷ xs) = if E x k then false ∷ unlike_from k xs else true ∷ unlike_from x xs
 
-  -- `unlike xs` contains one flag for each item of the list `xs` except the first, which is always
-  -- kept. The flag is true if the item is kept, that is, if the comparison `E` returns false for
-  -- the item and the last item kept before it.
+  -- The first item of the list `xs` is always kept. `unlike xs` contains one flag for each other
+  -- item of `xs`. The flag is true if the item is kept, that is, if the comparison `E` returns
+  -- false for the item and the last item kept before it.
   abbrev pub unlike : List T → List Bool
   unlike [] = []
   unlike (x ∷ xs) = unlike_from x xs

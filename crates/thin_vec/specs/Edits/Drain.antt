@@ -30,17 +30,18 @@ module _ {T A G : Type 0} {g : Ghosts G} {h : HoldsGhosts (Holder (Open T A)) (O
   abbrev pub drain_alloc : Drain T A G (Holder (Open T A)) g h → A
   drain_alloc d = d.list.now.alloc
 
-  -- The cost that the list will have after the `Drain` is dropped.
+  -- The recorded cost (requests for memory, copied items and moves) that the list will have after
+  -- the `Drain` is dropped.
   abbrev pub drain_cost : Drain T A G (Holder (Open T A)) g h → Cost
   drain_cost d = cost_drained d.holder.value
 
-  -- The ghost name of the reference to the list. References with equal ghost names borrow the same
-  -- list.
+  -- The ghost name of the reference to the list that the `Drain` borrows. References with equal
+  -- ghost names borrow the same list.
   abbrev pub drain_lender : Drain T A G (Holder (Open T A)) g h → GName
   drain_lender d = d.list.ghost_name
 
-  -- `DrainKeeps old new` states that `old` and `new` borrow the same list, and that dropping either
-  -- of them would result in the same final list.
+  -- `DrainKeeps old new` states that `old` and `new` borrow the same list, and that dropping `old`
+  -- would result in the same list as dropping `new`.
   pub record DrainKeeps (old new : Drain T A G (Holder (Open T A)) g h) : Type 0 where
     pub lender : drain_lender new ≡ drain_lender old
     pub kept : drain_kept new ≡ drain_kept old

@@ -12,7 +12,7 @@ use Rattle.thin_vec.specs.declared.edits.holder.Holder.{Holder}
 use Rattle.thin_vec.specs.declared.edits.holder.Holds.{Ghosts as HoldsGhosts}
 
 -- `R f x b g y` describes one call of the closure with the item `x`, which returned the boolean
--- `b`. The call changed the closure from `f` to `g`, and the item from `x` to `y`.
+-- `b`. The call changed the state of the closure from `f` to `g`, and the item from `x` to `y`.
 module _ {T F A : Type 0} (R : F → T → Bool → F → T → Type 0) where
   -- `Extracts old item new` states that a call to `next` changed `old` to `new` and returned
   -- `item`. The call passed the untested items of the range to the closure, in order, until the
@@ -59,8 +59,7 @@ module _ {T F A G : Type 0} {g : Ghosts G}
   abbrev pub extract_callee : ExtractIf T F A G (Holder (Extracting T F A)) g h → F
   extract_callee e = e.holder.value.picks.pick
 
-  -- The cost of the list so far: the numbers of requests for memory, of copied items and of moved
-  -- items.
+  -- The recorded cost of the list so far (requests for memory, copied items and moves).
   abbrev pub extract_cost : ExtractIf T F A G (Holder (Extracting T F A)) g h → Cost
   extract_cost e = e.holder.value.block.cost
 
@@ -72,13 +71,14 @@ module _ {T F A G : Type 0} {g : Ghosts G}
   abbrev pub extract_alloc : ExtractIf T F A G (Holder (Extracting T F A)) g h → A
   extract_alloc e = e.list.now.alloc
 
-  -- The ghost name of the reference to the list. References with equal ghost names borrow the same
-  -- list.
+  -- The ghost name of the reference to the list that the `ExtractIf` borrows. References with equal
+  -- ghost names borrow the same list.
   abbrev pub extract_lender : ExtractIf T F A G (Holder (Extracting T F A)) g h → GName
   extract_lender e = e.list.ghost_name
 
   -- `ExtractSteps R old item new` states that a call to `next` changed the `ExtractIf` from `old`
-  -- to `new` and returned `item`, and that `old` and `new` borrow the same list.
+  -- to `new` and returned `item`, and that `old` and `new` borrow the same list. The relation `R`
+  -- describes the calls of the closure.
   pub record ExtractSteps (R : F → T → Bool → F → T → Type 0)
       (old : ExtractIf T F A G (Holder (Extracting T F A)) g h) (item : Option T)
       (new : ExtractIf T F A G (Holder (Extracting T F A)) g h) : Type 0 where

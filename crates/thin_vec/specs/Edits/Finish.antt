@@ -15,8 +15,9 @@ use Rattle.thin_vec.specs.declared.errors.SpliceRefused.{SpliceRefused}
 
 module _ {T A : Type 0} where
   -- `HasTaken rule R v w n left` describes how the list `v` became `w` when items of an iterator
-  -- were added. `left` is an upper bound on the number of items that the iterator could yield, and
-  -- `n` is an upper bound on the number of moves of other items.
+  -- were added. `rule` is the growth rule of the list, and `R` is the type of the items. The
+  -- iterator could yield at most `left` items, and the old items of `v` were moved at most `n`
+  -- times in total.
   pub record HasTaken (rule : Rule) (R : RattleType) (v w : Thin T A) (n : ℕ)
       (left : Count) : Type 0 where
     pub capacity : IsLoose rule R v.capacity w.capacity
@@ -25,15 +26,15 @@ module _ {T A : Type 0} where
     pub alloc : w.alloc ≡ v.alloc
     pub cheap : IsCheap v → IsCheap w
 
+  -- An open block is the block of a list during an edit, and its gap consists of empty slots.
   -- `IsClosedWith v xs a w` states that the items `xs` were written into the gap of the open block
-  -- `v`, and that `v` then became the block of the list `w` with the allocator `a`. An open block
-  -- is the block of a list during an edit, and its gap consists of empty slots.
+  -- `v`, and that `v` then became the block of the list `w`, whose allocator is `a`.
   pub record IsClosedWith (v : Open T A) (xs : List T) (a : A) (w : Thin T A) : Type 0 where
     pub items : w.items ≡ with_between v xs
     pub capacity : w.capacity ≡ v.capacity
     pub alloc : w.alloc ≡ a
-    -- Each item of `xs` was moved once. The tail items are the items after the gap. Each tail item
-    -- was moved at most once, and not at all if `xs` filled the gap.
+    -- The tail items are the items after the gap. Each item of `xs` was moved once. Each tail item
+    -- was moved at most once, and was not moved if `xs` filled the gap.
     pub cost : (m : ℕ) × (w.cost ≡ moving (length xs + m) v.cost) × (m ≤ length v.tail)
         × (length xs ≡ v.gap → m ≡ 0)
 

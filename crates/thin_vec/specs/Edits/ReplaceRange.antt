@@ -26,8 +26,8 @@ pub record ReplacesByClones {T : Type 0} (clones : T → T → Type 0) (xs : Lis
   pub cloned : AllZip clones sources copies
   pub items : ys ≡ replace_range xs i j copies
 
--- `MovesAtMost n before after` states that the cost `after` is the cost `before` plus at most `n`
--- moves.
+-- `MovesAtMost n before after` states that the recorded cost `after` is the cost `before` plus at
+-- most `n` moves.
 pub record MovesAtMost (n : ℕ) (before after : Cost) : Type 0 where
   pub moves : ℕ
   pub few : moves ≤ n

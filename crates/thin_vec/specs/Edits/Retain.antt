@@ -54,8 +54,8 @@ module _ {S T : Type 0} (R : S → T → Bool → S → T → Type 0) where
       × (verdicts ≡ (b, y) ∷ rest)
 
   -- `IsRetainedTo s v w t` states that the list `v` became `w` when the items that failed the test
-  -- were removed. The cost increased by one move for each item that was kept after the first
-  -- removed item. The test changed its state from `s` to `t`.
+  -- were removed. The recorded cost increased by one move for each item that was kept after the
+  -- first removed item. The test changed its state from `s` to `t`.
   pub record IsRetainedTo {A : Type 0} (s : S) (v w : Thin T A) (t : S) : Type 0 where
     pub verdicts : Verdicts T
     pub asked : Asked s v.items verdicts t

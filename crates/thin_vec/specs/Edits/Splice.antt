@@ -19,8 +19,9 @@ module _ {S T A : Type 0} (steps : S → Option T → S → Type 0) where
   -- `Stopped can remaining s placed error` states that `finish` failed with `error` after it had
   -- inserted the items `placed` of the iterator `s`. The error returns the items that were drawn
   -- afterwards: first the items in `held`, and then the item in the option `in_hand`. If `held` is
-  -- not empty and `in_hand` is `None`, the iterator has ended. Otherwise `next` may be called again
-  -- on the rest of the iterator (`can`), which yields only finitely many items (`remaining`).
+  -- not empty and `in_hand` is `None`, the iterator has ended. Otherwise, `next` may be called
+  -- again on the rest of the iterator (`can`), and the upper bound on the number of its items
+  -- (`remaining`) is finite.
   abbrev pub Stopped : (S → Type 0) → (S → Count) → S → List T → SpliceRefused T S A → Type 0
   Stopped can remaining s placed error =
       (PausedAfter steps can remaining s
@@ -36,7 +37,7 @@ module _ {T A : Type 0} where
   pub record IsStopCause {S : Type 0} (rule : Rule) (R : RattleType) (w : Thin T A) (tail : List T)
       (left : Count) (error : SpliceRefused T S A) : Type 0 where
     -- If `held` is empty and `in_hand` is `None`, the error returns no items. In this case, the
-    -- call could not reserve room for the lower bound of the iterator's size hint.
+    -- call could not reserve room for as many items as the lower bound of the iterator's size hint.
     pub by_hint : error.held.items ≡ [] → error.in_hand ≡ None
         → FailsAtHint rule R w left error.cause
     -- If the vector `held` is not empty, and `in_hand` is `None`, the cause is `CapacityOverflow`
@@ -58,8 +59,9 @@ module _ {T A : Type 0} where
   pub record FailsAsExtend {S : Type 0} (v w : Thin T A) (s : S) (error : SpliceRefused T S A)
       : Type 0 where
     pub held : error.held.items ≡ []
-    -- If `in_hand` is `None`, no item was drawn from the iterator, and the list is `v`. If
-    -- `in_hand` is `Some`, the list is full.
+    -- If `in_hand` is `None`, no item was drawn from the iterator, and the list after the call is
+    -- `v`, the list without the items of the range. If `in_hand` is `Some`, the list after the call
+    -- is full.
     pub in_hand : MatchOption error.in_hand ((w ≡ v) × (error.rest ≡ s))
         (λ _. length w.items ≡ w.capacity)
 
@@ -97,13 +99,13 @@ module _ {I T A G H : Type 0} {g : Ghosts G} {h : HoldsGhosts H (Open T A)} wher
   abbrev pub splice_alloc : Splice I T A G H g h → A
   splice_alloc s = s.list.now.alloc
 
-  -- The ghost name of the reference to the list. References with equal ghost names borrow the same
-  -- list.
+  -- The ghost name of the reference to the list that the `Splice` borrows. References with equal
+  -- ghost names borrow the same list.
   abbrev pub splice_lender : Splice I T A G H g h → GName
   splice_lender s = s.list.ghost_name
 
-  -- The list without the items of the range. Its cost is the present cost, because no item after
-  -- the range has been moved yet.
+  -- The list without the items of the range. Its recorded cost is the present cost of the block,
+  -- because no item after the range has been moved yet.
   abbrev pub splice_left : Splice I T A G H g h → Thin T A
   splice_left s = left_of (splice_block s) (splice_alloc s)
 

@@ -42,8 +42,9 @@ pub record AppendsRepeats {T : Type 0} (clones : T → T → Type 0) (x : T) (n 
   pub count : length copies ≡ n
   pub items : ys ≡ xs ++ copies
 
--- `IsResized clones xs n x ys` states that `ys` is the list `xs` resized to the length `n`: cut off
--- after `n` items, or extended with clones of `x` and finally with `x` itself.
+-- `IsResized clones xs n x ys` states that resizing the list `xs` to length `n` results in `ys`. If
+-- `xs` has at least `n` items, `ys` contains the first `n` of them. Otherwise, `ys` contains all
+-- items of `xs`, then clones of `x`, and finally `x` itself.
 pub record IsResized {T : Type 0} (clones : T → T → Type 0) (xs : List T) (n : ℕ) (x : T)
     (ys : List T) : Type 0 where
   pub shorter : n ≤ length xs → ys ≡ take n xs
@@ -51,9 +52,9 @@ pub record IsResized {T : Type 0} (clones : T → T → Type 0) (xs : List T) (n
       × (ys ≡ xs ++ (copies ++ x ∷ []))
   pub len : length ys ≡ n
 
--- `StopsAtClone infallible sources before after` states that cloning the item of `sources` at some
--- index `at` failed, so `infallible` does not hold for this item. The items before it were cloned
--- at the cost of one move each. So the cost `after` is the cost `before` plus `at` moves.
+-- `StopsAtClone infallible sources before after` states that cloning the item at some index `at` of
+-- `sources` failed. So `infallible` does not hold for this item. The items before it were cloned at
+-- the cost of one move each: the cost `after` is the cost `before` plus `at` moves.
 pub record StopsAtClone {T : Type 0} (infallible : T → Type 0) (sources : List T)
     (before after : Cost) : Type 0 where
   pub at : ℕ
@@ -62,8 +63,8 @@ pub record StopsAtClone {T : Type 0} (infallible : T → Type 0) (sources : List
   pub cost : after ≡ moving at before
 
 -- `CostsUpToClone infallible sources v w` states that the list `v` became `w` when cloning one of
--- the items `sources` failed. The cost increased by one move for each item that was cloned before
--- the failure, and by one reallocation if the capacity changed.
+-- the items `sources` failed. The recorded cost increased by one move for each item that was cloned
+-- before the failure, and by one reallocation if the capacity changed.
 abbrev pub CostsUpToClone : {T A : Type 0} → (T → Type 0) → List T → Thin T A → Thin T A → Type 0
 CostsUpToClone infallible sources v w =
     StopsAtClone infallible sources (cost_at v w.capacity) w.cost

@@ -30,36 +30,39 @@ abbrev pub IsLoose : Rule → RattleType → ℕ → ℕ → Type 0
 IsLoose rule R c d =
     (d ≡ c) ⊎ ((w : ℕ) × (n : ℕ) × (c < w) × (ruled_capacity rule R c w ≡ Some n) × (n ≤ d))
 
--- `IsRuled rule R d n` states that the growth rule chooses the capacity `d` for some block that
--- must grow to hold at most `n` items. The list need not have had such a block. (With the rule
--- `Doubling`, `d` is then at most 4 or at most `2 * n`.)
+-- `IsRuled rule R d n` states that `d` is a capacity that the growth rule chooses if some block
+-- needs more slots than it has, but at most `n` slots. This block need not be a block of the list.
+-- (With the rule `Doubling`, `d` is then at most 4 or at most `2 * n`.)
 abbrev pub IsRuled : Rule → RattleType → ℕ → ℕ → Type 0
 IsRuled rule R d n = (e w : ℕ) × (e < w) × (w ≤ n) × (ruled_capacity rule R e w ≡ Some d)
 
 -- `IsKeptOrRuled rule R c d n` states that the new capacity `d` is the old capacity `c`, or that
--- the growth rule chooses `d` for some block that must grow to hold at most `n` items.
+-- `d` is a capacity that the growth rule chooses if some block needs more slots than it has, but at
+-- most `n` slots.
 abbrev pub IsKeptOrRuled : Rule → RattleType → ℕ → ℕ → ℕ → Type 0
 IsKeptOrRuled rule R c d n = (d ≡ c) ⊎ IsRuled rule R d n
 
 -- `IsExtended rule R v d n left` restricts the capacity `d` after the list `v` was extended to `n`
--- items. Either `d` is the old capacity or was chosen by the growth rule for at most `n` items
--- (`IsKeptOrRuled`), or `d` is `capacity_for rule R v h`, where `h` is a possible size hint of an
--- iterator that yields at most `left` items.
+-- items. There are two cases: `d` satisfies `IsKeptOrRuled` for at most `n` items, or `d` is
+-- `capacity_for rule R v h`. Here, `h` is a possible lower bound of the size hint of an iterator
+-- that yields at most `left` items.
 abbrev pub IsExtended : {T A : Type 0} → Rule → RattleType → Thin T A → ℕ → ℕ → Count → Type 0
 IsExtended rule R v d n left =
     IsKeptOrRuled rule R v.capacity d n
     ⊎ ((h : ℕ) × IsWithinCount h left × (capacity_for rule R v h ≡ Some d))
 
--- `IsCollected rule R d n left` restricts the capacity `d` of a new list of `n` items. Either the
--- growth rule chooses `d` for some block that must grow to hold at most `n` items, or `d` is
--- exactly the capacity for a possible size hint of an iterator that yields at most `left` items.
+-- `IsCollected rule R d n left` restricts the capacity `d` of a new list of `n` items. There are
+-- two cases: `d` satisfies `IsRuled` for at most `n` items, or `d` is the capacity of a new block
+-- for exactly `h` items. Here, `h` is a possible lower bound of the size hint of an iterator that
+-- yields at most `left` items.
 abbrev pub IsCollected : Rule → RattleType → ℕ → ℕ → Count → Type 0
 IsCollected rule R d n left =
     IsRuled rule R d n ⊎ ((h : ℕ) × IsWithinCount h left × (exact_capacity R 0 h ≡ Some d))
 
 module _ {T A : Type 0} where
-  -- These clauses restrict the capacity after items of an iterator were added to the list `v`,
-  -- which became `w`. `left` is an upper bound on the number of items that the iterator may yield.
+  -- These clauses restrict the capacity of the list `w` after items of an iterator were added to
+  -- the list `v`, which became `w`. `left` is an upper bound on the number of items that the
+  -- iterator may yield.
   pub record GrowsFor (rule : Rule) (R : RattleType) (v w : Thin T A) (left : Count) : Type 0 where
     -- If `v` has room for all items that the iterator may yield, the capacity does not change.
     pub had_room : HasRoomFor v (size left) → w.capacity ≡ v.capacity
@@ -67,12 +70,14 @@ module _ {T A : Type 0} where
     -- growth rule chooses. So a capacity that changes at least doubles.
     pub loose : IsLoose rule R v.capacity w.capacity
     -- Either the capacity does not change, or the growth rule chooses it. The rule chooses it
-    -- either for at most the final number of items, or for a possible size hint of the iterator.
+    -- either for at most the final number of items, or for a possible lower bound of the iterator's
+    -- size hint.
     pub ruled : IsExtended rule R v w.capacity (length w.items) left
 
-  -- These clauses bound the cost of adding items to the list `v`, which became `w`. Each added item
-  -- counts as one move, and there are at most `n` moves of other items. The first two inequalities
-  -- have sums on both sides, to avoid subtraction.
+  -- These clauses bound the recorded cost (requests for memory, copied items and moves) of adding
+  -- items to the list `v`, which became `w`. Each added item counts as one move, and the old items
+  -- of `v` are moved at most `n` times in total. The first two inequalities have sums on both
+  -- sides, to avoid subtraction.
   pub record CostsAdding (v w : Thin T A) (n : ℕ) : Type 0 where
     pub least : v.cost.moves + length w.items ≤ w.cost.moves + length v.items
     pub moves : w.cost.moves + length v.items ≤ v.cost.moves + n + length w.items
@@ -84,18 +89,18 @@ module _ {T A : Type 0} where
     -- one copy of each item of `v`.
     pub grown : v.capacity < w.capacity → (v.cost.blocks < w.cost.blocks)
         × (v.cost.grown + length v.items ≤ w.cost.grown)
-    -- The number of items that were copied by growth is at most the number of slots that were
-    -- added.
+    -- The number of items that were copied when the list grew is at most the number of slots that
+    -- were added.
     pub copied : w.cost.grown + v.capacity ≤ v.cost.grown + w.capacity
 
   -- These clauses describe a new list `w` that was made from the items of an iterator and has the
   -- allocator `a`. `left` is an upper bound on the number of items that the iterator may yield.
   pub record IsCollectedList (rule : Rule) (R : RattleType) (a : A) (w : Thin T A) (left : Count)
       : Type 0 where
-    -- If the iterator cannot yield any item, the list has the capacity 0.
+    -- If the iterator cannot yield any items, the list has capacity 0.
     pub none : size left ≡ 0 → w.capacity ≡ 0
     -- The capacity is chosen by the growth rule for at most the final number of items, or it is
-    -- exactly the capacity for a possible size hint of the iterator.
+    -- exactly the capacity for a possible lower bound of the iterator's size hint.
     pub ruled : IsCollected rule R w.capacity (length w.items) left
     -- Each item was moved exactly once.
     pub moves : w.cost.moves ≡ length w.items
@@ -135,8 +140,8 @@ module _ {T A : Type 0} where
     -- for one more item.
     pub by_push : IsSome error.in_hand
         → (error.cause ≡ CapacityOverflow) ↔ (capacity_for rule R w 1 ≡ None)
-    -- If `in_hand` is `None`, the call could not reserve room for the lower bound of the iterator's
-    -- size hint.
+    -- If `in_hand` is `None`, the call could not reserve room for as many items as the lower bound
+    -- of the iterator's size hint.
     pub by_hint : error.in_hand ≡ None → FailsAtHint rule R w left error.cause
 
   -- These clauses say why a call to `from_iter` failed. `left` is an upper bound on the number of

@@ -24,10 +24,10 @@ pub record IsAdded {T A : Type 0} (rule : Rule) (R : RattleType) (v : Thin T A) 
 
 module _ (T A G : RattleType) (a : AllocatorGhosts A.Denot) (g : GrowthGhosts G.Denot)
     (v : MutBor (Thin T.Denot A.Denot)) where
-  -- `LendsAdded holding k r` states that, if the result `r` is `Ok`, it borrows an item that was
-  -- added to the list `v` at the cost of `k` moves. When the borrow ends, the items of the list are
-  -- `holding x`, where `x` is the final value of the borrowed item. If `r` is `Err`, the list does
-  -- not change.
+  -- `LendsAdded holding k r` describes the result `r` of a call that may add an item to the list
+  -- `v`. If `r` is `Ok`, the reference in `r` borrows the added item, and the call cost `k` moves.
+  -- When the borrow ends, the items of the list are `holding x`, where `x` is the final value of
+  -- the borrowed item. If `r` is `Err`, the list does not change.
   abbrev pub LendsAdded : {E : Type 0} → (T.Denot → List T.Denot) → ℕ
       → Result (MutBor T.Denot) E → Fml
   LendsAdded holding k r = LendsSoOk (the_row T A G a g) T v r

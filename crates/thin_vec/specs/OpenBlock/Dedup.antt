@@ -67,10 +67,10 @@ module _ {S T : Type 0} (R : S → T → T → Bool → S → T → T → Type 0
     pub now : slots' ≡ slice_set (slice_set slots i (Some kept_left)) (suc i) (Some later_left)
 
   -- `PairsAskedUpTo m s xs t ys` states that the items of `xs` after the first were tested in
-  -- order, each against the item before it, until an item was to be removed or `xs` ended. The
-  -- first `m` items are kept, and `over` contains the item to be removed, if there is one. The test
-  -- changed its state from `s` to `t`, and `ys` is `xs` with the tested items as the test left
-  -- them.
+  -- order, each against the item before it, until the test decided to remove an item, or `xs`
+  -- ended. The first `m` items are kept, and the field `over` contains the item to remove, if there
+  -- is one. The test changed its state from `s` to `t`, and `ys` is `xs` with the tested items as
+  -- the test left them.
   pub record PairsAskedUpTo (m : ℕ) (s : S) (xs : List T) (t : S) (ys : List T) : Type 0 where
     pub first : T
     pub done : List T
@@ -109,9 +109,10 @@ module _ {S T : Type 0} (R : S → T → T → Bool → S → T → T → Type 0
     }
 
   -- `IsDeduped s v t w` states that all untested items (middle items) of the open block `v` except
-  -- the first were tested, each against the last item kept before it. The kept items became the
-  -- front of the open block `w`, whose middle run is empty. Each item that was kept after the first
-  -- removed item counts as one move. The test changed its state from `s` to `t`.
+  -- the first were tested, each against the last item kept before it. The first middle item and the
+  -- kept items became the front of the open block `w`, whose middle run is empty. Each item that
+  -- was kept after the first removed item counts as one move. The test changed its state from `s`
+  -- to `t`.
   pub record IsDeduped {A : Type 0} (s : S) (v : Open T A) (t : S) (w : Open T A) : Type 0 where
     pub stays : List Bool
     pub asked : AskedPairs R s v.rest stays w.front t

@@ -22,16 +22,16 @@ module _ {S T : Type 0} (R : S → T → Bool → S → T → Type 0) where
     pub asked : R s item b t left
     pub now : ys ≡ before ++ left ∷ after
 
-  -- `Stops s xs t ys` states that the list `xs` is empty, or that its first item was tested and is
-  -- to be removed. The test changed its state from `s` to `t`, and `ys` is `xs` with the tested
-  -- item as the test left it.
+  -- `Stops s xs t ys` states that the list `xs` is empty, or that the test decided to remove its
+  -- first item. The test changed its state from `s` to `t`, and `ys` is `xs` with the tested item
+  -- as the test left it.
   abbrev pub Stops : S → List T → S → List T → Type 0
   Stops s [] t ys = (ys ≡ []) × (t ≡ s)
   Stops s (x ∷ xs) t ys = (y : T) × R s x false t y × (ys ≡ y ∷ xs)
 
-  -- `AskedUpTo k m s xs t ys` states that the items `k..m` of `xs` were tested and are kept, and
-  -- that the item at index `m`, if there is one, was tested and is to be removed. The test changed
-  -- its state from `s` to `t`, and `ys` is `xs` with the tested items as the test left them.
+  -- `AskedUpTo k m s xs t ys` states that the test decided to keep the items `k..m` of `xs`, and to
+  -- remove the item at index `m`, if there is such an item. The test changed its state from `s` to
+  -- `t`, and `ys` is `xs` with the tested items as the test left them.
   pub record AskedUpTo (k m : ℕ) (s : S) (xs : List T) (t : S) (ys : List T) : Type 0 where
     pub before : List T
     pub run : List T
@@ -47,10 +47,10 @@ module _ {S T : Type 0} (R : S → T → Bool → S → T → Type 0) where
     pub now : ys ≡ before ++ (left ++ end)
 
   -- `Advances s v t w` states that the untested items (middle items) of the open block `v` were
-  -- tested in order, until an item was to be removed or no untested item was left. In the open
-  -- block `w`, the kept items are the last front items, and an item to be removed is the first
-  -- middle item. Each kept item counts as one move if `v` has empty slots between its front and its
-  -- middle items. The test changed its state from `s` to `t`.
+  -- tested in order, until the test decided to remove an item, or no untested item was left. In the
+  -- open block `w`, the kept items are the last front items. An item that the test decided to
+  -- remove is the first middle item. Each kept item counts as one move if `v` has empty slots
+  -- between its front and its middle items. The test changed its state from `s` to `t`.
   pub record Advances {A : Type 0} (s : S) (v : Open T A) (t : S) (w : Open T A) : Type 0 where
     pub count : ℕ
     pub left : List T

@@ -49,8 +49,8 @@ impl<'a, T: Drop, A: Allocator, G: Growth, H: Holds<Inner = OpenBlock<T, A>>> Dr
         let Drain { list, holder } = self;
         let mut block = holder.into_inner();
         block.drop_rest();
-        // The list is already empty. This call is needed only to prove that, because `close`
-        // requires an empty list.
+        // The list is already empty. This call is needed only for the proof: the contract of
+        // `close` requires an empty list.
         list.clear();
         list.close(block);
     }

@@ -81,8 +81,8 @@ impl<'a, T: Drop, F: Drop, A: Allocator, G: Growth, H: Holds<Inner = Extracting<
         let ExtractIf { list, holder } = self;
         let Extracting { block, picks } = holder.into_inner();
         let Picks { pick } = picks;
-        // The list is already empty. This call is needed only to prove that, because `close`
-        // requires an empty list.
+        // The list is already empty. This call is needed only for the proof: the contract of
+        // `close` requires an empty list.
         list.clear();
         list.close(block);
         drop(pick);

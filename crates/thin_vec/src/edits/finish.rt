@@ -1,7 +1,7 @@
 //! The steps of `Splice::finish`, which puts the items of an iterator in place of a removed range.
-//! First, `fill_gap` fills the empty slots of the range. Then `insert_hinted` reserves room for the
-//! lower bound of the iterator's size hint, and fills this room. Last, `insert_held` collects the
-//! remaining items in a vector, and moves them into the list.
+//! First, `fill_gap` fills the empty slots of the range. Then `insert_hinted` reserves room for as
+//! many items as the lower bound of the iterator's size hint, and fills this room. Last,
+//! `insert_held` collects the remaining items in a vector, and moves them into the list.
 //!
 //! The steps are inlined into `finish`. So the list and the iterator need not be passed through
 //! memory from one step to the next.

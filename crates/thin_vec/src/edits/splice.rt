@@ -137,8 +137,9 @@ impl<
     ///
     /// 1. It moves items of the iterator into the slots of the range. If the iterator ends before
     ///    these slots are filled, the items after the range are moved down to close the gap.
-    /// 2. It calls `size_hint` on the iterator once, and makes room for the lower bound directly
-    ///    before the items after the range. Then it fills this room with items of the iterator.
+    /// 2. It calls `size_hint` on the iterator once, and makes room for as many items as the lower
+    ///    bound, directly before the items after the range. Then it fills this room with items of
+    ///    the iterator.
     /// 3. It collects the remaining items in a vector that uses `alloc`, reserves room for them in
     ///    the list, and moves them into this room.
     ///
@@ -221,8 +222,8 @@ impl<
         let Splice { list, holder, iter } = self;
         let mut block = holder.into_inner();
         block.drop_rest();
-        // The list is already empty. This call is needed only to prove that, because `close`
-        // requires an empty list.
+        // The list is already empty. This call is needed only for the proof: the contract of
+        // `close` requires an empty list.
         list.clear();
         let answer = if block.has_tail() {
             list.finish_before_tail(block, iter, alloc)

@@ -162,7 +162,7 @@ impl<T, A: Allocator, G: Growth> ThinVec<T, A, G> {
 
     // Returns whether there is room for `additional` more items. The length and `additional` are
     // added only if `additional` is at most `isize::MAX`. The length is at most `isize::MAX`, too,
-    // so the sum cannot overflow.
+    // so this addition cannot overflow.
     fn has_room_for(&self, additional: usize) -> bool
         ensures within { IsWithin T.row self.now }
         ensures room { IsTrue result → HasRoomFor self.now additional }

@@ -281,8 +281,8 @@ impl<T: Clone, A: Allocator, G: Growth> ThinVec<T, A, G> {
           cost = moving result self.old.cost;
         } }
 
-        // If `result` is less than the length of the range, then cloning the next item of the range
-        // can fail.
+        // If `result` is less than the length of the range, then cloning the item at index `result`
+        // of the range can fail.
         ensures refused { result < end - start → HoldsAt (λ x. ¬ (T.is_infallible x))
             (slice_range self.old.items start end) result }
 

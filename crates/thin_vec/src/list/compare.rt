@@ -75,8 +75,8 @@ impl<T: fmt::Debug, A: Allocator, G: Growth> fmt::Debug for ThinVec<T, A, G> {
 impl<T, A: Allocator + Clone, G: Growth> Emptied for ThinVec<T, A, G> {
     ghost is_emptied = { λ list. list.items ≡ [] };
 
-    // Makes an empty list with a clone of the allocator of `like`. Fails if the allocator cannot be
-    // cloned. std's `mem::try_take` calls this function.
+    // Makes an empty list that owns a clone of the allocator of the list `like`. Fails if the
+    // allocator cannot be cloned. std's `mem::try_take` calls this function.
     fn emptied(like: &ThinVec<T, A, G>) -> Result<ThinVec<T, A, G>, AllocError> {
         Ok(ThinVec::ruled(like.allocator().clone()?))
     }

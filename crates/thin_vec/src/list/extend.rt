@@ -23,17 +23,17 @@ impl<T, A: Allocator, G: Growth> ThinVec<T, A, G> {
     /// Appends the items that `iter` yields before its first `None`. After this `None`, `next` is
     /// not called again.
     ///
-    /// First, the call asks `iter` for its size hint, once, and reserves room for the lower bound.
-    /// Then it moves items into the spare capacity, and pushes each further item. So the call
-    /// cannot fail if there is room for all items that the iterator may yield.
+    /// First, the call asks `iter` for its size hint, once, and reserves room for as many items as
+    /// the lower bound. Then it moves items into the spare capacity, and pushes each further item.
+    /// So the call cannot fail if there is room for all items that the iterator may yield.
     ///
     /// # Errors
     ///
     /// The cause is `CapacityOverflow` if the new capacity would be too large, and `OutOfMemory` if
     /// the allocator failed. There are two cases:
     ///
-    /// - The room for the lower bound cannot be reserved. In this case, the list is unchanged,
-    ///   `in_hand` is `None`, and `rest` is the whole iterator.
+    /// - This room cannot be reserved. In this case, the list is unchanged, `in_hand` is `None`,
+    ///   and `rest` is the whole iterator.
     /// - A further item cannot be pushed. In this case, the list keeps the items that were appended
     ///   before, and is full. `in_hand` is the item that could not be pushed, and `rest` yields the
     ///   items after it.

@@ -1,5 +1,5 @@
-//! Implementations of std's traits that access a list: as a slice, by an index, or by iteration
-//! over a borrowed list.
+//! Implementations of std's traits for access to a list: as a slice, by index, or by iteration over
+//! a borrowed list.
 ghost use Rattle.std.specs.Prelude.{◌≡◌, ◌^◌, ◌<◌, ◌↔◌, IfSome, IsSome, Some, length, slice_get, slice_index_or};
 ghost use Rattle.std.specs.Iterator.Runs.{EveryRun, ItemsMapTo};
 ghost use Rattle.std.specs.Slice.Iter.{iter_mut_rest, iter_mut_steps, iter_rest, iter_steps};
@@ -86,7 +86,7 @@ impl<T, A: Allocator, G: Growth> ThinVec<T, A, G> {
     /// Returns a mutable reference to the item at `index`, or `None` if there is no such item.
     /// Writing through the reference changes the item of the list.
     ///
-    /// In the Rust crate thin-vec, a list has this method because it dereferences to a slice.
+    /// The lists of the Rust crate thin-vec have this method because they dereference to slices.
     pub fn get_mut(&mut self, index: usize) -> Option<&mut T>
         ensures* writes_back { sem 𝓛
             (LendsGet T.row A.row G.row A.Allocator G.Growth self.entry index result) }

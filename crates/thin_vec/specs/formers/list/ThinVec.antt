@@ -77,23 +77,23 @@ module _ {X Y : Type 0} (h : X → Y) where
   items_in-map (None ∷ s) = items_in-map s
   items_in-map (Some x ∷ s) = ap (λ l. h x ∷ l) (items_in-map s)
 
-  -- Applying `h` does not change which slots are filled.
+  -- Applying `h` to each item of a row of slots does not change which slots are filled.
   is_some-map : (s : List (Option X)) → map is_some (map (on_slot h) s) ≡ map is_some s
   is_some-map [] = refl
   is_some-map (None ∷ s) = ap (λ l. is_some {T = X} None ∷ l) (is_some-map s)
   is_some-map (Some x ∷ s) = ap (λ l. is_some (Some x) ∷ l) (is_some-map s)
 
-  -- Applying `h` does not change the number of items.
+  -- Applying `h` to each item of a row of slots does not change the number of items.
   count-map : (s : List (Option X)) → length (items_in (map (on_slot h) s)) ≡ length (items_in s)
   count-map s = ap length (items_in-map s) ∙ length-map (items_in s) h
 
-  -- Applying `h` does not change the number of empty slots.
+  -- Applying `h` to each item of a row of slots does not change the number of empty slots.
   left-map : (s : List (Option X)) → length (map (on_slot h) s) - length
       (items_in (map (on_slot h) s)) ≡ length s - length (items_in s)
   left-map s = λ i. length-map s (on_slot h) i - count-map s i
 
-  -- If exactly the first `n` slots are filled, this is still true after `h` is applied to the
-  -- items.
+  -- If exactly the first `n` slots of a row are filled, this is still true after `h` is applied to
+  -- each item.
   packed_to : (s : List (Option X)) (n : ℕ) → IsPacked s n → IsPacked (map (on_slot h) s) n
   packed_to s n p = record {
     row = from_shape (map (on_slot h) s) _
@@ -101,8 +101,8 @@ module _ {X Y : Type 0} (h : X → Y) where
     len = p.len ∙ sym (count-map s);
   }
 
-  -- If exactly the first `n` slots are filled after `h` is applied to the items, then exactly these
-  -- slots were filled before.
+  -- If exactly the first `n` slots of a row are filled after `h` is applied to each item, then
+  -- exactly these slots were filled before.
   packed_from : (s : List (Option X)) (n : ℕ) → IsPacked (map (on_slot h) s) n → IsPacked s n
   packed_from s n p = record {
     row = from_shape s _
