@@ -435,8 +435,8 @@ module _ {S T : Type 0} (R : S → T → Bool → S → T → Type 0) where
   -- Section: open blocks
 
   module _ {A : Type 0} (v w : Open T A) where
-    -- Suppose that some middle items of the open block `v`, beginning with the first, were tested
-    -- in order. Suppose also that the `m` kept items were moved to the end of the front items, at
+    -- Suppose that middle items of the open block `v` were tested in order, beginning with the
+    -- first. Suppose also that `m` of them were kept and moved to the end of the front items, at
     -- the cost of one move each. Then `Sifts` relates `v` to the new open block `w`.
     pub sifts-of : (m : ℕ) (s t : S) (kept : List T) → Part m s v.rest t kept w.rest
         → 0 < w.gap → w ≡ record v {

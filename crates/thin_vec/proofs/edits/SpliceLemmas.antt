@@ -71,8 +71,8 @@ closed-moves v w n paid none same count = go (eqb w.gap 0) refl
         false-true : false ≡ true → ⊥
         false-true h = cc
 
--- Suppose that `n` items are moved up unless `count` is 0, and that `k + m` further moves follow.
--- Then the total number of moves is `k` plus a number that is at most `n + m`.
+-- Suppose that `n` items are moved up, or no item if `count` is 0, and that `k + m` more moves
+-- follow. Then the total number of moves is `k + x` for some number `x` that is at most `n + m`.
 pub run-moves : (count n k m : ℕ) (c d : Cost) → d ≡ (if eqb count 0 then c else moving n c)
     → (x : ℕ) × (moving (k + m) d ≡ moving (k + x) c) × (x ≤ n + m)
 run-moves count n k m c d e = go (eqb count 0) e
@@ -100,8 +100,8 @@ module _ {S X : Type 0} (steps : S → Option X → S → Type 0) where
     now.2,
   )
 
-  -- If calls to `next` yielded the items `xs` and then returned `Some x`, then these calls yielded
-  -- the items `xs ++ x ∷ []`.
+  -- If calls to `next` yielded the items `xs`, and one more call returned `Some x`, then all these
+  -- calls together yielded the items `xs ++ x ∷ []`.
   pub yields-drawn : (s u : S) (xs : List X) (o : Option X) (x : X) → o ≡ Some x
       → YieldsThen steps s xs o u → Yields steps s (xs ++ x ∷ []) u
   yields-drawn s u xs o x is all =

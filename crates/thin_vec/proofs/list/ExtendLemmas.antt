@@ -191,9 +191,9 @@ module _ (rule : Rule) (R : RattleType) (law : KeepsLaw rule) where
   ruled-after c d e n P (inl same) f = inr (f same)
   ruled-after c d e n P (inr p) f = inl (inr p)
 
-  -- Suppose that a new list was made with exactly the capacity `c` for a possible size hint `h` of
-  -- the iterator. If the change from `c` to a later capacity `d` satisfies `IsKeptOrRuled`, then
-  -- `d` satisfies `IsCollected`.
+  -- Suppose that a new list was made with the capacity `c` that `exact_capacity` returns for `h`
+  -- items, and that `h` is a possible size hint of the iterator. If the change from `c` to a later
+  -- capacity `d` satisfies `IsKeptOrRuled`, then `d` satisfies `IsCollected`.
   pub collected-after : {c d : ℕ} (n h : ℕ) (left : Count) → IsWithinCount h left
       → exact_capacity R 0 h ≡ Some c → IsKeptOrRuled rule R c d n → IsCollected rule R d n left
   collected-after n h left hint e (inl same) = inr (h, hint, e ∙ ap Some (sym same))
