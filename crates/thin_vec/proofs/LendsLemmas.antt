@@ -14,9 +14,9 @@ use Rattle.thin_vec.proofs.list.InsertRemoveLemmas.{full-set}
 use Rattle.thin_vec.proofs.ListLemmas.{IsWritten, Settled, settle-front, thin-room}
 
 module _ {T : Type 0} where
-  -- If the items `ws` are written over slots that hold the items `xs`, then they replace the first
-  -- items of `xs`. Items of `ws` beyond the length of `xs` are ignored. The `k` empty slots after
-  -- `xs` do not change.
+  -- Suppose that the items `ws` are written over slots that hold the items `xs`. Then `ws` replaces
+  -- the first items of `xs`, and items of `ws` beyond the length of `xs` are ignored. The `k` empty
+  -- slots after `xs` do not change.
   pub over-front : (xs : List T) (k : ℕ) (ws : List T) → over (full xs ++ empty k) 0 ws ≡ full
       (refill (length xs) xs ws) ++ empty k
   over-front [] zero ws = refl

@@ -277,8 +277,8 @@ module _ {T A : Type 0} where
     }
 
     -- Suppose that the slot of the first middle item held `x` and was emptied. Then the middle
-    -- items were `x`, followed by a list `ys`, and contracts describe the new open block as
-    -- `first-seen ys`.
+    -- items were `x`, followed by a list `ys`. Contracts describe the new open block as `first-seen
+    -- ys`, whose middle items are `ys`.
     pub first-step : (x : T) → slot h.block.slots h.rest_start ≡ Some x
         → seen b ≡ record (seen h.block) { slots = set h.block.slots h.rest_start None }
         → (ys : List T) × (v.rest ≡ x ∷ ys) × Found first-left (first-seen ys)
@@ -347,8 +347,8 @@ module _ {T A : Type 0} where
     }
 
     -- Suppose that the slot of the last middle item held `x` and was emptied. Then the middle items
-    -- were a list `ys`, followed by `x`, and contracts describe the new open block as
-    -- `last-seen ys`.
+    -- were a list `ys`, followed by `x`. Contracts describe the new open block as `last-seen ys`,
+    -- whose middle items are `ys`.
     pub last-step : (x : T) → slot h.block.slots (h.rest_end - 1) ≡ Some x
         → seen b ≡ record (seen h.block) { slots = set h.block.slots (h.rest_end - 1) None }
         → (ys : List T) × (v.rest ≡ ys ++ x ∷ []) × Found last-left (last-seen ys)

@@ -239,8 +239,8 @@ module _ {S T : Type 0} (R : OnPairs S T) where
           now = next-now false u zs a;
         }
 
-    -- If the test of the item at index `m` decides to remove this item, then the tests stop at this
-    -- item with `m` kept items, as `PairsAskedUpTo` states.
+    -- If the test of the item at index `m` decides to remove this item, then `PairsAskedUpTo`
+    -- holds: the tests stop at this item, after the first `m` items were kept.
     pub pair-goes : (u : S) (zs : List T) → IsPairAskedAt R m t ys true u zs
         → PairsAskedUpTo R m s xs u zs
     pair-goes u zs a =
@@ -572,8 +572,9 @@ module _ {J S T : Type 0} (R : OnPairs S T) (inside : J → S) where
   pairs-through [] s t f ys h = (h.0, h.1, ap inside h.2)
   pairs-through (x ∷ xs) s t f ys h = last-through xs s t x f ys h
 
-  -- If the list `w` contains exactly the items of the list `v` that the test of `dedup_by` keeps,
-  -- then it contains exactly the items that the closure of this test keeps.
+  -- Suppose that `dedup_by` was called with a test that calls a closure and returns its result. If
+  -- the list `w` contains exactly the items of the list `v` that the test keeps, then these are
+  -- also exactly the items that the closure keeps.
   pub deduped-through : {A : Type 0} (s : J) (v w : Thin T A) (t : J) → IsDedupedTo through s v w t
       → IsDedupedBy R (inside s) v w
   deduped-through s v w t h = (

@@ -92,9 +92,9 @@ module _ {S T A : Type 0} {steps : S → Option T → S → Type 0} {can : S →
           taken-spare rule R (left_of v a) w (length p.0.items) p.1.cost.0 n left p.1.cost.1
           p.1.capacity (omega (arith, filled-long, length-append v.front v.tail)) few p.1.alloc
 
-      -- Suppose that a gap was opened in the list `u`, filled, and closed, and that opening and
-      -- closing it took at most `n` moves. Then `HasTaken` holds for `u` and the new list, with the
-      -- bound `n` on the moves of old items.
+      -- Suppose that a gap was opened in the list `u`, that items of the iterator were put into it,
+      -- and that it was then closed. If opening and closing the gap took at most `n` moves, then
+      -- `HasTaken` holds for `u` and the new list, with the bound `n` on the moves of old items.
       pub wide-taken : (u : Thin T A) (at count : ℕ) → IsWide v u at count → a ≡ u.alloc
           → p.1.cost.0 + (length u.items - at) ≤ n → HasTaken rule R u w n left
       wide-taken u at count wide from few =

@@ -77,7 +77,7 @@ module _ {S X : Type 0} (steps : S → Option X → S → Type 0) (s : S) where
       (run steps s (xs ++ option_to_list o) false (t, gave, λ e. absurd (false≢true e)), refl, h)
 
   -- Suppose that the result `r` is an error, and that calls to `next` yielded the items `xs` and
-  -- then the item that the error returns (if there is one). Then these calls form a run of the
+  -- then the item that the error returns, if there is one. Then these calls form a run of the
   -- iterator (`SomeRun`), which may be incomplete.
   pub run_given_err : {E : Type 0} (can : S → Type 0) (remaining : S → Count)
       (hand : E → Option X) (rest : E → S) (P : List X → Type 0) (r : Result (Unit {0}) E)

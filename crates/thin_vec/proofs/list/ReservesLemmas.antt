@@ -92,8 +92,8 @@ module _ {T A : Type 0} (R : RattleType) (v : Thin T A) where
 
     -- Suppose that the first step of a call returns `Ok` and satisfies `Reserves`, and that the
     -- second step keeps the capacity and fails only with `OutOfMemory`. Then the whole call
-    -- satisfies `Reserves`. This is also true for items of another type `S`, if the growth rule
-    -- chooses the same capacity for `S`.
+    -- satisfies `Reserves`. If the growth rule chooses the same capacity for items of another type
+    -- `S`, then this is also true for `S`.
     pub reserves-then : {X Y : Type 0} {x : X} (S : RattleType) (k l : ℕ) (u w : Thin T A)
         (r : Result Y ThinVecError) → l ≡ k
         → capacity_for rule S v l ≡ capacity_for rule R v k → w.capacity ≡ u.capacity
@@ -120,8 +120,8 @@ module _ {T A : Type 0} (R : RattleType) (v : Thin T A) where
         }
 
     -- Suppose that a call fails without changing the list, and satisfies `Reserves`. Then another
-    -- call that fails with the same error also satisfies `Reserves`. This is also true for items of
-    -- another type `S`, if the growth rule chooses the same capacity for `S`.
+    -- call that fails with the same error also satisfies `Reserves`. If the growth rule chooses the
+    -- same capacity for items of another type `S`, then this is also true for `S`.
     pub reserves-failed : {X Y : Type 0} (S : RattleType) (k l : ℕ) (w : Thin T A)
         (cause : ThinVecError) → l ≡ k
         → capacity_for rule S v l ≡ capacity_for rule R v k
