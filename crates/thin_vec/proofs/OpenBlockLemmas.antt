@@ -116,7 +116,7 @@ module _ {T A : Type 0} where
       s.gap,
     )
 
-    -- The number of slots up to and including the last middle item is `h.rest_end`.
+    -- The number of slots up to and including the slot of the last middle item is `h.rest_end`.
     at_after : length (to_after v) ≡ h.rest_end
     at_after = omega (
       arith,
@@ -136,7 +136,7 @@ module _ {T A : Type 0} where
       s.gap_after,
     )
 
-    -- The number of slots up to and including the last tail item is `h.len`.
+    -- The number of slots up to and including the slot of the last tail item is `h.len`.
     pub reached : reach v ≡ h.len
     reached = omega (arith, s.front, s.gap, s.rest, s.gap_after, s.tail)
 
@@ -468,8 +468,9 @@ module _ {T A : Type 0} where
     abbrev all-after : List T
     all-after = (open_of h).rest ++ (open_of h).tail
 
-    -- If there is no gap before the tail items, then the slots are, in this order: the front items,
-    -- the gap, the middle items, the tail items, and the empty slots at the end.
+    -- If there is no gap before the tail items, then the slots are, in this order: the slots of the
+    -- front items, the gap, the slots of the middle items, the slots of the tail items, and the
+    -- empty slots at the end.
     side-by-side : (open_of h).gap_after ≡ 0 → h.block.slots ≡ full (open_of h).front
         ++ (empty (open_of h).gap ++ (full all-after ++ past_tail (open_of h)))
     side-by-side none =
@@ -486,8 +487,8 @@ module _ {T A : Type 0} where
     count-after none =
         omega (arith, length-append (open_of h).rest (open_of h).tail, o.rest, o.gap_after, o.tail)
 
-    -- If there is no gap before the tail items, then each slot from the first middle item to the
-    -- last tail item is filled.
+    -- If there is no gap before the tail items, then each slot from the slot of the first middle
+    -- item to the slot of the last tail item is filled.
     pub after-filled : (open_of h).gap_after ≡ 0 → (j : ℕ) → h.rest_start ≤ j → j < h.len
         → IsSome (slot h.block.slots j)
     after-filled none j low high =

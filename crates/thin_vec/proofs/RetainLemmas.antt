@@ -156,11 +156,12 @@ module _ {S T : Type 0} (R : S → T → Bool → S → T → Type 0) where
     abbrev asked-part : List T
     asked-part = h.before ++ h.left
 
-    -- `asked-part` has m items
+    -- The list `asked-part` has `m` items.
     long : length asked-part ≡ m
     long = omega (arith, length-append h.before h.left, h.place, h.reached)
 
-    -- `ys` consists of `asked-part`, followed by the items that have not been tested yet.
+    -- `ys` consists of `asked-part`, the items before index `m`, followed by the items that have
+    -- not been tested yet.
     parted : ys ≡ asked-part ++ h.more
     parted = h.now ∙ sym (append_assoc h.before h.left h.more)
 

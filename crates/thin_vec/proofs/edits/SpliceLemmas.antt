@@ -216,7 +216,8 @@ module _ {S X A : Type 0} (steps : S → Option X → S → Type 0) (can : S →
 module _ {S T A : Type 0} (rule : Rule) (R : RattleType) (v : Thin T A) (tail : List T)
     (left : Count) (error : SpliceRefused T S A) where
   -- Suppose that items follow the range, that the error contains no items, and that the list could
-  -- not reserve room for the size hint of the iterator. Then `IsStopCause` holds.
+  -- not reserve room for the size hint of the iterator. Then `IsStopCause` holds: this is an
+  -- allowed reason for `finish` to fail.
   pub stop-at-hint : 0 < length tail → error.held.items ≡ [] → error.in_hand ≡ None
       → FailsAtHint rule R v left error.cause → IsStopCause rule R v tail left error
   stop-at-hint some none empty fails = record {
@@ -226,9 +227,10 @@ module _ {S T A : Type 0} (rule : Rule) (R : RattleType) (v : Thin T A) (tail : 
     by_push = λ no_tail. absurd (omega (arith, some, ap length no_tail));
   }
 
-  -- Suppose that items follow the range, and that the error contains at least one item. Suppose
-  -- also that the cause of the error is the cause that `IsStopCause` requires in this case. Then
-  -- `IsStopCause` holds.
+  -- Suppose that items follow the range, and that the error contains items. If the error has an
+  -- item `in_hand`, suppose that its cause is `OutOfMemory`. Otherwise, suppose that its cause is
+  -- `CapacityOverflow` if and only if the growth rule chooses no capacity for the items `held`.
+  -- Then `IsStopCause` holds.
   pub stop-at-held : 0 < length tail → (error.in_hand ≡ None → 0 < length error.held.items)
       → (error.in_hand ≡ None → (error.cause ≡ CapacityOverflow)
       ↔ (capacity_for rule R v (length error.held.items) ≡ None))

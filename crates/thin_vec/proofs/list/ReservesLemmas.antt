@@ -12,16 +12,17 @@ use Rattle.thin_vec.specs.Cheap.{IsCheap}
 use Rattle.thin_vec.specs.List.Capacity.{Keeps, Reserves, TellsOverflow, TellsOverflowOf}
 use Rattle.thin_vec.specs.ThinVec.{HasRoomFor, IsWithin, Thin, capacity_for}
 
--- Suppose that `named` is the capacity that a call needs, or `None` if this capacity is too large.
--- If `named` is `Some n`, then `TellsOverflow named (Ok x)` holds.
+-- `TellsOverflow named r` states that the result `r` is the error `CapacityOverflow` if and only if
+-- the needed capacity, `named`, is `None`. This holds if `named` is `Some n` and `r` is `Ok x`.
 pub tells-ok : {X : Type 0} (x : X) (named : Option ℕ) (n : ℕ) → named ≡ Some n
     → TellsOverflow named (Ok x)
 tells-ok x named n is = record {
   overflow = (λ e. ok-err x CapacityOverflow e, λ none. absurd (none-some none is));
 }
 
--- Suppose that `exact_capacity R 0 m` equals `exact_capacity S 0 n`. If `TellsOverflowOf R m` holds
--- for the result `Ok x`, then `TellsOverflowOf S n` holds for the result `Ok y`.
+-- Suppose that `exact_capacity` returns the same capacity for `m` items of type `R` and for `n`
+-- items of type `S`. If `TellsOverflowOf R m` holds for the result `Ok x`, then `TellsOverflowOf S
+-- n` holds for the result `Ok y`.
 pub tells-made : {X : Type 0} {x y : X} (R S : RattleType) (m n : ℕ)
     → exact_capacity R 0 m ≡ exact_capacity S 0 n
     → TellsOverflowOf R m (let r : Result X ThinVecError = Ok x in r)
@@ -33,8 +34,9 @@ tells-made {x = x} {y} R S m n e told = record {
   );
 }
 
--- Suppose that `exact_capacity R 0 m` equals `exact_capacity S 0 n`. If `TellsOverflowOf R m r`
--- holds for the result `r`, then `TellsOverflowOf S n r` holds.
+-- Suppose that `exact_capacity` returns the same capacity for `m` items of type `R` and for `n`
+-- items of type `S`. If `TellsOverflowOf R m r` holds for the result `r`, then `TellsOverflowOf S n
+-- r` holds.
 pub tells-same : {X : Type 0} {r : Result X ThinVecError} (R S : RattleType) (m n : ℕ)
     → exact_capacity R 0 m ≡ exact_capacity S 0 n → TellsOverflowOf R m r → TellsOverflowOf S n r
 tells-same R S m n e told = record {
