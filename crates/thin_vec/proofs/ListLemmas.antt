@@ -66,8 +66,9 @@ module _ {T : Type 0} where
       let n : i < length (full xs) = omega (arith, length-full xs) in
       get_or_append_left (full xs) s None i n ∙ get_or-map (λ (x : T). Some x) xs i d None h
 
-  -- Suppose that a list of `c` slots begins with the items `xs`, and that its other slots are
-  -- empty. Then writing `v` into the first empty slot appends `v` to the items.
+  -- Suppose that a list of `c` slots begins with the items `xs`, and that all other slots are
+  -- empty. If there is at least one empty slot, then writing `v` into the first empty slot appends
+  -- `v` to the items.
   pub front-push : (xs : List T) (c : ℕ) (v : T) → length xs < c → set (front xs c) (length xs)
       (Some v) ≡ front (xs ++ v ∷ []) c
   front-push xs c v h =

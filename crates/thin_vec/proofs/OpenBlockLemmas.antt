@@ -250,7 +250,7 @@ module _ {T A : Type 0} where
     abbrev v : Open T A
     v = open_of h
 
-    -- `first-left` is the open block after its first middle item was removed.
+    -- `first-left` is the open block `h` after its first middle item was removed.
     abbrev pub first-left : Inside T A
     first-left = record {
       block = b;
@@ -320,7 +320,7 @@ module _ {T A : Type 0} where
               (ap (λ (z : Seen T A). z.cost) now),
         )
 
-    -- `last-left` is the open block after its last middle item was removed.
+    -- `last-left` is the open block `h` after its last middle item was removed.
     abbrev pub last-left : Inside T A
     last-left = record {
       block = b;
