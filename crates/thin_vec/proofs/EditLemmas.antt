@@ -22,9 +22,9 @@ use Rattle.thin_vec.specs.declared.edits.holder.Holds.{Ghosts as HoldsGhosts}
 -- relates the old state of the closure, the two items, the result, the new state, and the two items
 -- after the call.
 module _ {S T : Type 0} (R : S → T → T → Bool → S → T → T → Type 0) where
-  -- Suppose that the items `xs` follow the kept item `k`, and that each of them was compared with
-  -- the last item kept before it. Then std's `DedupsFrom` holds for `k`, `xs` and the kept items
-  -- `ys`.
+  -- Suppose that the items `xs` follow the kept item `k`, and that each item of `xs` was compared
+  -- with the last item kept before it. Suppose also that `ys` is the list of all kept items,
+  -- including `k`. Then std's `DedupsFrom` holds for `k`, `xs` and `ys`.
   dedups_from : (xs : List T) (s : S) (k : T) (stays : List Bool) (ys : List T) (t : S)
       → AskedLast R s k xs stays ys t → DedupsFrom R s k xs ys
   dedups_from [] s k stays ys t h = h.1

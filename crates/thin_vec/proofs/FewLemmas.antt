@@ -16,7 +16,7 @@ use Rattle.thin_vec.specs.List.Capacity.{Reserves, TellsOverflowOf}
 use Rattle.thin_vec.specs.ThinVec.{IsCause, Thin}
 
 -- If `n` and the size of an item in bytes are less than `2 ^ 31`, then `exact_capacity` returns the
--- capacity `n` for a new list with room for `n` items.
+-- capacity `n` for a new list that needs room for `n` items.
 pub exact-few : (R : RattleType) (n : ℕ) → n < 2 ^ 31 → type_size R < 2 ^ 31
     → exact_capacity R 0 n ≡ Some n
 exact-few R zero few small = exact-same R 0 0 (omega arith)
@@ -101,8 +101,9 @@ first_most : (s : ℕ) → first s ≤ 4
 unfolding first
 first_most s = either_most (nat_lt (2 ^ 61 - 1) s)
 
--- Suppose that a list of capacity `c` needs room for `w` items, and that `c < w`. Then the
--- capacities `first s` and `2 * c` are both at most `max 4 (2 * w)`.
+-- Suppose that a list of capacity `c` needs room for `w` items, and that `c < w`. Then `2 * c` is
+-- at most `max 4 (2 * w)`. So is `first s`, the least capacity of the first block of a list with
+-- items of `s` bytes.
 twice-most : (b : Bool) (s c w : ℕ) → c < w → (if b then first s else 2 * c) ≤ max 4 (2 * w)
 twice-most true s c w more = omega (arith, first_most s)
 twice-most false s c w more = omega (arith, more)

@@ -14,9 +14,9 @@ use Rattle.thin_vec.proofs.list.InsertRemoveLemmas.{full-set}
 use Rattle.thin_vec.proofs.ListLemmas.{IsWritten, Settled, settle-front, thin-room}
 
 module _ {T : Type 0} where
-  -- If the items `ws` are written over slots that hold the items `xs`, then they replace the first
-  -- items of `xs`. Items of `ws` beyond the length of `xs` are ignored. The `k` empty slots after
-  -- `xs` do not change.
+  -- Suppose that the items `ws` are written over slots that hold the items `xs`. Then `ws` replaces
+  -- the first items of `xs`, and items of `ws` beyond the length of `xs` are ignored. The `k` empty
+  -- slots after `xs` do not change.
   pub over-front : (xs : List T) (k : ℕ) (ws : List T) → over (full xs ++ empty k) 0 ws ≡ full
       (refill (length xs) xs ws) ++ empty k
   over-front [] zero ws = refl
@@ -40,8 +40,8 @@ module _ {T A : Type 0} where
       ∙ ap (λ n. full (refill (length xs) xs ws) ++ empty (length b.slots - n)) (sym same)))
       (t.packed.len ∙ sym same) (omega (arith, same, thin-room b a t))
 
-  -- If the items `ws` are written over the items in the block `b` of a list, then contracts
-  -- describe the new list as the old list with `ws` written over its items.
+  -- Suppose that the items `ws` are written over the first items in the block `b` of a list. Then
+  -- the view of the list in contracts changes in only one way: `ws` replaces the first items.
   pub view-with_items : (b : Block T A) (a : A) (ws : List T) → IsThin b a
       → thin_of (block_with_items b 0 ws) a ≡ with_items (thin_of b a) ws
   view-with_items b a ws t =
@@ -62,8 +62,9 @@ module _ {T A : Type 0} where
       ∙ ap (λ n. full (set xs i v) ++ empty (length b.slots - n)) (sym same)))
       (t.packed.len ∙ sym same) (omega (arith, same, thin-room b a t))
 
-  -- Suppose that `i` is less than the length of a list. If the item `w` is written into slot `i` of
-  -- its block, then contracts describe the new list as the old list with `w` at index `i`.
+  -- Suppose that `i` is less than the length of a list, and that the item `w` is written into slot
+  -- `i` of its block. Then the view of the list in contracts changes in only one way: `w` replaces
+  -- the item at index `i`.
   pub view-with_item : (b : Block T A) (a : A) (i : ℕ) (w : T) → IsThin b a
       → i < length (items_in b.slots) → thin_of (block_with_item b i w)
       a ≡ with_item (thin_of b a) i w

@@ -66,8 +66,9 @@ module _ {T : Type 0} where
       let n : i < length (full xs) = omega (arith, length-full xs) in
       get_or_append_left (full xs) s None i n ∙ get_or-map (λ (x : T). Some x) xs i d None h
 
-  -- Suppose that a list of `c` slots begins with the items `xs`, and that its other slots are
-  -- empty. Then writing `v` into the first empty slot appends `v` to the items.
+  -- Suppose that a list of `c` slots begins with the items `xs`, and that all other slots are
+  -- empty. If there is at least one empty slot, then writing `v` into the first empty slot appends
+  -- `v` to the items.
   pub front-push : (xs : List T) (c : ℕ) (v : T) → length xs < c → set (front xs c) (length xs)
       (Some v) ≡ front (xs ++ v ∷ []) c
   front-push xs c v h =
@@ -160,8 +161,9 @@ module _ {T A : Type 0} where
         cap = l;
       }
 
-  -- If the new block `b'` has `c` slots, the items `xs` and the cost `k`, then contracts describe
-  -- it as the old list `v` with the capacity `c`, the items `xs` and the cost `k`.
+  -- Suppose that the list `v` gets a new block `b'`, which has `c` slots, the items `xs` and the
+  -- cost `k`. Then contracts describe the list as `v` with three new values: the capacity `c`, the
+  -- items `xs` and the cost `k`.
   pub thin_of-becomes : {w v : Thin T A} → w ≡ v → (b' : Block T A) {xs : List T} {c : ℕ} {k : Cost}
       → length b'.slots ≡ c → items_in b'.slots ≡ xs → b'.cost ≡ k
       → thin_of b' w.alloc ≡ record v { items = xs; capacity = c; cost = k }
@@ -172,8 +174,9 @@ module _ {T A : Type 0} where
     cost = cost i;
   }
 
-  -- If the new block `b'` has the old number of slots, the items `xs` and the cost `k`, then
-  -- contracts describe it as the old list `v` with the items `xs` and the cost `k`.
+  -- Suppose that the list `v` gets a new block `b'`, which has the same number of slots, the items
+  -- `xs` and the cost `k`. Then contracts describe the list as `v` with two new values: the items
+  -- `xs` and the cost `k`.
   pub thin_of-keeps : {w v : Thin T A} → w ≡ v → (b' : Block T A) {xs : List T} {k : Cost}
       → length b'.slots ≡ w.capacity → items_in b'.slots ≡ xs → b'.cost ≡ k
       → thin_of b' w.alloc ≡ record v { items = xs; cost = k }

@@ -89,18 +89,19 @@ module _ {T A : Type 0} where
   past_rest v = empty v.gap_after ++ past_after v
 
   module _ (h : Inside T A) (v : Open T A) (s : Shows h v) where
-    -- The slots of `h` are, in this order: the slots before the middle items, the middle items, and
-    -- the slots after the middle items.
+    -- The slots of the open block `h` are, in this order: the slots before the middle items, the
+    -- slots of the middle items, and the slots after the middle items.
     pub by_rest : h.block.slots ≡ to_rest v ++ (full v.rest ++ past_rest v)
     by_rest = s.row ∙ sym
         (append_assoc (full v.front) (empty v.gap) (full v.rest ++ past_rest v))
 
-    -- The slots of `h` are the slots up to the last middle item, followed by all later slots.
+    -- The slots of the open block `h` are the slots from the first slot to the slot of the last
+    -- middle item, followed by all later slots.
     by_after : h.block.slots ≡ to_after v ++ past_rest v
     by_after = by_rest ∙ sym (append_assoc (to_rest v) (full v.rest) (past_rest v))
 
-    -- The slots of `h` are the slots before the tail items, followed by the slots from the first
-    -- tail item onward.
+    -- The slots of the open block `h` are the slots before the tail items, followed by the slots
+    -- from the first tail item onward.
     by_tail : h.block.slots ≡ to_tail v ++ past_after v
     by_tail = by_after ∙ sym (append_assoc (to_after v) (empty v.gap_after) (past_after v))
 
@@ -115,7 +116,7 @@ module _ {T A : Type 0} where
       s.gap,
     )
 
-    -- The number of slots up to and including the last middle item is `h.rest_end`.
+    -- The number of slots up to and including the slot of the last middle item is `h.rest_end`.
     at_after : length (to_after v) ≡ h.rest_end
     at_after = omega (
       arith,
@@ -135,7 +136,7 @@ module _ {T A : Type 0} where
       s.gap_after,
     )
 
-    -- The number of slots up to and including the last tail item is `h.len`.
+    -- The number of slots up to and including the slot of the last tail item is `h.len`.
     pub reached : reach v ≡ h.len
     reached = omega (arith, s.front, s.gap, s.rest, s.gap_after, s.tail)
 
@@ -188,8 +189,9 @@ module _ {T A : Type 0} where
         ∙ ap (λ (k : ℕ). full v.tail ++ empty k) (sym some)))
         ∙ items-front v.tail (length v.tail + (v.capacity - reach v))
 
-    -- Suppose that the slots and the indices of `h` agree with `v`, as `Shows` states. If `h` and
-    -- `v` also have the same allocator and the same cost, then contracts describe `h` as `v`.
+    -- Suppose that the slots and the indices of the open block `h` agree with `v`, as `Shows`
+    -- states. If `h` and `v` also have the same allocator and the same cost, then contracts
+    -- describe `h` as `v`.
     pub found : h.block.alloc ≡ v.alloc → h.block.cost ≡ v.cost → Found h v
     found alloc cost =
         let gap : h.rest_start - h.front_end ≡ v.gap = omega (arith, s.gap) in
@@ -237,17 +239,18 @@ module _ {T A : Type 0} where
       → xs ≡ (open_of h).rest
   rest-run h xs e = sym (items-full-alone xs) ∙ ap items_in e
 
-  -- Section: the steps of an edit. For each step, one definition is the open block after the step
-  -- as it is stored, and another definition is this open block as contracts describe it. A lemma
-  -- proves that the two agree.
+  -- Section: the steps of an edit. Each step has two definitions and a lemma. The first definition
+  -- is the open block after the step as it is stored, and the second is this open block as
+  -- contracts describe it. The lemma proves that the two agree.
 
   module _ (h : Inside T A) (o : IsOpen h) (b : Block T A)
       (some : 0 < length (open_of h).rest) where
-    -- `v` is the open block before the step, as contracts describe it.
+    -- `v` is the open block before its first or last middle item is removed, as contracts describe
+    -- it.
     abbrev v : Open T A
     v = open_of h
 
-    -- `first-left` is the open block after its first middle item was removed.
+    -- `first-left` is the open block `h` after its first middle item was removed.
     abbrev pub first-left : Inside T A
     first-left = record {
       block = b;
@@ -274,8 +277,8 @@ module _ {T A : Type 0} where
     }
 
     -- Suppose that the slot of the first middle item held `x` and was emptied. Then the middle
-    -- items were `x`, followed by a list `ys`, and contracts describe the new open block as
-    -- `first-seen ys`.
+    -- items were `x`, followed by a list `ys`. Contracts describe the new open block as `first-seen
+    -- ys`, whose middle items are `ys`.
     pub first-step : (x : T) → slot h.block.slots h.rest_start ≡ Some x
         → seen b ≡ record (seen h.block) { slots = set h.block.slots h.rest_start None }
         → (ys : List T) × (v.rest ≡ x ∷ ys) × Found first-left (first-seen ys)
@@ -317,7 +320,7 @@ module _ {T A : Type 0} where
               (ap (λ (z : Seen T A). z.cost) now),
         )
 
-    -- `last-left` is the open block after its last middle item was removed.
+    -- `last-left` is the open block `h` after its last middle item was removed.
     abbrev pub last-left : Inside T A
     last-left = record {
       block = b;
@@ -344,8 +347,8 @@ module _ {T A : Type 0} where
     }
 
     -- Suppose that the slot of the last middle item held `x` and was emptied. Then the middle items
-    -- were a list `ys`, followed by `x`, and contracts describe the new open block as
-    -- `last-seen ys`.
+    -- were a list `ys`, followed by `x`. Contracts describe the new open block as `last-seen ys`,
+    -- whose middle items are `ys`.
     pub last-step : (x : T) → slot h.block.slots (h.rest_end - 1) ≡ Some x
         → seen b ≡ record (seen h.block) { slots = set h.block.slots (h.rest_end - 1) None }
         → (ys : List T) × (v.rest ≡ ys ++ x ∷ []) × Found last-left (last-seen ys)
@@ -465,8 +468,9 @@ module _ {T A : Type 0} where
     abbrev all-after : List T
     all-after = (open_of h).rest ++ (open_of h).tail
 
-    -- If there is no gap before the tail items, then the slots are, in this order: the front items,
-    -- the gap, the middle items, the tail items, and the empty slots at the end.
+    -- If there is no gap before the tail items, then the slots are, in this order: the slots of the
+    -- front items, the gap, the slots of the middle items, the slots of the tail items, and the
+    -- empty slots at the end.
     side-by-side : (open_of h).gap_after ≡ 0 → h.block.slots ≡ full (open_of h).front
         ++ (empty (open_of h).gap ++ (full all-after ++ past_tail (open_of h)))
     side-by-side none =
@@ -483,8 +487,8 @@ module _ {T A : Type 0} where
     count-after none =
         omega (arith, length-append (open_of h).rest (open_of h).tail, o.rest, o.gap_after, o.tail)
 
-    -- If there is no gap before the tail items, then each slot from the first middle item to the
-    -- last tail item is filled.
+    -- If there is no gap before the tail items, then each slot from the slot of the first middle
+    -- item to the slot of the last tail item is filled.
     pub after-filled : (open_of h).gap_after ≡ 0 → (j : ℕ) → h.rest_start ≤ j → j < h.len
         → IsSome (slot h.block.slots j)
     after-filled none j low high =
@@ -563,8 +567,8 @@ module _ {T A : Type 0} where
   -- list become the middle items of this open block.
   module _ (b : Block T A) (a : A) (start end : ℕ) (t : IsThin b a) (order : start ≤ end)
       (within : end ≤ length (items_in b.slots)) where
-    -- `opened len` is the block `b` as an open block: the items `start..end` are its middle items,
-    -- and there are no gaps.
+    -- `opened len` is the block `b` as an open block without gaps. Its middle items are in the
+    -- slots `start..end`, and its tail items are in the slots `end..len`.
     abbrev pub opened : ℕ → Inside T A
     opened len =
         record {
@@ -590,8 +594,8 @@ module _ {T A : Type 0} where
           cost = b.cost;
         }
 
-    -- If `len` is the number of items, then contracts describe the open block `opened len` as
-    -- `opened-seen`.
+    -- If `len` is the number of items in the block `b`, then contracts describe the open block
+    -- `opened len` as `opened-seen`.
     pub open-step : (len : ℕ) → len ≡ length (items_in b.slots) → Found (opened len) opened-seen
     open-step len all =
         let xs : List T = items_in b.slots in
@@ -629,7 +633,8 @@ module _ {T A : Type 0} where
   -- index of the slot directly after the last written item.
   module _ (h : Inside T A) (o : IsOpen h) (b : Block T A) (xs : List T) (end : ℕ)
       (ends : end ≡ h.front_end + length xs) (fits : end ≤ h.rest_start) where
-    -- `filled` is the open block after the new items were written into the gap.
+    -- `filled` is the open block `h` after the items `xs` were written into the gap after its front
+    -- items.
     abbrev pub filled : Inside T A
     filled =
         record {
@@ -641,8 +646,8 @@ module _ {T A : Type 0} where
           len = h.len;
         }
 
-    -- `filled-seen` is the open block `filled` as contracts describe it. The new items have become
-    -- the last front items, and each of them has shortened the gap by one slot.
+    -- `filled-seen` is the open block `filled` as contracts describe it. The items `xs` have become
+    -- its last front items, and each of them has shortened the gap by one slot.
     abbrev pub filled-seen : Open T A
     filled-seen =
         let v : Open T A = open_of h in
@@ -705,7 +710,7 @@ module _ {T A : Type 0} where
   -- `count` empty slots follow the tail items.
   module _ (h : Inside T A) (o : IsOpen h) (b : Block T A) (count : ℕ)
       (room : h.len + count ≤ (open_of h).capacity) where
-    -- `widened` is the open block after the tail items were moved up.
+    -- `widened` is the open block `h` after its tail items were moved up by `count` slots.
     abbrev pub widened : Inside T A
     widened = record {
       block = b;
@@ -732,8 +737,8 @@ module _ {T A : Type 0} where
           cost = b.cost;
         }
 
-    -- The slots of `h` are, in this order: the slots before the tail items, the tail items, `count`
-    -- empty slots, and the remaining empty slots.
+    -- The slots of the open block `h` are, in this order: the slots before the tail items, the
+    -- slots of the tail items, `count` empty slots, and any further empty slots.
     spare : h.block.slots ≡ to_tail (open_of h)
         ++ (full (open_of h).tail
         ++ (empty count ++ empty ((open_of h).capacity - reach (open_of h) - count)))

@@ -13,8 +13,8 @@ use Rattle.thin_vec.specs.declared.put.Filled.{Filled}
 
 module _ {S X : Type 0} {steps : S → Option X → S → Type 0} {can : S → Type 0}
     {remaining : S → Count} {s : S} {f : Filled S} where
-  -- If items of an iterator were put into `room` empty slots, then the number of these items is at
-  -- most `room`.
+  -- If `IsFilledBy` describes how items of an iterator were put into `room` empty slots, then at
+  -- most `room` items were put into these slots.
   pub filled-fits : {room : ℕ} (by : IsFilledBy steps can remaining room s f)
       → length by.items ≤ room
   filled-fits {room} by = go f.ended by.full by.short
@@ -72,8 +72,8 @@ module _ {T : Type 0} where
       }
 
   -- Suppose that `IsMoving` holds, and that `v` is the last item that has not been moved yet. If
-  -- `v` is moved into its slot, then `IsMoving` holds again, with only the items `left` before `v`
-  -- still to be moved.
+  -- `v` is moved into its slot, then `IsMoving` holds again, and only the items `left` before `v`
+  -- have not been moved yet.
   pub moving-next : {xs : List T} (left : List T) {start : ℕ} (i : ℕ) (v : T)
       {r s : List (Option T)} → IsMoving xs (left ++ v ∷ []) start r s → i ≡ start + length left
       → start + length xs ≤ length r → IsMoving xs left start r (set s i (Some v))

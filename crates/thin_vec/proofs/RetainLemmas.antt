@@ -156,11 +156,12 @@ module _ {S T : Type 0} (R : S → T → Bool → S → T → Type 0) where
     abbrev asked-part : List T
     asked-part = h.before ++ h.left
 
-    -- `asked-part` has m items
+    -- The list `asked-part` has `m` items.
     long : length asked-part ≡ m
     long = omega (arith, length-append h.before h.left, h.place, h.reached)
 
-    -- `ys` consists of `asked-part`, followed by the items that have not been tested yet.
+    -- `ys` consists of `asked-part`, the items before index `m`, followed by the items that have
+    -- not been tested yet.
     parted : ys ≡ asked-part ++ h.more
     parted = h.now ∙ sym (append_assoc h.before h.left h.more)
 
@@ -206,8 +207,8 @@ module _ {S T : Type 0} (R : S → T → Bool → S → T → Type 0) where
               (sym (append_assoc h.left (a.left ∷ []) a.after));
         }
 
-    -- If the test of the item at index `m` decides to remove this item, then the tests stop at
-    -- index `m`, as `AskedUpTo` states.
+    -- If the test of the item at index `m` decides to remove this item, then `AskedUpTo` holds: the
+    -- tests stop at index `m`.
     pub stays-goes : (u : S) (zs : List T) → IsAskedAt R m t ys false u zs
         → AskedUpTo R k m s xs u zs
     stays-goes u zs a =
@@ -226,7 +227,7 @@ module _ {S T : Type 0} (R : S → T → Bool → S → T → Type 0) where
           now = next-now false u zs a;
         }
 
-    -- If there is no item at index `m`, then the tests stop at index `m`, as `AskedUpTo` states.
+    -- If there is no item at index `m`, then `AskedUpTo` holds: the tests stop at index `m`.
     pub stays-end : length ys ≤ m → AskedUpTo R k m s xs t ys
     stays-end short =
         let none : h.more ≡ [] =
@@ -435,8 +436,8 @@ module _ {S T : Type 0} (R : S → T → Bool → S → T → Type 0) where
   -- Section: open blocks
 
   module _ {A : Type 0} (v w : Open T A) where
-    -- Suppose that some middle items of the open block `v`, beginning with the first, were tested
-    -- in order. Suppose also that the `m` kept items were moved to the end of the front items, at
+    -- Suppose that middle items of the open block `v` were tested in order, beginning with the
+    -- first. Suppose also that `m` of them were kept and moved to the end of the front items, at
     -- the cost of one move each. Then `Sifts` relates `v` to the new open block `w`.
     pub sifts-of : (m : ℕ) (s t : S) (kept : List T) → Part m s v.rest t kept w.rest
         → 0 < w.gap → w ≡ record v {
@@ -631,8 +632,9 @@ module _ {J S T : Type 0} (R : S → T → Bool → S → T → Type 0) (inside 
   asked-through (x ∷ xs) s t a h =
       (h.0, h.1, inside h.2, h.3, h.4, asked-through xs h.2 t h.3 h.5, h.6)
 
-  -- If the list `w` contains exactly the items of the list `v` that the test of `retain` keeps,
-  -- then it contains exactly the items that the closure of this test keeps.
+  -- Suppose that `retain` was called with a test that calls a closure and returns its result. If
+  -- the list `w` contains exactly the items of the list `v` that the test keeps, then these are
+  -- also exactly the items that the closure keeps.
   pub retained-through : {A : Type 0} (s : J) (v w : Thin T A) (t : J)
       → IsRetainedTo through s v w t → IsRetained R (inside s) v w
   retained-through s v w t h = (

@@ -1,5 +1,5 @@
--- These modules contain the lemmas for the code in `src/list/`. Rattle adds the module `list`
--- automatically, so `Lib.antt` does not name it.
+-- This file lists the modules of lemmas about `src/list/`. Rattle includes this file automatically,
+-- so `Lib.antt` does not mention it.
 pub mod AppendSplitLemmas
 pub mod CapacityLemmas
 pub mod ClonesLemmas

@@ -25,7 +25,8 @@ module _ {T : Type 0} where
   items-after zero s = refl
   items-after (suc k) s = items-after k s
 
-  -- If the slot of the first item is emptied, then one more empty slot precedes the other items.
+  -- Suppose that `start` empty slots precede the items `x ∷ xs`. If the slot of `x` is emptied,
+  -- then `start + 1` empty slots precede the items `xs`.
   set-first : (start k : ℕ) (x : T) (xs : List T) → set (empty start ++ (full (x ∷ xs) ++ empty k))
       start None ≡ empty (start + 1) ++ (full xs ++ empty k)
   set-first start k x xs =
@@ -58,7 +59,8 @@ module _ {T : Type 0} where
       (row-last start k xs x) ∙ get_or_at (empty start ++ full xs) (Some x) (empty k) None
       (start + length xs) (before-last start xs)
 
-  -- If the slot of the last item is emptied, then one more empty slot follows the other items.
+  -- Suppose that `k` empty slots follow the items `xs ++ x ∷ []`. If the slot of `x` is emptied,
+  -- then `k + 1` empty slots follow the items `xs`.
   set-last : (start k : ℕ) (xs : List T) (x : T)
       → set (empty start ++ (full (xs ++ x ∷ []) ++ empty k)) (start + length xs) None ≡ empty start
       ++ (full xs ++ empty (k + 1))
@@ -276,7 +278,8 @@ module _ {T A : Type 0} where
       (from-same b b' a t.from (ap (λ v. v.alloc) w))
 
   -- Suppose that the items `ws` are written into the block of an iterator from slot `start` onward.
-  -- Then contracts describe the new iterator as the old one with `ws` written over its items.
+  -- Then the view of the iterator in contracts changes in only one way: `ws` replaces the first
+  -- items that have not been yielded yet.
   pub view-written : (b : Block T A) (a : A) (start end : ℕ) (ws : List T) → IsWalked b a start end
       → thin_of (block_with_items b start ws) a ≡ with_items (thin_of b a) ws
   view-written b a start end ws t =

@@ -131,8 +131,8 @@ module _ {S T : Type 0} (R : OnPairs S T) where
   -- Section: sequences of adjacent items that are all kept
 
   -- `PairStays` states that the first `m` items of the list `xs` were kept: the first item without
-  -- a test, and each of the others after a test. The tests turned `xs` into `ys`, and changed the
-  -- state of the closure from `s` to `t`.
+  -- a test, and each later item after its test. It also states that the tests turned `xs` into
+  -- `ys`, and changed the state of the closure from `s` to `t`.
   pub record PairStays (m : ℕ) (s : S) (xs : List T) (t : S) (ys : List T) : Type 0 where
     pub first : T
     pub done : List T
@@ -162,16 +162,15 @@ module _ {S T : Type 0} (R : OnPairs S T) where
       }
 
   module _ (m : ℕ) (s : S) (xs : List T) (t : S) (ys : List T) (h : PairStays m s xs t ys) where
-    -- `NextPair` states that the test `a` is the next test: it compared the first untested item
-    -- with the last kept item.
+    -- `NextPair` states that the test `a` compared the first untested item with the last kept item.
     pub record NextPair (b : Bool) (u : S) (zs : List T)
         (a : IsPairAskedAt R m t ys b u zs) : Type 0 where
       pub front : a.before ≡ h.pre
       pub last : a.kept ≡ h.last
       pub after : h.after ≡ a.later ∷ a.after
 
-    -- If the test `a` compared the item at index `m` with the item before it, then `a` is the next
-    -- test, as `NextPair` states.
+    -- If the test `a` compared the item at index `m` with the item before it, then `NextPair`
+    -- holds: `a` compared the first untested item with the last kept item.
     next-pair : (b : Bool) (u : S) (zs : List T) (a : IsPairAskedAt R m t ys b u zs)
         → NextPair b u zs a
     next-pair b u zs a =
@@ -240,8 +239,8 @@ module _ {S T : Type 0} (R : OnPairs S T) where
           now = next-now false u zs a;
         }
 
-    -- If the test of the item at index `m` decides to remove this item, then the tests stop at this
-    -- item with `m` kept items, as `PairsAskedUpTo` states.
+    -- If the test of the item at index `m` decides to remove this item, then `PairsAskedUpTo`
+    -- holds: the tests stop at this item, after the first `m` items were kept.
     pub pair-goes : (u : S) (zs : List T) → IsPairAskedAt R m t ys true u zs
         → PairsAskedUpTo R m s xs u zs
     pair-goes u zs a =
@@ -309,7 +308,7 @@ module _ {S T : Type 0} (R : OnPairs S T) where
 
   module _ {A : Type 0} (v w : Open T A) where
     -- `Moved front cost` holds if the open block `w` is the open block `v` with the front items
-    -- `front` and the cost `cost`. The gap and the middle items of `w` may also differ from `v`.
+    -- `front` and the cost `cost`, and perhaps with another gap and other middle items.
     abbrev Moved : List T → Cost → Type 0
     Moved front cost = w ≡ record v
         { front = front; gap = w.gap; rest = w.rest; cost = cost }
@@ -322,9 +321,9 @@ module _ {S T : Type 0} (R : OnPairs S T) where
     moved e n = λ i. record v { front = e i; gap = w.gap; rest = w.rest; cost = n i }
 
     module _ (s t : S) where
-      -- Suppose that the items `done` were tested after the last front item, and that the kept
-      -- items were moved to the end of the front items. Then `Dedups` relates the open block before
-      -- these tests to the open block after them.
+      -- Suppose that the first middle items, `done`, were tested, and that the kept items of `done`
+      -- were moved to the end of the front items, at the cost of one move each. Then `Dedups`
+      -- relates the open block before these tests to the open block after these moves.
       dedups-of : (before : List T) (first : T) (done : List T) (stays : List Bool) (kept : List T)
           → v.front ≡ before ++ first ∷ [] → v.rest ≡ done ++ w.rest
           → AskedLast R s first done stays kept t → 0 < w.gap
@@ -344,7 +343,7 @@ module _ {S T : Type 0} (R : OnPairs S T) where
           }
 
     -- If the next item `x` was tested and removed, then `Dedups` relates the open block before this
-    -- step to the open block after it.
+    -- test to the open block after the removal.
     pub dedups-goes : {s t : S} (x y : T) (front : List T)
         → IsLastAsked R s x v.front true t y front → v.rest ≡ x ∷ w.rest → 0 < w.gap
         → Moved front v.cost → Dedups R s v t w
@@ -354,8 +353,8 @@ module _ {S T : Type 0} (R : OnPairs S T) where
         (now ∙ moved (λ i. a.now i) (sym (moving-none v.cost)))
 
     -- Suppose that the next item `x` was tested and kept, and that it was moved to the end of the
-    -- front items at the cost of one move. Then `Dedups` relates the open block before this step to
-    -- the open block after it.
+    -- front items at the cost of one move. Then `Dedups` relates the open block before this test to
+    -- the open block after this move.
     pub dedups-stays : {s t : S} (x y : T) (front : List T)
         → IsLastAsked R s x v.front false t y front → v.rest ≡ x ∷ w.rest
         → 0 < w.gap → Moved (front ++ y ∷ []) (moving 1 v.cost) → Dedups R s v t w
@@ -369,8 +368,8 @@ module _ {S T : Type 0} (R : OnPairs S T) where
         (a : IsLastAsked R s x v.front false t y front) (b : Bool)
         (n : IsNextAsked R t y ys b u z zs) (whole : v.rest ≡ x ∷ ys) where
       -- Suppose that the item `x` was kept, and that the item after `x` was tested next. Then the
-      -- last two front items are the old last front item, as the first test left it, and `x`, as
-      -- the second test left it.
+      -- last two front items are the old last front item, as the test of `x` left it, and `x`, as
+      -- the test of the item after `x` left it.
       two-front : (front ++ z ∷ [] ≡ a.before ++ a.kept_left ∷ z ∷ [])
       two-front = ap (λ (l : List T). l ++ z ∷ []) a.now
           ∙ append_assoc a.before (a.kept_left ∷ []) (z ∷ [])
@@ -573,8 +572,9 @@ module _ {J S T : Type 0} (R : OnPairs S T) (inside : J → S) where
   pairs-through [] s t f ys h = (h.0, h.1, ap inside h.2)
   pairs-through (x ∷ xs) s t f ys h = last-through xs s t x f ys h
 
-  -- If the list `w` contains exactly the items of the list `v` that the test of `dedup_by` keeps,
-  -- then it contains exactly the items that the closure of this test keeps.
+  -- Suppose that `dedup_by` was called with a test that calls a closure and returns its result. If
+  -- the list `w` contains exactly the items of the list `v` that the test keeps, then these are
+  -- also exactly the items that the closure keeps.
   pub deduped-through : {A : Type 0} (s : J) (v w : Thin T A) (t : J) → IsDedupedTo through s v w t
       → IsDedupedBy R (inside s) v w
   deduped-through s v w t h = (

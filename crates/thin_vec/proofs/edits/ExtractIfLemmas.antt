@@ -52,8 +52,8 @@ module _ {F T : Type 0} (R : F → T → Bool → F → T → Type 0) where
     -- `between`. It extracts the first of these items, unless there are none.
     module _ (between : S) (after : List T) (item : Option T) (t : F) (rest : List T)
         (e : ExtractsNext R (of between) after item t [] rest) where
-      -- Suppose that the closure keeps all items of the list `run`. Then, if it is called with the
-      -- items `run ++ after`, it extracts the first item of `after`, if there is one.
+      -- Suppose that the closure keeps all items of the list `run`. Then, from the list `run ++
+      -- after`, it extracts the first item of `after`, unless `after` is empty.
       picked-after : (s : S) (run left : List T) → Asked J s run (stay left) between
           → ExtractsNext R (of s) (run ++ after) item t left rest
       picked-after s [] [] a =

@@ -34,17 +34,18 @@ module _ {T A : Type 0} where
 module _ {S T A : Type 0} (steps : S → Option T → S → Type 0) (can : S → Type 0)
     (remaining : S → Count) where
   -- `FillsGap v a s w f` states that items of the iterator `s` were put into the gap of the open
-  -- block `v`, until the gap was full or the iterator ended. `v` was then closed and became the
-  -- block of the list `w`, which has the allocator `a`. `f` contains the rest of the iterator.
+  -- block `v`, until the gap was full or the iterator ended. It also states that `v` was then
+  -- closed and became the block of the list `w`, which has the allocator `a`. `f` contains the rest
+  -- of the iterator.
   abbrev pub FillsGap : Open T A → A → S → Thin T A → Filled S → Type 0
   FillsGap v a s w f =
       (by : IsFilledBy steps can remaining v.gap s f) × IsClosedWith v by.items a w
       × (f.end ≡ length v.front + length by.items)
 
-  -- `IsReached` states that the list `u` consists of the front items of the open block `v`, the
-  -- items `xs`, and the tail items of `v`. There are enough items `xs` to fill the gap of `v`, and
-  -- the index after the last of them is `end`. Calls to `next` on the iterator `s` yielded these
-  -- items, and the rest of the iterator is `t`.
+  -- `IsReached` states that calls to `next` on the iterator `s` yielded the items `xs`, which are
+  -- enough to fill the gap of the open block `v`. The rest of the iterator is `t`. It also states
+  -- that the list `u` consists of the front items of `v`, the items `xs` and the tail items of `v`,
+  -- and that `end` is the index directly after the items `xs`.
   pub record IsReached (v : Open T A) (s : S) (u : Thin T A) (xs : List T) (end : ℕ)
       (t : S) : Type 0 where
     pub items : u.items ≡ with_between v xs
@@ -59,8 +60,8 @@ module _ {S T A : Type 0} {steps : S → Option T → S → Type 0} {can : S →
     {remaining : S → Count} where
   module _ {v : Open T A} {a : A} {s : S} {w : Thin T A} {f : Filled S}
       (p : FillsGap steps can remaining v a s w f) where
-    -- After items were put into the gap, the length of the list is the total number of front items,
-    -- tail items and inserted items.
+    -- After items were put into the gap of the open block `v`, the length of the list is the number
+    -- of front items, plus the number of tail items, plus the number of inserted items.
     pub filled-long : length w.items ≡ length v.front + length v.tail + length p.0.items
     filled-long = omega (arith, ap length p.1.items, between-length v p.0.items)
 
@@ -91,9 +92,9 @@ module _ {S T A : Type 0} {steps : S → Option T → S → Type 0} {can : S →
           taken-spare rule R (left_of v a) w (length p.0.items) p.1.cost.0 n left p.1.cost.1
           p.1.capacity (omega (arith, filled-long, length-append v.front v.tail)) few p.1.alloc
 
-      -- Suppose that a gap was opened in the list `u`, filled, and closed, and that opening and
-      -- closing it took at most `n` moves. Then `HasTaken` holds for `u` and the new list, with the
-      -- bound `n` on the moves of old items.
+      -- Suppose that a gap was opened in the list `u`, that items of the iterator were put into it,
+      -- and that it was then closed. If opening and closing the gap took at most `n` moves, then
+      -- `HasTaken` holds for `u` and the new list, with the bound `n` on the moves of old items.
       pub wide-taken : (u : Thin T A) (at count : ℕ) → IsWide v u at count → a ≡ u.alloc
           → p.1.cost.0 + (length u.items - at) ≤ n → HasTaken rule R u w n left
       wide-taken u at count wide from few =
@@ -207,8 +208,8 @@ module _ {S T A : Type 0} {steps : S → Option T → S → Type 0} {can : S →
     }
 
     -- Suppose that `finish` first placed the items `xs`, and that at least one tail item follows
-    -- them. If the rest of `finish` returns the result `r` and satisfies the conditions below, then
-    -- `IsFinished` holds for the whole call with the result `r`.
+    -- them. If the rest of `finish` returns the result `r` and satisfies the hypotheses of this
+    -- lemma, then `IsFinished` holds for the whole call with the result `r`.
     pub finished-from : {t : S} {u : Thin T A} {xs : List T} {end : ℕ}
         (r : Result (Unit {0}) (SpliceRefused T S A))
         → IsReached steps can remaining v s u xs end t → 0 < length v.tail

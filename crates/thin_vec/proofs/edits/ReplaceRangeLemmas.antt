@@ -92,7 +92,7 @@ module _ {T : Type 0} (xs : List T) (i j : ℕ) (order : i ≤ j) (within : j �
 
 module _ {T A : Type 0} (h : Inside T A) (o : IsOpen h) (b : Block T A) (k : ℕ)
     (few : k ≤ length (open_of h).tail) (room : k ≤ (open_of h).gap) where
-  -- `v` is the open block before the move, as contracts describe it.
+  -- `v` is the open block before its last `k` tail items were moved, as contracts describe it.
   abbrev v : Open T A
   v = open_of h
 

@@ -71,8 +71,8 @@ closed-moves v w n paid none same count = go (eqb w.gap 0) refl
         false-true : false ≡ true → ⊥
         false-true h = cc
 
--- Suppose that `n` items are moved up unless `count` is 0, and that `k + m` further moves follow.
--- Then the total number of moves is `k` plus a number that is at most `n + m`.
+-- Suppose that `n` items are moved up, or no item if `count` is 0, and that `k + m` more moves
+-- follow. Then the total number of moves is `k + x` for some number `x` that is at most `n + m`.
 pub run-moves : (count n k m : ℕ) (c d : Cost) → d ≡ (if eqb count 0 then c else moving n c)
     → (x : ℕ) × (moving (k + m) d ≡ moving (k + x) c) × (x ≤ n + m)
 run-moves count n k m c d e = go (eqb count 0) e
@@ -100,8 +100,8 @@ module _ {S X : Type 0} (steps : S → Option X → S → Type 0) where
     now.2,
   )
 
-  -- If calls to `next` yielded the items `xs` and then returned `Some x`, then these calls yielded
-  -- the items `xs ++ x ∷ []`.
+  -- If calls to `next` yielded the items `xs`, and one more call returned `Some x`, then all these
+  -- calls together yielded the items `xs ++ x ∷ []`.
   pub yields-drawn : (s u : S) (xs : List X) (o : Option X) (x : X) → o ≡ Some x
       → YieldsThen steps s xs o u → Yields steps s (xs ++ x ∷ []) u
   yields-drawn s u xs o x is all =
@@ -216,7 +216,8 @@ module _ {S X A : Type 0} (steps : S → Option X → S → Type 0) (can : S →
 module _ {S T A : Type 0} (rule : Rule) (R : RattleType) (v : Thin T A) (tail : List T)
     (left : Count) (error : SpliceRefused T S A) where
   -- Suppose that items follow the range, that the error contains no items, and that the list could
-  -- not reserve room for the size hint of the iterator. Then `IsStopCause` holds.
+  -- not reserve room for the size hint of the iterator. Then `IsStopCause` holds: this is an
+  -- allowed reason for `finish` to fail.
   pub stop-at-hint : 0 < length tail → error.held.items ≡ [] → error.in_hand ≡ None
       → FailsAtHint rule R v left error.cause → IsStopCause rule R v tail left error
   stop-at-hint some none empty fails = record {
@@ -226,9 +227,10 @@ module _ {S T A : Type 0} (rule : Rule) (R : RattleType) (v : Thin T A) (tail : 
     by_push = λ no_tail. absurd (omega (arith, some, ap length no_tail));
   }
 
-  -- Suppose that items follow the range, and that the error contains at least one item. Suppose
-  -- also that the cause of the error is the cause that `IsStopCause` requires in this case. Then
-  -- `IsStopCause` holds.
+  -- Suppose that items follow the range, and that the error contains items. If the error has an
+  -- item `in_hand`, suppose that its cause is `OutOfMemory`. Otherwise, suppose that its cause is
+  -- `CapacityOverflow` if and only if the growth rule chooses no capacity for the items `held`.
+  -- Then `IsStopCause` holds.
   pub stop-at-held : 0 < length tail → (error.in_hand ≡ None → 0 < length error.held.items)
       → (error.in_hand ≡ None → (error.cause ≡ CapacityOverflow)
       ↔ (capacity_for rule R v (length error.held.items) ≡ None))

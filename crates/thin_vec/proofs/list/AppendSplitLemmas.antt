@@ -89,8 +89,8 @@ module _ {T A : Type 0} where
 
   module _ {b o : Block T A} {a p : A} (t : IsThin b a) (u : IsThin o p) where
     -- Suppose that the items of a second list from index `i` onward are written directly after the
-    -- last item of a first list, and that the stored length is updated. Then the new block `b'` is
-    -- the block of the first list with these items appended.
+    -- last item of a first list, whose stored length grows by the number of these items. Then the
+    -- new block `b'` is the block of the first list with these items appended.
     pub settle-joined : (b' : Block T A) (i : ℕ) {k n : ℕ} → i ≤ length (items_in o.slots)
         → k ≡ o.len - i → n ≡ b.len → n + k ≤ length b.slots
         → {m : Cost} → IsWritten b b' (laid n (run i k o.slots) b.slots) (n + k) m
@@ -105,7 +105,7 @@ module _ {T A : Type 0} where
         (slots-are w (ap (λ (r : List (Option T)). laid n r b.slots) same))
 
   -- If the slots of all items from index `i` onward are emptied, and the stored length becomes `i`,
-  -- then the new block `o'` is the block of a list of the first `i` items.
+  -- then the new block `o'` is the block of a list that contains only the first `i` items.
   pub settle-cut : {o : Block T A} {p : A} → IsThin o p → (o' : Block T A) (i : ℕ) {k : ℕ}
       {m : Cost} → i ≤ length (items_in o.slots) → k ≡ o.len - i
       → IsWritten o o' (emptied i k o.slots) i m

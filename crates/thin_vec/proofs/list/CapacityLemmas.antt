@@ -17,7 +17,7 @@ use Rattle.thin_vec.specs.ThinVec.{IsThin}
 use Rattle.thin_vec.proofs.ListLemmas.{Settled, settled, length-front, thin-room, front-grow}
 
 module _ (rule : Rule) (law : KeepsLaw rule) (R : RattleType) where
-  -- If a growth rule satisfies `KeepsLaw`, each capacity `n` that the rule chooses satisfies
+  -- If a growth rule satisfies `KeepsLaw`, then each capacity `n` that the rule chooses satisfies
   -- `Grows`: it is large enough for the items, at least twice the old capacity, and small enough to
   -- be allocated.
   pub grows-rule : (w : ℕ) {c c' w' : ℕ} {o : Option ℕ}

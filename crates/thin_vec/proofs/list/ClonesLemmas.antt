@@ -24,8 +24,8 @@ module _ {T : Type 0} {clones : T → T → Type 0} {sources : List T} {n i : �
       ∙ length-take-le n sources few
 
   -- Suppose that consecutive slots hold clones of the first `n` items of `sources`. If a clone `y`
-  -- of the next item is written into the next slot, then consecutive slots hold clones of the first
-  -- `n + 1` items.
+  -- of the item at index `n` is written into the slot directly after them, then these slots
+  -- together hold clones of the first `n + 1` items.
   pub lays-more : (y : T) {x : T} {s'' : List (Option T)} → n < length sources
       → i + length sources ≤ length s → x ≡ get_or sources n x → clones x y
       → s'' ≡ set s' (i + n) (Some y) → LaysClones clones sources (n + 1) i s s''

@@ -77,7 +77,7 @@ module _ {S X : Type 0} (steps : S → Option X → S → Type 0) (s : S) where
       (run steps s (xs ++ option_to_list o) false (t, gave, λ e. absurd (false≢true e)), refl, h)
 
   -- Suppose that the result `r` is an error, and that calls to `next` yielded the items `xs` and
-  -- then the item that the error returns (if there is one). Then these calls form a run of the
+  -- then the item that the error returns, if there is one. Then these calls form a run of the
   -- iterator (`SomeRun`), which may be incomplete.
   pub run_given_err : {E : Type 0} (can : S → Type 0) (remaining : S → Count)
       (hand : E → Option X) (rest : E → S) (P : List X → Type 0) (r : Result (Unit {0}) E)
@@ -191,9 +191,9 @@ module _ (rule : Rule) (R : RattleType) (law : KeepsLaw rule) where
   ruled-after c d e n P (inl same) f = inr (f same)
   ruled-after c d e n P (inr p) f = inl (inr p)
 
-  -- Suppose that a new list was made with exactly the capacity `c` for a possible size hint `h` of
-  -- the iterator. If the change from `c` to a later capacity `d` satisfies `IsKeptOrRuled`, then
-  -- `d` satisfies `IsCollected`.
+  -- Suppose that a new list was made with the capacity `c` that `exact_capacity` returns for `h`
+  -- items, and that `h` is a possible size hint of the iterator. If the change from `c` to a later
+  -- capacity `d` satisfies `IsKeptOrRuled`, then `d` satisfies `IsCollected`.
   pub collected-after : {c d : ℕ} (n h : ℕ) (left : Count) → IsWithinCount h left
       → exact_capacity R 0 h ≡ Some c → IsKeptOrRuled rule R c d n → IsCollected rule R d n left
   collected-after n h left hint e (inl same) = inr (h, hint, e ∙ ap Some (sym same))

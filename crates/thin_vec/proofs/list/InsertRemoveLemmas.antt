@@ -178,11 +178,11 @@ module _ {T : Type 0} where
       ∙ ap full (take-append-drop k xs)))
 
   module _ (xs : List T) (k i c : ℕ) (order : k ≤ i) (bound : i < length xs) where
-    -- The slots before slot `i` in the row of slots `emptying xs k i c`.
+    -- `pre` is the list of the slots before slot `i` in the row of slots `emptying xs k i c`.
     pre : List (Option T)
     pre = full (take k xs) ++ empty (i - k)
 
-    -- The slots after slot `i` in the row of slots `emptying xs k i c`.
+    -- `post` is the list of the slots after slot `i` in the row of slots `emptying xs k i c`.
     post : List (Option T)
     post = full (drop (i + 1) xs) ++ empty (c - length xs)
 

@@ -12,16 +12,17 @@ use Rattle.thin_vec.specs.Cheap.{IsCheap}
 use Rattle.thin_vec.specs.List.Capacity.{Keeps, Reserves, TellsOverflow, TellsOverflowOf}
 use Rattle.thin_vec.specs.ThinVec.{HasRoomFor, IsWithin, Thin, capacity_for}
 
--- Suppose that `named` is the capacity that a call needs, or `None` if this capacity is too large.
--- If `named` is `Some n`, then `TellsOverflow named (Ok x)` holds.
+-- `TellsOverflow named r` states that the result `r` is the error `CapacityOverflow` if and only if
+-- the needed capacity, `named`, is `None`. This holds if `named` is `Some n` and `r` is `Ok x`.
 pub tells-ok : {X : Type 0} (x : X) (named : Option ℕ) (n : ℕ) → named ≡ Some n
     → TellsOverflow named (Ok x)
 tells-ok x named n is = record {
   overflow = (λ e. ok-err x CapacityOverflow e, λ none. absurd (none-some none is));
 }
 
--- Suppose that `exact_capacity R 0 m` equals `exact_capacity S 0 n`. If `TellsOverflowOf R m` holds
--- for the result `Ok x`, then `TellsOverflowOf S n` holds for the result `Ok y`.
+-- Suppose that `exact_capacity` returns the same capacity for `m` items of type `R` and for `n`
+-- items of type `S`. If `TellsOverflowOf R m` holds for the result `Ok x`, then `TellsOverflowOf S
+-- n` holds for the result `Ok y`.
 pub tells-made : {X : Type 0} {x y : X} (R S : RattleType) (m n : ℕ)
     → exact_capacity R 0 m ≡ exact_capacity S 0 n
     → TellsOverflowOf R m (let r : Result X ThinVecError = Ok x in r)
@@ -33,8 +34,9 @@ tells-made {x = x} {y} R S m n e told = record {
   );
 }
 
--- Suppose that `exact_capacity R 0 m` equals `exact_capacity S 0 n`. If `TellsOverflowOf R m r`
--- holds for the result `r`, then `TellsOverflowOf S n r` holds.
+-- Suppose that `exact_capacity` returns the same capacity for `m` items of type `R` and for `n`
+-- items of type `S`. If `TellsOverflowOf R m r` holds for the result `r`, then `TellsOverflowOf S n
+-- r` holds.
 pub tells-same : {X : Type 0} {r : Result X ThinVecError} (R S : RattleType) (m n : ℕ)
     → exact_capacity R 0 m ≡ exact_capacity S 0 n → TellsOverflowOf R m r → TellsOverflowOf S n r
 tells-same R S m n e told = record {
@@ -92,8 +94,8 @@ module _ {T A : Type 0} (R : RattleType) (v : Thin T A) where
 
     -- Suppose that the first step of a call returns `Ok` and satisfies `Reserves`, and that the
     -- second step keeps the capacity and fails only with `OutOfMemory`. Then the whole call
-    -- satisfies `Reserves`. This is also true for items of another type `S`, if the growth rule
-    -- chooses the same capacity for `S`.
+    -- satisfies `Reserves`. If the growth rule chooses the same capacity for items of another type
+    -- `S`, then this is also true for `S`.
     pub reserves-then : {X Y : Type 0} {x : X} (S : RattleType) (k l : ℕ) (u w : Thin T A)
         (r : Result Y ThinVecError) → l ≡ k
         → capacity_for rule S v l ≡ capacity_for rule R v k → w.capacity ≡ u.capacity
@@ -120,8 +122,8 @@ module _ {T A : Type 0} (R : RattleType) (v : Thin T A) where
         }
 
     -- Suppose that a call fails without changing the list, and satisfies `Reserves`. Then another
-    -- call that fails with the same error also satisfies `Reserves`. This is also true for items of
-    -- another type `S`, if the growth rule chooses the same capacity for `S`.
+    -- call that fails with the same error also satisfies `Reserves`. If the growth rule chooses the
+    -- same capacity for items of another type `S`, then this is also true for `S`.
     pub reserves-failed : {X Y : Type 0} (S : RattleType) (k l : ℕ) (w : Thin T A)
         (cause : ThinVecError) → l ≡ k
         → capacity_for rule S v l ≡ capacity_for rule R v k

@@ -91,9 +91,9 @@ module _ {T : Type 0} where
 module _ {T A : Type 0} where
   -- Section: open blocks
 
-  -- `WrittenTwo` states that the middle items `x` and `y`, at the indices `k` and `k + 1`, were
-  -- overwritten with `x'` and `y'`. Contracts describe the new open block, with the block `b`, as
-  -- the old one with these two items replaced.
+  -- `WrittenTwo` states that the middle items `x` and `y` of the open block `h`, at the indices `k`
+  -- and `k + 1`, were overwritten with `x'` and `y'`. It also states that contracts describe the
+  -- new open block, which is stored in `b`, as the old one with these two items replaced.
   pub record WrittenTwo (h : Inside T A) (o : IsOpen h) (k : ℕ) (b : Block T A)
       (x y x' y' : T) : Type 0 where
     pub pre : List T
@@ -168,8 +168,9 @@ module _ {T A : Type 0} where
           };
         }
 
-  -- `WrittenLast` states that the last front item `x` was overwritten with `y`. Contracts describe
-  -- the new open block, with the block `b`, as the old one with `y` in place of `x`.
+  -- `WrittenLast` states that the last front item `x` of the open block `h` was overwritten with
+  -- `y`. It also states that contracts describe the new open block, which is stored in `b`, as the
+  -- old one with `y` in place of `x`.
   pub record WrittenLast (h : Inside T A) (b : Block T A) (x y : T) : Type 0 where
     pub pre : List T
     pub was : (open_of h).front ≡ pre ++ x ∷ []

@@ -41,19 +41,20 @@ module _ {T : Type 0} where
 
 module _ {T A : Type 0} where
   -- Suppose that two open blocks have the same gap before the tail items, the same tail items, and
-  -- the same number of empty slots after them. Then their slots after the middle items are equal.
+  -- the same number of empty slots after the tail items. Then their slots after the middle items
+  -- are equal.
   pub same-past : (v w : Open T A) → w.gap_after ≡ v.gap_after → w.tail ≡ v.tail
       → v.capacity - reach v ≡ w.capacity - reach w → past_rest v ≡ past_rest w
   same-past v w b t n = λ i. empty (sym b i) ++ (full (sym t i) ++ empty (n i))
 
   module _ (h : Inside T A) (o : IsOpen h) (b : Block T A) (k : ℕ)
       (low : k < length (open_of h).rest) where
-    -- `v` is the open block before one of its middle items was overwritten, as contracts describe
-    -- it.
+    -- `v` is the open block before its middle item at index `k` was overwritten, as contracts
+    -- describe it.
     abbrev v : Open T A
     v = open_of h
 
-    -- `written` is the open block after one of its middle items was overwritten.
+    -- `written` is the open block after its middle item at index `k` was overwritten.
     abbrev pub written : Inside T A
     written = record {
       block = b;
@@ -140,7 +141,7 @@ module _ {T A : Type 0} where
 
   -- In this module, the first `k` middle items are moved to the end of the front items.
   module _ (h : Inside T A) (o : IsOpen h) (k : ℕ) (low : k ≤ length (open_of h).rest) where
-    -- `u` is the open block before the move, as contracts describe it.
+    -- `u` is the open block before its first `k` middle items were moved, as contracts describe it.
     abbrev u : Open T A
     u = open_of h
 
@@ -162,8 +163,9 @@ module _ {T A : Type 0} where
     moved_run-seen b = record u
         { front = u.front ++ take k u.rest; rest = drop k u.rest; cost = b.cost }
 
-    -- Suppose that the slots of `b` are, in this order: the front items, the moved items, the gap,
-    -- and all later slots. Then contracts describe `moved_run b` as `moved_run-seen b`.
+    -- Suppose that the slots of `b` are, in this order: the slots of the front items, the slots of
+    -- the moved items, the gap, and all later slots. Then contracts describe `moved_run b` as
+    -- `moved_run-seen b`.
     moved_run-shows : (b : Block T A)
         → b.slots ≡ full u.front
         ++ (full (take k u.rest) ++ (empty u.gap ++ (full (drop k u.rest) ++ past_rest u)))
@@ -204,8 +206,8 @@ module _ {T A : Type 0} where
         (full-append (take k u.rest) (drop k u.rest)) ∙ append_assoc (full (take k u.rest))
         (full (drop k u.rest)) (past_rest u))
 
-    -- The slots of `h` are, in this order: the front items, the gap, the items to be moved, and all
-    -- later slots.
+    -- The slots of the open block `h` are, in this order: the slots of the front items, the gap,
+    -- the slots of the items to be moved, and all later slots.
     parted : h.block.slots ≡ full u.front
         ++ (empty u.gap ++ (full (take k u.rest) ++ (full (drop k u.rest) ++ past_rest u)))
     parted = o.row ∙ ap (λ (r : List (Option T)). full u.front ++ (empty u.gap ++ r)) cut

@@ -48,7 +48,8 @@ facts g c =
     put.2
     (then-len c.set_len.ensures.changes (stored g c))
 
--- The index `end` that `put_iter` returns is the number of items of the list after the call.
+-- The index `end` that `put_iter` returns is the number of items of the list after the call to
+-- `fill_spare`.
 ends : (g : _) (c : goal.After-set_len g) → c.put_iter-block.result.1.end
     ≡ length (items_in c.set_len.new.self.slots)
 ends g c =

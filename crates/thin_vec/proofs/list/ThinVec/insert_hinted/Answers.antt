@@ -25,7 +25,7 @@ wide g c = record {
 }
 
 -- If opening and closing the gap takes at most `n` moves, then `HasTaken` relates the list before
--- the call to the list after the call, with at most `n` moves of old items.
+-- the call to `insert_hinted` to the list after it, with the bound `n` on the moves of old items.
 taken : (g : _) (c : After-fill_gap g) (n : _)
     → c.fill_gap.ensures.filled.1.cost.0 + (length c.reserve.new.self.items - c.args.at) ≤ n
     → HasTaken g.G.Growth.rule (param 0 g.row.T) c.args.self.now c.fill_gap.new.self n

@@ -1,4 +1,5 @@
--- Each inserted item is moved once. Each old item from index `at` onward is moved at most once.
+-- `insert_vec` moves each inserted item once, and each old item from index `at` onward at most
+-- once.
 use Rattle.std.proofs.Common.{◌≡◌, ◌-◌, ◌∙◌, ap, arith, length}
 use Rattle.thin_block.specs.Cost.{moving}
 use Rattle.thin_vec.proofs.edits.SpliceLemmas.{closed-moves, run-moves}

@@ -34,7 +34,8 @@ open_gap-opened-requires-clause-filled g c = λ j low high.
     subst (λ b. IsSome (slot b.slots j)) (sym c.replace-block.ensures.value)
     (tail-filled c.self.inside (open_of c.self.inside) o j low (omega (arith, high, o.tail)))
 
--- The block after the call is the old block with its tail items moved up.
+-- After the call to `widen`, the block differs from the old block in two ways: the tail items were
+-- moved up by `count` slots, and the cost counts one more move for each tail item.
 stored : (g : _) (c : goal.After-self-2-1 g)
     → let h = c.self.inside in
     seen c.replace-none.new.dest ≡ record (seen h.block) {

@@ -1,6 +1,6 @@
 -- `from_str` fails with the same error as `from_copies`, which it calls. The contract of
 -- `from_copies` computes the capacity from the size and the alignment of a generic item type. Here,
--- both are the same as for `u8`, so the capacity is also the same.
+-- this type has the size and the alignment of `u8`, so both contracts name the same capacity.
 use Rattle.std.proofs.Common.{◌∙◌, ap, length, refl, arith}
 use Rattle.std.specs.Borrow.{u8}
 use Rattle.thin_block.proofs.CapacityLemmas.{exact-at}

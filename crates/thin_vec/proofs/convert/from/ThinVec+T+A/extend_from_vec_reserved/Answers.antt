@@ -8,7 +8,7 @@ use Rattle.thin_vec.proofs.list.AppendSplitLemmas.{settle-more}
 use Rattle.thin_vec.proofs.convert.from.ThinVec+T+A.extend_from_vec_reserved.Goals as goal
 use Rattle.thin_vec.proofs.ThinVecLemmas.{within-stays}
 
--- The block contains no items before the call.
+-- Before the call to `extend_from_vec_reserved`, the block of the list contains no items.
 none : (g : _) (c : goal.After-set_len g) → items_in c.self.inside.block.slots ≡ []
 none g c = ap (λ v. v.items) c.self.view_is ∙ c.requires.empty
 

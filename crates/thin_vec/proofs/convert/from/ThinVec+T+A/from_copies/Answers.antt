@@ -1,6 +1,6 @@
 -- `from_copies` fails with `CapacityOverflow` for the same lengths as `with_capacity`, which it
--- calls. The contracts of these two functions use different item types: only one of them has to be
--- `Copy`. The error depends only on the size and the alignment, which are the same for both types.
+-- calls. Only `from_copies` requires the item type to be `Copy`, but the error depends only on the
+-- size and the alignment of an item.
 use Rattle.std.proofs.Common.{length, refl}
 use Rattle.thin_block.proofs.CapacityLemmas.{exact-at}
 use Rattle.thin_vec.proofs.list.ReservesLemmas.{tells-made, tells-same}

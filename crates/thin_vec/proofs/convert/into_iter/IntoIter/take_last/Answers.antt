@@ -28,7 +28,7 @@ take-requires g c =
           c.self.invariant from to;
     }
 
--- After the call, the slots `start..end - 1` hold all items except the last one.
+-- After the call to `take_last`, the slots `start..end - 1` hold all items except the last one.
 facts : (g : _) (c : goal.After-take g)
     → let it = c.self.inside in
     let most = take (it.end - 1 - it.start) (items_in it.block.slots) in

@@ -1,5 +1,6 @@
--- An item is extracted if and only if the closure returns true. The test returns the negation of
--- this result, and the definition of `tests` negates it again.
+-- The closure returns true for an item to be extracted, but the test returns true for an item to be
+-- kept. So the test returns the negation of the closure's result, and the specification of the test
+-- negates this result again.
 use Rattle.std.proofs.Common.{Bool, rules, sym, subst}
 use Rattle.std.specs.Fn.{CalledAtMut}
 use Rattle.thin_vec.proofs.edits.ExtractIfLemmas.{not-not}
