@@ -49,7 +49,7 @@ use Rattle.thin_block.specs.Ownership.{fits_block, places}
 use Rattle.thin_block.proofs.Walks.{Facts, Shown, after}
 use Rattle.thin_block.proofs.HeaderMemory.{Br, Header, Slots, header, t, block_val, block_opens, block_closes}
 
--- The list of parameters without the first parameter.
+-- `others ss` is the list `ss` of parameters without its first parameter.
 abbrev pub others : {n : ℕ} → List (Slot n) → List (Slot n)
 others [] = []
 others (s ∷ ss) = ss
@@ -237,8 +237,9 @@ module _ {M : Type 1} {𝓤 : Ura M} {𝓛 : Logic 𝓤} {K : Type 0} {Γ : List
   token_out k n κs qs = step (λ s.
       use1 𝓛 (‵ (flft κs.0 qs.0) ⊛ raw (toks 𝓛 n κs.1 qs.1)) (id⊢ 𝓤 _) $ split k $ s)
 
--- `blanks m` is the formula that must be proved at the end of a function about `m` arguments that
--- are not given back to the caller. It consists of one trivially true formula for each argument.
+-- Suppose that a function does not give `m` of its arguments back to the caller. Then `blanks m` is
+-- what must be proved about these arguments at the end of the function. It consists of one
+-- trivially true formula for each argument.
 abbrev pub blanks : ℕ → Fml
 blanks zero = ftrue
 blanks (suc m) = fsep ftrue (blanks m)
