@@ -8,7 +8,7 @@
 --     `to_cells` converts slots that hold items into slice elements, and `of_cells` is the inverse.
 --     `to_room` converts empty slots into uninitialized memory for an array, and `of_room` is the
 --     inverse. `to_raw` and `of_raw` do the same for an array type with all field names erased.
---     `reach` bounds the distance in bytes from the first slot to any slot.
+--     `reach` says that the slots of a block take less than `2 ^ 63` bytes.
 use Rattle.std.proofs.Common.{◌≡◌, true, ℕ, zero, suc, None, ◌+◌, ◌*◌, ◌^◌, ◌<◌, ◌≤◌, List, [], ◌∷◌, ◌++◌, length, refl, sym, ap, ◌∙◌, arith}
 use native.Mathlib.Nat.{zero-mul, suc-mul}
 use lib.ListN.{take, drop, set, get_or, take-append-drop, length-take, length-drop, length-set}

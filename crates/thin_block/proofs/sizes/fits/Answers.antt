@@ -12,7 +12,7 @@ use denote.RattleType.{RattleType}
 use native.Mathlib.Nat.{mul-zero}
 use Rattle.thin_block.proofs.sizes.fits.Goals as goal
 
--- If an item takes 0 bytes, then `c` items take 0 bytes.
+-- If the item size that the code computes is 0, then `c` items take no bytes.
 nothing : (R : RattleType) (c size : ℕ) → size ≡ capped (type_size R)
     → size ≡ 0 → c * type_size R ≡ 0
 nothing R c size is none =
