@@ -78,8 +78,9 @@ module _ {M : Type 1} {𝓤 : Ura M} (𝓛 : Logic 𝓤) (Ev : Env 𝓤 𝓛.H) 
     abbrev pub gone : List (Item 𝓤)
     gone = set 𝓛 p₄ (holds p₄ (vptr b (i * sz E + o))) far
 
-    -- `goes_by p pᵢ` is the list of the context entries that the computation of `p.add(i)` uses.
-    -- The local variable `p` holds the address of the first item, and `pᵢ` holds the index `i`.
+    -- `goes_by p pᵢ` lists the entries of the proof context that the computation of `p.add(i)`
+    -- uses. The local variable `p` holds the address of the first item, and `pᵢ` holds the index
+    -- `i`.
     abbrev pub goes_by : ℕ → ℕ → List (Item 𝓤)
     goes_by p pᵢ = at 𝓛 pᵢ Γ ∷ at 𝓛 p₃ Γ ∷ at 𝓛 p far ∷ at 𝓛 p₃ far ∷ at 𝓛 p₄ far ∷ []
 
@@ -100,9 +101,9 @@ module _ {M : Type 1} {𝓤 : Ura M} (𝓛 : Logic 𝓤) (Ev : Env 𝓤 𝓛.H) 
     abbrev pub turned : List (Item 𝓤)
     turned = set 𝓛 p₂ (holds p₂ (vptr b (o + 16))) first
 
-    -- `meets p₃ p₄ p pᵢ` is the list of the context entries that the four statements in the lemma
-    -- `slot_found` use. The local variable `p` holds the pointer of the block, and `pᵢ` holds the
-    -- index of the slot. The statements assign `p₃` and `p₄`.
+    -- `meets p₃ p₄ p pᵢ` lists the entries of the proof context that the four statements in the
+    -- lemma `slot_found` use. The local variable `p` holds the pointer of the block, and `pᵢ` holds
+    -- the index of the slot. The statements assign `p₃` and `p₄`.
     abbrev pub meets : ℕ → ℕ → ℕ → ℕ → List (Item 𝓤)
     meets p₃ p₄ p pᵢ = at 𝓛 p Γ ∷ at 𝓛 p₁ Γ ∷ at 𝓛 p₁ first ∷ at 𝓛 p₂ first
         ∷ goes_by turned E b (o + 16) i p₃ p₄ p₂ pᵢ

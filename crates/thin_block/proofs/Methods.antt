@@ -107,12 +107,13 @@ module _ {M : Type 1} {𝓤 : Ura M} {𝓛 : Logic 𝓤} {K : Type 0} {Γ : List
       regoal k (λ (us : List Val). prop (WpFn 𝓤 𝓛.H C Λ f us P)) e refl $
       enter k C Λ f vs P $ s)
 
--- Combines the item type `T` and its laws into the record that the lemmas about blocks take.
+-- Combines the item type `T` and its laws into one record. The lemmas about blocks take this record
+-- as an argument.
 abbrev pub item : {T : RattleType} → Laws T → El
 item {T} L = record { row = T; laws = L }
 
--- Combines the allocator type `A`, its laws and its ghost members into the record that the lemmas
--- about blocks take.
+-- Combines the allocator type `A`, its laws and its ghost members into one record. The lemmas about
+-- blocks take this record as an argument.
 abbrev pub source : {A : RattleType} → Laws A → Ghosts A.Denot → Dict → Dict → Al
 source {A} L g d drops = record { row = A; laws = L; g = g; d = d; drops = drops }
 
@@ -200,7 +201,8 @@ module _ (E : El) (Y : Al) {M : Type 1} {𝓤 : Ura M} (𝓛 : Logic 𝓤) {n : 
       → Sq 𝓛 (Entered x (raw Q ∷ [])) (prop P) → ent 𝓤 (sep 𝓤 (Entry lent ss 𝓛 x) Q) P
   starts x Q next = arrives lent ss 𝓛 x Q (fsplit3 ! $ drop ! $ next)
 
-  -- Begins the proof of a method that takes `&mut self` and requires the facts `φs`.
+  -- Begins the proof of a method that takes `&mut self` and requires the facts `φs`. The rest of
+  -- the proof may use these facts.
   pub begins_with : {Bd : Lfts (suc n) → Type 0} {P : SProp 𝓤} (x : Passed lent ss Bd)
       (φs : List (Type 0)) → (Shown φs → Sq 𝓛 (Entered x []) (prop P))
       → ent 𝓤 (sep 𝓤 (Entry lent ss 𝓛 x) (Facts 𝓤 φs)) P

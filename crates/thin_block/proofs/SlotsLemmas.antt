@@ -72,7 +72,8 @@ module _ {T : Type 0} where
   pub length-run : (s : List (Option T)) (i k : ℕ) → i + k ≤ length s → length (run i k s) ≡ k
   length-run s i k le = omega (arith, length-take k (drop i s), length-drop i s)
 
-  -- If `i + length ys ≤ length s`, then `laid i ys s` is as long as `s`.
+  -- Replacing slots does not change the number of slots. If `i + length ys ≤ length s`, then
+  -- `laid i ys s` is as long as `s`.
   pub length-laid : (i : ℕ) (ys s : List (Option T)) → i + length ys ≤ length s
       → length (laid i ys s) ≡ length s
   length-laid i ys s le =
@@ -114,7 +115,8 @@ module _ {T : Type 0} where
       e) ∙ take-append-drop i s
 
   -- If `k ≡ i + length ys` and `k < length s`, then `set (laid i ys s) k y` is
-  -- `laid i (ys ++ y ∷ []) s`.
+  -- `laid i (ys ++ y ∷ []) s`. Here `laid i ys s` is `s` with the slots `i..i + length ys` replaced
+  -- with `ys`.
   pub laid-one : (i : ℕ) (ys s : List (Option T)) (k : ℕ) (y : Option T) → k ≡ i + length ys
       → k < length s → set (laid i ys s) k y ≡ laid i (ys ++ y ∷ []) s
   laid-one i ys s k y e within =
@@ -175,15 +177,15 @@ module _ {T : Type 0} where
       (drop_at pre (ys ++ post) i (sym e)) ∙ take_at ys post k (sym n)
 
   module _ (from to k : ℕ) where
-    -- If `run from k s ≡ ys`, `emptied from k s ≡ bare` and `laid to ys bare ≡ result`, then
-    -- `moved from to k s ≡ result`.
+    -- This lemma computes `moved` in three steps. If `run from k s ≡ ys`, `emptied from k s ≡ bare`
+    -- and `laid to ys bare ≡ result`, then `moved from to k s ≡ result`.
     moved-by : (s ys bare result : List (Option T)) → run from k s ≡ ys → emptied from k s ≡ bare
         → laid to ys bare ≡ result → moved from to k s ≡ result
     unfolding moved
     moved-by s ys bare result e f g = (λ n. laid to (e n) (f n)) ∙ g
 
-  -- If both `from + k` and `to + k` are at most `length s`, then `moved from to k s` is as long as
-  -- `s`.
+  -- Moving items does not change the number of slots. If both `from + k` and `to + k` are at most
+  -- `length s`, then `moved from to k s` is as long as `s`.
   pub length-moved : (from to k : ℕ) (s : List (Option T)) → from + k ≤ length s → to + k ≤ length s
       → length (moved from to k s) ≡ length s
   unfolding moved

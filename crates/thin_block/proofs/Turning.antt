@@ -1,7 +1,7 @@
 -- These lemmas convert a block into one array of words, which an allocator can grow or shrink, and
 -- convert this array back into a block. A word is a struct of 8 or 16 bytes that consists of whole
 -- items. The lemmas assume the laws of the separation logic (`Logic`).
---     `asked_size` and `asked_align` give the size and the alignment of a block's allocation.
+--     `asked_size` and `asked_align` are about the size and the alignment of an allocation.
 --     `carve_asked` splits the memory of a block into its parts, and `gather` is the inverse.
 --     `turn_out` separates the last `k` words from the words before them, and `turn_back` is the
 --     inverse.

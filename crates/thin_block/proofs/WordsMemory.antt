@@ -247,8 +247,8 @@ number_of_items m = param 1 (number m)
 abbrev pub word_row : RattleType → ℕ → RattleType
 word_row T m = the_row (param 0 T) (number_of_items m)
 
--- `word_el T L m` combines the type of words and its laws into the record that the lemmas about
--- blocks take. A word consists of `m` items of type `T`.
+-- `word_el T L m` combines the type of words and its laws into one record. The lemmas about blocks
+-- take this record as an argument. A word consists of `m` items of type `T`.
 abbrev pub word_el : (T : RattleType) → Laws T → ℕ → El
 word_el T L m = record {
   row = word_row T m;
@@ -411,7 +411,7 @@ module _ {M : Type 1} {𝓤 : Ura M} (𝓛 : Logic 𝓤) (T : RattleType) (L : L
 
   -- Groups the slots that hold the items of `n` words into one group for each word. Each group gets
   -- the right (`way`) to convert its memory into memory for the word. The rights for the `j` words
-  -- directly after these words remain unused.
+  -- directly after the `n` words remain unused.
   to_runs : (n w j : ℕ) (xs : List X) (o at : ℕ) → length xs ≡ n * m → w ≡ j + n → at ≡ n * u' + o
       → ent 𝓤 (sep 𝓤 (sem 𝓛 (places (R E) (full xs) b o)) (sem 𝓛 (ways τ' m w b o)))
       (sep 𝓤 (sem 𝓛 (runs_at (R E) N (chunks n xs) b o)) (sem 𝓛 (ways τ' m j b at)))
@@ -441,8 +441,8 @@ module _ {M : Type 1} {𝓤 : Ura M} (𝓛 : Logic 𝓤) (T : RattleType) (L : L
       (omega (arith, ea, suc-mul n u'))) $ split ! $ move ! (2 ∷ 0 ∷ []) $ fjoin ! $ done !
 
   -- Turns `n` adjacent words into slots that hold their items, and into the rights (`ways`) to
-  -- convert these slots back into words. The result includes the rights for the `j` words directly
-  -- after these words.
+  -- convert these slots back into words. The given rights for the `j` words directly after these
+  -- words become part of the result.
   of_runs : (n w j : ℕ) (xs : List X) (o at : ℕ) → length xs ≡ n * m → w ≡ j + n → at ≡ n * u' + o
       → ent 𝓤 (sep 𝓤 (sem 𝓛 (places (R W) (full (words n xs)) b o)) (sem 𝓛 (ways τ' m j b at)))
       (sep 𝓤 (sem 𝓛 (places (R E) (full xs) b o)) (sem 𝓛 (ways τ' m w b o)))

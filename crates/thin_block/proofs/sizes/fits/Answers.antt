@@ -51,7 +51,8 @@ pub overflow_sub-result-2 : goal.overflow_sub-result-2
 overflow_sub-result-2 g c = let about = rounded (param 0 g.row.T) 0 in
     let is = c.align_of_block.ensures.value in omega arith
 
--- The code and the lemmas compare the capacity `c` with the same quotient.
+-- If `align` is the alignment of a block, then the quotient that the code computes is the same as
+-- the quotient in the lemmas `divided` and `dividing`.
 same_limit : (R : RattleType) (c size align : ℕ) → align ≡ block_align (type_align R)
     → leb c ((2 ^ 63 - align - 16) / size) ≡ leb c
     ((2 ^ 63 - block_align (type_align R) - 16) / size)
