@@ -1,8 +1,8 @@
 -- These lemmas begin and end the proof of a method that takes `&mut self` or `&self`. The lemmas
 -- assume the laws of the separation logic (`Logic`).
---     `dropped` is the choice to give no argument back to the caller, and `all_go` justifies it.
+--     `dropped` is the choice to give no argument back to the caller. `all_go` allows this choice.
 --     `heard_all` splits a `requires` clause that consists of several facts.
---     `block_stays` is the choice to give only the `&mut` back, and `goes` justifies it.
+--     `block_stays` is the choice to give only the `&mut` back. `goes` allows this choice.
 --     `arrives` begins the proof of any function.
 --     `starts`, `begins` and `begins_with` begin the proof of a method that takes `&mut self`.
 --     `token_out` separates the first lifetime token from the other lifetime tokens.

@@ -441,8 +441,8 @@ module _ {M : Type 1} {𝓤 : Ura M} (𝓛 : Logic 𝓤) (T : RattleType) (L : L
       (omega (arith, ea, suc-mul n u'))) $ split ! $ move ! (2 ∷ 0 ∷ []) $ fjoin ! $ done !
 
   -- Turns `n` adjacent words into slots that hold their items, and into the rights (`ways`) to
-  -- convert these slots back into words. The given rights for the `j` words directly after these
-  -- words become part of the result.
+  -- convert these slots back into words. The lemma combines these rights with the rights for the
+  -- `j` words directly after the `n` words.
   of_runs : (n w j : ℕ) (xs : List X) (o at : ℕ) → length xs ≡ n * m → w ≡ j + n → at ≡ n * u' + o
       → ent 𝓤 (sep 𝓤 (sem 𝓛 (places (R W) (full (words n xs)) b o)) (sem 𝓛 (ways τ' m j b at)))
       (sep 𝓤 (sem 𝓛 (places (R E) (full xs) b o)) (sem 𝓛 (ways τ' m w b o)))
