@@ -1,6 +1,6 @@
--- Lemmas for proofs of function bodies. They compute the address of a slot, and separate the memory
--- of this slot from the memory of the other slots. The lemmas assume the laws of the separation
--- logic (`Logic`).
+-- These lemmas are for proofs about function bodies. Some of them symbolically execute code that
+-- computes the address of a slot. The others separate the memory of one or two slots from the
+-- memory of the other slots. All of them assume the laws of the separation logic (`Logic`).
 --     `its_ptr` reads the pointer of the block.
 --     `slot_found` executes the statements that compute `(p.add(HEADER_WORDS) as *mut T).add(i)`.
 --     `moves_on` executes the statements that compute `p.add(i)`.
@@ -31,8 +31,8 @@ use Rattle.thin_block.specs.Ownership.{fits_block, place as slot_place, places}
 use Rattle.thin_block.proofs.HeaderMemory.{Br, block_val}
 use Rattle.thin_block.proofs.SlotMemory.{Slot, sz, reach, besides, slot_out, Two}
 
--- If a block with the slots `xs` is small enough to be allocated and `i ≤ length xs`, then slot `i`
--- begins less than `2 ^ 64` bytes after the first slot.
+-- Suppose that a block with the slots `xs` is small enough to be allocated, and that
+-- `i ≤ length xs`. Then `i` items take less than `2 ^ 64` bytes.
 pub near : (E : El) (xs : List (Slot E)) (i : ℕ) → fits_block (R E) (length xs) ≡ true
     → i ≤ length xs → i * sz E < 2 ^ 64
 near E xs i fits le = let low = reach (R E) i (length xs) fits le in omega arith
@@ -78,13 +78,14 @@ module _ {M : Type 1} {𝓤 : Ura M} (𝓛 : Logic 𝓤) (Ev : Env 𝓤 𝓛.H) 
     abbrev pub gone : List (Item 𝓤)
     gone = set 𝓛 p₄ (holds p₄ (vptr b (i * sz E + o))) far
 
-    -- `goes_by p pᵢ` is the list of the context entries that the computation of `p.add(i)` uses.
-    -- The local variable `p` holds the address of the first item, and `pᵢ` holds the index `i`.
+    -- `goes_by p pᵢ` lists the entries of the proof context that the computation of `p.add(i)`
+    -- uses. The local variable `p` holds the address of the first item, and `pᵢ` holds the index
+    -- `i`.
     abbrev pub goes_by : ℕ → ℕ → List (Item 𝓤)
     goes_by p pᵢ = at 𝓛 pᵢ Γ ∷ at 𝓛 p₃ Γ ∷ at 𝓛 p far ∷ at 𝓛 p₃ far ∷ at 𝓛 p₄ far ∷ []
 
-    -- `goes_with p pᵢ` is the value that the list `goes_by p pᵢ` must have when `p.add(i)` is
-    -- computed.
+    -- `goes_with p pᵢ` is the list that `goes_by p pᵢ` must equal when `p.add(i)` is computed. It
+    -- says which values the local variables hold, and which variables may be assigned.
     abbrev pub goes_with : ℕ → ℕ → List (Item 𝓤)
     goes_with p pᵢ = holds pᵢ (vint w64 i) ∷ free p₃ Γ ∷ holds p (vptr b o)
         ∷ holds p₃ (vint w64 (i * sz E)) ∷ free p₄ far ∷ []
@@ -100,14 +101,16 @@ module _ {M : Type 1} {𝓤 : Ura M} (𝓛 : Logic 𝓤) (Ev : Env 𝓤 𝓛.H) 
     abbrev pub turned : List (Item 𝓤)
     turned = set 𝓛 p₂ (holds p₂ (vptr b (o + 16))) first
 
-    -- `meets p₃ p₄ p pᵢ` is the list of the context entries that the four statements in the lemma
-    -- `slot_found` use. The local variable `p` holds the pointer of the block.
+    -- `meets p₃ p₄ p pᵢ` lists the entries of the proof context that the four statements in the
+    -- lemma `slot_found` use. The local variable `p` holds the pointer of the block, and `pᵢ` holds
+    -- the index of the slot. The statements assign `p₃` and `p₄`.
     abbrev pub meets : ℕ → ℕ → ℕ → ℕ → List (Item 𝓤)
     meets p₃ p₄ p pᵢ = at 𝓛 p Γ ∷ at 𝓛 p₁ Γ ∷ at 𝓛 p₁ first ∷ at 𝓛 p₂ first
         ∷ goes_by turned E b (o + 16) i p₃ p₄ p₂ pᵢ
 
-    -- `needs p₃ p₄ p pᵢ` is the value that the list `meets p₃ p₄ p pᵢ` must have when the four
-    -- statements in the lemma `slot_found` are executed.
+    -- `needs p₃ p₄ p pᵢ` is the list that `meets p₃ p₄ p pᵢ` must equal when the four statements in
+    -- the lemma `slot_found` are executed. It says which values the local variables hold, and which
+    -- variables may be assigned.
     abbrev pub needs : ℕ → ℕ → ℕ → ℕ → List (Item 𝓤)
     needs p₃ p₄ p pᵢ = holds p (vptr b o) ∷ free p₁ Γ ∷ holds p₁ (vptr b (o + 16)) ∷ free p₂ first
         ∷ goes_with turned E b (o + 16) i p₃ p₄ p₂ pᵢ

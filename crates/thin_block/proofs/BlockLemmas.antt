@@ -1,5 +1,5 @@
--- Two lemmas on the record `Seen`, which contains the parts of a block that contracts mention. The
--- first lemma is about changed slots, and the second lemma is about a changed length.
+-- Two lemmas about the record `Seen`, which contains the parts of a block that contracts mention.
+-- The first lemma is about changed slots, and the second lemma is about a changed length.
 use Rattle.std.proofs.Common.{◌≡◌, ℕ, List, ap, ◌∙◌}
 use Rattle.std.specs.Prelude.{Option}
 use Rattle.thin_block.specs.Block.{Seen}

@@ -1,6 +1,6 @@
--- Lemmas on the functions that choose the new capacity of a block. `ruled_capacity` uses a growth
--- rule, and `exact_capacity` chooses exactly the wanted capacity. `Fits` says that a block of a
--- given capacity is small enough to be allocated.
+-- Lemmas about the functions that choose the new capacity of a block. `ruled_capacity` uses a
+-- growth rule, and `exact_capacity` chooses exactly the wanted capacity. `Fits` says that a block
+-- of a given capacity is small enough to be allocated.
 use Rattle.std.proofs.Common.{if◌then◌else◌, Bool, true, false, IsTrue, ◌≡◌, ℕ, zero, suc, ◌*◌, ◌^◌, ◌<◌, ◌≤◌, ap, refl, subst, sym, ◌∙◌, arith}
 use Rattle.std.specs.declared.option.Option.TheVariants.{Some, None}
 use borrow.Author.Tests.{lt-ltb, le-ltb, le-leb, lt-leb}
@@ -44,8 +44,8 @@ pub record Grown (R : RattleType) (c w n : ℕ) : Type 0 where
 none_some : {A B : Type 0} (x : A) → None ≡ Some x → B
 none_some x e = cc
 
--- If the growth rule `rule` satisfies `KeepsLaw`, `c < w` and `ruled_capacity rule R c w ≡ Some n`,
--- then `Grown R c w n` holds.
+-- Suppose that the growth rule `rule` satisfies `KeepsLaw`, and that `c < w`. If
+-- `ruled_capacity rule R c w` is `Some n`, then `Grown R c w n` holds.
 pub ruled-grows : (rule : Rule) (R : RattleType) (c w n : ℕ) → KeepsLaw rule → c < w
     → ruled_capacity rule R c w ≡ Some n → Grown R c w n
 ruled-grows rule R c w n law more e = elim (dec_lt w (2 ^ 64)) [
@@ -78,9 +78,9 @@ fits-less R c d e less =
 pub fits-none : (R : RattleType) → Fits R 0
 fits-none R = closed R 0 (fits_none R)
 
--- Section: blocks that are far below every size limit. Such a block has fewer than `2 ^ 31` items,
--- and each item takes fewer than `2 ^ 31` bytes. These lemmas are for proofs about a known item
--- type.
+-- Section: blocks that are far below every size limit. The lemmas in this section are about fewer
+-- than `2 ^ 31` items, and each item takes fewer than `2 ^ 31` bytes. Proofs about a known item
+-- type use these lemmas.
 
 -- Fewer than `2 ^ 31` items of fewer than `2 ^ 31` bytes each take fewer than `2 ^ 62` bytes in
 -- total.
@@ -163,7 +163,8 @@ pub exact-past : (R : RattleType) (c w : ℕ) → c < w → 2 ^ 64 ≤ w → exa
 exact-past R c w more high =
     exact-overflow R c w more (λ fit. let small = fits-small R w fit in absurd (omega arith))
 
--- Two lemmas on item types `R` and `S` that have the same size and the same alignment.
+-- These two lemmas assume that the item types `R` and `S` have the same size and the same
+-- alignment.
 module _ (R S : RattleType) (c w : ℕ) (size : type_size R ≡ type_size S)
     (align : type_align R ≡ type_align S) where
   -- If the item types `R` and `S` have the same size and the same alignment, then `exact_capacity`

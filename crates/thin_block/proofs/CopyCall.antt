@@ -55,8 +55,8 @@ module _ (E : El) (g : Ghosts (el_x E)) (d : Dict) {M : Type 1} {𝓤 : Ura M} (
     abbrev pub Slice : Fml
     Slice = (ShrSlice (named 0) κ₀ (copied 0 E.row)).own_val s (shr_slice_vals s)
 
-    -- `IsCopy z` holds if copying the items of the slice into `r` yields `z`. Both `r` and `z` are
-    -- values of core's type `Slots`.
+    -- `IsCopy z` holds if `z` is the result of copying the items of the slice into `r`. Both `r`
+    -- and `z` are values of core's type `Slots`.
     pub record IsCopy (z : (Row E).Denot) : Type 0 where
       pub same : SamePlaces r z
       pub items : slots_items z ≡ s.now
@@ -72,11 +72,12 @@ module _ (E : El) (g : Ghosts (el_x E)) (d : Dict) {M : Type 1} {𝓤 : Ura M} (
         (fact_i 𝓤 (slots_len r ≡ length s.now) (emp 𝓤) long) $
         use0 𝓛 (raw (fact 𝓤 (κ₁ ⊑ E.row.lives))) (fact_i 𝓤 (κ₁ ⊑ E.row.lives) (emp 𝓤) le) $ join ! $
         -- The facts that the call requires have been joined. The proof context holds, in this
-        -- order: [these facts; the two lifetime tokens; the value of type `Slots`; the slice].
+        -- order: [these facts; the lifetime tokens of the slice and of its item type; the value of
+        -- type `Slots`; the slice].
         nothing ! $ move ! (5 ∷ 0 ∷ []) $ fjoin ! $ move ! (4 ∷ 0 ∷ []) $ fjoin ! $
         -- The arguments of the call have been joined. The proof context holds, in this order: [the
-        -- arguments, which are the value of type `Slots` and the slice; the facts that the call
-        -- requires; the two lifetime tokens].
+        -- value of type `Slots` and the slice; the facts that the call requires; the lifetime
+        -- tokens of the slice and of its item type].
         nothing ! $ move ! (4 ∷ 0 ∷ []) $ join ! $ move ! (3 ∷ 0 ∷ []) $ join ! $ join ! $ done !
 
     pub Copied-gives : (v : Val) → slots_ptr r ≡ block_ptr b o

@@ -2,7 +2,7 @@
 -- block into its parts, and put the parts back together. The lemmas assume the laws of the
 -- separation logic (`Logic`).
 --     `block_val` is the machine value of a block, and `block_own` states what its fields own.
---     `whole_size` and `whole_align` give the size and the alignment of a whole block's memory.
+--     `whole_size` and `whole_align` are about the size and the alignment of a whole block.
 --     `carve` splits the memory of a whole block into its parts.
 --     `header` states what a block owns besides its slots.
 --     `header_fits` derives from the header that the block is small enough to be allocated.
@@ -62,7 +62,7 @@ block_val p = vstruct (vcons (ptr_val p) (vcons (vstruct vnil) (vcons (vstruct v
 abbrev pub block_own : Ptr → List Val → Fml
 block_own p = (plainly (RawPtr ∷ plainly [] ∷ plainly [] ∷ [])).own_val (p, (tt, (tt, tt)))
 
--- If the list `vs` contains the machine values of a block with the pointer `p`, then `vs` is
+-- If `vs` is the list of the machine values of a block with the pointer `p`, then `vs` is
 -- `block_val p ∷ []`.
 pub block_told : (p : Ptr) (vs : List Val) → shadow (block_own p vs) → vs ≡ block_val p ∷ []
 block_told p vs s = s.1.0

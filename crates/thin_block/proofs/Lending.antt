@@ -37,8 +37,9 @@ module _ (E : El) (Y : Al) {M : Type 1} {𝓤 : Ura M} (𝓛 : Logic 𝓤) (x : 
   Waiting = fsep (Header E Y x b o)
       (cell_at full_share (Br E Y).mir (block_val (block_ptr b o) ∷ []) rb ro)
 
-  -- If the memory of the slots `s` is combined with the other parts of the block (`Waiting`), the
-  -- result is the block with the slots `s`.
+  -- Suppose that the list `s` is as long as the block's list of slots. If the memory of the slots
+  -- `s` is combined with the other parts of the block (`Waiting`), the result is the block with the
+  -- slots `s`.
   pub slots_back : (s : List (Slot E)) (same : length s ≡ length x.slots)
       → ent 𝓤 (sep 𝓤 (sem 𝓛 (places (R E) s b (o + 16))) (sem 𝓛 Waiting))
       (sem 𝓛 ((mem (Br E Y)).own_at (with_slots x s same) rb ro))
@@ -67,8 +68,8 @@ module _ (E : El) (Y : Al) {M : Type 1} {𝓤 : Ura M} (𝓛 : Logic 𝓤) (x : 
       (slot_in E 𝓛 b (o + 16) x.slots i within (Some w)) $
       by ! (slots_back y.slots (length-set x.slots i (Some w)))
 
-  -- If a `&mut` to the items in the slots `i..i + k` ends and the items then have the values `ws`,
-  -- the block is complete again, and these slots hold `ws`.
+  -- If a `&mut` to the `k` items in the slots `i..i + k` ends and the items then have the values
+  -- `ws`, the block is complete again, and these slots hold `ws`.
   pub items_back : (i k : ℕ) → i + k ≤ length x.slots
       → ((n : ℕ) → i ≤ n → n < i + k → IsSome (slot x.slots n))
       → (ws : List (el_x E)) → length ws ≡ k

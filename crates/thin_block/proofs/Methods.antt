@@ -1,8 +1,8 @@
 -- These lemmas begin and end the proof of a method that takes `&mut self` or `&self`. The lemmas
 -- assume the laws of the separation logic (`Logic`).
---     If the contract allows it, `dropped` and `all_go` give no argument back to the caller.
+--     `dropped` is the choice to give no argument back to the caller. `all_go` allows this choice.
 --     `heard_all` splits a `requires` clause that consists of several facts.
---     `block_stays` and `goes` give only the `&mut` back to the caller.
+--     `block_stays` is the choice to give only the `&mut` back. `goes` allows this choice.
 --     `arrives` begins the proof of any function.
 --     `starts`, `begins` and `begins_with` begin the proof of a method that takes `&mut self`.
 --     `token_out` separates the first lifetime token from the other lifetime tokens.
@@ -49,7 +49,7 @@ use Rattle.thin_block.specs.Ownership.{fits_block, places}
 use Rattle.thin_block.proofs.Walks.{Facts, Shown, after}
 use Rattle.thin_block.proofs.HeaderMemory.{Br, Header, Slots, header, t, block_val, block_opens, block_closes}
 
--- The list of parameters without the first parameter.
+-- `others ss` is the list `ss` of parameters without its first parameter.
 abbrev pub others : {n : ℕ} → List (Slot n) → List (Slot n)
 others [] = []
 others (s ∷ ss) = ss
@@ -107,12 +107,13 @@ module _ {M : Type 1} {𝓤 : Ura M} {𝓛 : Logic 𝓤} {K : Type 0} {Γ : List
       regoal k (λ (us : List Val). prop (WpFn 𝓤 𝓛.H C Λ f us P)) e refl $
       enter k C Λ f vs P $ s)
 
--- Combines the item type `T` and its laws into the record that the lemmas about blocks take.
+-- Combines the item type `T` and its laws into one record. The lemmas about blocks take this record
+-- as an argument.
 abbrev pub item : {T : RattleType} → Laws T → El
 item {T} L = record { row = T; laws = L }
 
--- Combines the allocator type `A`, its laws and its ghost members into the record that the lemmas
--- about blocks take.
+-- Combines the allocator type `A`, its laws and its ghost members into one record. The lemmas about
+-- blocks take this record as an argument.
 abbrev pub source : {A : RattleType} → Laws A → Ghosts A.Denot → Dict → Dict → Al
 source {A} L g d drops = record { row = A; laws = L; g = g; d = d; drops = drops }
 
@@ -200,7 +201,8 @@ module _ (E : El) (Y : Al) {M : Type 1} {𝓤 : Ura M} (𝓛 : Logic 𝓤) {n : 
       → Sq 𝓛 (Entered x (raw Q ∷ [])) (prop P) → ent 𝓤 (sep 𝓤 (Entry lent ss 𝓛 x) Q) P
   starts x Q next = arrives lent ss 𝓛 x Q (fsplit3 ! $ drop ! $ next)
 
-  -- Begins the proof of a method that takes `&mut self` and requires the facts `φs`.
+  -- Begins the proof of a method that takes `&mut self` and requires the facts `φs`. The rest of
+  -- the proof may use these facts.
   pub begins_with : {Bd : Lfts (suc n) → Type 0} {P : SProp 𝓤} (x : Passed lent ss Bd)
       (φs : List (Type 0)) → (Shown φs → Sq 𝓛 (Entered x []) (prop P))
       → ent 𝓤 (sep 𝓤 (Entry lent ss 𝓛 x) (Facts 𝓤 φs)) P
@@ -237,8 +239,9 @@ module _ {M : Type 1} {𝓤 : Ura M} {𝓛 : Logic 𝓤} {K : Type 0} {Γ : List
   token_out k n κs qs = step (λ s.
       use1 𝓛 (‵ (flft κs.0 qs.0) ⊛ raw (toks 𝓛 n κs.1 qs.1)) (id⊢ 𝓤 _) $ split k $ s)
 
--- `blanks m` is the formula that must be proved at the end of a function about `m` arguments that
--- are not given back to the caller. It consists of one trivially true formula for each argument.
+-- Suppose that a function does not give `m` of its arguments back to the caller. Then `blanks m` is
+-- what must be proved about these arguments at the end of the function. It consists of one
+-- trivially true formula for each argument.
 abbrev pub blanks : ℕ → Fml
 blanks zero = ftrue
 blanks (suc m) = fsep ftrue (blanks m)

@@ -16,7 +16,7 @@ use Rattle.thin_block.specs.PowerLaws.{least_power_is, powers_filled, powers_of_
 use Rattle.thin_block.proofs.CapacityLemmas.{fitting_none}
 use Rattle.thin_block.proofs.SizesLemmas.{fits_tells, opened, rounded}
 
--- If the item size that the code computes is 0, then an item takes no bytes.
+-- The code caps the item size `s` at `usize::MAX`. If the capped size is 0, then `s` is 0.
 pub takes_none : (s size : ℕ) → size ≡ capped s → size ≡ 0 → s ≡ 0
 takes_none s size is none =
     let low : s < 2 ^ 63 = capped_small s (omega (arith, is, none)) in
@@ -55,8 +55,8 @@ module _ (R : RattleType) (c w size : ℕ) (is : size ≡ capped (type_size R))
   abbrev wanted : ℕ
   wanted = max w (2 * c)
 
-  -- These lemmas assume that the header and `items` items take at most `2 ^ 63` bytes. In this
-  -- case, no number that the code computes exceeds `usize::MAX`.
+  -- These lemmas assume that a header and `items` items take at most `2 ^ 63` bytes in total. In
+  -- this case, no number that the code computes exceeds `usize::MAX`.
   module _ (small : 16 + items * size ≤ 2 ^ 63) where
     size_is : s ≡ size
     size_is =
@@ -82,8 +82,8 @@ module _ (R : RattleType) (c w size : ℕ) (is : size ≡ capped (type_size R))
         λ i. ((e ∙ ap least_power bytes) i - offset i) / sym size_is i in
         ap (fitting s a) next ∙ sym (powers_of_some s a c w (omega (arith, size_is, some)))
 
-  -- If the header and `items` items take more than `2 ^ 63` bytes, then `power_bytes` chooses no
-  -- capacity.
+  -- If a header and `items` items take more than `2 ^ 63` bytes in total, then the result of
+  -- `power_bytes` is `None`.
   pub power_past : 2 ^ 63 < 16 + items * size → None ≡ power_bytes s a c w
   power_past large =
       let offset = (rounded R 0).offset in

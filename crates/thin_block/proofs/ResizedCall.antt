@@ -22,9 +22,9 @@ use Rattle.core.proofs.alloc.Resizes.{Sizes, Flagged, by_flag}
 use Rattle.core.proofs.mem.Param.{El, R, el_x}
 use Rattle.thin_block.specs.contracts.in_place.resized as F
 
--- `Sized` is the condition that the allocator's methods `grow` and `shrink` require. The items must
--- fit into the old memory block and into the new memory block, and neither memory block may be too
--- large to be allocated.
+-- `Sized E len held wanted` is a condition that the allocator's methods `grow` and `shrink`
+-- require. It states that `len` items fit into the old memory block of `held` items and into the
+-- new memory block of `wanted` items, and that neither memory block is too large to be allocated.
 abbrev pub Sized : El → Sizes
 Sized E len held wanted = (len ≤ held) × ((len ≤ wanted)
     × (FitsBlock (R E) held × FitsBlock (R E) wanted))
@@ -86,7 +86,8 @@ module _ (E : El) (Y : Al) {M : Type 1} {𝓤 : Ura M} (𝓛 : Logic 𝓤) (at_m
         feq_i ! (List Val) (vptr b o ∷ []) (vptr b o ∷ []) refl $ fjoin ! $ move ! (2 ∷ []) $
         feq_i ! (List Val) (vptr p.0 p.1 ∷ []) (vptr p.0 p.1 ∷ []) refl $ fjoin ! $ fjoin ! $
         -- The arguments have been joined. The proof context holds, in this order: [the arguments;
-        -- one entry for the required facts and the memory of the block; the three lifetime tokens].
+        -- one entry for the required facts and the memory of the block; the lifetime tokens of the
+        -- `&` to the allocator, of `T` and of `A`].
         nothing ! $ move ! (5 ∷ 0 ∷ []) $ join ! $ move ! (4 ∷ 0 ∷ []) $ join ! $
         move ! (3 ∷ 0 ∷ []) $ join ! $ join ! $ join ! $ done !
 

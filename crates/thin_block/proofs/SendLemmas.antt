@@ -27,14 +27,14 @@ number_send = search sendable
 number_sync : IsSync usize
 number_sync = search sendable
 
--- The right to convert memory for items into memory for words does not depend on the thread. A word
--- is a struct of 8 or 16 bytes that consists of whole items.
+-- The right to convert memory for items into memory for words does not depend on the thread that
+-- owns it. A word is a struct of 8 or 16 bytes that consists of whole items.
 ways_Keyless : (τ : Ty) (m w b o : ℕ) → Keyless (ways τ m w b o)
 ways_Keyless τ m zero b o = tt
 ways_Keyless τ m (suc w) b o = ((tt, tt), ways_Keyless τ m w b (o + size (word_of τ m)))
 
 -- The right to convert the parts of a block back into its whole allocation does not depend on the
--- thread.
+-- thread that owns it.
 way_back_Keyless : (w : Option (ℕ × ℕ)) (τ : Ty) (c b o : ℕ) → Keyless (way_back w τ c b o)
 way_back_Keyless None τ c b o = ((tt, (tt, tt)), tt)
 way_back_Keyless (Some w) τ c b o =
@@ -42,26 +42,26 @@ way_back_Keyless (Some w) τ c b o =
 
 module _ (R : RattleType) where
   -- If items may be sent to another thread, then the memory of one slot does not depend on the
-  -- thread.
+  -- thread that owns it.
   place_Keyless : IsSend R → (x : Option R.Denot) (b o : ℕ) → Keyless (place R x b o)
   place_Keyless s (Some x) b o = lies R s (block_ptr b o) x
   place_Keyless s None b o = tt
 
   -- If items may be sent to another thread, then the memory of several slots does not depend on the
-  -- thread.
+  -- thread that owns it.
   places_Keyless : IsSend R → (xs : List (Option R.Denot)) (b o : ℕ) → Keyless (places R xs b o)
   places_Keyless s [] b o = tt
   places_Keyless s (x ∷ xs) b o =
       (place_Keyless s x b o, places_Keyless s xs b (o + type_size R))
 
   -- If items may be shared between threads, then the resources behind a `&` to a slot do not depend
-  -- on the thread.
+  -- on the thread that uses the `&`.
   place_Common : IsSync R → (x : Option R.Denot) (p : Ptr) → Common (place_lent R x p)
   place_Common y (Some x) p κ = seen R y p x κ
   place_Common y None p κ = tt
 
   -- If items may be shared between threads, then the resources behind a `&` to several slots do not
-  -- depend on the thread.
+  -- depend on the thread that uses the `&`.
   places_Common : IsSync R → (xs : List (Option R.Denot)) (b o : ℕ)
       → Common (places_lent R xs b o)
   places_Common y [] b o κ = tt
@@ -70,8 +70,8 @@ module _ (R : RattleType) where
 
   module _ (Z : RattleType) (g : Ghosts Z.Denot) where
     -- Suppose that items may be sent to another thread, and that the right to free memory does not
-    -- depend on the thread. Then the resources that a block owns do not depend on the thread
-    -- either.
+    -- depend on the thread that owns it. Then the resources of a block do not depend on the thread
+    -- that owns the block.
     block_Keyless : IsSend R → Frees g g.dealloc_token → (p : Ptr) (n : ℕ)
         (xs : List (Option R.Denot)) (a : Option Z.Denot)
         → Keyless (block_owns g.dealloc_token R p n xs a)
@@ -98,7 +98,7 @@ module _ (R : RattleType) where
     )
 
     -- If items may be shared between threads, then the resources behind a `&` to a block do not
-    -- depend on the thread.
+    -- depend on the thread that uses the `&`.
     block_Common : IsSync R → (p : Ptr) (n : ℕ) (xs : List (Option R.Denot)) (a : Option Z.Denot)
         → Common (block_lent R p n xs a)
     block_Common y null_ptr n xs a κ = tt

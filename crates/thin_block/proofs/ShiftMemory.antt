@@ -62,9 +62,9 @@ module _ (E : El) {M : Type 1} {𝓤 : Ura M} (𝓛 : Logic 𝓤) (b o : ℕ) (s
   abbrev Room : ℕ → ℕ → Fml
   Room n at = froom (ty_array (elτ E) n) b at
 
-  -- `Moves Was Is` states that the memory `Was` can be separated from the memory of the other slots
-  -- before the move, and that the memory `Is` can be joined with the memory of the other slots
-  -- after the move.
+  -- A move turns the memory `Was` of some slots into the memory `Is`. `Moves Was Is` states that
+  -- `Was` can be separated from the memory of all other slots before the move, and that `Is` can be
+  -- joined with the memory of these other slots after the move.
   pub record Moves (Was Is : Fml) : Type 1 where
     pub Rest : Fml
     pub out : ent 𝓤 (sem 𝓛 (Row o slots)) (sep 𝓤 (sem 𝓛 Was) (sem 𝓛 Rest))
@@ -364,13 +364,15 @@ module _ (E : El) {M : Type 1} {𝓤 : Ura M} (𝓛 : Logic 𝓤) (b o : ℕ) (s
   Way up = Moves (memory_before_copy (R E) up (distance up) k (block_ptr b src) (block_ptr b dst)
       xs) (memory_after_copy (R E) up (distance up) k (block_ptr b src) (block_ptr b dst) xs)
 
-  -- `GapAbove up` states: if the items are moved up, then the slots between the end of their old
-  -- slots and the end of their new slots are empty.
+  -- If `up` is true, the items are moved up. In this case, `GapAbove up` states that the slots
+  -- between the end of their old slots and the end of their new slots are empty. If `up` is false,
+  -- `GapAbove up` states nothing.
   abbrev pub GapAbove : Bool → Type 0
   GapAbove up = up ≡ true → (from ≤ to) × AreEmpty slots (from + k) (to - from)
 
-  -- `GapBelow up` states: if the items are moved down, then the slots between the start of their
-  -- new slots and the start of their old slots are empty.
+  -- If `up` is false, the items are moved down. In this case, `GapBelow up` states that the slots
+  -- between the start of their new slots and the start of their old slots are empty. If `up` is
+  -- true, `GapBelow up` states nothing.
   abbrev pub GapBelow : Bool → Type 0
   GapBelow up = up ≡ false → (to ≤ from) × AreEmpty slots to (from - to)
 
@@ -390,7 +392,8 @@ module _ (E : El) {M : Type 1} {𝓤 : Ura M} (𝓛 : Logic 𝓤) (b o : ℕ) (s
       slides_down (from - to) (omega arith) source
       (empty-run slots to (from - to) within gap.1)
 
-  -- The new address of the items differs from their old address by the distance of the move.
+  -- The old and the new address of the items satisfy `IsShifted`. The new address is `distance up`
+  -- slots above the old address if `up` is true, and `distance up` slots below it otherwise.
   pub shifted : (up : Bool) → GapAbove up → GapBelow up → IsShifted (R E) up (distance up)
       (block_ptr b src) (block_ptr b dst)
   shifted true above below = let le : from ≤ to = (above refl).0 in

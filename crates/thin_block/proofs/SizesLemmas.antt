@@ -1,5 +1,5 @@
--- Arithmetic lemmas on the size of a block in bytes, and on the capacities for which a block is
--- small enough to be allocated.
+-- Arithmetic lemmas about the size of a block in bytes, and about the capacities for which a block
+-- is small enough to be allocated.
 use Rattle.std.proofs.Common.{◌≡◌, ℕ, zero, suc, ◌+◌, ◌-◌, ◌*◌, ◌/◌, ◌^◌, ◌<◌, ◌≤◌, Bool, true, false, refl, sym, ap, subst, ◌∙◌, arith, ltb, zero-mul, suc-mul}
 use borrow.Author.Tests.{lt-ltb, le-ltb, ltb-true}
 use mathlib.Core.Bool.{◌&&◌}
@@ -83,7 +83,7 @@ rounded_to w128 x = record {
 pub align_known : (R : RattleType) → IsAlign (type_align R)
 align_known R = (align_w (layout R), align-bytes (layout R))
 
--- If `a` is an alignment, then `Rounded a x` holds for every size `x`.
+-- If `IsAlign a` holds, then `Rounded a x` holds for every size `x`.
 pub rounded_at : (a x : ℕ) → IsAlign a → Rounded a x
 rounded_at a x is = subst (λ (k : ℕ). Rounded k x) (sym is.1) (rounded_to is.0 x)
 
@@ -146,7 +146,8 @@ pub record Told (s a c : ℕ) : Type 0 where
   pub short : block_bytes s a c < 2 ^ 63
 
 module _ (s a c : ℕ) (is : IsAlign a) where
-  -- If `c < 2 ^ 63` and `Small s a c` holds, then `is_small s a c` is true.
+  -- Suppose that `a` is an alignment. If `c < 2 ^ 63` and `Small s a c` holds, then
+  -- `is_small s a c` is true.
   pub small_yes : c < 2 ^ 63 → Small s a c → is_small s a c ≡ true
   small_yes few room =
       let whole : block_bytes s a c < 2 ^ 63 = (rounded_at a (c * s) is).short room in
@@ -223,8 +224,7 @@ fits_none R =
 
 -- Section: the first capacity
 
--- If the size that the code computes for an item exceeds `2 ^ 61 - 1`, then the capacity of the
--- first block is 1.
+-- If the item size `s`, capped at `usize::MAX`, exceeds `2 ^ 61 - 1`, then `first s` is 1.
 pub first_one : (s : ℕ) → 2 ^ 61 - 1 < capped s → 1 ≡ first s
 unfolding first
 first_one s large =
@@ -233,8 +233,7 @@ first_one s large =
     absurd (omega arith)) in
     rw (lt-ltb (2 ^ 61 - 1) s above) refl
 
--- If the size that the code computes for an item is at most `2 ^ 61 - 1`, then the capacity of the
--- first block is 4.
+-- If the item size `s`, capped at `usize::MAX`, is at most `2 ^ 61 - 1`, then `first s` is 4.
 pub first_many : (s : ℕ) → capped s ≤ 2 ^ 61 - 1 → 4 ≡ first s
 unfolding first
 first_many s small =
@@ -253,13 +252,13 @@ unfolding fits
 fits_no s a c many = first_false (ltb c (2 ^ 63)) (ltb (block_bytes s a c) (2 ^ 63))
     (le-ltb c (2 ^ 63) many)
 
--- `tried s c w` is the capacity that the rule `doubling` computes. The rule then chooses this
--- capacity if a block of this capacity is small enough to be allocated.
+-- `tried s c w` is the capacity that the rule `doubling` computes from the item size `s`, the old
+-- capacity `c` and the required capacity `w`. The rule chooses this capacity unless a block of this
+-- capacity is too large to be allocated.
 abbrev pub tried : ℕ → ℕ → ℕ → ℕ
 tried s c w = max w (if c == 0 then first s else 2 * c)
 
--- If the old capacity is 0, then `tried s c w` is the greater of `w` and the capacity of the first
--- block.
+-- If the old capacity `c` is 0, then `tried s c w` is the greater of `w` and `first s`.
 pub tried_first : (s c w d : ℕ) → c ≡ 0 → d ≡ first s → max w d ≡ tried s c w
 tried_first s c w d none is = grind (arith, nat_tests)
 

@@ -8,7 +8,7 @@
 --     `to_cells` converts slots that hold items into slice elements, and `of_cells` is the inverse.
 --     `to_room` converts empty slots into uninitialized memory for an array, and `of_room` is the
 --     inverse. `to_raw` and `of_raw` do the same for an array type with all field names erased.
---     `reach` bounds the distance in bytes from the first slot to any slot.
+--     `reach` says that the slots of a block take less than `2 ^ 63` bytes.
 use Rattle.std.proofs.Common.{◌≡◌, true, ℕ, zero, suc, None, ◌+◌, ◌*◌, ◌^◌, ◌<◌, ◌≤◌, List, [], ◌∷◌, ◌++◌, length, refl, sym, ap, ◌∙◌, arith}
 use native.Mathlib.Nat.{zero-mul, suc-mul}
 use lib.ListN.{take, drop, set, get_or, take-append-drop, length-take, length-drop, length-set}
@@ -38,8 +38,8 @@ use Rattle.thin_block.specs.Ownership.{fits_block, place, places}
 use Rattle.thin_block.specs.Slots.{full, empty, run, laid}
 use Rattle.thin_block.proofs.SizesLemmas.{fits_tells}
 
--- If a block of `c` slots is small enough to be allocated and `i ≤ c`, then slot `i` begins less
--- than `2 ^ 63` bytes after the first slot.
+-- Suppose that a block of `c` slots is small enough to be allocated, and that `i ≤ c`. Then `i`
+-- items take less than `2 ^ 63` bytes.
 pub reach : (Rw : RattleType) (i c : ℕ) → fits_block Rw c ≡ true → i ≤ c → i * type_size Rw < 2 ^ 63
 reach Rw i c fits le =
     let small = (fits_tells Rw c fits).room in
@@ -76,8 +76,8 @@ module _ (E : El) {M : Type 1} {𝓤 : Ura M} (𝓛 : Logic 𝓤) (b : ℕ) wher
       (cut xs ys (o + s) at (omega (arith, suc-mul (length xs) s))) $ split ! $
       move ! (2 ∷ 0 ∷ []) $ fjoin ! $ done !
 
-  -- Joins the memory of the slots `xs` and the memory of the slots `ys` directly after `xs` into
-  -- the memory of `xs ++ ys`.
+  -- Joins the memory of the slots `xs` with the memory of the slots `ys` into the memory of
+  -- `xs ++ ys`. The memory of `ys` must begin directly behind the memory of `xs`.
   pub glue : (xs ys : List (Slot E)) (o at : ℕ) → at ≡ length xs * s + o
       → ent 𝓤 (sep 𝓤 (sem 𝓛 (Row o xs)) (sem 𝓛 (Row at ys))) (sem 𝓛 (Row o (xs ++ ys)))
   glue [] ys o at e = qed 𝓛 (‵ ftrue ∷ ‵ (Row at ys) ∷ []) ∵ skip ! $
@@ -234,8 +234,8 @@ module _ (E : El) {M : Type 1} {𝓤 : Ura M} (𝓛 : Logic 𝓤) (b : ℕ) wher
   to_raw k o = via 𝓤 (H.room (ty_array (elτ E) k) b o) (to_room k o)
       (𝓛.laws.room-raw (ty_array (elτ E) k) b o)
 
-  -- If `i < j`, then `Others o xs i j` is the memory of all slots `xs` except the slots `i` and
-  -- `j`.
+  -- Suppose that `i < j`. Then `Others o xs i j` is the memory of all slots in the list `xs` except
+  -- the slots `i` and `j`. The first slot is at the offset `o`.
   abbrev Others : ℕ → List (Slot E) → ℕ → ℕ → Fml
   Others o xs i j = fsep (besides o (take j xs) i) (Row (j * s + o + s) (drop (suc j) xs))
 
@@ -276,7 +276,7 @@ module _ (E : El) {M : Type 1} {𝓤 : Ura M} (𝓛 : Logic 𝓤) (b : ℕ) wher
 
   -- `Two o xs i j` states that the slots `i` and `j` can be separated from the other slots in the
   -- list `xs`, and that all slots can later be put back together. The contents of the two slots may
-  -- change in between.
+  -- change in between. The first slot is at the offset `o`.
   pub record Two (o : ℕ) (xs : List (Slot E)) (i j : ℕ) : Type 1 where
     pub Rest : Fml
     pub out : ent 𝓤 (sem 𝓛 (Row o xs))

@@ -1,6 +1,6 @@
--- Lemmas on the definitions in specs/Slots.antt. They are about adjacent slots (`run`), replaced
--- slots (`laid`), moved items (`moved`), and packed slots (`IsPacked`). Slots are packed if every
--- filled slot precedes every empty slot.
+-- Lemmas about the definitions in specs/Slots.antt: adjacent slots (`run`), replaced slots
+-- (`laid`), moved items (`moved`), and packed slots (`IsPacked`). Slots are packed if every filled
+-- slot precedes every empty slot.
 use Rattle.std.proofs.Common.{◌⊎◌, ◌≡◌, ℕ, zero, suc, ◌+◌, ◌-◌, ◌<◌, ◌≤◌, List, [], ◌∷◌, ◌++◌, length, Some, None, refl, sym, ap, subst, ◌∙◌, arith, append_assoc}
 use Rattle.std.proofs.lemmas.List.{take-append-drop, drop-drop, set_at, get_or-append_right, get_or-drop, length-replicate, length-map, length-append, length-take, length-drop, take_at, drop_at, drop-replicate, replicate-append-replicate}
 use mathlib.Core.Logic.{inl, inr, ⊎_elim}
@@ -20,14 +20,15 @@ same_or_not i j =
     (λ (q : i ≤ j). inl (let e : i ≡ j = omega arith in e)) (order j i)) (order i j)
 
 module _ {T : Type 0} where
-  -- If `i ≡ j`, then swapping the slots `i` and `j` is the same as writing slot `i` to itself.
+  -- If `i ≡ j`, then swapping the contents of the slots `i` and `j` has the same result as writing
+  -- the content of slot `i` back to slot `i`.
   pub set-same : (s : List (Option T)) (i j : ℕ) → i ≡ j
       → set s i (slot s i) ≡ set (set s i (slot s j)) j (slot s i)
   set-same s i j same =
       sym (set-set s i (slot s i) (slot s i))
       ∙ (λ n. set (set s i (slot s (same n))) (same n) (slot s i))
 
-  -- If a slot is filled, then it holds some item `y`.
+  -- If `IsSome x` holds for the slot `x`, then there is an item `y` with `x ≡ Some y`.
   pub the_item : (x : Option T) → IsSome x → (y : T) × (x ≡ Some y)
   the_item (Some y) is = (y, refl)
   the_item None is = absurd (clash is)
@@ -71,7 +72,8 @@ module _ {T : Type 0} where
   pub length-run : (s : List (Option T)) (i k : ℕ) → i + k ≤ length s → length (run i k s) ≡ k
   length-run s i k le = omega (arith, length-take k (drop i s), length-drop i s)
 
-  -- If `i + length ys ≤ length s`, then `laid i ys s` is as long as `s`.
+  -- Replacing slots does not change the number of slots. If `i + length ys ≤ length s`, then
+  -- `laid i ys s` is as long as `s`.
   pub length-laid : (i : ℕ) (ys s : List (Option T)) → i + length ys ≤ length s
       → length (laid i ys s) ≡ length s
   length-laid i ys s le =
@@ -113,7 +115,8 @@ module _ {T : Type 0} where
       e) ∙ take-append-drop i s
 
   -- If `k ≡ i + length ys` and `k < length s`, then `set (laid i ys s) k y` is
-  -- `laid i (ys ++ y ∷ []) s`.
+  -- `laid i (ys ++ y ∷ []) s`. Here `laid i ys s` is `s` with the slots `i..i + length ys` replaced
+  -- with `ys`.
   pub laid-one : (i : ℕ) (ys s : List (Option T)) (k : ℕ) (y : Option T) → k ≡ i + length ys
       → k < length s → set (laid i ys s) k y ≡ laid i (ys ++ y ∷ []) s
   laid-one i ys s k y e within =
@@ -174,14 +177,15 @@ module _ {T : Type 0} where
       (drop_at pre (ys ++ post) i (sym e)) ∙ take_at ys post k (sym n)
 
   module _ (from to k : ℕ) where
-    -- If `run from k s ≡ ys`, `emptied from k s ≡ bare` and `laid to ys bare ≡ result`, then
-    -- `moved from to k s ≡ result`.
+    -- This lemma computes `moved` in three steps. If `run from k s ≡ ys`, `emptied from k s ≡ bare`
+    -- and `laid to ys bare ≡ result`, then `moved from to k s ≡ result`.
     moved-by : (s ys bare result : List (Option T)) → run from k s ≡ ys → emptied from k s ≡ bare
         → laid to ys bare ≡ result → moved from to k s ≡ result
     unfolding moved
     moved-by s ys bare result e f g = (λ n. laid to (e n) (f n)) ∙ g
 
-  -- Moving items to other slots does not change the number of slots.
+  -- Moving items does not change the number of slots. If both `from + k` and `to + k` are at most
+  -- `length s`, then `moved from to k s` is as long as `s`.
   pub length-moved : (from to k : ℕ) (s : List (Option T)) → from + k ≤ length s → to + k ≤ length s
       → length (moved from to k s) ≡ length s
   unfolding moved
@@ -204,8 +208,8 @@ module _ {T : Type 0} where
       ∙ append_assoc (empty k) (empty a) post)
 
   module _ (from to k d : ℕ) where
-    -- If the slots `ys` are moved down by `d` slots, into the `d` empty slots directly before them,
-    -- then `ys` and the empty slots change places.
+    -- If the slots `ys` are moved down, past the `d` empty slots directly before them, then `ys`
+    -- and the empty slots change places.
     pub moved_left : (pre ys post : List (Option T)) → to ≡ length pre → from ≡ to + d
         → k ≡ length ys
         → moved from to k (pre ++ (empty d ++ (ys ++ post))) ≡ pre ++ (ys ++ (empty d ++ post))
@@ -230,8 +234,8 @@ module _ {T : Type 0} where
         (laid-at to pre ys (empty k) (empty d ++ post) t (sym m))
 
   module _ (from to k d : ℕ) where
-    -- If the slots `ys` are moved up by `d` slots, into the `d` empty slots directly after them,
-    -- then `ys` and the empty slots change places.
+    -- If the slots `ys` are moved up, past the `d` empty slots directly after them, then `ys` and
+    -- the empty slots change places.
     pub moved_right : (pre ys post : List (Option T)) → from ≡ length pre → to ≡ from + d
         → k ≡ length ys
         → moved from to k (pre ++ (ys ++ (empty d ++ post))) ≡ pre ++ (empty d ++ (ys ++ post))
@@ -324,7 +328,7 @@ module _ {T : Type 0} where
       ∙ (ap (λ (l : Row). full xs ++ l) (sym (replicate-append-replicate a b None))
       ∙ sym (append_assoc (full xs) (empty a) (empty b)))
 
--- Lemmas on a list `s` of packed slots: exactly the first `n` slots are filled.
+-- These lemmas are about a list `s` of slots. Exactly the first `n` of these slots are filled.
 module _ {T : Type 0} (s : List (Option T)) (n : ℕ) (packed : IsPacked s n) where
   abbrev xs : List T
   xs = items_in s
@@ -375,7 +379,7 @@ module _ {T : Type 0} (s : List (Option T)) (n : ℕ) (packed : IsPacked s n) wh
       ∙ ap (λ (k : ℕ). empty k) (let e : n + (length s - n) ≡ length s = omega arith in e)))
 
   -- Suppose that exactly the first `n` slots of `s` are filled, and that they hold the items `xs`.
-  -- Then moving these slots to the start of `c` empty slots yields `full xs ++ empty (c - n)`.
+  -- Then moving these items to the start of `c` empty slots yields `full xs ++ empty (c - n)`.
   pub packed-carried : (c : ℕ) → laid 0 (run 0 n s) (empty c) ≡ full xs ++ empty (c - n)
   packed-carried c =
       let long : 0 + length (full xs) ≡ n = omega (arith, full-long) in
@@ -384,8 +388,8 @@ module _ {T : Type 0} (s : List (Option T)) (n : ℕ) (packed : IsPacked s n) wh
       (drop-replicate n c None))
 
   -- Suppose that exactly the first `n` slots of `s` are filled, and that `length s ≤ c`. Then
-  -- moving these `n` slots to the start of `c` empty slots yields `s`, followed by `c - length s`
-  -- empty slots.
+  -- moving the items of these `n` slots to the start of `c` empty slots yields `s`, followed by
+  -- `c - length s` empty slots.
   pub packed-grown : (c : ℕ) → length s ≤ c
       → laid 0 (run 0 n s) (empty c) ≡ s ++ empty (c - length s)
   packed-grown c more =
@@ -394,7 +398,8 @@ module _ {T : Type 0} (s : List (Option T)) (n : ℕ) (packed : IsPacked s n) wh
       ∙ ap (λ (l : Row). l ++ empty (c - length s)) (sym parted))
 
   -- Suppose that exactly the first `n` slots of `s` are filled, and that `n ≤ c ≤ length s`. Then
-  -- moving these `n` slots to the start of `c` empty slots yields the first `c` slots of `s`.
+  -- moving the items of these `n` slots to the start of `c` empty slots yields the first `c` slots
+  -- of `s`.
   pub packed-shrunk : (c : ℕ) → n ≤ c → c ≤ length s → laid 0 (run 0 n s) (empty c) ≡ take c s
   packed-shrunk c enough less =
       let kept : Row = full xs ++ empty (c - n) in

@@ -1,7 +1,7 @@
 -- These lemmas convert a block into one array of words, which an allocator can grow or shrink, and
 -- convert this array back into a block. A word is a struct of 8 or 16 bytes that consists of whole
 -- items. The lemmas assume the laws of the separation logic (`Logic`).
---     `asked_size` and `asked_align` give the size and the alignment of a block's allocation.
+--     `asked_size` and `asked_align` are about the size and the alignment of an allocation.
 --     `carve_asked` splits the memory of a block into its parts, and `gather` is the inverse.
 --     `turn_out` separates the last `k` words from the words before them, and `turn_back` is the
 --     inverse.
@@ -163,8 +163,8 @@ module _ {M : Type 1} {𝓤 : Ura M} (𝓛 : Logic 𝓤) (E : El) (b : ℕ) (k :
   abbrev Slots' : ℕ → List (Option (el_x E)) → Fml
   Slots' at xs = places (R E) xs b at
 
-  -- These lemmas are about a list of slots that hold the items `xs` and then the `k` items `ys`,
-  -- followed by `m` empty slots. The items `ys` take as many bytes as the header.
+  -- These lemmas are about a block whose first slots hold the items `xs` and then the `k` items
+  -- `ys`. The `m` slots after them are empty. The items `ys` take as many bytes as the header.
   module _ (xs ys : List (el_x E)) (long : length ys ≡ k) (n m : ℕ)
       (count : n ≡ length xs + k) where
     abbrev there : ℕ
@@ -282,9 +282,9 @@ module _ {M : Type 1} {𝓤 : Ura M} (𝓛 : Logic 𝓤) (E : El) (b : ℕ) (k :
           rewrite ! 0 (λ (j : ℕ). ‵ (froom (array_of (R E) spare) b j)) turned refl $
           move ! (1 ∷ 0 ∷ 2 ∷ []) $ fjoin3 ! $ done !
 
-      -- Splits an array that begins at the start of the block into four parts: its first `k` items,
-      -- which are in the memory of the header; its other items; the memory after all items; and the
-      -- right to free the block.
+      -- Splits an array that begins at the start of the block into four parts. The first part is
+      -- its first `k` items, which are in the memory of the header. The other parts are its other
+      -- items, the memory after all items, and the right to free the block.
       pub turn_down : ent 𝓤 (sem 𝓛 Whole) (sep 𝓤 (sem 𝓛 (Last o))
           (sep 𝓤 (sem 𝓛 (Slots' (o + 16) (full xs))) (sep 𝓤 (H.room (ty_array τ' k) b there)
           (sep 𝓤 (sem 𝓛 (Slots' past_all (empty m))) (sem 𝓛 Token)))))

@@ -1,6 +1,6 @@
--- Lemmas for proofs of function bodies. They are about the parts of a body, about what must hold
--- after a part has been executed, and about the proof of the `ensures` clauses. The lemmas assume
--- the laws of the separation logic (`Logic`).
+-- Lemmas for proofs about function bodies. They are about the parts of a body, about the condition
+-- that must hold after a part has been executed, and about the proof of the `ensures` clauses. The
+-- lemmas assume the laws of the separation logic (`Logic`).
 pub use Rattle.core.proofs.alloc.Shapes.{after, head, inside, arm_body}
 use Rattle.std.proofs.Common.{◌≡◌, ℕ, zero, suc, List, [], ◌∷◌, refl, T}
 use seplogic.Ra.Ura.{Ura}
@@ -32,8 +32,9 @@ slot_at (suc k) (s ∷ ss) = slot_at k ss
 module _ {M : Type 1} {𝓤 : Ura M} (𝓛 : Logic 𝓤) where
   open 𝓛 use {H}
 
-  -- `then_runs C Λ E b q` is the condition that must hold directly before `b`, the last part of a
-  -- function body, is executed.
+  -- `then_runs C Λ E b q` is the condition under which `b`, the last part of a function body, can
+  -- be executed so that `q` holds afterwards. `C` and `Λ` are the tables of calls and loops, and
+  -- `E` is the environment of the local variables.
   abbrev pub then_runs : Calls 𝓤 H → Loops 𝓤 H → Env 𝓤 H → Body → Post 𝓤 H → Post 𝓤 H
   then_runs C Λ E b q = any_q (after_seq 𝓤 H (Wp 𝓤 H C Λ E b (post 𝓤 H q)) (post 𝓤 H q))
 

@@ -1,5 +1,5 @@
--- Arithmetic lemmas on words. A word is a struct of 8 or 16 bytes that consists of whole items. The
--- lemmas say which item sizes allow words, and what the size and the alignment of a word are.
+-- Arithmetic lemmas about words. A word is a struct of 8 or 16 bytes that consists of whole items.
+-- The lemmas say which item sizes allow words, and what the size and the alignment of a word are.
 --     `InWords` collects the facts that hold if `m` items of `s` bytes make a word, and `k` words
 --     take as many bytes as the header.
 --     `words_told` says that `InWords` holds for the pair that `in_words` returns, if any.
@@ -82,7 +82,7 @@ counts_8 = record {
   few = λ c. omega arith;
 }
 
--- `Laid s a m k` collects facts on words of `m` items: the size and the alignment of a word, and
+-- `Laid s a m k` collects facts about words of `m` items: the size and the alignment of a word, and
 -- the size of a block of words. Each item has the size `s` and the alignment `a`, and the header
 -- takes as many bytes as `k` words.
 abbrev Laid : ℕ → ℕ → ℕ → ℕ → Type 0
@@ -163,22 +163,21 @@ abbrev pair : Option (ℕ × ℕ) → ℕ × ℕ
 pair None = (0, 0)
 pair (Some p) = p
 
--- In `AtAny t p.0 p.1`, the size `t` may be replaced with an equal size `s`, and the pair `p` with
--- an equal pair `q`.
+-- If `s ≡ t` and the pairs `p` and `q` are equal, then `AtAny t p.0 p.1` implies `AtAny s q.0 q.1`.
 at_size : (s t : ℕ) (p q : ℕ × ℕ) → s ≡ t → ◌≡◌ {A = Option (ℕ × ℕ)} (Some p) (Some q)
     → AtAny t p.0 p.1 → AtAny s q.0 q.1
 at_size s t p q es e all =
     subst (λ (x : ℕ × (ℕ × ℕ)). AtAny x.0 x.1.0 x.1.1) (λ i. (sym es i, pair (e i))) all
 
--- `tested` computes the result of `in_words` from five tests of the item size. If the result is a
--- pair, it contains the number of items that make a word, and the number of words that take as many
--- bytes as the header.
+-- `tested x y z u v` is the result of `in_words` if the five tests say whether the item size is 1,
+-- 2, 4, 8 or 16, in this order. If the result is a pair, it contains the number of items that make
+-- a word, and the number of words that take as many bytes as the header.
 abbrev tested : Bool → Bool → Bool → Bool → Bool → Option (ℕ × ℕ)
 tested x y z u v = if x then Some (8, 2) else (if y then Some (4, 2) else
     (if z then Some (2, 2) else (if u then Some (1, 2) else (if v then Some (1, 1) else None))))
 
--- If the item size `s` is 1, 2, 4, 8 or 16, then `InWords` holds for items of size `s` with every
--- alignment that divides `s`.
+-- If the item size `s` is 1, 2, 4, 8 or 16, then `InWords` holds for the pair `q` that `tested`
+-- returns, and for every alignment that divides `s`.
 by_test : (x y z u v : Bool) (s : ℕ) (q : ℕ × ℕ) → (s == 1) ≡ x → (s == 2) ≡ y → (s == 4) ≡ z
     → (s == 8) ≡ u → (s == 16) ≡ v → tested x y z u v ≡ Some q → AtAny s q.0 q.1
 by_test true y z u v s q ex ey ez eu ev e =
@@ -198,8 +197,8 @@ by_test false false false false true s q ex ey ez eu ev e =
     (λ w d. in_words_by 16 (bytes w) 1 1 counts_1 (omega arith) refl (laid_16 w d))
 by_test false false false false false s q ex ey ez eu ev e = absurd (clash (ap is_some e))
 
--- If items of type `R` can be grouped into words, then `InWords` holds for the size and the
--- alignment of `R`.
+-- If `in_words (type_size R)` is `Some (m, k)`, then `InWords` holds for the size and the alignment
+-- of the type `R`, and for `m` and `k`.
 pub words_told : (R : RattleType) (m k : ℕ) → in_words (type_size R) ≡ Some (m, k)
     → InWords (type_size R) (type_align R) m k
 words_told R m k e =

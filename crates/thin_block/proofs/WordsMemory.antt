@@ -94,8 +94,8 @@ module _ {M : Type 1} {𝓤 : Ura M} (𝓛 : Logic 𝓤) (τ : Ty) (m k b : ℕ)
   one_more : (w : ℕ) → m + w * m ≡ suc w * m
   one_more w = omega (arith, suc-mul w m)
 
-  -- Splits memory for `w` words into two parts: memory for their items, and the right (`ways`) to
-  -- convert it back into memory for words.
+  -- Splits memory for `w` words into memory for their items, and the right (`ways`) to convert the
+  -- memory for the items back into memory for words.
   pub ways_out : (w o : ℕ) → ent 𝓤 (H.room (ty_array ω w) b o)
       (sep 𝓤 (H.room (ty_array τ (w * m)) b o) (sem 𝓛 (ways τ m w b o)))
   ways_out zero o =
@@ -149,7 +149,7 @@ module _ {M : Type 1} {𝓤 : Ura M} (𝓛 : Logic 𝓤) (τ : Ty) (m k b : ℕ)
   after_header o = past_is ω k o ∙ ap (λ (n : ℕ). o + n) header_bytes
 
   -- Splits memory for `k` words into three parts: memory for the capacity, memory for the length,
-  -- and the right (`header_way`) to convert both back into memory for words.
+  -- and the right (`header_way`) to convert these two kinds of memory back into memory for words.
   pub header_out : (o : ℕ) → ent 𝓤 (H.room units b o)
       (sep 𝓤 (H.room half b o) (sep 𝓤 (H.room half b (o + 8)) (sem 𝓛 (header_way τ m k b o))))
   header_out o =
@@ -176,8 +176,8 @@ module _ {M : Type 1} {𝓤 : Ura M} (𝓛 : Logic 𝓤) (τ : Ty) (m k b : ℕ)
       qed 𝓛 (‵ (froom half b o) ∷ ‵ (froom half b (o + 8)) ∷ ‵ (header_way τ m k b o) ∷ []) ∵
       fjoin ! $ by ! (apply∗ 𝓤 (sem 𝓛 (header_room b o)) (H.room units b o))
 
-  -- Splits memory for `w` words into two parts: memory for `c` slots, and the right (`slots_way`)
-  -- to convert it back into memory for words.
+  -- Splits memory for `w` words into memory for `c` slots, and the right (`slots_way`) to convert
+  -- the memory for the slots back into memory for words.
   slots_out : (w c o : ℕ) → c ≤ w * m → ent 𝓤 (H.room (ty_array ω w) b o)
       (sep 𝓤 (H.room (ty_array τ c) b o) (sem 𝓛 (slots_way τ m w c b o)))
   slots_out w c o le =
@@ -210,7 +210,7 @@ module _ {M : Type 1} {𝓤 : Ura M} (𝓛 : Logic 𝓤) (τ : Ty) (m k b : ℕ)
 
     -- Splits memory for a block of words into four parts: memory for the capacity, memory for the
     -- length, memory for the slots, and the right (`Back`) to convert these three kinds of memory
-    -- back.
+    -- back into memory for words.
     pub block_out : ent 𝓤 (H.room (ty_array ω (k + w)) b o)
         (sep 𝓤 (H.room half b o) (sep 𝓤 (H.room half b (o + 8))
         (sep 𝓤 (H.room (ty_array τ c) b (o + 16)) (sem 𝓛 Back))))
@@ -247,8 +247,8 @@ number_of_items m = param 1 (number m)
 abbrev pub word_row : RattleType → ℕ → RattleType
 word_row T m = the_row (param 0 T) (number_of_items m)
 
--- `word_el T L m` combines the type of words and its laws into the record that the lemmas about
--- blocks take. A word consists of `m` items of type `T`.
+-- `word_el T L m` combines the type of words and its laws into one record. The lemmas about blocks
+-- take this record as an argument. A word consists of `m` items of type `T`.
 abbrev pub word_el : (T : RattleType) → Laws T → ℕ → El
 word_el T L m = record {
   row = word_row T m;
@@ -409,9 +409,9 @@ module _ {M : Type 1} {𝓤 : Ura M} (𝓛 : Logic 𝓤) (T : RattleType) (L : L
         ap (λ (n : ℕ). n * s) (length-map (take m xs) Some ∙ first_long) in
         let e = wide in omega arith
 
-  -- Groups the slots that hold the items of `n` words: one group for each word. Each group gets the
-  -- right (`way`) to convert its memory into memory for the word. The rights for the next `j` words
-  -- remain unused.
+  -- Groups the slots that hold the items of `n` words into one group for each word. Each group gets
+  -- the right (`way`) to convert its memory into memory for the word. The rights for the `j` words
+  -- directly after the `n` words remain unused.
   to_runs : (n w j : ℕ) (xs : List X) (o at : ℕ) → length xs ≡ n * m → w ≡ j + n → at ≡ n * u' + o
       → ent 𝓤 (sep 𝓤 (sem 𝓛 (places (R E) (full xs) b o)) (sem 𝓛 (ways τ' m w b o)))
       (sep 𝓤 (sem 𝓛 (runs_at (R E) N (chunks n xs) b o)) (sem 𝓛 (ways τ' m j b at)))
@@ -441,8 +441,8 @@ module _ {M : Type 1} {𝓤 : Ura M} (𝓛 : Logic 𝓤) (T : RattleType) (L : L
       (omega (arith, ea, suc-mul n u'))) $ split ! $ move ! (2 ∷ 0 ∷ []) $ fjoin ! $ done !
 
   -- Turns `n` adjacent words into slots that hold their items, and into the rights (`ways`) to
-  -- convert these slots back into words. The result includes the rights for the `j` words directly
-  -- after these words.
+  -- convert these slots back into words. The lemma combines these rights with the rights for the
+  -- `j` words directly after the `n` words.
   of_runs : (n w j : ℕ) (xs : List X) (o at : ℕ) → length xs ≡ n * m → w ≡ j + n → at ≡ n * u' + o
       → ent 𝓤 (sep 𝓤 (sem 𝓛 (places (R W) (full (words n xs)) b o)) (sem 𝓛 (ways τ' m j b at)))
       (sep 𝓤 (sem 𝓛 (places (R E) (full xs) b o)) (sem 𝓛 (ways τ' m w b o)))
@@ -570,7 +570,8 @@ module _ {M : Type 1} {𝓤 : Ura M} (𝓛 : Logic 𝓤) (T : RattleType) (L : L
     last_word = ap (λ (x : ℕ). x * type_size (R W) + o)
         (sym (length-map (words n xs) Some ∙ words_long T m n xs))
 
-    -- Joins the memory of words and the memory of the empty words directly after them.
+    -- Joins the memory of words that hold items with the memory of empty words. The empty words
+    -- must begin directly after the words that hold items.
     pub words_joined : ent 𝓤 (sep 𝓤 (sem 𝓛 (places (R W) (full (words n xs)) b o))
         (sem 𝓛 (places (R W) (empty v) b after)))
         (sem 𝓛 (places (R W) (full (words n xs) ++ empty v) b o))

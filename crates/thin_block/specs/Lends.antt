@@ -59,7 +59,8 @@ module _ (T A : RattleType) (g : Ghosts A.Denot) (b : MutBor (Block T.Denot A.De
   abbrev pub LendsItem : ℕ → MutBor T.Denot → Fml
   LendsItem i r = Lends (the_row T A g) T b r (with_item b.now i)
 
-  -- `LendsItems i r` says that `r` is a `&mut` slice of adjacent items of the block, starting at
-  -- slot `i`. It also says that the slots hold the final items of `r` after the borrow has ended.
+  -- `LendsItems i r` says that `r` is a `&mut` to a slice of adjacent items of the block, starting
+  -- at slot `i`. It also says that the slots hold the final items of `r` after the borrow has
+  -- ended.
   abbrev pub LendsItems : ℕ → MutBor (List T.Denot) → Fml
   LendsItems i r = Lends (the_row T A g) (Array T 0) b r (with_items b.now i)

@@ -12,7 +12,7 @@ use thiserror::Error;
 /// The reason why a call on a list failed.
 #[derive(Debug, Clone, Copy, PartialEq, Eq, Error)]
 pub enum ThinVecError {
-    /// The call needs a capacity that is too large. It did not request memory for this capacity.
+    /// The call needs a capacity that is too large, so it did not request memory for this capacity.
     #[error("capacity overflow")]
     CapacityOverflow,
     /// The allocator failed, or cloning an item failed.

@@ -10,8 +10,8 @@ use crate::sizes::fits;
 pub mod doubling;
 pub mod power_bytes;
 
-/// A growth rule chooses the new capacity of a list that needs more room. Calls that ask for an
-/// exact capacity, such as `reserve_exact`, do not use the rule.
+/// A growth rule, which chooses the new capacity of a list that needs more room. Calls that ask for
+/// an exact capacity, such as `reserve_exact`, do not use the rule.
 pub trait Growth {
     /// The growth rule as a function on numbers. Its arguments are the size and the alignment of an
     /// item in bytes, the old capacity, and the required capacity. The required capacity exceeds

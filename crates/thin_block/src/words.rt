@@ -6,7 +6,8 @@ ghost use types.Logic.{sem};
 ghost use Rattle.thin_block.specs.Words.{runs_from, words_from};
 ghost use Rattle.thin_block.specs.contracts.words.Words.{the_row};
 
-// A word consists of `M` items, and has the alignment of a block.
+// A value of the type `Words` is one word. It consists of `M` items, and has the alignment of a
+// block.
 pub(crate) struct Words<T, const M: usize> {
     pub(crate) items: [T; M],
     pub(crate) aligned: [u64; 0],

@@ -8,8 +8,8 @@ use crate::growth::{Growth, fitting};
 use crate::sizes::item_size;
 
 /// A growth rule that doubles the capacity, or chooses `first_capacity` if the old capacity is 0.
-/// If the required capacity is greater than that, the rule chooses the required capacity. The Rust
-/// crate thin-vec uses the same rule.
+/// If the required capacity is greater than this number, the rule chooses the required capacity.
+/// The Rust crate thin-vec uses the same rule.
 pub struct Doubling {}
 
 impl Growth for Doubling {

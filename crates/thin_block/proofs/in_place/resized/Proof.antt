@@ -134,8 +134,9 @@ module _ (E : El) (Y : Al) {M : Type 1} {𝓤 : Ura M} (𝓛 : Logic 𝓤) (at_m
       fjoin ! $ nothing ! $ fjoin ! $ join ! $ move ! (3 ∷ 4 ∷ []) $ join ! $
       move ! (3 ∷ 0 ∷ []) $ join ! $ join ! $ done !
 
-  -- `from Ev x k` is the condition that must hold at the end of each arm of the conditional.
-  -- Execution then continues with the statements after the first `k` statements of the body.
+  -- `from Ev x k` is the condition that must hold at the end of each arm of the conditional, before
+  -- the body continues after its first `k` statements. `Ev` is the environment of the local
+  -- variables, and `x` is the address of the old block.
   abbrev from : Env 𝓤 H → Ptr → ℕ → After 𝓤 H
   from Ev x k = then_runs 𝓛 C Λ Ev (after k (here E Y).body) (at_ret Ev (Post x))
 

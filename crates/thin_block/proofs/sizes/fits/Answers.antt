@@ -12,7 +12,7 @@ use denote.RattleType.{RattleType}
 use native.Mathlib.Nat.{mul-zero}
 use Rattle.thin_block.proofs.sizes.fits.Goals as goal
 
--- If an item takes 0 bytes, then `c` items take 0 bytes.
+-- If the item size that the code computes is 0, then `c` items take no bytes.
 nothing : (R : RattleType) (c size : ℕ) → size ≡ capped (type_size R)
     → size ≡ 0 → c * type_size R ≡ 0
 nothing R c size is none =
@@ -51,7 +51,8 @@ pub overflow_sub-result-2 : goal.overflow_sub-result-2
 overflow_sub-result-2 g c = let about = rounded (param 0 g.row.T) 0 in
     let is = c.align_of_block.ensures.value in omega arith
 
--- The code and the lemmas compare the capacity `c` with the same quotient.
+-- If `align` is the alignment of a block, then the quotient that the code computes is the same as
+-- the quotient in the lemmas `divided` and `dividing`.
 same_limit : (R : RattleType) (c size align : ℕ) → align ≡ block_align (type_align R)
     → leb c ((2 ^ 63 - align - 16) / size) ≡ leb c
     ((2 ^ 63 - block_align (type_align R) - 16) / size)

@@ -85,7 +85,8 @@ module _ (E : El) (m : ℕ) where
     (stay_dropped (plain (λ _. usize)) yes, tt),
   )
 
-  -- The type of the items of several words. Each inner list contains the items of one word.
+  -- A value of this type lists the items of several words. Each inner list contains the items of
+  -- one word.
   abbrev Runs : Type 0
   Runs = List (List (el_x E))
 
@@ -167,8 +168,9 @@ module _ (E : El) (m : ℕ) {M : Type 1} {𝓤 : Ura M} (𝓛 : Logic 𝓤) (at_
     abbrev To : Fml
     To = Made g o
 
-    -- `Then xss at` is the right to complete the memory of all words: the words that are made from
-    -- the items `xss` are joined with the words before them.
+    -- Suppose that the words made from the items `xss` begin at the offset `at`. Then `Then xss at`
+    -- is the right to join these words with the words before them. The result is the memory of all
+    -- words.
     abbrev Then : Runs E m → ℕ → SProp 𝓤
     Then xss at = wand 𝓤 (sem 𝓛 (Made xss at)) (sem 𝓛 To)
 

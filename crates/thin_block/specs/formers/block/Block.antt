@@ -58,8 +58,8 @@ module _ (g : Former {0}) where
   slot_put X None n t = t
   slot_put X (Some y) n t = g.put X y n t
 
-  -- `slot_get` splits a row of values into a slot and the remaining `n` values. The slot has the
-  -- shape `a`, and contains the first values of the row.
+  -- `slot_get X a n v` splits the row `v` of values into a slot of the shape `a` and a row of `n`
+  -- values. The slot contains the first values of `v`.
   abbrev pub slot_get : (X : Type 0) (a : Option g.Shape) (n : Count) → Row X (slot_count a n)
       → Option (g.Of X) × Row X n
   slot_get X None n v = (None, v)
@@ -73,7 +73,7 @@ module _ (g : Former {0}) where
   slot_get-put X (Some y) n t = λ i. (Some (g.get-put X y n t i).0, (g.get-put X y n t i).1)
 
   -- If a slot is taken from the row `v` of values, then prepending the values in the slot to the
-  -- remaining row restores `v`.
+  -- other values restores `v`.
   pub slot_put-get : (X : Type 0) (a : Option g.Shape) (n : Count) (v : Row X (slot_count a n))
       → ◌≡◌ {A = (b : Option g.Shape) × Row X (slot_count b n)} (
         on_slot (g.shape X) (slot_get X a n v).0,
@@ -83,8 +83,8 @@ module _ (g : Former {0}) where
   slot_put-get X None n v = refl
   slot_put-get X (Some a) n v = λ i. (Some (g.put-get X a n v i).0, (g.put-get X a n v i).1)
 
-  -- A slot can be taken from a row of values before or after the function `h` is applied to all
-  -- values. The results are equal.
+  -- Taking a slot from a row of values and then applying the function `h` to all values has the
+  -- same result as applying `h` first and then taking the slot.
   pub slot_get-map : (X Y : Type 0) (h : X → Y) (a : Option g.Shape) (n : Count)
       (v : Row X (slot_count a n))
       → slot_get Y a n (over h (slot_count a n) v) ≡ (
@@ -111,8 +111,8 @@ module _ (g : Former {0}) where
   }
 
 module _ {g : Former {0}} (w : Weighed g) where
-  -- `slot_weight` is the depth of a slot. The depth of a filled slot is the depth of its item, and
-  -- the depth of an empty slot is 0.
+  -- `slot_weight` computes the depth of a slot. The depth of a filled slot is the depth of its
+  -- item, and the depth of an empty slot is 0.
   abbrev pub slot_weight : (X : Type 0) → (X → ℕ) → Option (g.Of X) → ℕ
   slot_weight X μ None = 0
   slot_weight X μ (Some y) = w.weight X μ y
@@ -125,7 +125,7 @@ module _ {g : Former {0}} (w : Weighed g) where
   slot_puts X μ None n t = none_max (deepest μ n t)
   slot_puts X μ (Some y) n t = w.puts X μ y n t
 
-  -- `w_slot` extends the former of slots with the depth of a slot.
+  -- `w_slot` combines the type former of slots with the function that computes the depth of a slot.
   abbrev pub w_slot : Weighed (slot g)
   w_slot = record { weight = slot_weight; puts = slot_puts }
 
@@ -180,8 +180,8 @@ module _ (g : Former {0}) (Z : Type 0) where
   length_got X (a ∷ as') n v =
       ap suc (length_got X as' n ((slot g).get X a (list_count (slot g) as' n) v).1)
 
-  -- `got` splits a row of values into a block and the remaining `n` values. The block has the shape
-  -- `a`, and contains the first values of the row.
+  -- `got X a n v` splits the row `v` of values into a block of the shape `a` and a row of `n`
+  -- values. The block contains the first values of `v`.
   abbrev pub got : (X : Type 0) (a : Block g.Shape Z) (n : Count)
       → Row X (list_count (slot g) a.slots n) → Block (g.Of X) Z × Row X n
   got X a n v = let r : List (Option (g.Of X)) × Row X n = list_get (slot g) X a.slots n v in
@@ -198,7 +198,7 @@ module _ (g : Former {0}) (Z : Type 0) where
   )
 
   -- If a block is taken from the row `v` of values, then prepending the values in the block to the
-  -- remaining row restores `v`.
+  -- other values restores `v`.
   pub put-got : (X : Type 0) (a : Block g.Shape Z) (n : Count)
       (v : Row X (list_count (slot g) a.slots n))
       → ◌≡◌ {A = (b : Block g.Shape Z) × Row X (list_count (slot g) b.slots n)} (
@@ -212,8 +212,8 @@ module _ (g : Former {0}) (Z : Type 0) where
     ((list (slot g)).put-get X a.slots n v i).1,
   )
 
-  -- A block can be taken from a row of values before or after the function `h` is applied to all
-  -- values. The results are equal.
+  -- Taking a block from a row of values and then applying the function `h` to all values has the
+  -- same result as applying `h` first and then taking the block.
   pub got-map : (X Y : Type 0) (h : X → Y) (a : Block g.Shape Z) (n : Count)
       (v : Row X (list_count (slot g) a.slots n))
       → got Y a n (over h (list_count (slot g) a.slots n) v)
@@ -241,8 +241,8 @@ module _ (g : Former {0}) (Z : Type 0) where
     get-map = got-map;
   }
 
--- `the_weighed` extends the former of blocks with the depth of a block, which is the depth of its
--- deepest item.
+-- `the_weighed` combines the type former of blocks with the function that computes the depth of a
+-- block. The depth of a block is the depth of its deepest item.
 abbrev pub the_weighed : {g : Former {0}} → Weighed g → (Z : Type 0) → Weighed (the_former g Z)
 the_weighed w Z = record {
   weight = λ X μ d. most (slot_weight w X μ) d.slots;
@@ -328,15 +328,17 @@ module _ (R R' : RattleType) (h : R.Denot → R'.Denot) (a : Alike R R' h) where
       λ i. fsep (frame (t w) (record R { mir = a.mir_same i }) n (length-map xs (on_slot h) i) b o)
       (places_placed xs b (o + 16) i)
 
-  -- If a `&` to each item lends the same memory as a `&` to the image of the item under the
-  -- function `h`, then the same is true of each slot and its image.
+  -- Suppose that a `&` to an item always lends the same memory as a `&` to the image of the item
+  -- under the function `h`. Then a `&` to a slot lends the same memory as a `&` to the image of the
+  -- slot.
   place_lent_placed : (x : Option R.Denot) (p : Ptr)
       → place_lent R' (on_slot h x) p ≡ place_lent R x p
   place_lent_placed None p = refl
   place_lent_placed (Some x) p = lent_at_placed R R' h a p x
 
-  -- If a `&` to each item lends the same memory as a `&` to the image of the item under the
-  -- function `h`, then the same is true of each row of slots and its image.
+  -- Suppose that a `&` to an item always lends the same memory as a `&` to the image of the item
+  -- under the function `h`. Then a `&` to each slot in a row lends the same memory as a `&` to the
+  -- image of the slot.
   places_lent_placed : (xs : List (Option R.Denot)) (b o : ℕ) → places_lent R' (map (on_slot h) xs)
       b o ≡ places_lent R xs b o
   places_lent_placed [] b o = refl
@@ -345,8 +347,9 @@ module _ (R R' : RattleType) (h : R.Denot → R'.Denot) (a : Alike R R' h) where
       (places_lent R' (map (on_slot h) xs) b (o + width i)))
       ∙ ap (beside (place_lent R x (block_ptr b o))) (places_lent_placed xs b (o + type_size R))
 
-  -- If a `&` to each item lends the same memory as a `&` to the image of the item under the
-  -- function `h`, then the same is true of each block and its image.
+  -- Suppose that a `&` to an item always lends the same memory as a `&` to the image of the item
+  -- under the function `h`. Then a `&` to a block lends the same memory as a `&` to the image of
+  -- the block.
   pub block_lent_placed : {D : Type 0} (p : Ptr) (n : ℕ) (xs : List (Option R.Denot)) (w : Option D)
       → block_lent R' p n (map (on_slot h) xs) w ≡ block_lent R p n xs w
   block_lent_placed null_ptr n xs w = refl

@@ -81,7 +81,8 @@ resize_words_spec 𝓤 𝓛 𝓜 𝓡 wired T A m k LT LA fits_m fits_k g d dd m
     let H = 𝓛.H in
     let E : El = record { row = T; laws = LT } in
     let W : El = word_el T LT m in
-    -- The type of words, as a type argument of a call. It is made from the memory layout of a word.
+    -- `X` is the type of words, made from the memory layout of a word. It is a type argument of a
+    -- call.
     let X : RattleType = arg (word_of (layout T) m) yes W.row in
     let EX : El = record {
       row = X;
@@ -447,9 +448,9 @@ resize_words_spec 𝓤 𝓛 𝓜 𝓡 wired T A m k LT LA fits_m fits_k g d dd m
     is_u₂).0 in
     move ! (1 ∷ []) $
     -- The array that `resized` has returned has been split. The proof context holds, in this order:
-    -- [the bytes of the last `k` words, in the memory of the header; what these `k` words own; the
-    -- memory after all other words; the empty words; the right to free the block; all other words;
-    -- the lifetime tokens].
+    -- [the bytes of the last `k` words, in the memory of the header; what these `k` words own;
+    -- uninitialized memory directly after the other words; the empty words; the right to free the
+    -- block; the other words; the lifetime tokens].
     sets ! (of_opd ! (load ! (through ! refl (stop !)) (look ! 0 refl))) refl good' $
     assigns ! (of_opd ! (get ! refl)) (through ! refl (stop !)) (init ! 2 refl good') $
     use1 𝓛 (‵ (froom (ty_array ω k) b' o')) (𝓛.laws.at_room (ty_array ω k) b' o' u₂) $
@@ -474,11 +475,11 @@ resize_words_spec 𝓤 𝓛 𝓜 𝓡 wired T A m k LT LA fits_m fits_k g d dd m
     exec ! C Λ En (after 2 fn.body) (at_ret En Post) $
     sets ! (of_opd ! (get ! refl)) refl (tt, (record { fits = lit< tt }, (words, tt))) $
     returns ! (look_at ! 0 refl) $ free_all ! refl $
-    -- The bytes of the last `k` words have been copied to the memory after all other words, and the
-    -- header has been written. The proof context holds, in this order: [the two halves of the
-    -- header; the right to convert memory for the header into memory for words; what the last `k`
-    -- words own; the bytes of these words; the empty words; the right to free the block; all other
-    -- words; the lifetime tokens].
+    -- `resized` has succeeded. The bytes of the last `k` words have been copied to the memory
+    -- directly after the other words, and the header has been written. The proof context holds, in
+    -- this order: [the two halves of the header; the right to convert memory for the header into
+    -- memory for words; what the last `k` words own; the bytes of these words; the empty words; the
+    -- right to free the block; the other words; the lifetime tokens].
     rewrite ! 1 (λ (n : ℕ). ‵ (fat full_share (ty_int w64) b' n (vint w64 len)))
     (let turned : 8 + o' ≡ o' + 8 = omega arith in turned) refl $
     use1 𝓛 (‵ (lies_at usize full_share (block_ptr b' o') cap))
@@ -495,10 +496,11 @@ resize_words_spec 𝓤 𝓛 𝓜 𝓡 wired T A m k LT LA fits_m fits_k g d dd m
     use1 𝓛 (‵ (places Rt news b' (o' + 16)) ⊛ ‵ (slots_way τ' m w' cap b' (o' + 16)))
     (words_back 𝓛 T LT m k b' hd items count j' v' w' cap (o' + 16) whole_words slots_are' fill'
     (hd.counts.covers cap)) $ split ! $
-    -- The words have been converted into filled slots, and the empty words into empty slots. The
-    -- proof context holds, in this order: [the slots; the right to convert memory for the slots
-    -- into memory for words; the length; the capacity; the same right for the header; the right to
-    -- free the block; the lifetime tokens].
+    -- `resized` has succeeded. The words have been converted into filled slots, and the empty words
+    -- into empty slots. The proof context holds, in this order: [the slots; the right to convert
+    -- memory for the slots into memory for words; the length; the capacity; the right to convert
+    -- memory for the header into memory for words; the right to free the block; the lifetime
+    -- tokens].
     move ! (3 ∷ 2 ∷ 4 ∷ 1 ∷ 5 ∷ []) $ group ! 5 $
     use1 𝓛 (‵ (frame tok Rt len cap b' o'))
     (header_whole 𝓛 T LT b' m k in_words o' tok len cap wanted wanted_is fits_cap) $
@@ -532,8 +534,8 @@ resize_words_spec 𝓤 𝓛 𝓜 𝓡 wired T A m k LT LA fits_m fits_k g d dd m
     move ! (1 ∷ []) $
     -- `resized` has failed, and the old array has been split. The proof context holds, in this
     -- order: [the bytes of the last `k` words, in the memory of the header; what these `k` words
-    -- own; the memory after all other words; the empty words; the right to free the block; all
-    -- other words; the lifetime tokens].
+    -- own; uninitialized memory directly after the other words; the empty words; the right to free
+    -- the block; the other words; the lifetime tokens].
     sets ! (of_opd ! (load ! (through ! refl (stop !)) (look ! 0 refl))) refl good' $
     assigns ! (of_opd ! (get ! refl)) (through ! refl (stop !)) (init ! 2 refl good') $
     use1 𝓛 (‵ (froom (ty_array ω k) b o)) (𝓛.laws.at_room (ty_array ω k) b o u₂) $
@@ -557,11 +559,11 @@ resize_words_spec 𝓤 𝓛 𝓜 𝓡 wired T A m k LT LA fits_m fits_k g d dd m
     exec ! C Λ En (after 2 fn.body) (at_ret En Post) $
     sets ! (of_opd ! (get ! refl)) refl (tt, (record { fits = lit< tt }, (words, tt))) $
     returns ! (look_at ! 0 refl) $ free_all ! refl $
-    -- The bytes of the last `k` words have been copied to the memory after all other words, and the
-    -- header has been written. The proof context holds, in this order: [the two halves of the
-    -- header; the right to convert memory for the header into memory for words; what the last `k`
-    -- words own; the bytes of these words; the empty words; the right to free the block; all other
-    -- words; the lifetime tokens].
+    -- `resized` has failed. The bytes of the last `k` words have been copied to the memory directly
+    -- after the other words, and the header has been written. The proof context holds, in this
+    -- order: [the two halves of the header; the right to convert memory for the header into memory
+    -- for words; what the last `k` words own; the bytes of these words; the empty words; the right
+    -- to free the block; the other words; the lifetime tokens].
     rewrite ! 1 (λ (n : ℕ). ‵ (fat full_share (ty_int w64) b n (vint w64 len)))
     (let turned : 8 + o ≡ o + 8 = omega arith in turned) refl $
     use1 𝓛 (‵ (lies_at usize full_share (block_ptr b o) old)) (uint_in 𝓛 full_share w64 old b o) $
@@ -578,10 +580,11 @@ resize_words_spec 𝓤 𝓛 𝓜 𝓡 wired T A m k LT LA fits_m fits_k g d dd m
     (slots_way τ' m w old b (o + 16)))
     (words_back 𝓛 T LT m k b hd items count j v w old (o + 16) whole_words slots_are fill
     (hd.counts.covers old)) $ split ! $
-    -- The words have been converted into filled slots, and the empty words into empty slots. The
-    -- proof context holds, in this order: [the slots; the right to convert memory for the slots
-    -- into memory for words; the length; the capacity; the same right for the header; the right to
-    -- free the block; the lifetime tokens].
+    -- `resized` has failed. The words have been converted into filled slots, and the empty words
+    -- into empty slots. The proof context holds, in this order: [the slots; the right to convert
+    -- memory for the slots into memory for words; the length; the capacity; the right to convert
+    -- memory for the header into memory for words; the right to free the block; the lifetime
+    -- tokens].
     move ! (3 ∷ 2 ∷ 4 ∷ 1 ∷ 5 ∷ []) $ group ! 5 $
     use1 𝓛 (‵ (frame tok Rt len old b o))
     (header_whole 𝓛 T LT b m k in_words o tok len old held held_is fits_old) $

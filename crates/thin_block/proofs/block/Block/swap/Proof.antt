@@ -68,8 +68,8 @@ swap_spec 𝓤 𝓛 𝓜 𝓡 wired T A LT LA g d dd met md =
           let p = two_slots E 𝓛 b (o + 16) x.slots i j apart low low' in
           takes_two E ! b (o + 16) x.slots i j p (one.1, two.1) (λ v v' good good'.
           -- The two slots have been separated from the other slots. The proof context holds, in
-          -- this order: [the bytes of the second item; what the second item owns; the bytes of the
-          -- first item; what the first item owns; the other slots; the header; the memory that
+          -- this order: [the bytes of the item in slot `j`; what this item owns; the bytes of the
+          -- item in slot `i`; what this item owns; the other slots; the header; the memory that
           -- holds the block's pointer; three entries for the open borrow of the block, which
           -- include the lifetime token of the borrow; the other lifetime tokens].
           sets ! (of_opd ! (load ! (through ! refl (stop !)) (look ! 2 refl))) refl good $

@@ -1,5 +1,5 @@
 -- The proof of `take_replacing` is the proof of `swap` up to the first write, followed by the proof
--- of `take` for the second slot. It assumes the laws of the separation logic (`Logic`).
+-- of `take` for slot `j`. It assumes the laws of the separation logic (`Logic`).
 use Rattle.std.proofs.Common.{◌≡◌, ℕ, Some, None, ◌+◌, ◌*◌, ◌<◌, List, ◌∷◌, [], ◌++◌, length, refl, sym, ap, ◌∙◌, arith, w64}
 use lib.ListN.{set, length-set}
 use lib.Seq.{set-set}
@@ -69,8 +69,8 @@ take_replacing_spec 𝓤 𝓛 𝓜 𝓡 wired T A LT LA g d dd met md =
           let p = two_slots E 𝓛 b (o + 16) x.slots i j apart low low' in
           takes_two E ! b (o + 16) x.slots i j p (one.1, two.1) (λ v v' good good'.
           -- The two slots have been separated from the other slots. The proof context holds, in
-          -- this order: [the bytes of the second item; what the second item owns; the bytes of the
-          -- first item; what the first item owns; the other slots; the header; the memory that
+          -- this order: [the bytes of the item in slot `j`; what this item owns; the bytes of the
+          -- item in slot `i`; what this item owns; the other slots; the header; the memory that
           -- holds the block's pointer; three entries for the open borrow of the block, which
           -- include the lifetime token of the borrow; the other lifetime tokens].
           sets ! (of_opd ! (load ! (through ! refl (stop !)) (look ! 2 refl))) refl good $
@@ -84,10 +84,11 @@ take_replacing_spec 𝓤 𝓛 𝓜 𝓡 wired T A LT LA g d dd met md =
           move ! (2 ∷ 1 ∷ []) $ use2 𝓛 (‵ (place (R E) (Some two.0) b here))
           (el_in E 𝓛 b two.0 here v') $
           rewrite ! 0 (λ (c : Option T.Denot). ‵ (place (R E) c b here)) (sym two.1) refl $
-          -- The second item is now in slot `i`, and slot `j` is empty. The proof context holds, in
-          -- this order: [slot `i`; slot `j`; what the removed item owns; the other slots; the
-          -- header; the memory that holds the block's pointer; three entries for the open borrow of
-          -- the block, which include the lifetime token of the borrow; the other lifetime tokens].
+          -- The item from slot `j` is now in slot `i`, and slot `j` is empty. The proof context
+          -- holds, in this order: [slot `i`; slot `j`; what the item that was in slot `i` owns; the
+          -- other slots; the header; the memory that holds the block's pointer; three entries for
+          -- the open borrow of the block, which include the lifetime token of the borrow; the other
+          -- lifetime tokens].
           move ! (0 ∷ 1 ∷ 3 ∷ []) $ use3 𝓛 (‵ (places (R E) after_it b (o + 16)))
           (p.back (slot x.slots j) None) $
           move ! (0 ∷ 2 ∷ 3 ∷ 4 ∷ 5 ∷ 6 ∷ []) $

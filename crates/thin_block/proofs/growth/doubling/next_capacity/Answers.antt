@@ -1,5 +1,5 @@
 -- If the old capacity suffices, `next_capacity` returns the old capacity. Otherwise, it returns the
--- capacity that the growth rule chooses.
+-- capacity that the rule `doubling` chooses.
 use Rattle.std.proofs.Common.{sym, ◌∙◌, arith}
 use Rattle.thin_block.specs.Growth.{doubling}
 use Rattle.thin_block.proofs.CapacityLemmas.{ruled-same, ruled-rule}

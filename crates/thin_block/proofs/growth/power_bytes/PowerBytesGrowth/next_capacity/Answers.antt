@@ -1,6 +1,5 @@
--- The code of `next_capacity` returns the capacity that the growth rule chooses. If the code and
--- the rule compute different capacities, then a block of either capacity is too large to be
--- allocated.
+-- `next_capacity` returns the capacity that the rule `power_bytes` chooses. If the code and the
+-- rule compute different capacities, then a block of either capacity is too large to be allocated.
 use Rattle.std.proofs.Common.{◌≡◌, ◌+◌, ◌*◌, ◌^◌, ◌<◌, ◌≤◌, ◌∙◌, ap, max, subst, sym}
 use Rattle.std.specs.Mem.{type_size}
 use Rattle.std.specs.Align.{type_align}
