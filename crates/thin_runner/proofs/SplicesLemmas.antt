@@ -45,8 +45,8 @@ no-items (x ∷ xs) none = absurd (omega (arith, none))
 
 module _ {T A : Type 0} (s : Hinted T A) (placed : List T)
     (error : SpliceRefused T (Hinted T A) A) where
-  -- `Broke` holds if `finish` placed the items `placed` of the iterator `s`, and then failed with
-  -- `error`.
+  -- `Broke` holds if `finish` put the items `placed` of the iterator `s` into the list, and then
+  -- failed with `error`.
   abbrev pub Broke : Type 0
   Broke = Stopped (HintedSteps {T = T} {A = A}) (can_next-default (Hinted T A) T) hinted_count s
       placed error
@@ -175,8 +175,8 @@ module _ {T A : Type 0} (old : Thin T A) where
   room-end most = subst (λ (v : Thin T A). HasRoomFor v most) cut-end
 
   -- If `HasPlacesFor` holds for `most` items and the empty range at the end of the list, then
-  -- `most` is 0, or the list has room for `most` more items. So `P` holds if each of these two
-  -- cases implies `P`.
+  -- `most` is 0, or the list has room for `most` more items. So a statement `P` holds if each of
+  -- these two cases implies it.
   pub places-end : (P : Type 0) (most : ℕ) → (most ≡ 0 → P) → (HasRoomFor old most → P)
       → HasPlacesFor old (length old.items) (length old.items) most → P
   places-end P most none fits (inl few) = none (omega (arith, few))
