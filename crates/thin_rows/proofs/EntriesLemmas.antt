@@ -16,7 +16,8 @@ both_hold : (a b : Bool) → T (a && b) → T a × T b
 both_hold true b h = (tt, h)
 both_hold false b h = absurd h
 
--- If `c < k`, then `nat_cmp c k` is `Less`. The next two lemmas state the other two cases.
+-- If `c < k`, then `nat_cmp c k` is `Less`. The next two lemmas cover the cases `c ≡ k` and
+-- `k < c`.
 is_less : (c k : ℕ) → c < k → nat_cmp c k ≡ Less
 is_less c k less = grind (arith, nat_tests)
 

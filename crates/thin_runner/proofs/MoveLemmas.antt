@@ -1,5 +1,5 @@
--- `may_move` is an upper bound on the number of items that a command moves. `run_may_move` is an
--- upper bound on the number of items that a run, which is a sequence of commands, moves.
+-- A run is a sequence of commands. These lemmas prove that a command moves at most `may_move`
+-- items, and that a run moves at most `run_may_move` items.
 use Rattle.std.proofs.Common.{Bool, true, false, ◌≡◌, ℕ, ◌+◌, ◌-◌, ◌==◌, ◌<◌, ◌≤◌, List, [], ◌∷◌, ◌++◌, Option, Some, None, length, arith, ap, refl, inl, inr}
 use Rattle.std.proofs.lemmas.List.{length-append, length-replicate}
 use Rattle.std.specs.Prelude.{◌*◌, ◌⊎◌, drop, take, HoldsAt, replicate, if◌then◌else◌}

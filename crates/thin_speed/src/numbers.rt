@@ -277,7 +277,7 @@ impl Count for Three {
     }
 }
 
-/// A test that picks some numbers and rejects all others.
+/// A test that either picks or rejects a number.
 pub trait Pick {
     /// Returns whether the test picks `number`.
     fn picks(number: u64) -> bool;

@@ -10,7 +10,7 @@ pub enum Tables {
     TableGet,
 }
 
-/// Runs `workload` on tables of the kind `F`.
+/// Runs the workload `workload` on a table of the kind `F`.
 ///
 /// # Errors
 ///
