@@ -12,9 +12,9 @@ if_true x y e = ap (λ (b : Bool). if b then x else y) e
 if_false : {b : Bool} (x y : ℕ) → b ≡ false → (if b then x else y) ≡ y
 if_false x y e = ap (λ (b : Bool). if b then x else y) e
 
--- Suppose that the functions `f` and `g` map a row and a column to a number, and that they agree
--- everywhere except at row `i` and column `j`. If `f i j` is `v`, then `f k l` is
--- `if k == i && l == j then v else g k l`.
+-- Suppose that the functions `f` and `g` map a row and a column to a number, and that they may
+-- differ only at row `i` and column `j`. If `f i j` is `v`, then, for all `k` and `l`, the value of
+-- `f k l` is `if k == i && l == j then v else g k l`.
 pub at_place : (f g : ℕ → ℕ → ℕ) (i j v : ℕ) → f i j ≡ v → ((k l : ℕ) → l ≢ j → f k l ≡ g k l)
     → ((k l : ℕ) → k ≢ i → f k l ≡ g k l)
     → (k l : ℕ) → f k l ≡ (if k == i && l == j then v else g k l)
@@ -45,8 +45,8 @@ module _ (f g : ℕ → ℕ → ℕ) (i j v : ℕ)
       told k l ∙ if_false v (g k l) (and_left (k == i) (l == j) (ne_eqb k i other))
 
 -- Suppose that the functions `f`, `g` and `h` map a row and a column to a number. If `f` agrees
--- with `h` in row `i`, and with `g` in all other rows, then `f k l` is
--- `if k == i then h k l else g k l`.
+-- with `h` in row `i`, and with `g` in all other rows, then, for all `k` and `l`, the value of
+-- `f k l` is `if k == i then h k l else g k l`.
 pub at_row : (f g h : ℕ → ℕ → ℕ) (i : ℕ) → ((l : ℕ) → f i l ≡ h i l)
     → ((k l : ℕ) → k ≢ i → f k l ≡ g k l)
     → (k l : ℕ) → f k l ≡ (if k == i then h k l else g k l)
@@ -68,7 +68,7 @@ module _ (t : Table ℕ) (i j : ℕ) where
       (λ k l other. ap (λ o. unwrap_or o 0) (rows_unchanged t i j k l v other))
 
   -- If the entry at row `i` and column `j` of the table `t` is removed, then the number there
-  -- becomes 0 (the lemma calls it `v`), and all other numbers are unchanged.
+  -- becomes 0, and all other numbers are unchanged. The lemma writes `v` for this 0.
   pub number-without_value : (v : ℕ) → v ≡ 0 → (k l : ℕ)
       → number_at (without_value t i j) k l ≡ (if k == i && l == j then v else number_at t k l)
   number-without_value v zero =
@@ -92,9 +92,9 @@ pub still_small : (t u : Table ℕ) (i j v : ℕ) → v < 2 ^ 64
 still_small t u i j v fits small told k l =
     rw (told k l) (either_below (k == i && l == j) v (number_at t k l) (2 ^ 64) fits (small k l))
 
--- Suppose that the table `t` has a row `i`, and that a call turned `t` into `u`: on success, it
--- wrote `v` at row `i` and column `j`, and on failure, it changed nothing. If `v` and all numbers
--- of `t` are less than `2 ^ 64`, then so are all numbers of `u`.
+-- Suppose that a call either writes `v` at row `i` and column `j` of the table `t`, or fails and
+-- changes nothing. Suppose also that `t` has a row `i`, and that `u` is the table after the call.
+-- If `v` and all numbers of `t` are less than `2 ^ 64`, then so are all numbers of `u`.
 pub small_if_written : {X E : Type 0} (result : Result X E) (t u : Table ℕ) (i j v : ℕ)
     → i < length t → v < 2 ^ 64 → ((k l : ℕ) → number_at t k l < 2 ^ 64)
     → OnOk result (u ≡ with_value t i j v) → OnErr result (u ≡ t)

@@ -53,8 +53,8 @@ no_sum f zero = refl
 no_sum f (suc n) = let rest = no_sum f n in omega arith
 
 module _ (f : ℕ → ℕ) where
-  -- `term entries j` is `x * f j` if `entries` contains the number `x` in column `j`. It is 0 if
-  -- `entries` contains no number in column `j`.
+  -- The function `f` maps each column to a number. `term entries j` is `x * f j` if `entries`
+  -- contains the number `x` in column `j`. It is 0 if `entries` contains no number in column `j`.
   abbrev term : List (ℕ × ℕ) → ℕ → ℕ
   term entries j = unwrap_or (find nat_cmp j entries) 0 * f j
 
@@ -67,8 +67,8 @@ module _ (f : ℕ → ℕ) where
       ∙ none_found x entries (both_hold _ _ below).1
 
   -- Suppose that the columns of the entries are strictly increasing and less than `n`. Then the sum
-  -- of `x * f c` over all entries `(c, x)` equals the sum of `term entries j` over all `j` less
-  -- than `n`.
+  -- of `x * f c` over all entries `(c, x)` equals the sum of `term entries j` over all columns `j`
+  -- less than `n`, where a column without an entry adds 0.
   entries_sum : (entries : List (ℕ × ℕ)) (n : ℕ) → T (is_sorted nat_cmp entries)
       → ((k : ℕ) → k < length entries → (slice_index_or entries k (0, 0)).0 < n)
       → sum_by (λ e. e.1 * f e.0) entries ≡ sum_below n (term entries)

@@ -8,13 +8,13 @@ use Rattle.std.proofs.lemmas.Bool.{cases_eq, cases_lt}
 use Rattle.thin_rows.specs.Table.{Columns, Table, row_of, value_at}
 use Rattle.thin_rows.proofs.TableLemmas.{in_order, is_listed, listed}
 
--- `None` never equals `Some x`, so a proof that they are equal proves every `P`.
+-- `None` never equals `Some x`, so the assumption that they are equal implies every statement `P`.
 never : {P : Type 0} {x : ℕ} → None ≡ Some x → P
 never e = cc
 
--- In this module, `row` is the row whose entries are written, and `old j` is the number at column
--- `j` before any entry is written. Writing the number `v` over the number `u` results in the number
--- `write u v`.
+-- In this module, a loop writes each entry of `row` over the number at the entry's column. `old j`
+-- is the number at column `j` before the loop. Writing the number `v` over the number `u` results
+-- in the number `write u v`.
 module _ (write : ℕ → ℕ → ℕ) (row : Columns ℕ) (old : ℕ → ℕ) where
   abbrev column : ℕ → ℕ
   column k = (slice_index_or (columns.entries row) k (0, 0)).0
@@ -52,8 +52,8 @@ module _ (write : ℕ → ℕ → ℕ) (row : Columns ℕ) (old : ℕ → ℕ) w
         ∙ h.left j (λ k less. none k (omega (arith, less)));
   }
 
-  -- The lemma `one_more` also holds for every list `entries` that equals the list of the entries of
-  -- `row`.
+  -- This lemma is `one_more` for a list `entries` that equals the list of the entries of `row`. It
+  -- shows that `IsWritten (n + 1) next` holds after the entry at index `n` has been written.
   pub next_written : (entries : List (ℕ × ℕ)) → entries ≡ columns.entries row → (n : ℕ)
       (now next : ℕ → ℕ) → n < length entries → IsWritten n now
       → next (slice_index_or entries n (0, 0)).0
@@ -62,9 +62,9 @@ module _ (write : ℕ → ℕ → ℕ) (row : Columns ℕ) (old : ℕ → ℕ) w
       → IsWritten (n + 1) next
   next_written entries is = rw is one_more
 
-  -- Suppose that all entries of the row have been written, and that `write (old j) 0` is `old j`.
-  -- Then the number at column `j` is `write (old j) v`, where `v` is the number of the row at
-  -- column `j`, or 0 if the row has no entry there.
+  -- Suppose that all entries of the row have been written, and that writing 0 over the number
+  -- `old j` does not change it. Then the number at column `j` is `write (old j) v`, where `v` is
+  -- the number of the row at column `j`, or 0 if the row has no entry there.
   pub all_written : (n : ℕ) (now : ℕ → ℕ) → n ≡ length (columns.entries row) → IsWritten n now
       → (j : ℕ) → write (old j) 0 ≡ old j
       → now j ≡ write (old j) (unwrap_or (columns.get row j) 0)
@@ -81,8 +81,8 @@ module _ (write : ℕ → ℕ → ℕ) (row : Columns ℕ) (old : ℕ → ℕ) w
             ∙ listed row k (0, 0) (omega (arith, less, all))))) ∙ sym zero
       ] refl
 
--- If the table `t` has no values at the columns from index `n` onward, then all its entries are in
--- columns less than `n`.
+-- If the table `t` has no value at any column that is at least `n`, then the columns of the entries
+-- in each row of `t` are less than `n`.
 pub columns_below : (t : Table ℕ) (n : ℕ) → ((i j : ℕ) → n ≤ j → value_at t i j ≡ None) → (i : ℕ)
     (entries : List (ℕ × ℕ)) → entries ≡ columns.entries (row_of t i) → (k : ℕ)
     → k < length entries → (slice_index_or entries k (0, 0)).0 < n

@@ -16,7 +16,8 @@ both_hold : (a b : Bool) → T (a && b) → T a × T b
 both_hold true b h = (tt, h)
 both_hold false b h = absurd h
 
--- If `c < k`, then `nat_cmp c k` is `Less`. The next two lemmas state the other two cases.
+-- If `c < k`, then `nat_cmp c k` is `Less`. The next two lemmas cover the cases `c ≡ k` and
+-- `k < c`.
 is_less : (c k : ℕ) → c < k → nat_cmp c k ≡ Less
 is_less c k less = grind (arith, nat_tests)
 
@@ -30,7 +31,7 @@ less_from : (c k : ℕ) → T (is_lt (nat_cmp c k)) → c < k
 less_from c k h = grind (arith, nat_tests)
 
 -- `stays c k` is true if the columns `c` and `k` differ. If the entry of column `c` is removed, an
--- entry of column `k` is kept exactly if `stays c k` is true.
+-- entry of column `k` is kept if and only if `stays c k` is true.
 abbrev pub stays : ℕ → ℕ → Bool
 stays c k = not (eq_by_cmp nat_cmp c k)
 
@@ -62,7 +63,7 @@ module _ {V : Type 0} where
   columns_rise (e ∷ entries) h (suc i) (suc k) d before inside =
       columns_rise entries (both_hold _ _ h).1 i k d (omega arith) (omega arith)
 
-  -- If the columns of the entries satisfy `IsRising`, then they satisfy std's
+  -- If the entries satisfy `IsRising`, then the list of their columns satisfies std's
   -- `IsStrictlyIncreasing`. Both predicates say that the columns are strictly increasing.
   pub columns_increase : (entries : List (ℕ × V)) → IsRising entries
       → IsStrictlyIncreasing (map (λ entry. entry.0) entries)

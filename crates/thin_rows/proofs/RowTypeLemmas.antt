@@ -1,6 +1,6 @@
--- These lemmas say that the chosen capacity depends only on the size and the alignment of the item
--- type. So a contract about capacities for one type also holds for each type of the same size and
--- alignment.
+-- When a list chooses a capacity, it uses nothing of its item type except the size and the
+-- alignment. So a contract about capacities for one item type also holds for each item type of the
+-- same size and alignment.
 use Rattle.std.proofs.Common.{◌≡◌, ◌↔◌, ℕ, IsErrOf, None, Option, Result, Ok, Err, ap, refl, sym, ◌∙◌}
 use Rattle.std.specs.Borrow.{RattleType}
 use Rattle.std.specs.Mem.{type_size}
@@ -11,8 +11,8 @@ use Rattle.thin_vec.specs.declared.ThinVecError.TheVariants.{CapacityOverflow}
 use Rattle.thin_vec.specs.List.Capacity.{TellsOverflow, TellsOverflowOf}
 use Rattle.thin_vec.specs.Growth.{Rule, exact_capacity, ruled_capacity}
 
--- If the types `R` and `S` have the same size and the same alignment, then `exact_capacity` is the
--- same for both types.
+-- If the types `R` and `S` have the same size and the same alignment, then the function
+-- `exact_capacity` returns the same capacity for both types.
 pub exact_of_same : (R S : RattleType) (c w : ℕ) → type_size R ≡ type_size S
     → type_align R ≡ type_align S → exact_capacity R c w ≡ exact_capacity S c w
 unfolding exact_capacity
@@ -35,11 +35,9 @@ no_error same = cc
 pub same_cause : {X E : Type 0} {d e : E} → IsErrOf {T = X} (Err d) e → d ≡ e
 same_cause same = cc
 
--- Suppose that `result` fails with `cause`, an error that the operator `?` passed on. Suppose also
--- that the types `R` and `S` have the same size and alignment, and that `cause` is
--- `CapacityOverflow` if and only if a block for `w` items of the type `R` is too large. Then
--- `result` fails with `CapacityOverflow` if and only if a block for `w` items of the type `S` is
--- too large.
+-- Suppose that `result` is the error `cause`, and that the types `R` and `S` have the same size and
+-- alignment. Suppose also that `cause` is `CapacityOverflow` if and only if a block for `w` items
+-- of the type `R` is too large. Then the same holds for a block for `w` items of the type `S`.
 pub error_tells : {X Y : Type 0} (R S : RattleType) (w : ℕ) (cause : ThinVecError)
     (result : Result Y ThinVecError) → type_size S ≡ type_size R → type_align S ≡ type_align R
     → IsErrAnd result (λ e. e ≡ cause) → TellsOverflowOf {X = X} R w (Err cause)
@@ -66,10 +64,9 @@ failure_tells same told = record {
   );
 }
 
--- Suppose that the types `R` and `S` have the same size and alignment. If a successful call
--- satisfies `TellsOverflowOf R w`, then a successful call also satisfies `TellsOverflowOf S w`. For
--- a successful call, `TellsOverflowOf R w` says that a block for `w` items of the type `R` is not
--- too large.
+-- If a call succeeded, then `TellsOverflowOf R w` says that a block for `w` items of the type `R`
+-- is not too large. This lemma derives `TellsOverflowOf S w` from `TellsOverflowOf R w` if the
+-- types `R` and `S` have the same size and alignment.
 pub made_tells : {X Y : Type 0} (R S : RattleType) (w : ℕ) (x : X) (y : Y)
     → type_size S ≡ type_size R → type_align S ≡ type_align R
     → TellsOverflowOf R w (Ok x) → TellsOverflowOf S w (Ok y)

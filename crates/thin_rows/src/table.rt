@@ -128,7 +128,7 @@ impl<V, A: Allocator> Rows<V, A> {
         // When it must succeed.
         ensures succeeds { IsSome (value_at self.old row column) → IsOk result }
 
-        // On failure, the table is unchanged.
+        // On failure, the table is unchanged. The error contains the cause and `value`.
         ensures overflow { OnErr result (TellsOverflow (ruled_capacity doubling (entry_type V.row)
             (columns.len (row_of self.old row)) (columns.len (row_of self.old row) + 1))
             (causes result)) }

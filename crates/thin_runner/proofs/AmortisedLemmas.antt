@@ -1,5 +1,5 @@
 -- Suppose that a new list is changed only by pushes and pops, and that `m` pushes succeed, where
--- `m` is at least 1. Then growing the list copies fewer than `2 * m` items.
+-- `m` is at least 1. Then all growth of the list copies fewer than `2 * m` items in total.
 use Rattle.std.proofs.Common.{◌≡◌, ℕ, zero, suc, ◌+◌, ◌*◌, ◌<◌, ◌≤◌, List, [], ◌∷◌, length, arith, ap, ◌∙◌, refl, subst, inl, inr}
 use Rattle.std.proofs.lemmas.Bool.{cases_lt}
 use Rattle.std.proofs.lemmas.List.{length-append, length_push}
@@ -20,9 +20,9 @@ use Rattle.thin_runner.specs.declared.command.Reply.{Reply}
 use Rattle.thin_runner.specs.declared.command.Reply.TheVariants.{Done, Item, Returned, OutOfRange}
 use Rattle.thin_runner.proofs.PaidLemmas.{step-paid}
 
--- `IsAmortised m v` holds if the list `v` is cheap, its length is at most its capacity and at most
--- `m`, and growing it has copied either no items or fewer than `2 * m` items. (A list is cheap,
--- `IsCheap`, if growing it has cost little.)
+-- A list is cheap (`IsCheap`) if growing it has cost little. `IsAmortised m v` holds if the list
+-- `v` is cheap, its length is at most its capacity and at most `m`, and growing it has copied
+-- either no items or fewer than `2 * m` items.
 pub record IsAmortised {T A : Type 0} (m : ℕ) (v : Thin T A) : Type 0 where
   pub cheap : IsCheap v
   pub room : length v.items ≤ v.capacity

@@ -1,5 +1,5 @@
--- Each command calls a method of a list. These lemmas help to derive what `specs/Steps` states
--- about the command from the contract of the method.
+-- Each command calls a method of a list. These lemmas help to derive, from the contract of the
+-- method, what `specs/Steps` states about the command.
 use Rattle.std.proofs.Common.{◌≡◌, ℕ, ◌<◌, ◌⊎◌, List, [], ◌∷◌, Some, refl, length, inl, inr, arith}
 use Rattle.std.specs.Borrow.{RattleType}
 use Rattle.std.specs.Prelude.{HoldsAt}
@@ -33,9 +33,9 @@ module _ {T A : Type 0} where
 
   module _ (rule : Rule) where
     -- Suppose that a call that clones the items `sources` failed, and that it changed neither the
-    -- items nor the allocator of the list `v`. Then either the list did not change at all, or its
-    -- capacity became the one that the growth rule requires for `k` more items and a source could
-    -- not be cloned. In the second case, each source before that source counts as one move.
+    -- items nor the allocator of the list `v`. Then either nothing else changed, or a source could
+    -- not be cloned. In the second case, the new capacity is the one that the growth rule requires
+    -- for `k` more items, and each source before that source counts as one move.
     pub refuses-clone : (R : RattleType) (k : ℕ) {infallible : T → Type 0} {sources : List T}
         {v w : Thin T A} → w.items ≡ v.items → w.alloc ≡ v.alloc
         → (w ≡ v) ⊎ (capacity_for rule R v k ≡ Some w.capacity)

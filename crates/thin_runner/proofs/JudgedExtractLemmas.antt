@@ -1,5 +1,5 @@
--- Lemmas about an `ExtractIf` whose closure asks a judge which items to remove. They state what the
--- calls to `next` return, and which items the list has afterwards.
+-- A judge decides which items to remove. These lemmas are about an `ExtractIf` whose closure asks a
+-- judge. They state what the calls to `next` return, and which items the list has afterwards.
 use Rattle.std.proofs.Common.{◌≡◌, ℕ, zero, suc, ◌+◌, ◌-◌, ◌≤◌, ◌==◌, Bool, true, false, List, [], ◌∷◌, ◌++◌, Option, None, Some, length, take, drop, refl, arith, ap, subst, sym, ◌∙◌, append_assoc}
 use Rattle.std.proofs.Math.Dec.{eqb-suc-zero}
 use Rattle.std.proofs.lemmas.List.{append-nil, length-append, length-drop, length-map, length-take}
@@ -60,9 +60,9 @@ module _ {T : Type 0} where
   few-goes None = refl
   few-goes (Some x) = refl
 
-  -- If the verdicts `a` remove an item, then the number of moves for `a ++ b` is the number of
-  -- moves for `a`, plus one move for each item that the verdicts `b` keep. Otherwise, it is the
-  -- number of moves for `a` plus the number of moves for `b`.
+  -- A kept item is moved if an item before it was removed. So if the verdicts `a` remove an item,
+  -- then every item that the verdicts `b` keep is moved. Otherwise, the number of moves for
+  -- `a ++ b` is the sum of the numbers of moves for `a` and for `b`.
   pub moves-append : (a b : Verdicts T) → moved_down (flags_of (a ++ b))
       ≡ moved_down (flags_of a) + (if length (left_at false a) == 0 then moved_down
       (flags_of b) else trues (flags_of b))
@@ -145,8 +145,8 @@ module _ {S T J : Type 0} (R : S → T → Bool → S → T → Type 0) (judge_o
             ∙ ap (left_at false) (none-left (judge_of t) k) in
             subst (λ l. handed_out (suc k) l ≡ None ∷ handed_out k l) (sym empty) refl
 
--- If `m` moves are added to a cost, and then `k` more moves if `gone` is not 0, then the result is
--- the same as if all these moves were added at once.
+-- The number `k'` is `k` if `gone` is not 0, and 0 otherwise. Adding `m` moves and then `k'` moves
+-- to a cost yields the same cost as adding `m + k'` moves at once.
 charged : (gone m k : ℕ) (c : Cost)
     → (if gone == 0 then moving m c else moving k (moving m c))
     ≡ moving (m + (if gone == 0 then 0 else k)) c
@@ -261,7 +261,7 @@ module _ {T A : Type 0} (v w : Thin T A) (a b : ℕ) (asked : Verdicts T) where
     pub alloc : w.alloc ≡ v.alloc
 
   -- After the extraction has ended, the list `w` contains exactly the items of the list `v` that
-  -- the verdicts keep (`sifted`).
+  -- the verdicts keep. The function `sifted` computes this list.
   pub extracting-ends : (at : Stand T) (rest tail : List T)
       → IsExtracting asked (take a v.items) v.cost at → at.left ≡ stay rest → tail ≡ drop b v.items
       → IsLeft at rest tail → w ≡ sifted v (around v.items a b asked)
@@ -312,8 +312,8 @@ module _ {T J : Type 0} (ask : J → T → Bool × T × J) where
   extracting-length j (suc k) (x ∷ xs) =
       ap suc (extracting-length (ask j x).2 (if (ask j x).0 then k else suc k) xs)
 
-  -- If `k` calls to `next` extract items from the range `a..b` of the list `xs`, then the number of
-  -- items that are kept is at most `length xs`.
+  -- If `k` calls to `next` extract items from the range `a..b` of the list `xs`, then the list
+  -- keeps at most `length xs` items.
   pub few-extracted : (j : J) (k : ℕ) (xs : List T) (a b : ℕ) → a ≤ b → b ≤ length xs
       → length (left_at true (around xs a b (extracting ask j k (slice_range xs a b)))) ≤ length xs
   few-extracted j k xs a b order within =

@@ -33,7 +33,8 @@ module _ {S T J : Type 0} (R : S → T → Bool → S → T → Type 0) (judge_o
       ∙ ap (λ l. (l.0, l.1) ∷ asked ask l.2 xs) (told s x a.0 a.2 a.1 a.4))
 
   -- Suppose that `retain` or `retain_mut` turned the list `v` into `w`, and that its closure asked
-  -- the judge. Then `w` contains exactly the items of `v` that the judge keeps (`sifted`).
+  -- the judge. Then `w` contains exactly the items of `v` that the judge keeps. The function
+  -- `sifted` computes this list.
   pub retained-by : {A : Type 0} (s : S) (v w : Thin T A) → IsRetained R s v w
       → w.capacity ≡ v.capacity → w.alloc ≡ v.alloc
       → w ≡ sifted v (asked ask (judge_of s) v.items)
@@ -46,9 +47,9 @@ module _ {S T J : Type 0} (R : S → T → Bool → S → T → Type 0) (judge_o
 -- This module is about methods such as `dedup_by`, which compare each item with the last item kept
 -- before it.
 module _ {T : Type 0} where
-  -- `Leaves flags ys b` holds if `flags` and `ys` follow from the pair `b`, which consists of a
-  -- first item and the verdicts on the later items. `flags` must contain the flags of these
-  -- verdicts. `ys` must contain the first item, followed by the later items that the verdicts keep.
+  -- The pair `b` consists of a first item and the verdicts on the later items. `Leaves flags ys b`
+  -- holds if `flags` says for each later item whether its verdict keeps it, and `ys` is the first
+  -- item, followed by the later items that are kept.
   abbrev pub Leaves : List Bool → List T → T × Verdicts T → Type 0
   Leaves flags ys b = (flags ≡ flags_of b.1) × (ys ≡ b.0 ∷ left_at true b.1)
 
@@ -57,9 +58,10 @@ module _ {S T J : Type 0} (R : S → T → T → Bool → S → T → T → Type
     (same : J → T → T → Bool × T × T × J)
     (told : (s : S) (x k : T) (b : Bool) (u : S) (x' k' : T) → R s x k b u x' k'
     → (b, x', k', judge_of u) ≡ same (judge_of s) x k) where
-  -- Suppose that a closure that asks the judge compared each item of `xs` with the last item kept
-  -- before it, and the first item of `xs` with `k`. Then the list `flags` of the verdicts and the
-  -- list `ys` of the kept items agree with the decisions of the judge.
+  -- Suppose that a closure asks the judge, and that it compared each item of `xs` with the last
+  -- item kept before that item. The item `k` was kept before the first item of `xs`. Then the list
+  -- `flags` of the verdicts and the list `ys` of the kept items agree with the decisions of the
+  -- judge.
   pub asked-last-by : (s t : S) (k : T) (xs : List T) (flags : List Bool) (ys : List T)
       → AskedLast R s k xs flags ys t → Leaves flags ys (asked_last same (judge_of s) k xs)
   asked-last-by s t k [] flags ys a = (a.0, a.1)
@@ -79,9 +81,9 @@ module _ {S T J : Type 0} (R : S → T → T → Bool → S → T → T → Type
       answered by false m e = let h =
           by a.1 m.0 m.1 in (e ∙ ap (λ l. true ∷ l) h.0, m.2 ∙ ap (λ l. a.2 ∷ l) h.1)
 
-  -- Suppose that a closure that asks the judge compared each item of `xs` except the first with the
-  -- last item kept before it. Then the kept items `ys` and the number of moves agree with the
-  -- decisions of the judge.
+  -- Suppose that a closure asks the judge, and that it compared each item of `xs`, except the first
+  -- one, with the last item kept before it. Then the kept items `ys` and the number of moves agree
+  -- with the decisions of the judge.
   pub asked-pairs-by : (s t : S) (xs : List T) (flags : List Bool) (ys : List T)
       → AskedPairs R s xs flags ys t
       → (moved_down flags ≡ moved_down (flags_of (asked_pairs same (judge_of s) xs)))
@@ -91,7 +93,8 @@ module _ {S T J : Type 0} (R : S → T → T → Bool → S → T → T → Type
       in (ap moved_down h.0, h.1)
 
   -- Suppose that `dedup_by` turned the list `v` into `w`, and that its closure asked the judge.
-  -- Then `w` contains exactly the items of `v` that the judge keeps (`sifted`).
+  -- Then `w` contains exactly the items of `v` that the judge keeps. The function `sifted` computes
+  -- this list.
   pub deduped-by : {A : Type 0} (s : S) (v w : Thin T A) → IsDedupedBy R s v w
       → w.capacity ≡ v.capacity → w.alloc ≡ v.alloc
       → w ≡ sifted v (asked_pairs same (judge_of s) v.items)
@@ -106,8 +109,8 @@ module _ {F T A J : Type 0} (g : Mut F (MutBor T × Unit {0}) (ℕ × (MutBor T 
     (told : (f : F) (x : T) (k : ℕ) (f' : F) (x' : T) → CalledAtMut g f x k f' x'
     → (k, x', judge_of f') ≡ key (judge_of f) x) where
   -- Suppose that `dedup_by_key` turned the list `v` into `w`, and that its closure asked the judge.
-  -- Then `w` contains exactly the items of `v` that the judge keeps (`sifted`). Of two compared
-  -- items, the key of the later one is computed first.
+  -- Then `w` contains exactly the items of `v` that the judge keeps. For each comparison of two
+  -- items, the key of the later item is computed first.
   pub deduped-by-keys : (f : F) (v w : Thin T A)
       → IsDedupedBy (ComparesKeys g (λ a b. a == b)) f v w → w.capacity ≡ v.capacity
       → w.alloc ≡ v.alloc → w ≡ sifted v (asked_pairs (same_key key) (judge_of f) v.items)
@@ -132,7 +135,8 @@ module _ {T J : Type 0} (look : J → T → Bool × J) where
   pub looked : (j u : J) (x y : T) (b : Bool) → (b, u) ≡ look j x → y ≡ x → (b, y, u) ≡ looks j x
   looked j u x y b told same = ap (λ z. (b, z, u)) same ∙ ap (λ a. (a.0, x, a.1)) told
 
--- The lemmas of this module help to show that a filter does not increase the number of items.
+-- The lemmas of this module help to show that a command that tests items and removes some of them
+-- does not increase the number of items.
 module _ {T : Type 0} where
   -- The number of kept items is at most the number of verdicts.
   pub few-left : (verdicts : Verdicts T) → length (left_at true verdicts) ≤ length verdicts
@@ -220,7 +224,8 @@ module _ {T J : Type 0} (E : T → T → Bool) (j : J) where
   dedup-pairs (x ∷ xs) = let h = dedup-last x xs in (ap moved_down h.0, h.1)
 
   -- Suppose that `dedup` compared items with the test `E`, and turned the list `v` into `w`. Then
-  -- `w` contains exactly the items of `v` that a judge with the test `E` keeps (`sifted`).
+  -- `w` contains exactly the items of `v` that a judge with the test `E` keeps. The function
+  -- `sifted` computes this list.
   pub deduped-alike : {A : Type 0} (v w : Thin T A) → w.items ≡ dedup E v.items → w.cost
       ≡ moving (moved_down (unlike E v.items)) v.cost
       → w.capacity ≡ v.capacity → w.alloc ≡ v.alloc → w ≡ sifted v (asked_pairs tells j v.items)

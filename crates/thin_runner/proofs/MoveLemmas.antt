@@ -1,5 +1,5 @@
--- The number of items that a command moves is at most `may_move`. The number of items that a run (a
--- sequence of commands) moves is at most `run_may_move`.
+-- A run is a sequence of commands. These lemmas prove that a command moves at most `may_move`
+-- items, and that a run moves at most `run_may_move` items.
 use Rattle.std.proofs.Common.{Bool, true, false, ◌≡◌, ℕ, ◌+◌, ◌-◌, ◌==◌, ◌<◌, ◌≤◌, List, [], ◌∷◌, ◌++◌, Option, Some, None, length, arith, ap, refl, inl, inr}
 use Rattle.std.proofs.lemmas.List.{length-append, length-replicate}
 use Rattle.std.specs.Prelude.{◌*◌, ◌⊎◌, drop, take, HoldsAt, replicate, if◌then◌else◌}
@@ -30,7 +30,8 @@ few-repeats k x = omega (arith, length-replicate (k - 1) x)
 
 module _ {T A : Type 0} (v w : Thin T A) where
   -- If the lists `w` and `u` are equal, and the costs of `u` and `v` count the same number of
-  -- moves, then, for every `k`, the cost of `w` counts at most `k` more moves than the cost of `v`.
+  -- moves, then the cost of `w` counts at most `k` more moves than the cost of `v`, for every
+  -- number `k`.
   same-moves : (u : Thin T A) (k : ℕ) → w ≡ u → u.cost.moves ≡ v.cost.moves
       → w.cost.moves ≤ v.cost.moves + k
   same-moves u k e same = omega (arith, ap (λ z. z.cost.moves) e, same)

@@ -1,6 +1,6 @@
--- A list is cheap (`IsCheap`) if growing it has cost little. A sequence of commands that contains
--- neither `ReserveExact` nor `ShrinkToFit` keeps a cheap list cheap. The number of items that
--- growth copies during these commands is at most the increase of the capacity.
+-- A list is cheap (`IsCheap`) if growing it has cost little. A cheap list is still cheap after a
+-- sequence of commands that contains neither `ReserveExact` nor `ShrinkToFit`. The number of items
+-- that growth copies during these commands is at most the increase of the capacity.
 use Rattle.std.proofs.Common.{◌≡◌, ℕ, suc, ◌+◌, ◌-◌, ◌^◌, ◌<◌, ◌≤◌, List, [], ◌∷◌, ◌++◌, Some, None, length, arith, ap, sym, subst, ◌∙◌, refl, inl, inr}
 use Rattle.std.proofs.lemmas.Bool.{cases_lt}
 use Rattle.std.proofs.lemmas.List.{length-append, length-set, length_push, length-drop, length-take}

@@ -20,9 +20,9 @@ module _ {T A G : Type 0} (count : Command T A G → Reply T A G → ℕ) where
   counted commands replies = 0
 
 module _ {T A G J : Type 0} (here : Setting T A J) where
-  -- `HasRun` states that all of `commands` except the last ones, `left`, have run and have turned
-  -- the list `old` into `new`. It also states that their replies were appended to the list
-  -- `before`, which became `after`.
+  -- The list `left` contains the last commands of `commands`. `HasRun` states that all other
+  -- commands have run and have turned the list `old` into `new`. It also states that their replies
+  -- were appended to the list `before`, which became `after`.
   pub record HasRun (old : Thin T A) (commands left : List (Command T A G))
       (before after : List (Reply T A G)) (new : Thin T A) : Type 0 where
     pub done : List (Command T A G)

@@ -19,8 +19,9 @@ use Rattle.thin_runner.specs.declared.command.Reply.TheVariants.{Done, Item, Ret
 
 -- Suppose that the capacity is `before` at the start of a run, `mid` after its first step, and
 -- `after` at its end. Suppose also that the length is `len` at the start, `long` after the first
--- step, and at most `rest` from then on. Then a bound for the first step and a bound for the other
--- steps imply a bound for the whole run.
+-- step, and at most `rest` from then on. Then the bound
+-- `after <= max before (max 4 (2 * max len rest))` for the whole run follows from the similar
+-- bounds for the first step and for the other steps.
 slack-join : (before mid after len long rest : ℕ) → mid ≤ max before (max 4 (2 * long))
     → after ≤ max mid (max 4 (2 * rest)) → long ≤ rest
     → after ≤ max before (max 4 (2 * max len rest))

@@ -45,8 +45,8 @@ no-items (x ∷ xs) none = absurd (omega (arith, none))
 
 module _ {T A : Type 0} (s : Hinted T A) (placed : List T)
     (error : SpliceRefused T (Hinted T A) A) where
-  -- `Broke` holds if `finish` placed the items `placed` of the iterator `s`, and then failed with
-  -- `error`.
+  -- `Broke` holds if `finish` put the items `placed` of the iterator `s` into the list, and then
+  -- failed with `error`.
   abbrev pub Broke : Type 0
   Broke = Stopped (HintedSteps {T = T} {A = A}) (can_next-default (Hinted T A) T) hinted_count s
       placed error
@@ -123,9 +123,9 @@ module _ {T A : Type 0} (old : Thin T A) (a b : ℕ) where
         subst (λ (v : Thin T A). CostsAdding v new (2 * (length old.items - b))) left-is
         (subst (λ (n : ℕ). CostsAdding (left_of block alloc) new (2 * n)) tail-count cost)
 
-    -- Suppose that `left` is the limit `at_most most` on the number of items that an iterator may
-    -- still yield. If `IsExtended` holds for the list of the open block and the limit `left`, then
-    -- it also holds for the list `cut old a b` and the limit `at_most most`.
+    -- `IsExtended` restricts the capacity after a list was extended with the items of an iterator.
+    -- If it holds for the list of the open block and the limit `left`, and `left` equals
+    -- `at_most most`, then it also holds for the list `cut old a b` and the limit `at_most most`.
     pub ruled : (rule : Rule) (R : RattleType) (new : Thin T A) (most : ℕ) (left : Count)
         → left ≡ at_most most
         → IsExtended rule R (left_of block alloc) new.capacity (length new.items) left
@@ -175,8 +175,8 @@ module _ {T A : Type 0} (old : Thin T A) where
   room-end most = subst (λ (v : Thin T A). HasRoomFor v most) cut-end
 
   -- If `HasPlacesFor` holds for `most` items and the empty range at the end of the list, then
-  -- `most` is 0, or the list has room for `most` more items. So `P` holds if each of these two
-  -- cases implies `P`.
+  -- `most` is 0, or the list has room for `most` more items. So a statement `P` holds if each of
+  -- these two cases implies it.
   pub places-end : (P : Type 0) (most : ℕ) → (most ≡ 0 → P) → (HasRoomFor old most → P)
       → HasPlacesFor old (length old.items) (length old.items) most → P
   places-end P most none fits (inl few) = none (omega (arith, few))

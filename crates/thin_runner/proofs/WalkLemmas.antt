@@ -32,7 +32,7 @@ module _ {T : Type 0} where
       ∙ take-append_seam ys (x ∷ []) in
       λ i. last i ∷ walked (others i) steps
 
-  -- The lemma `walked-last` also holds for every `step` that equals `Back`.
+  -- This lemma states the same as `walked-last`, but for any first step `step` that equals `Back`.
   pub walked-back : (xs ys : List T) (item : Option T) (step : Step) → step ≡ Back
       → MatchOption item ((xs ≡ []) × (ys ≡ [])) (λ x. xs ≡ ys ++ x ∷ [])
       → (steps : List Step) → walked xs (step ∷ steps) ≡ item ∷ walked ys steps

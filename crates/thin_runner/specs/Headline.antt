@@ -27,7 +27,7 @@ module _ {T A G J : Type 0} (here : Setting T A J) where
     pub plain : ClonesEqual here.clones → All IsGranted replies
         → (new.items ≡ fold (items_after here) old.items commands)
         × (map seen replies ≡ scan (items_after here) (reply_to here) old.items commands)
-    -- In every case, even if calls failed, the definition `Runs` allows the replies and the final
+    -- In every case, even if calls failed, the predicate `Runs` allows the replies and the final
     -- list, including its items, capacity and cost.
     pub allowed : Runs here old commands replies new
     -- The items fit into the capacity of the list. An allocation of this capacity does not exceed

@@ -1,5 +1,5 @@
--- Contracts describe an iterator `Hinted` by the items that are left, and by the lower bound of its
--- size hint.
+-- Contracts describe an iterator of the type `Hinted` by the list of the items that it has not
+-- yielded yet, and by the lower bound of its size hint.
 use Rattle.std.specs.Prelude.{◌≡◌, ℕ, ◌+◌, List, Option, length}
 use Rattle.std.specs.Iterator.{Count, YieldsFirst, at_most}
 use Rattle.std.specs.Vec.Iter.{into_iter_items}

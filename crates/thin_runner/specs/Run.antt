@@ -43,9 +43,9 @@ module _ {T A G J : Type 0} (here : Setting T A J) where
   Runs old commands replies new = ⊥
 
   -- `may_move xs command reply` is an upper bound on the number of items that the command moves if
-  -- it runs on a list with the items `xs` and gets this reply. Items that growth copies are not
-  -- counted. For a command that tests items and removes some of them, the bound is the number of
-  -- kept items that change their place. If a command fails partway, it may move fewer items than
+  -- it runs on a list with the items `xs` and gets the reply `reply`. Items that growth copies are
+  -- not counted. For a command that tests items and removes some of them, the bound is the number
+  -- of kept items that change their place. If a command fails partway, it may move fewer items than
   -- the bound.
   abbrev pub may_move : List T → Command T A G → Reply T A G → ℕ
   may_move xs command (OutOfRange back) = 0

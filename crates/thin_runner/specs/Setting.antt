@@ -23,7 +23,7 @@ pub record Setting (T A J : Type 0) : Type 1 where
   pub alloc : A
   pub judge : J
 
--- Makes a setting from the values of its fields.
+-- `setting` makes a setting from the values of its fields.
 abbrev pub setting : {T A J : Type 0} → (T → T → Type 0) → (T → Type 0) → (T → T → Bool)
     → Judging T J → Rule → RattleType → A → J → Setting T A J
 setting clones infallible eq judging rule R alloc judge =

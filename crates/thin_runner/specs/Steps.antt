@@ -1,6 +1,6 @@
 -- `Steps` states how each command may change a list, and which replies it may get. A change or a
--- reply that no case describes is not allowed. If the difference of two numbers would be negative,
--- it is 0.
+-- reply that no case describes is not allowed. In these definitions, the difference of two numbers
+-- is 0 if it would be negative.
 use Rattle.std.specs.Prelude.{◌≡◌, ◌+◌, ◌-◌, ◌==◌, ◌<◌, ◌≤◌, ◌↔◌, List, [], ◌∷◌, ◌++◌, IsSome, MatchOption, None, Some, drop, false, if◌then◌else◌, insert, length, remove, replicate, slice_get, slice_range, slice_set, take}
 use Rattle.std.specs.List.{AllZip, AppendsClones, remove_range, swap_remove}
 use Rattle.std.specs.Option.{option_to_list}

@@ -241,9 +241,9 @@ impl Iterator for Unhinted {
 /// The four items that each call in the workload `replace_more` inserts.
 pub const FOUR: [u64; 4] = [7; 4];
 
-/// The number of items that the method `splice_few` inserts.
+/// A type that states how many items the method `splice_few` inserts.
 pub trait Count {
-    /// Returns the number of items.
+    /// Returns the number of items to insert.
     fn count() -> usize;
 }
 
@@ -277,7 +277,7 @@ impl Count for Three {
     }
 }
 
-/// A test that picks numbers.
+/// A test that either picks or rejects a number.
 pub trait Pick {
     /// Returns whether the test picks `number`.
     fn picks(number: u64) -> bool;

@@ -22,9 +22,9 @@ impl Ruled for Doubling {
 }
 
 impl Ruled for PowerBytes {
-    // Returns the capacity of a block that fills a number of bytes that is a power of two. The
-    // first 16 bytes of the block hold the capacity and the length. For items of size 0, the result
-    // is the same as under `Doubling`.
+    // Returns the capacity of a block whose size in bytes is a power of two. The first 16 bytes of
+    // the block hold the capacity and the length. For items of size 0, the result is the same as
+    // under `Doubling`.
     fn expected_capacity(size: usize, capacity: usize, want: usize) -> usize {
         if size == 0 {
             return Doubling::expected_capacity(size, capacity, want);

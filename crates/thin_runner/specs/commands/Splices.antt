@@ -29,7 +29,7 @@ module _ {T A : Type 0} (rule : Rule) (R : RattleType) (old : Thin T A) (a b : �
   -- `Replaces placed most new` states that the items `placed` replaced the items `a..b` of the list
   -- `old`, which became `new`. `most` is an upper bound on the number of items that the iterator
   -- could yield. Each placed item was moved once, and each item after the range at most twice. If
-  -- the capacity changed, the growth rule requires the new capacity, either for at most the final
+  -- the capacity changed, the growth rule chose the new capacity, either for at most the final
   -- number of items or for a size hint of at most `most`.
   pub record Replaces (placed : List T) (most : ℕ) (new : Thin T A) : Type 0 where
     pub items : new.items ≡ (take a old.items ++ placed) ++ drop b old.items
@@ -51,8 +51,9 @@ module _ {T A : Type 0} (rule : Rule) (R : RattleType) (old : Thin T A) (a b : �
     pub claim : rest.lower ≡ lower
     pub filled : Replaces placed (lower + length xs) new
     pub no_room : ¬ (HasPlacesFor old a b (lower + length xs))
-    -- If `held` is empty and `in_hand` is `None`, then the list has no room for a size hint that
-    -- `rest` may return, and growing the list for this size hint failed with `cause`.
+    -- If `held` is empty and `in_hand` is `None`, then the list has no room for as many items as
+    -- the size hint of `rest` may promise, and growing the list for these items failed with
+    -- `cause`.
     pub by_hint : held ≡ [] → in_hand ≡ None
         → FailsAtHint rule R new (at_most (rest.lower + length (into_iter_items rest.items))) cause
     -- If `held` has items and `in_hand` is `None`, then the cause is `CapacityOverflow` if and only

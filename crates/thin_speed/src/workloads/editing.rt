@@ -5,7 +5,7 @@ use crate::workloads::shapes::{Work, filled, refill, refilled, repeated};
 use std::alloc::Global;
 use std::marker::PhantomData;
 
-/// The workloads that this file defines.
+/// The workloads that insert, remove or replace items at indices of a list.
 #[derive(Clone, Copy)]
 pub enum Editing {
     InsertFront,
@@ -26,7 +26,7 @@ pub enum Editing {
     ShrinkPush,
 }
 
-/// Runs `workload` on lists of the kind `F`.
+/// Runs the workload `workload`, which edits a list at indices, on lists of the kind `F`.
 ///
 /// # Errors
 ///
@@ -158,8 +158,8 @@ impl<L: Numbers, const START: usize, const END: usize> Work<L, u64> for DrainFew
     }
 }
 
-/// A workload that replaces the two items from `START` up to, but not including, `END` with one or
-/// two items. If only one item is inserted, it also pushes an item.
+/// A workload that replaces two items, at the indices `START..END`, with one or two items. If only
+/// one item is inserted, it also pushes an item.
 pub struct SpliceFew<C, const START: usize, const END: usize> {
     count: PhantomData<C>,
 }

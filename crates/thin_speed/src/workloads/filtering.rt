@@ -8,7 +8,7 @@ use crate::workloads::shapes::{Work, refilled};
 use std::alloc::Global;
 use std::marker::PhantomData;
 
-/// The workloads that this file defines.
+/// The workloads that remove items, using a method such as `retain` or `dedup`.
 #[derive(Clone, Copy)]
 pub enum Filtering {
     RetainHalf,
@@ -28,7 +28,7 @@ pub enum Filtering {
     ExtractRandom,
 }
 
-/// Runs `workload` on lists of the kind `F`.
+/// Runs the workload `workload`, which removes items, on lists of the kind `F`.
 ///
 /// # Errors
 ///

@@ -7,7 +7,7 @@ use crate::workloads::shapes::{Idle, Make, filled, made_anew, refilled};
 use std::alloc::{AllocError, Global};
 use std::io::Write;
 
-/// The workloads that this file defines.
+/// The workloads in which a list grows, is refilled, or is read to its end.
 #[derive(Clone, Copy)]
 pub enum Growing {
     Push,
@@ -37,7 +37,7 @@ pub enum Growing {
     RefillWide,
 }
 
-/// Runs `workload` on lists of the kind `F`.
+/// Runs the workload `workload`, which grows, refills or reads lists of the kind `F`.
 ///
 /// # Errors
 ///

@@ -3,7 +3,7 @@ use crate::lists::{Family, List};
 use crate::numbers::{Outcome, mixed};
 use std::alloc::{AllocError, Global};
 
-/// The workloads that this file defines.
+/// The workloads that use many lists instead of a single one.
 #[derive(Clone, Copy)]
 pub enum Many {
     EmptyLists,
@@ -15,7 +15,7 @@ pub enum Many {
     Leaves,
 }
 
-/// Runs `workload` on lists of the kind `F`.
+/// Runs the workload `workload`, which uses many lists of the kind `F`.
 ///
 /// # Errors
 ///

@@ -99,8 +99,8 @@ pub fn repeated<L: Numbers, W: Work<L, u64>>(alloc: Global, size: usize, times: 
 
 /// The way in which a workload makes a new list.
 pub trait Make<L> {
-    /// Makes a new list from the items of `source`, or a new list whose length depends on `size`.
-    /// The length of `source` is `size`.
+    /// Makes a new list. Some implementations take its items from `source`, whose length is `size`.
+    /// The other implementations use only `size`.
     ///
     /// # Errors
     ///

@@ -3,14 +3,14 @@ use crate::lists::{Family, Table};
 use crate::numbers::{Outcome, mixed};
 use std::alloc::{AllocError, Global};
 
-/// The workloads that this file defines.
+/// The workloads that write and read the entries of a table.
 #[derive(Clone, Copy)]
 pub enum Tables {
     TableSet,
     TableGet,
 }
 
-/// Runs `workload` on tables of the kind `F`.
+/// Runs the workload `workload` on a table of the kind `F`.
 ///
 /// # Errors
 ///
@@ -61,8 +61,8 @@ pub fn get_all<C: Table>(alloc: Global, size: usize, times: usize) -> Outcome {
     Ok(sum)
 }
 
-// Makes a table, and writes entries at its first `size` places, counted row by row. The entries are
-// written in a different order. If `size` is a multiple of 7919, some of these places get no entry.
+// Makes a table, and writes entries at its first `size` places, counted row by row. But the entries
+// are not written row by row. If `size` is a multiple of 7919, some of these places get no entry.
 #[inline(never)]
 fn filled_table<C: Table>(alloc: Global, size: usize) -> Result<C, AllocError> {
     let mut table = C::with_rows(alloc, size / 30 + 1)?;

@@ -1,5 +1,5 @@
--- `get_mut` searches the stored list for the entry of a column. If the search succeeds, it returns
--- the index of this entry, which is also its index among the entries of the map. Otherwise the map
+-- `get_mut` searches the stored list for the entry of a column. If the search succeeds, the
+-- returned index is also the index of this entry among the entries of the map. Otherwise the map
 -- has no value at the column.
 use Rattle.std.proofs.Common.{nat_cmp, refl, sym}
 use Rattle.std.specs.FinMap.{entries-from_sorted}
