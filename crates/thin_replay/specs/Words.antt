@@ -7,7 +7,8 @@ use Rattle.std.specs.Str.Parse.{IsNumeral, digits_value, without_leading_plus}
 use Rattle.thin_runner.specs.declared.command.Step.{Step}
 use Rattle.thin_runner.specs.declared.command.Step.TheVariants.{Back, Front}
 
--- `Words` is the type of the words of a line. It describes the contents of a `&[&str]`.
+-- A value of the type `Words` is the list of the words of a line. It describes the contents of a
+-- `&[&str]`.
 abbrev pub Words : Type 0
 Words = List (Bor (List ℕ))
 

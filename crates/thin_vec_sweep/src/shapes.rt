@@ -14,8 +14,8 @@ pub const SHAPES: usize = 110;
 /// The number of shapes of lists with at most 40 items. These shapes have the numbers `0..SHORT`.
 pub const SHORT: usize = 107;
 
-/// The number of the first shape of a list with 100,000 items. Only some tests use the two shapes
-/// of this length.
+/// The number of the first of the two longest shapes, which have 100,000 items. Only some tests use
+/// these two shapes.
 pub const LONGEST: usize = SHAPES;
 
 /// The number of all list shapes, including the two longest shapes.
@@ -144,8 +144,8 @@ impl Shape {
         self.alone(if self.is_long() { 2 } else { 20 })
     }
 
-    /// Returns the number of test cases of a call that acts on a range, for all tried ranges
-    /// together. If the list has at most 6 items, all cases are tried on all ranges.
+    /// Returns the total number of test cases of a call that acts on a range, over all ranges that
+    /// are tried. If the list has at most 6 items, all cases are tried on all ranges.
     pub fn ranged_cases(self, cases: &Cases) -> usize {
         if self.length >= cases.len() {
             return self.some().saturating_mul(RANGES);

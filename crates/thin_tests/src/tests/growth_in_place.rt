@@ -14,8 +14,8 @@ trait Numbered: Copy + PartialEq + Debug + Drop {
     fn numbered(number: usize) -> Self;
 }
 
-// An item is a number modulo 251. This modulus is odd, so any two neighboring 8-byte words of a
-// list contain different bytes.
+// Each item is a number modulo 251, and 8 is not a multiple of 251. So any two neighboring 8-byte
+// words of a list contain different bytes.
 impl Numbered for u8 {
     fn numbered(number: usize) -> u8 {
         (number % 251) as u8

@@ -5,8 +5,9 @@ ghost use Rattle.std.specs.Prelude.{◌≡◌, ◌==◌, ◌/◌, ◌%◌};
 use std::mem;
 use thin_runner::judge::Judge;
 
-/// A judge whose decisions are the binary digits of a number, beginning with the last digit. When
-/// the judge compares two items, it also swaps them.
+/// A judge, which replaces the closure of a call such as `retain`. Its decisions are the binary
+/// digits of a number, beginning with the last digit: 1 is `true`, and 0 is `false`. When it
+/// compares two items, it also swaps them.
 #[derive(Clone, Copy)]
 pub struct Digits {
     /// The digits that have not been used yet.

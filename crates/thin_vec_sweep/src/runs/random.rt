@@ -200,9 +200,9 @@ fn assert_all_from<'a, T: Numbered<Lender<'a>>, G: Ruled, R: Abort>(
     tally
 }
 
-// Asserts that `commands` commands were executed, and that a request was to be refused for `named`
-// of them. Another program computed both numbers. Also asserts that a request really was refused
-// for more than 2 percent of the commands.
+// Asserts that the number of executed commands is `commands`, and that a request was to be refused
+// in `named` of them. Another program computed these two numbers. Also asserts that a request
+// really was refused for more than 2 percent of the commands.
 fn assert_tally<R: Abort>(rt: &R, tally: &Tally, commands: u64, named: u64) {
     assert_eq!(rt; (tally.commands, tally.named), (commands, named));
     assert!(rt; tally.refused > commands / 50, "{tally:?}");
