@@ -45,8 +45,8 @@ fn walked<T: Drop, A: Allocator + Copy>(
     Ok(answers)
 }
 
-// Returns the start and the end of the range that a command replaces in a list of `len` items, and
-// the number of new items.
+// Returns three numbers for a command on a list of `len` items: the start and the end of the range
+// that the command replaces, and the number of new items.
 fn range_of(len: usize, order: Order) -> (usize, usize, usize) {
     let at = order.at;
     match order.kind {

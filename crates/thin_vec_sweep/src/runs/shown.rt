@@ -49,8 +49,8 @@ impl Place {
         }
     }
 
-    /// Returns the `Place` of a command that acts on a range. `claim` is a size hint or a number of
-    /// calls, and `steps` contains the steps over the range.
+    /// Returns the `Place` of a command that acts on a range. `claim` is the lower bound of a size
+    /// hint, or a number of calls to `next`, and `steps` contains the steps over the range.
     pub fn range(start: usize, end: usize, claim: usize, steps: &[Step]) -> Place {
         let mut walk: u64 = 1;
         for step in steps {

@@ -46,8 +46,8 @@ impl<T: Numbered<A>, A: Allocator + Copy, G: Ruled> Model<T, A, G> {
         made
     }
 
-    // Replaces the range with the first `placed` new items of `order`. Returns the reply, which
-    // contains the remaining new items.
+    // Replaces the range of `order` with the first `placed` of its new items. Returns the reply,
+    // which contains the remaining new items.
     fn fill(
         &mut self,
         alloc: A,
