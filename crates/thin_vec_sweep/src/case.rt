@@ -44,7 +44,8 @@ pub struct Case<T: Drop, G: Ruled> {
     pub at: At,
     pub ledger: &'static Ledger,
     pub list: List<T, G>,
-    /// The expected items of the list after the call, as the numbers from which they are made.
+    /// The expected items of the list after the call. Each item is represented by the number from
+    /// which it is made.
     pub items: Vec<u64, Global>,
     /// The expected capacity of the list after the call.
     pub capacity: usize,

@@ -8,7 +8,8 @@ pub struct Shape {
     pub spare: usize,
 }
 
-/// The number of list shapes that the tests use, not counting the two longest shapes.
+/// The number of list shapes that most tests use. A shape consists of a length and a number of
+/// empty slots. The two longest shapes are not counted.
 pub const SHAPES: usize = 110;
 
 /// The number of shapes of lists with at most 40 items. These shapes have the numbers `0..SHORT`.
@@ -18,7 +19,8 @@ pub const SHORT: usize = 107;
 /// these two shapes.
 pub const LONGEST: usize = SHAPES;
 
-/// The number of all list shapes, including the two longest shapes.
+/// The number of all list shapes, including the two longest shapes. A shape consists of a length
+/// and a number of empty slots.
 pub const ALL: usize = LONGEST + 2;
 
 // The numbers of items that a test adds to a list: `FEW` for lists of at most 4 items, `SOME` for

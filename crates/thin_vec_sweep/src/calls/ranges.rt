@@ -137,10 +137,11 @@ struct Extraction {
     pattern: usize,
     // The number of times the closure must be called.
     asked: usize,
-    // The items that `next` must yield, as the numbers from which they are made.
+    // The items that `next` must yield. Each item is represented by the number from which it is
+    // made.
     given: Vec<u64, Global>,
-    // The items that the list must contain after the `ExtractIf` is dropped, as the numbers from
-    // which they are made.
+    // The items that the list must contain after the `ExtractIf` is dropped. Each item is
+    // represented by the number from which it is made.
     left: Vec<u64, Global>,
 }
 

@@ -1,5 +1,5 @@
-//! The model: a short and slow program that specifies the commands. It represents a list as a `Vec`
-//! of the items and a number that is the capacity.
+//! The model: a short and slow program that specifies the commands. It represents a list as two
+//! values: a `Vec` of the items, and the capacity.
 mod filling;
 mod refused;
 
@@ -173,8 +173,8 @@ impl<T: Numbered<A>, A: Allocator + Copy, G: Ruled> Model<T, A, G> {
         Ok(out)
     }
 
-    // Increases the capacity if it is less than `want`. Returns `false` if the capacity overflows,
-    // and `true` otherwise.
+    // Increases the capacity if it is less than `want`. Returns `false` if the new capacity would
+    // be too large, and `true` otherwise.
     fn make_room(&mut self, want: usize) -> bool {
         if want > self.capacity {
             let capacity = G::expected_capacity(T::SIZE, self.capacity, want);

@@ -102,9 +102,9 @@ fn is_alike<'a, T: Numbered<Lender<'a>>, G: Ruled, J: Judge<T> + From<u64>>(
     Ok(form != Form::Never)
 }
 
-// Executes `commands` random commands on a new list, and appends a record of each to `done`. Stops
-// at the first command on which `ThinVec` and the model do not agree. Returns whether they agree on
-// all commands.
+// Executes `commands` random commands on a new list, and appends a record of each command to
+// `done`. Stops at the first command on which `ThinVec` and the model disagree. Returns whether
+// they agree on all commands.
 fn are_alike<'a, T: Numbered<Lender<'a>>, G: Ruled, J: Judge<T> + From<u64>>(
     alloc: Lender<'a>,
     dice: &mut Dice,
@@ -122,7 +122,7 @@ fn are_alike<'a, T: Numbered<Lender<'a>>, G: Ruled, J: Judge<T> + From<u64>>(
 }
 
 // Executes up to 30 random commands, and records them in `done`. Returns `true` if `ThinVec` and
-// the model agree on every command, and all blocks have been freed at the end.
+// the model agree on every command, and if all blocks have been freed at the end.
 fn runs_alike<'a, T: Numbered<Lender<'a>>, G: Ruled, J: Judge<T> + From<u64>>(
     alloc: Lender<'a>,
     seed: u64,
