@@ -40,6 +40,7 @@ IsStep letter Front = letter ≡ 102
 IsStep letter Back = letter ≡ 98
 
 -- `SpellsSteps text steps` holds if the text is `-` and there are no steps. It also holds if the
--- text consists of one letter for each step, in the same order.
+-- number of letters equals the number of steps, and each letter stands for the step at the same
+-- position.
 abbrev pub SpellsSteps : List ℕ → List Step → Type 0
 SpellsSteps text steps = ((text ≡ codes "-") × (steps ≡ [])) ⊎ AllZip IsStep text steps
