@@ -15,8 +15,8 @@ pub const SHAPES: usize = 110;
 /// The number of shapes of lists with at most 40 items. These shapes have the numbers `0..SHORT`.
 pub const SHORT: usize = 107;
 
-/// The number of the first of the two longest shapes, which have 100,000 items. Only some tests use
-/// these two shapes.
+/// The shape number at which the two longest shapes begin. Lists of these shapes have 100,000
+/// items, and only some tests use them.
 pub const LONGEST: usize = SHAPES;
 
 /// The number of all list shapes, including the two longest shapes. A shape consists of a length
@@ -216,7 +216,8 @@ impl Shape {
         }
     }
 
-    /// Returns one of the numbers of new items that a test tries. `number` selects which one.
+    /// Returns the number of new items in a test case. A test tries several such numbers, and
+    /// `number` selects one of them.
     pub fn count(self, number: usize) -> usize {
         let count = if self.is_small() {
             FEW.get(number)

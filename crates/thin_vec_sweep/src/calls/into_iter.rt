@@ -16,9 +16,9 @@ use thin_vec::Growth;
 // iterator with this new item.
 const FRESH: u64 = 70_000;
 
-// Before the test `IntoIterClone` clones the iterator, it calls `next` or `next_back` several
-// times. Returns how many different numbers of such calls are tried. On a list of at most 4 items,
-// these numbers are `0..=length + 2`.
+// Before the test `IntoIterClone` clones the iterator, it calls `next` or `next_back` `n` times.
+// Returns how many values of `n` are tried. On a list of at most 4 items, these values are
+// `0..=length + 2`.
 fn steps(shape: Shape) -> usize {
     shape.indices().saturating_add(2)
 }

@@ -271,8 +271,8 @@ fn splice<T: Sample, A: Allocator, G: Growth, I: Iterator<Item = T>>(
     (walked, splice.finish(alloc))
 }
 
-// Calls `next` and `next_back` in the order that `plan` specifies. Returns the index of the first
-// call that yielded a wrong item, and the number of remaining items.
+// Calls `next` and `next_back` in the order that `plan` specifies. Returns two values: the index of
+// the first call that yielded a wrong item, and the number of remaining items.
 fn walk<T: Sample, A: Allocator, G: Growth, I>(
     splice: &mut Splice<'_, I, T, A, G>,
     plan: &Plan,
