@@ -19,8 +19,9 @@ module _ {S T : Type 0} (R : S → T → T → Bool → S → T → T → Type 0
   abbrev Kept : T → List T → List T → Type 0
   Kept k xs zs = zs ≡ dedup_from same k (map f xs)
 
-  -- Suppose that the closure returned `b` for the item `x` and the kept item `k`. If `Kept` holds
-  -- for the items `xs` that follow `x`, then it also holds for `x ∷ xs`.
+  -- Suppose that the closure compared the item `x` with the kept item `k`, and returned `b`. If
+  -- `Kept` describes the result for the items `xs` after `x`, then it also describes the result for
+  -- `x ∷ xs`.
   one : (b : Bool) (x k x' k' : T) (xs zs : List T) → b ≡ same (f x) k → x' ≡ f x → k' ≡ k
       → MatchBool b (Kept k' xs zs) ((ys : List T) × Kept x' xs ys × (zs ≡ k' ∷ ys))
       → Kept k (x ∷ xs) zs
@@ -33,7 +34,7 @@ module _ {S T : Type 0} (R : S → T → T → Bool → S → T → T → Type 0
       ∙ ap (λ c. cond c (dedup_from same k (map f xs)) (k ∷ dedup_from same (f x) (map f xs)))
       b-is)
 
-  -- Suppose that `dedup_by` keeps the item `k`, and turns `k` and the items `xs` that follow it
+  -- Suppose that `dedup_by` keeps the item `k`, and turns the list of `k` and the later items `xs`
   -- into the list `zs`. Then `Kept k xs zs` holds.
   kept_from : (xs : List T) (s : S) (k : T) (zs : List T) → DedupsFrom R s k xs zs → Kept k xs zs
   kept_from [] s k zs h = h
@@ -49,8 +50,8 @@ module _ {S T : Type 0} (R : S → T → T → Bool → S → T → T → Type 0
       ]) h.5)
 
   -- Suppose that the list `v` contains the items `xs`, except that the first item `x` has been
-  -- replaced with `f x`. (If `xs` is empty, `v` is empty, too.) If `dedup_by` turns `v` into `w`,
-  -- then the items of `w` are `dedup same (map f xs)`.
+  -- replaced with `f x`. Suppose also that `dedup_by` turns `v` into `w`. Then the items of `w` are
+  -- `dedup same (map f xs)`.
   pub deduped_mapped : {A : Type 0} {s : S} {v w : Thin T A} (xs : List T) (x : T)
       → x ≡ slice_index_or xs 0 x → v.items ≡ slice_set xs 0 (f x) → IsDedupedBy R s v w
       → w.items ≡ dedup same (map f xs)

@@ -10,8 +10,9 @@ module _ {F J T : Type 0} (R : F → T → Bool → F → T → Type 0) (state :
     (keeps : J → T → Bool × (T × J))
     (one : (f : F) (x : T) (b : Bool) (g : F) (y : T) → R f x b g y
     → keeps (state f) x ≡ (b, (y, state g))) where
-  -- Suppose that the closure always returns the decision of the keeper. Then the results `qs` of
-  -- the closure for the items `xs` are the results of the keeper for these items.
+  -- Suppose that the closure makes the same decisions as the keeper, and writes the same values to
+  -- the items. For each item of `xs`, let `qs` contain the decision of the closure and the value
+  -- that the item has afterwards. Then `qs` consists of the results of the keeper for `xs`.
   answers-are : (f : F) (xs : List T) (qs : List (Bool × T)) (t : F) → Asked R f xs qs t
       → qs ≡ asked_by keeps (state f) xs
   answers-are f [] qs t a = a.0

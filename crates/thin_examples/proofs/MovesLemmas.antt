@@ -24,8 +24,8 @@ module _ {S T : Type 0} (R : S → T → Bool → S → Type 0)
       r.1.items
       ∙ (ap (left_at true) (all-stay s r.0 v.items r.1.verdicts r.1.asked) ∙ left_at-stay v.items)
 
-  -- If the closure always returns true, then `retain` moves no item. So the counters in `cost` do
-  -- not change.
+  -- If the closure always returns true, then `retain` moves no item. So the field `cost` does not
+  -- change. This field counts requests for memory, copied items and moves.
   pub keeps-cost : {A : Type 0} (s : S) (v w : Thin T A) → IsRetained (Looks R) s v w
       → w.cost ≡ v.cost
   keeps-cost s v w r =

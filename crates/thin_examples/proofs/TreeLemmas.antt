@@ -5,7 +5,7 @@ use Rattle.thin_examples.specs.SyntaxTree.{children_of, count_step, node_count}
 use Rattle.thin_examples.specs.declared.syntax_tree.Node.{Node}
 use Rattle.thin_examples.specs.declared.syntax_tree.Node.TheFolds.{fold_out-Node}
 
--- The node count of a node is 1 plus the sum of the node counts of its children.
+-- `node_count node` is 1 plus the sum of the node counts of the children of `node`.
 pub node_count_is : (node : Node) → node_count node ≡ 1 + sum
     (map node_count (children_of node).items)
 node_count_is = fold_out-Node _ count_step

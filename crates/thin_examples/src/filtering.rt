@@ -10,7 +10,7 @@ ghost use Rattle.thin_examples.specs.Keepers.{asked_by};
 use std::alloc::Allocator;
 use thin_vec::{Growth, ThinVec};
 
-/// Keeps the even numbers, and removes the others.
+/// Keeps the even numbers of the list, and removes the odd numbers.
 pub fn keep_even<A: Allocator, G: Growth>(list: &mut ThinVec<u32, A, G>)
     ensures items { list.new.items ≡ filter (λ number. number % 2 == 0) list.old.items }
     ensures capacity { list.new.capacity ≡ list.old.capacity }

@@ -18,8 +18,8 @@ pub fn halves<A: Allocator>(alloc: A, numbers: &[u32]) -> Option<ThinVec<u32, A>
     }
 }
 
-/// Appends the numbers that are less than `limit`, in order, and returns whether all of them were
-/// appended. The list keeps its old items in every case.
+/// Appends the items of `numbers` that are less than `limit`, in order. Returns whether all of
+/// these items were appended. The list keeps its old items in every case.
 pub fn extend_below<A: Allocator, G: Growth>(
     list: &mut ThinVec<u32, A, G>,
     numbers: &[u32],
@@ -104,8 +104,8 @@ pub fn continued<A: Allocator, G: Growth>(
     Ok(copy)
 }
 
-/// Appends the numbers in order until there is no room for the next one, and returns how many of
-/// them were appended. The list keeps its old items in every case.
+/// Appends the items of `numbers` in order, until there is no room for the next item. Returns how
+/// many items were appended. The list keeps its old items in every case.
 pub fn extend_by_number<A: Allocator, G: Growth>(
     list: &mut ThinVec<u32, A, G>,
     numbers: &[u32],

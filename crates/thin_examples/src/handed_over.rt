@@ -34,8 +34,8 @@ pub fn hand_over<T: Drop, A: Allocator, G: Growth>(
     Ok(())
 }
 
-/// Moves the items of `list` at the indices `start..end` to the end of `other`. This is the
-/// function `hand_over` with a loop that calls `next` explicitly.
+/// Moves the items of `list` at the indices `start..end` to the end of `other`. Unlike `hand_over`,
+/// this function calls `next` explicitly in a loop.
 ///
 /// # Errors
 ///

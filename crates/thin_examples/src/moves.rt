@@ -116,8 +116,8 @@ pub fn edited<A: Allocator + Copy>(alloc: A) -> Result<ThinVec<u32, A>, AllocErr
     Ok(list)
 }
 
-// Replaces 2 and 3 with 9. This makes at most seven moves: one for 9, and two for each of the three
-// items after it.
+// Replaces the items 2 and 3 of the list 1, 2, 3, 4, 5, 6 with 9. This makes at most seven moves:
+// one for 9, and two for each of the three items after it.
 fn nine_for_two<A: Allocator>(list: &mut ThinVec<u32, A>, alloc: A) -> Result<(), AllocError>
     requires to_six { list.old.items ≡ 1 ∷ 2 ∷ 3 ∷ 4 ∷ 5 ∷ 6 ∷ [] }
     ensures items { OnOk result (list.new.items ≡ 1 ∷ 9 ∷ 4 ∷ 5 ∷ 6 ∷ []) }
@@ -127,7 +127,7 @@ fn nine_for_two<A: Allocator>(list: &mut ThinVec<u32, A>, alloc: A) -> Result<()
     Ok(())
 }
 
-// Extracts 4 and 6 from the list. Only the number 5 is moved.
+// Extracts 4 and 6 from the list 1, 9, 4, 5, 6. Only the number 5 is moved.
 fn even_out<A: Allocator>(list: &mut ThinVec<u32, A>)
     requires five { list.old.items ≡ 1 ∷ 9 ∷ 4 ∷ 5 ∷ 6 ∷ [] }
     ensures items { list.new.items ≡ 1 ∷ 9 ∷ 5 ∷ [] }

@@ -8,9 +8,9 @@ use thin_vec::{Growth, SpliceRefused, ThinVec};
 
 /// Replaces the items at the indices `range.0..range.1` with the items that `iter` yields.
 ///
-/// The function is generic in the type of the iterator. If an iterator borrows, like an iterator
-/// over a slice, a caller can prove a splice with it by calling a generic function such as this
-/// one.
+/// The function is generic in the type of the iterator. Some iterators contain a borrow, for
+/// example iterators over slices. A caller can prove a splice with such an iterator by calling a
+/// generic function like this one.
 ///
 /// # Errors
 ///

@@ -111,7 +111,7 @@ IsLine words Help = HasForm words (codes "help") 1
 IsLine words New = HasForm words (codes "new") 1
 IsLine words (Carry call) = IsCall words call
 
--- `HasWords text words` holds if splitting the text at white space yields exactly these words.
+-- `HasWords text words` holds if splitting the text at white space yields exactly the list `words`.
 abbrev pub HasWords : List ℕ → Words → Type 0
 HasWords text words = (it : SplitWhitespace)
     × (split_whitespace_rest it ≡ text) × DrainsIf split_whitespace_steps ⊤ it words

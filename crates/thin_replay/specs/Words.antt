@@ -7,7 +7,8 @@ use Rattle.std.specs.Str.Parse.{IsNumeral, digits_value, without_leading_plus}
 use Rattle.thin_runner.specs.declared.command.Step.{Step}
 use Rattle.thin_runner.specs.declared.command.Step.TheVariants.{Back, Front}
 
--- `Words` is the type of the words of a line. It describes the contents of a `&[&str]`.
+-- A value of the type `Words` is the list of the words of a line. It describes the contents of a
+-- `&[&str]`.
 abbrev pub Words : Type 0
 Words = List (Bor (List ℕ))
 
@@ -39,6 +40,7 @@ IsStep letter Front = letter ≡ 102
 IsStep letter Back = letter ≡ 98
 
 -- `SpellsSteps text steps` holds if the text is `-` and there are no steps. It also holds if the
--- text consists of one letter for each step, in the same order.
+-- number of letters equals the number of steps, and each letter stands for the step at the same
+-- position.
 abbrev pub SpellsSteps : List ℕ → List Step → Type 0
 SpellsSteps text steps = ((text ≡ codes "-") × (steps ≡ [])) ⊎ AllZip IsStep text steps

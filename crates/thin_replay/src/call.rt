@@ -28,8 +28,8 @@ impl Call {
 
     /// Parses the words of a line as a command. If the command needs a judge to decide about items,
     /// parses the judge, too. Returns `None` if the words do not have the form of a command. Fails
-    /// if they have this form but one of them cannot be parsed, or if there is not enough memory
-    /// for the command.
+    /// if they have this form but one of the words cannot be parsed, or if there is not enough
+    /// memory for the command.
     pub fn parse(alloc: Global, words: &[&str]) -> Result<Option<Call>, LineError>
         ensures says { IfOk result (λ found. IfSome found (IsCall words.now)) }
     {

@@ -6,12 +6,13 @@ use crate::line_error::LineError;
 use crate::words::number_of;
 use thin_runner::judge::Judge;
 
-/// A judge that decides about an item by dividing a number by `divisor`. The judge also counts its
-/// decisions.
+/// A judge that decides about an item by its number. The number of an item is the item plus
+/// `stride` times the count of earlier decisions.
 ///
-/// The number that is divided is the item plus `stride` times the number of earlier decisions. If
-/// the judge may change the item, it adds `added` to the item after the decision. All sums are
-/// modulo 2^64.
+/// The judge chooses an item if `divisor` divides the number of the item. The key of an item is its
+/// number divided by `divisor`. A later item counts as a duplicate of a kept item if the number of
+/// the later item and the kept item itself have the same remainder modulo `divisor`. After each
+/// decision, the judge adds `added` to the items that it may change. All sums are modulo 2^64.
 #[derive(Clone, Copy)]
 pub struct DivisorJudge {
     divisor: u64,
@@ -35,8 +36,8 @@ impl DivisorJudge {
         }
     }
 
-    /// Parses the three words that describe a judge. Fails if one of them is not a number, or if
-    /// the divisor is 0.
+    /// Parses the three words that describe a judge. Fails if one of these words is not a number,
+    /// or if the divisor is 0.
     pub fn parse(divisor: &str, stride: &str, added: &str) -> Result<DivisorJudge, LineError>
         ensures says { IfOk result (SpellsJudge divisor.now stride.now added.now) }
     {

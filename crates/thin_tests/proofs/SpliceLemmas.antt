@@ -8,7 +8,7 @@ use Rattle.std.specs.declared.result.Result.{Result}
 use Rattle.std.specs.declared.result.Result.TheVariants.{Ok, Err}
 
 module _ {T : Type 0} (old numbers : List T) (start stop : ℕ) where
-  -- Suppose that `new` is the list `old` in which the items `start..stop` have been replaced with
+  -- Suppose that `new` results from replacing the items `start..stop` of the list `old` with
   -- `numbers`. Then replacing these numbers in `new` with the old items yields `old` again.
   pub put_back : (new : List T) → start ≤ stop → stop ≤ length old
       → new ≡ (take start old ++ numbers) ++ drop stop old

@@ -17,7 +17,7 @@ pub struct At {
     /// The number of the allocation request that is refused, counting from 1. It is 0 if no request
     /// is refused.
     pub refused: u64,
-    /// The counters of the running test. Each comparison increments one of them.
+    /// The counters of the running test. Each comparison adds 1 to the counter `comparisons`.
     pub counts: &'static Counts,
 }
 
@@ -67,9 +67,9 @@ pub fn assert_same_items<T: Sample, R: Abort>(rt: &R, at: &At, items: &[T], numb
     assert_same(rt, at, "first item that differs", difference, None);
 }
 
-/// If the ledger counts items of type `T`, asserts that exactly `items` items have not been
-/// dropped. Also asserts that the number of allocated blocks is correct: one block for each item if
-/// items own blocks, plus one block for the list if `capacity` is not 0.
+/// Makes two assertions. If the ledger counts items of type `T`, exactly `items` of them have not
+/// been dropped yet. The number of allocated blocks is one for each item if items own blocks, plus
+/// one for the list if `capacity` is not 0.
 pub fn assert_live<T: Sample, R: Abort>(
     rt: &R,
     at: &At,

@@ -95,8 +95,8 @@ pub fn every_replacing<T: Sample, G: Ruled, R: Abort>(rt: &R, scope: &Scope) {
     sweep::<AppendSlice<ExtendFromSliceReserved>, T, G, R>(rt, scope);
 }
 
-/// Tests two calls that copy the new items: `replace_range_from_copies` and
-/// `extend_from_copies_reserved`.
+/// Tests `replace_range_from_copies` and `extend_from_copies_reserved`. Both calls put copies of
+/// the items of a slice into a list.
 pub fn every_replacing_by_copies<T: Sample + Copy, G: Ruled, R: Abort>(rt: &R, scope: &Scope) {
     sweep::<ReplaceRangeFromCopies, T, G, R>(rt, scope);
     sweep::<AppendSlice<ExtendFromCopiesReserved>, T, G, R>(rt, scope);

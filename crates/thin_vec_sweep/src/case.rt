@@ -44,7 +44,8 @@ pub struct Case<T: Drop, G: Ruled> {
     pub at: At,
     pub ledger: &'static Ledger,
     pub list: List<T, G>,
-    /// The expected items of the list after the call, as the numbers from which they are made.
+    /// The expected items of the list after the call. Each item is represented by the number from
+    /// which it is made.
     pub items: Vec<u64, Global>,
     /// The expected capacity of the list after the call.
     pub capacity: usize,
@@ -122,8 +123,8 @@ impl<T: Sample, G: Ruled> Case<T, G> {
     }
 
     /// Returns the expected outcome of a call that changes the capacity of the list to `capacity`
-    /// and then clones `clones` items. If `capacity` is `None`, the capacity overflows. Also
-    /// updates the expected capacity and the expected numbers of requests and clones.
+    /// and then clones `clones` items. Also updates the expected capacity and the expected numbers
+    /// of requests and clones. `capacity` is `None` if the capacity overflows.
     pub fn growth(&mut self, capacity: Option<usize>, clones: usize) -> Verdict {
         let Some(capacity) = capacity else {
             return Verdict::Overflow;
@@ -170,8 +171,8 @@ impl<T: Sample, G: Ruled> Case<T, G> {
         }
     }
 
-    /// Returns the expected outcome of a call that allocates a new list or `Vec` of this capacity
-    /// and then clones `clones` items.
+    /// Returns the expected outcome of a call that allocates a new list or `Vec` of capacity
+    /// `capacity` and then clones `clones` items. `capacity` is `None` if the capacity overflows.
     pub fn fresh(&mut self, capacity: Option<usize>, clones: usize) -> Verdict {
         match capacity {
             Some(capacity) => self.verdict(u64::from(capacity != 0), clones),
@@ -199,7 +200,8 @@ impl<T: Sample, G: Ruled> Case<T, G> {
         }
     }
 
-    /// Asserts that `answer`, the return value of the call, agrees with `verdict`.
+    /// Asserts that `answer`, the return value of the call under test, agrees with `verdict`, the
+    /// expected outcome of this call.
     pub fn assert_answer<R: Abort>(
         &self,
         rt: &R,
@@ -250,8 +252,8 @@ impl<T: Sample, G: Ruled> Case<T, G> {
         assert_same_item(rt, &self.at, item, number);
     }
 
-    /// If the call must succeed, appends `count` consecutive numbers, beginning with `first`, to
-    /// the expected items.
+    /// If `verdict` says that the call must succeed, appends `count` consecutive numbers, beginning
+    /// with `first`, to the expected items.
     pub fn add<R: Abort>(&mut self, rt: &R, first: u64, count: usize, verdict: Verdict) {
         if verdict == Verdict::Done {
             let mut new = numbers(rt, self.ledger, first, count);

@@ -7,8 +7,8 @@ use crate::shapes::Cases;
 use std::cell::Cell;
 use std::process::Abort;
 
-/// The number of patterns for each length of a list from 0 to 6. A pattern says which items are
-/// kept, so a list of `k` items has `2^k` patterns.
+/// For each `k` from 0 to 6, the number of patterns for a list of `k` items. A pattern says which
+/// items are kept, so this number is `2^k`.
 pub const PATTERNS: Cases = [1, 2, 4, 8, 16, 32, 64];
 
 /// Returns whether the pattern with the number `pattern` keeps the item at `index`, out of `count`
@@ -60,8 +60,7 @@ impl ClosureCalls {
         number
     }
 
-    /// Compares `item` with the item that is made from `number`, and counts an error if they
-    /// differ.
+    /// Counts a call with a wrong item if `item` differs from the item that is made from `number`.
     pub fn check_item<T: Sample>(&self, item: &T, number: u64) {
         if item.kept_number() != T::expected_number(number) {
             count(&self.wrong);

@@ -169,7 +169,8 @@ impl Sample for [u64; 64] {
         words
     }
 
-    // Returns the first of the 64 integers if it equals the last one, and `u64::MAX` otherwise.
+    // Returns the first of the 64 integers in the item if it equals the last one, and `u64::MAX`
+    // otherwise.
     fn kept_number(&self) -> u64 {
         if self[0] == self[63] {
             self[0]

@@ -8,17 +8,19 @@ pub struct Shape {
     pub spare: usize,
 }
 
-/// The number of list shapes that the tests use, not counting the two longest shapes.
+/// The number of list shapes that most tests use. A shape consists of a length and a number of
+/// empty slots. The two longest shapes are not counted.
 pub const SHAPES: usize = 110;
 
 /// The number of shapes of lists with at most 40 items. These shapes have the numbers `0..SHORT`.
 pub const SHORT: usize = 107;
 
-/// The number of the first shape of a list with 100,000 items. Only some tests use the two shapes
-/// of this length.
+/// The shape number at which the two longest shapes begin. Lists of these shapes have 100,000
+/// items, and only some tests use them.
 pub const LONGEST: usize = SHAPES;
 
-/// The number of all list shapes, including the two longest shapes.
+/// The number of all list shapes, including the two longest shapes. A shape consists of a length
+/// and a number of empty slots.
 pub const ALL: usize = LONGEST + 2;
 
 // The numbers of items that a test adds to a list: `FEW` for lists of at most 4 items, `SOME` for
@@ -144,8 +146,8 @@ impl Shape {
         self.alone(if self.is_long() { 2 } else { 20 })
     }
 
-    /// Returns the number of test cases of a call that acts on a range, for all tried ranges
-    /// together. If the list has at most 6 items, all cases are tried on all ranges.
+    /// Returns the total number of test cases of a call that acts on a range, over all ranges that
+    /// are tried. If the list has at most 6 items, all cases are tried on all ranges.
     pub fn ranged_cases(self, cases: &Cases) -> usize {
         if self.length >= cases.len() {
             return self.some().saturating_mul(RANGES);
@@ -214,7 +216,8 @@ impl Shape {
         }
     }
 
-    /// Returns one of the numbers of new items that a test tries. `number` selects which one.
+    /// Returns the number of new items in a test case. A test tries several such numbers, and
+    /// `number` selects one of them.
     pub fn count(self, number: usize) -> usize {
         let count = if self.is_small() {
             FEW.get(number)

@@ -1,5 +1,5 @@
-//! How a sweep tests a call. The call is made on many lists, with several arguments, and with each
-//! allocation request refused in turn.
+//! Sweeps. A sweep makes one call on many lists, with several arguments, and with each allocation
+//! request refused in turn.
 use crate::assertions::At;
 use crate::case::Case;
 use crate::ledger::Ledger;

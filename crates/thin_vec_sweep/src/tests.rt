@@ -16,8 +16,8 @@ use std::process::Abort;
 use thin_testing::{Fourfold, Ruled, Threefold};
 use thin_vec::{Doubling, PowerBytes};
 
-// Selects the lists to test: all list shapes except the two longest. If each item owns a block,
-// only lists of at most 40 items are selected.
+// Selects the lists to test: lists of all shapes, except the two shapes with 100,000 items. If each
+// item owns a block, selects only lists of at most 40 items.
 fn all<T: Sample, R: Abort>(rt: &R, alloc: Global) -> Scope {
     let shapes = if T::OWNS_BLOCK { SHORT } else { SHAPES };
     Scope {
@@ -26,7 +26,7 @@ fn all<T: Sample, R: Abort>(rt: &R, alloc: Global) -> Scope {
     }
 }
 
-// Selects the lists to test: all list shapes of at most 40 items.
+// Selects the lists to test: lists of all shapes with at most 40 items.
 fn short<R: Abort>(rt: &R, alloc: Global) -> Scope {
     Scope {
         ledger: Ledger::new(rt, alloc),
@@ -34,7 +34,7 @@ fn short<R: Abort>(rt: &R, alloc: Global) -> Scope {
     }
 }
 
-// Selects the lists to test: only the longest lists, which have 100,000 items.
+// Selects the lists to test: only the two longest lists, which have 100,000 items.
 fn longest<R: Abort>(rt: &R, alloc: Global) -> Scope {
     Scope {
         ledger: Ledger::new(rt, alloc),
@@ -99,7 +99,7 @@ fn replacings_by_copies<T: Sample + Copy, R: Abort>(rt: &R, alloc: Global) {
     assert_swept(rt, &scope, 3_000, 500);
 }
 
-// Returns the start and the end of the range of shape numbers in `scope`.
+// Returns the start and the end of `scope.shapes`, which is a range of shape numbers.
 fn ends(scope: &Scope) -> (usize, usize) {
     (scope.shapes.start, scope.shapes.end)
 }

@@ -22,8 +22,8 @@ pub struct Walk {
 
 impl Walk {
     /// Returns the walk with the number `number` over `count` items. If `count` is at most 6, the
-    /// steps are the binary digits of `number + 1` without the leading 1. Thus, each walk of at
-    /// most `count + 1` steps has a number.
+    /// steps are the binary digits of `number + 1`, beginning with the last digit and without the
+    /// leading 1. Thus, each walk of at most `count + 1` steps has a number.
     pub fn nth(count: usize, number: usize) -> Walk {
         if count >= WALKS.len() {
             return Walk {
@@ -87,7 +87,7 @@ impl Remaining {
 
     /// Removes the index of the item that the next step must yield, and returns the number from
     /// which this item was made. Returns `None` if no item remains. The step is from the back if
-    /// `is_back` is true. `numbers` contains the number of each item.
+    /// `is_back` is true. `numbers` contains the numbers from which all items were made.
     pub fn take(&mut self, is_back: bool, numbers: &[u64]) -> Option<u64> {
         if self.start >= self.end {
             return None;
@@ -102,7 +102,7 @@ impl Remaining {
         numbers.get(place).copied()
     }
 
-    /// Returns the numbers from which the remaining items were made.
+    /// Returns the remaining items, each represented by the number from which it was made.
     pub fn of(self, numbers: &[u64]) -> &[u64] {
         numbers.get(self.start..self.end).unwrap_or(&[])
     }

@@ -13,21 +13,21 @@ fn note<V>(order: &Cell<u32>, digit: u32, value: V) -> V {
     value
 }
 
-// Tests the form of `thin_vec!` that lists its items: `thin_vec![alloc => x, y]`.
+// Asserts that `thin_vec![alloc => x, y]` evaluates its arguments in the order `alloc`, `x`, `y`.
 fn assert_order_with_listed_items(rt: &impl Abort, alloc: Global, order: &Cell<u32>) {
     let list = thin_vec![note(order, 1, alloc) => note(order, 2, 7), note(order, 3, 8),];
     assert_list(rt, &list.expect(rt, "memory"), &[7, 8], 2);
     assert_same(rt, order.take(), 123);
 }
 
-// Tests the form of `thin_vec!` that repeats one item: `thin_vec![alloc => x; n]`.
+// Asserts that `thin_vec![alloc => x; n]` evaluates its arguments in the order `alloc`, `x`, `n`.
 fn assert_order_with_repeated_item(rt: &impl Abort, alloc: Global, order: &Cell<u32>) {
     let list = thin_vec![note(order, 1, alloc) => note(order, 2, 7); note(order, 3, 2)];
     assert_list(rt, &list.expect(rt, "memory"), &[7, 7], 4);
     assert_same(rt, order.take(), 123);
 }
 
-// Tests the form of `thin_vec!` without items: `thin_vec![alloc =>]`.
+// Asserts that `thin_vec![alloc =>]`, which makes an empty list, evaluates `alloc` exactly once.
 fn assert_order_without_items(rt: &impl Abort, alloc: Global, order: &Cell<u32>) {
     let list = thin_vec![note(order, 1, alloc) =>];
     assert_list(rt, &list.expect(rt, "memory"), &[], 0);

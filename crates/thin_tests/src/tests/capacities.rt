@@ -8,7 +8,7 @@ use std::process::Abort;
 use thin_testing::Refusing;
 use thin_vec::{ThinVec, ThinVecError};
 
-// Clears the list, and asserts that the list is then empty and has the capacity `capacity`.
+// Clears the list. Asserts that the list is then empty, and that its capacity is `capacity`.
 fn assert_cleared(rt: &impl Abort, list: &mut ThinVec<i32>, capacity: usize) {
     list.clear();
     assert_list(rt, list, &[], capacity);
@@ -27,7 +27,7 @@ fn clear_keeps_the_capacity(rt: HostRuntime) {
     assert_cleared(&rt, &mut list, 4);
 }
 
-// Pushes `items`, and asserts that the list then has the capacity `capacity`.
+// Pushes `items` to the list, and asserts that its capacity is then `capacity`.
 fn assert_pushed(rt: &impl Abort, list: &mut ThinVec<i32>, items: Range<i32>, capacity: usize) {
     push_all(rt, list, items);
     assert_same(rt, list.capacity(), capacity);
@@ -77,8 +77,8 @@ fn assert_overflows<T: Drop>(rt: &impl Abort, alloc: &'static Refusing<Global>, 
     assert_same(rt, (capacity, refused), (capacity, overflow));
 }
 
-// Tests that `with_capacity` fails with `CapacityOverflow`, and requests no memory, if the capacity
-// is too large.
+// Tests that `with_capacity` fails with `CapacityOverflow`, and requests no memory, if the
+// requested capacity is too large.
 #[test]
 fn with_capacity_detects_overflow_before_any_request(rt: HostRuntime) {
     let refusing = refusing_nth(&rt, rt.alloc(), 0);

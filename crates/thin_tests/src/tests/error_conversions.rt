@@ -1,5 +1,5 @@
 //! Tests that converting an error with `?` drops each value in the error exactly once. There is one
-//! test for each error type to which `?` can convert the errors.
+//! test for each error type to which `?` can convert the errors of `ThinVec`.
 use crate::tests::support::assertions::assert_same;
 use crate::tests::support::counted::{Counted, counted_list};
 use std::alloc::{AllocError, Global};

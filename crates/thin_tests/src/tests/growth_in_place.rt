@@ -14,8 +14,8 @@ trait Numbered: Copy + PartialEq + Debug + Drop {
     fn numbered(number: usize) -> Self;
 }
 
-// An item is a number modulo 251. This modulus is odd, so any two neighboring 8-byte words of a
-// list contain different bytes.
+// Each item is a number modulo 251, and 8 is not a multiple of 251. So any two neighboring 8-byte
+// words of a list contain different bytes.
 impl Numbered for u8 {
     fn numbered(number: usize) -> u8 {
         (number % 251) as u8
@@ -59,7 +59,7 @@ impl Numbered for u128 {
 }
 
 // Asserts that the list has length `len` and capacity `capacity`, and that each item is the value
-// made from its own index.
+// that is made from its own index.
 fn assert_numbered<T: Numbered, A: Allocator, G: Growth>(
     rt: &impl Abort,
     list: &ThinVec<T, A, G>,
@@ -76,8 +76,8 @@ fn assert_numbered<T: Numbered, A: Allocator, G: Growth>(
     assert_same(rt, found, (len, len, capacity));
 }
 
-// Pushes items until the list has no spare capacity. Each item is the value made from its own
-// index.
+// Pushes items until the list has no spare capacity. Each item is the value that is made from its
+// own index.
 fn fill<T: Numbered, A: Allocator, G: Growth>(rt: &impl Abort, list: &mut ThinVec<T, A, G>) {
     for number in list.len()..list.capacity() {
         push(rt, list, T::numbered(number));

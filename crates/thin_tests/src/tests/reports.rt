@@ -143,7 +143,8 @@ fn assert_report_of_rows(rt: &impl Abort, alloc: Global, rows: &[u32], wanted: &
 
 #[test]
 fn report_counts_failed_rows_and_exits_with_1(rt: HostRuntime) {
-    // There is no worked example with the number 0, so the report says that row 0 has failed.
+    // The report calls a worked example a row. There is no worked example with the number 0, so the
+    // report says that row 0 has failed.
     for (rows, text) in [
         ([0, 1].as_slice(), "row 0 failed\nrow 1 ok\n1 rows failed\n"),
         (

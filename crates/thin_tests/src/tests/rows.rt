@@ -60,7 +60,8 @@ fn run_and_count<R: Abort>(rt: &R, alloc: Global, number: u32) -> (u32, u64) {
     (checks.compared(), requests)
 }
 
-// Appends to `lines` the line with the counts of the worked example with the number `number`.
+// Appends one line to `lines`. This line contains the counts of the worked example with the number
+// `number`.
 fn append_counts<R: Abort>(rt: &R, alloc: Global, number: u32, lines: &mut String) {
     let (values, requests) = run_and_count(rt, alloc, number);
     let line = format!(in alloc; "{number}: {values}, {requests}\n").expect(rt, "memory");

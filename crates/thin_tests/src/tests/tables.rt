@@ -168,7 +168,7 @@ fn fill_columns<A: Allocator>(rt: &impl Abort, table: &mut Rows<u32, A>, columns
 
 // Tests a table with two long rows. It has three allocations: one for the table itself, and one for
 // each of the two rows. Each row makes 11 requests, because its capacity doubles from 4 to 4096.
-// With the request for the table itself, this is 23 requests.
+// Together with the request for the table itself, there are 23 requests.
 #[test]
 fn set_adds_thousands_of_columns_to_a_row(rt: HostRuntime) {
     let refusing = refusing_nth(&rt, rt.alloc(), 0);

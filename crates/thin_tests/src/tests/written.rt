@@ -22,7 +22,7 @@ pub fn three<T: Drop, A: Allocator>(
     thin_vec![alloc => first, second, third]
 }
 
-/// Returns the two items of a list of two items, or `None` if the list has another length.
+/// Returns both items if the list has exactly two items, and `None` otherwise.
 pub fn pair<T: Drop, A: Allocator>(list: ThinVec<T, A>) -> Option<(T, T)>
     requires small { 2 * type_size T.row < 2 ^ 63 }
     ensures items { IfSome result (λ both. list.items ≡ both.0 ∷ both.1 ∷ []) }

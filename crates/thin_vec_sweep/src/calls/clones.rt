@@ -9,8 +9,8 @@ use std::process::Abort;
 use thin_testing::Ruled;
 use thin_vec::ThinVecError;
 
-// Each test item is made from a number. For the new items in the tests of `resize` and
-// `resize_with`, this is the smallest number.
+// The smallest number from which the tests of `resize` and `resize_with` make new items. Every test
+// item is made from a number.
 const FRESH: u64 = 80_000;
 
 /// A test that calls `resize` with several new lengths. Some of them are at most the old length,
@@ -38,8 +38,9 @@ impl<T: Sample, G: Ruled> Call<T, G> for Resize {
     }
 }
 
-// Returns the new length in the test case `argument`, and the number of items that are added. In
-// the first few test cases, the new length is at most the old length, so no item is added.
+// Returns two numbers for the test case `argument`: the new length of the list, and the number of
+// items that are added. In the first few test cases, the new length is at most the old length, so
+// no item is added.
 fn length(shape: Shape, argument: usize) -> (usize, usize) {
     match argument.checked_sub(shape.indices()) {
         None => (shape.index(argument), 0),

@@ -10,13 +10,12 @@ use std::process::Abort;
 use thin_testing::Ruled;
 use thin_vec::Rejected;
 
-// Each test item is made from a number. The item that a test adds to a list is made from this
-// number.
+// The number from which a test makes the item that it adds to a list. Every test item is made from
+// a number.
 const FRESH: u64 = 70_000;
 
-// Each test item is made from a number. The item that is passed to `push_mut` or `insert_mut` is
-// made from this number. After the call, the test replaces this item with the item that is made
-// from `FRESH`.
+// The number from which a test makes the item that it passes to `push_mut` or `insert_mut`. After
+// the call, the test replaces this item with the item that is made from `FRESH`.
 const PASSED: u64 = 71_000;
 
 /// A test that calls `push`.
@@ -58,8 +57,8 @@ impl<T: Sample, G: Ruled> Call<T, G> for PushMut {
 }
 
 // Checks the result of `push_mut` or `insert_mut`. If the call succeeded, the test has replaced the
-// added item in the list, and `hand` must be the replaced item. If the call failed, it must have
-// returned the item.
+// added item in the list, and `hand` must be the replaced item. If the call failed, its error must
+// contain the item.
 fn lent<T: Sample, G: Ruled, R: Abort>(
     rt: &R,
     case: &mut Case<T, G>,

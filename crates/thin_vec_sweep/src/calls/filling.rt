@@ -14,8 +14,8 @@ use std::process::Abort;
 use thin_testing::Ruled;
 use thin_vec::{Doubling, ThinVec};
 
-// Each test item is made from a number. The first item that an iterator yields is made from this
-// number. Each further item is made from the next lower number.
+// The number from which the first item of an iterator is made. Each further item of the iterator is
+// made from the next lower number.
 const FRESH: u64 = 800_000;
 
 // The number of size hints that are tried.
@@ -117,8 +117,8 @@ pub fn fill<T: Sample, G: Ruled, R: Abort>(
     Ending::done(count)
 }
 
-/// Returns the numbers from which the iterator's items at the positions `before..before + count`
-/// are made.
+/// Returns the `count` items that the iterator yields after its first `before` items. Each item is
+/// represented by the number from which it is made.
 pub fn coming<R: Abort>(
     rt: &R,
     ledger: &'static Ledger,

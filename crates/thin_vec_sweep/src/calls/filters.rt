@@ -11,8 +11,8 @@ use std::mem;
 use std::process::Abort;
 use thin_testing::Ruled;
 
-// Each test item is made from a number. The new item that the closure of `retain_mut` or `pop_if`
-// moves into the list is made from this number.
+// The number from which a test of `retain_mut` or `pop_if` makes a new item. The closure moves this
+// item into the list.
 const FRESH: u64 = 70_000;
 
 /// A test that calls `retain`. The closure only reads the items.
@@ -39,8 +39,9 @@ impl<T: Sample, G: Ruled> Call<T, G> for Retain {
     }
 }
 
-// Returns the numbers from which the remaining items were made, after `retain` was called on a list
-// of `count` items. `pattern` determines which items the closure keeps.
+// Returns the items that remain after a call to `retain` on a list of `count` items. Each item is
+// represented by the number from which it was made. `pattern` determines which items the closure
+// keeps.
 fn kept<R: Abort>(rt: &R, global: Global, count: usize, pattern: usize) -> Vec<u64, Global> {
     let mut left = Vec::new(global);
     for index in 0..count {
@@ -80,9 +81,10 @@ impl<T: Sample, G: Ruled> Call<T, G> for RetainMut {
     }
 }
 
-// Returns the numbers from which the remaining items were made, after the test `RetainMut` on a
-// list of `count` items. The closure replaces the first item with a new item, and each later item
-// with the item before it. `pattern` determines at which indices an item is kept.
+// Returns the items that remain after the test `RetainMut` on a list of `count` items. Each item is
+// represented by the number from which it was made. The closure replaces the first item with a new
+// item, and each later item with the item before it. `pattern` determines at which indices an item
+// is kept.
 fn moved_up<R: Abort>(rt: &R, global: Global, count: usize, pattern: usize) -> Vec<u64, Global> {
     let mut left = Vec::new(global);
     let mut number = FRESH;
@@ -127,8 +129,8 @@ impl<T: Sample, G: Ruled> Call<T, G> for PopIf {
 }
 
 // Updates the expected items for the test `PopIf`. If `items` is not empty, replaces its last
-// number with the number from which the new item is made. If the closure returns `true` (the
-// parameter `goes`), also removes and returns this new number.
+// number with the number from which the new item is made. `goes` says whether the closure returns
+// `true`. If it does, also removes and returns this new number.
 fn popped<R: Abort>(rt: &R, items: &mut Vec<u64, Global>, goes: bool) -> Option<u64> {
     let _last = items.pop()?;
     if goes {
@@ -169,9 +171,9 @@ impl<T: Sample, G: Ruled> Call<T, G> for DedupBy {
     }
 }
 
-// Returns the numbers from which the remaining items were made, after the test `DedupBy` on a list
-// of `count` items. The closure swaps each item with the last item that was kept. Then `pattern`
-// determines whether the item at the later index is removed.
+// Returns the items that remain after the test `DedupBy` on a list of `count` items. Each item is
+// represented by the number from which it was made. The closure swaps each item with the last item
+// that was kept. Then `pattern` determines whether the item at the later index is removed.
 fn exchanged<R: Abort>(rt: &R, global: Global, count: usize, pattern: usize) -> Vec<u64, Global> {
     let mut left = Vec::new(global);
     let mut last = number_at(0);
@@ -226,9 +228,9 @@ impl<T: Sample, G: Ruled> Call<T, G> for DedupByKey {
     }
 }
 
-// Returns the numbers from which the remaining items were made, after the test `DedupByKey` on a
-// list of `count` items. The first item always remains, and `pattern` determines which later items
-// remain.
+// Returns the items that remain after the test `DedupByKey` on a list of `count` items. Each item
+// is represented by the number from which it was made. The first item always remains, and `pattern`
+// determines which later items remain.
 fn first_kept<R: Abort>(rt: &R, global: Global, count: usize, pattern: usize) -> Vec<u64, Global> {
     let mut left = Vec::new(global);
     for index in 0..count {

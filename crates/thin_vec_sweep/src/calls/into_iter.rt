@@ -12,13 +12,13 @@ use std::process::Abort;
 use thin_testing::Ruled;
 use thin_vec::Growth;
 
-// Each test item is made from a number. The test `IntoIter` replaces an item of the iterator with
-// the item that is made from this number.
+// The number from which the test `IntoIter` makes a new item. The test replaces an item of the
+// iterator with this new item.
 const FRESH: u64 = 70_000;
 
-// Returns how many values of `steps` the test `IntoIterClone` tries. Before the test clones the
-// iterator, it calls `next` or `next_back` `steps` times. On a list of at most 4 items, the values
-// are `0..=length + 2`.
+// Before the test `IntoIterClone` clones the iterator, it calls `next` or `next_back` `n` times.
+// Returns how many values of `n` are tried. On a list of at most 4 items, these values are
+// `0..=length + 2`.
 fn steps(shape: Shape) -> usize {
     shape.indices().saturating_add(2)
 }
@@ -77,7 +77,8 @@ fn remains<T: Sample, A: Allocator, G: Growth, R: Abort>(
 }
 
 // Calls `next` and `next_back` of `rest` in the order that `walk` specifies, and checks each item
-// that is yielded. Returns the numbers from which the remaining items were made.
+// that is yielded. Returns the remaining items, each represented by the number from which it was
+// made.
 fn step_through<'a, T: Sample, A: Allocator, G: Growth, R: Abort>(
     rt: &R,
     at: &At,

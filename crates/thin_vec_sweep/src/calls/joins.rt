@@ -7,7 +7,8 @@ use crate::sweep::Call;
 use std::process::Abort;
 use thin_testing::Ruled;
 
-// Each test item is made from a number. The first item of the second list is made from this number.
+// The number from which the first item of the second list is made. The other items of this list are
+// made from the following numbers.
 const FRESH: u64 = 80_000;
 
 /// A test that calls `append` with a second list of various lengths. For each length, the second

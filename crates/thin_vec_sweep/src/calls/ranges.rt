@@ -34,7 +34,8 @@ impl<T: Sample, G: Ruled> Call<T, G> for Drained {
     }
 }
 
-// Returns the numbers from which the items outside `range` were made, in a list of `length` items.
+// Returns the items outside `range`, in a list of `length` items. Each item is represented by the
+// number from which it was made.
 fn outside<R: Abort>(rt: &R, global: Global, range: Ranged, length: usize) -> Vec<u64, Global> {
     let mut left = Vec::new(global);
     for index in 0..length {
@@ -79,7 +80,8 @@ fn remains<T: Sample, A: Allocator, G: Growth, R: Abort>(
 }
 
 // Calls `next` and `next_back` of `drain` in the order that `walk` specifies, and checks each item
-// that is yielded. Returns the numbers from which the remaining items were made.
+// that is yielded. Returns the remaining items, each represented by the number from which it was
+// made.
 fn step_through<'a, T: Sample, A: Allocator, G: Growth, R: Abort>(
     rt: &R,
     at: &At,
@@ -135,10 +137,11 @@ struct Extraction {
     pattern: usize,
     // The number of times the closure must be called.
     asked: usize,
-    // The items that `next` must yield, as the numbers from which they are made.
+    // The items that `next` must yield. Each item is represented by the number from which it is
+    // made.
     given: Vec<u64, Global>,
-    // The items that the list must contain after the `ExtractIf` is dropped, as the numbers from
-    // which they are made.
+    // The items that the list must contain after the `ExtractIf` is dropped. Each item is
+    // represented by the number from which it is made.
     left: Vec<u64, Global>,
 }
 
@@ -264,7 +267,8 @@ fn bound(number: usize, length: usize) -> Bound<usize> {
 }
 
 // Returns the expected result of `bounds` for the bounds `start` and `end` and a list of `length`
-// items. Each addition may saturate, because no list has `usize::MAX` items.
+// items. The additions saturate instead of overflowing, which is correct because no list has
+// `usize::MAX` items.
 fn between(start: Bound<usize>, end: Bound<usize>, length: usize) -> Option<(usize, usize)> {
     let first = match start {
         Bound::Included(place) => place,

@@ -8,8 +8,8 @@ use crate::sweep::Call;
 use std::process::Abort;
 use thin_testing::Ruled;
 
-// Each test item is made from a number. The first item that a test puts in place of a range is made
-// from this number.
+// The number from which a test makes the first of the items that it puts in place of a range. The
+// other new items are made from the following numbers.
 const FRESH: u64 = 80_000;
 
 // The number of test cases on each range. They differ in the number of new items.
@@ -33,8 +33,8 @@ fn count_for(range: Ranged) -> usize {
     }
 }
 
-// If the call must succeed, replaces the range in `case.items` with the `count` consecutive numbers
-// from `FRESH` onward.
+// If `verdict` says that the call must succeed, replaces the range in `case.items` with the `count`
+// consecutive numbers from `FRESH` onward.
 fn replaced<T: Sample, G: Ruled, R: Abort>(
     rt: &R,
     case: &mut Case<T, G>,

@@ -22,8 +22,8 @@ use thin_vec::{Growth, Splice, SpliceRefused, ThinVec};
 // The number of size hints that are tried.
 const HINTS: usize = 5;
 
-// On lists of at most 6 items, each size hint is combined with each number of new items from 0 to
-// 5. This is the number of combinations.
+// The number of combinations of a size hint and a number of new items from 0 to 5. On lists of at
+// most 6 items, all these combinations are tried.
 const FILLS: usize = 30;
 
 // The number of short sequences of calls: no call, one call to `next`, and one call to `next_back`.
@@ -36,8 +36,9 @@ const SHORT_WALKS: usize = 3;
 // test cases call `next`, and none of them calls `next_back`.
 const AFTER_STEPS: Cases = [33, 94, 102, 118, 150, 214, 342];
 
-// The number of test cases that take no item before `finish`, for each length of a range from 0 to
-// 6. There is one case for each combination of a size hint and a number of new items.
+// The number of test cases that take no item from the `Splice` before `finish`, for each length of
+// a range from 0 to 6. There is one case for each combination of a size hint and a number of new
+// items.
 const AT_ONCE: Cases = [FILLS; 7];
 
 // Returns the number of test cases for each length of a range. Spare capacity affects only
@@ -94,8 +95,8 @@ impl Plan {
     }
 }
 
-// A walk is a sequence of calls to `next` and `next_back`. Returns the number of the walk in the
-// test case `number`, on a list of at most 6 items.
+// Returns the number of the walk that the test case `number` uses on a list of at most 6 items. A
+// walk is a sequence of calls to `next` and `next_back`.
 fn few_steps(number: usize) -> usize {
     let crossed = SHORT_WALKS.saturating_mul(FILLS);
     match number.checked_sub(crossed) {
@@ -104,9 +105,9 @@ fn few_steps(number: usize) -> usize {
     }
 }
 
-// Returns the number of new items for a list of more than 6 items. Depending on `number`, it is
-// greater than twice the length of the range, equal to this length, one less than this length, or
-// 0.
+// Returns the number of new items for a list of more than 6 items. Depending on `number`, the
+// result is greater than twice the length of the range, equal to this length, one less than this
+// length, or 0.
 fn many(width: usize, number: usize) -> usize {
     match number {
         0 => width.saturating_mul(2).saturating_add(9),
@@ -270,8 +271,8 @@ fn splice<T: Sample, A: Allocator, G: Growth, I: Iterator<Item = T>>(
     (walked, splice.finish(alloc))
 }
 
-// Calls `next` and `next_back` in the order that `plan` specifies. Returns the index of the first
-// call that yielded a wrong item, and the number of remaining items.
+// Calls `next` and `next_back` in the order that `plan` specifies. Returns two values: the index of
+// the first call that yielded a wrong item, and the number of remaining items.
 fn walk<T: Sample, A: Allocator, G: Growth, I>(
     splice: &mut Splice<'_, I, T, A, G>,
     plan: &Plan,

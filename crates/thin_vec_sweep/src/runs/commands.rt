@@ -198,8 +198,8 @@ fn is_worked<T: Eq, A: Allocator, G: Growth>(
 }
 
 // Executes each command both on a `ThinVec` and on a model. After each command, asserts that the
-// two agree, and that the list has the items and the capacity in `worked`, which were computed by
-// hand.
+// list and the model agree, and that the list has the items and the capacity in `worked`, which
+// were computed by hand.
 fn assert_worked<'a, T: Numbered<Lender<'a>>, G: Ruled, J: Judge<T>, R: Abort>(
     rt: &R,
     alloc: Lender<'a>,

@@ -5,22 +5,23 @@ ghost use Rattle.std.specs.Prelude.{◌≡◌, ◌==◌, ◌/◌, ◌%◌};
 use std::mem;
 use thin_runner::judge::Judge;
 
-/// A judge whose decisions are the binary digits of a number, beginning with the last digit. When
-/// the judge compares two items, it also swaps them.
+/// A judge, which replaces the closure of a call such as `retain`. Its decisions are the binary
+/// digits of a number, beginning with the last digit: 1 is `true`, and 0 is `false`. When it
+/// compares two items, it also swaps them.
 #[derive(Clone, Copy)]
 pub struct Digits {
-    /// The digits that have not been used yet.
+    /// The number whose binary digits are the decisions that the judge has not made yet.
     pub digits: u64,
 }
 
-/// A judge that decides `true` for every second item, beginning with the first item. After 64
-/// items, it decides `false` for every item.
+/// A judge, which replaces the closure of a call such as `retain`. It decides `true` for every
+/// second item, beginning with the first item. After 64 items, it decides `false` for every item.
 pub const EACH_SECOND: Digits = Digits {
     digits: 0x5555_5555_5555_5555,
 };
 
 impl Digits {
-    // Removes the last binary digit, and returns it.
+    // Removes the last binary digit of `self.digits`, and returns this digit.
     fn next_digit(&mut self) -> u64
         ensures value { result ≡ self.old.digits % 2 }
         ensures digits { self.new.digits ≡ self.old.digits / 2 }

@@ -54,7 +54,7 @@ fn listed<R: Abort>(rt: &R, alloc: Global, count: u32) -> ThinVec<u32> {
     list
 }
 
-// Returns `count` steps, each of which takes an item from the front.
+// Returns `count` steps, each of which takes an item from the front of a range.
 fn steps<R: Abort>(rt: &R, alloc: Global, count: u32) -> Vec<Step, Global> {
     let mut steps = Vec::new(alloc);
     for _ in 0..count {

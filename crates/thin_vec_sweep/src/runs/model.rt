@@ -1,5 +1,5 @@
-//! The model: a short and slow program that specifies the commands. It represents a list as a `Vec`
-//! of the items and a number that is the capacity.
+//! The model: a short and slow program that specifies the commands. It represents a list as two
+//! values: a `Vec` of the items, and the capacity.
 mod filling;
 mod refused;
 
@@ -45,8 +45,8 @@ fn walked<T: Drop, A: Allocator + Copy>(
     Ok(answers)
 }
 
-// Returns the start and the end of the range that a command replaces in a list of `len` items, and
-// the number of new items.
+// Returns three numbers for a command on a list of `len` items: the start and the end of the range
+// that the command replaces, and the number of new items.
 fn range_of(len: usize, order: Order) -> (usize, usize, usize) {
     let at = order.at;
     match order.kind {
@@ -85,8 +85,8 @@ fn shown_out<T: Drop, A: Allocator + Copy>(
     }
 }
 
-// Returns the reply to a command that may need more capacity. The reply is a success if `made` is
-// true, and a capacity overflow otherwise.
+// Returns the reply to a command that may need more capacity. The reply is `Done` if `made` is
+// true. Otherwise, it reports a capacity overflow.
 fn shown_room<T: Drop, A: Allocator + Copy>(alloc: A, made: bool) -> Shown<T, A> {
     if made {
         Shown::plain(alloc, Form::Done, None)
@@ -112,8 +112,8 @@ fn shown_sifted<T: Drop, A: Allocator + Copy>(
     Ok(Shown::with_answers(Form::Answers, alloc, answers))
 }
 
-// Asks the judge whether `item` remains in the list. The kind of the command determines which
-// method of the judge is called.
+// Asks the judge, which replaces a closure, whether `item` remains in the list. The kind of the
+// command determines which method of the judge is called.
 fn stays<T, J: Judge<T>>(judge: &mut J, kind: Kind, item: &mut T) -> bool {
     match kind {
         Kind::Retain => judge.look(item),
@@ -173,8 +173,8 @@ impl<T: Numbered<A>, A: Allocator + Copy, G: Ruled> Model<T, A, G> {
         Ok(out)
     }
 
-    // Increases the capacity if it is less than `want`. Returns `false` if the capacity overflows,
-    // and `true` otherwise.
+    // Increases the capacity if it is less than `want`. Returns `false` if the new capacity would
+    // be too large, and `true` otherwise.
     fn make_room(&mut self, want: usize) -> bool {
         if want > self.capacity {
             let capacity = G::expected_capacity(T::SIZE, self.capacity, want);
@@ -244,8 +244,8 @@ impl<T: Numbered<A>, A: Allocator + Copy, G: Ruled> Model<T, A, G> {
     }
 
     // If `asked` is `None`, appends the item to the list. Otherwise, `asked` is the kind of the
-    // command, and the judge decides about the item. If the judge removes the item, appends the
-    // item to `answers`. If not, appends it to the list.
+    // command, and the judge, which replaces a closure, decides about the item. If the judge
+    // removes the item, appends the item to `answers`. If not, appends it to the list.
     fn sift_one<J: Judge<T>>(
         &mut self,
         asked: Option<Kind>,

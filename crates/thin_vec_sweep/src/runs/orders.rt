@@ -64,8 +64,8 @@ pub const KINDS: [Kind; 25] = [
     Kind::Splice,
 ];
 
-/// A description of a command with plain numbers. The runner executes a command that is made from
-/// the order, and the model executes the order itself.
+/// An order: a description of a command with plain numbers. The runner executes a command that is
+/// made from the order, and the model executes the order itself.
 #[derive(Clone, Copy, Debug)]
 pub struct Order {
     pub kind: Kind,

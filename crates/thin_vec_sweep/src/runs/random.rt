@@ -102,9 +102,9 @@ fn is_alike<'a, T: Numbered<Lender<'a>>, G: Ruled, J: Judge<T> + From<u64>>(
     Ok(form != Form::Never)
 }
 
-// Executes `commands` random commands on a new list, and appends a record of each to `done`. Stops
-// at the first command on which `ThinVec` and the model do not agree. Returns whether they agree on
-// all commands.
+// Executes `commands` random commands on a new list, and appends a record of each command to
+// `done`. Stops at the first command on which `ThinVec` and the model disagree. Returns whether
+// they agree on all commands.
 fn are_alike<'a, T: Numbered<Lender<'a>>, G: Ruled, J: Judge<T> + From<u64>>(
     alloc: Lender<'a>,
     dice: &mut Dice,
@@ -122,7 +122,7 @@ fn are_alike<'a, T: Numbered<Lender<'a>>, G: Ruled, J: Judge<T> + From<u64>>(
 }
 
 // Executes up to 30 random commands, and records them in `done`. Returns `true` if `ThinVec` and
-// the model agree on every command, and all blocks have been freed at the end.
+// the model agree on every command, and if all blocks have been freed at the end.
 fn runs_alike<'a, T: Numbered<Lender<'a>>, G: Ruled, J: Judge<T> + From<u64>>(
     alloc: Lender<'a>,
     seed: u64,
@@ -200,9 +200,9 @@ fn assert_all_from<'a, T: Numbered<Lender<'a>>, G: Ruled, R: Abort>(
     tally
 }
 
-// Asserts that `commands` commands were executed, and that a request was to be refused for `named`
-// of them. Another program computed both numbers. Also asserts that a request really was refused
-// for more than 2 percent of the commands.
+// Asserts that the number of executed commands is `commands`, and that a request was to be refused
+// in `named` of them. Another program computed these two numbers. Also asserts that a request
+// really was refused for more than 2 percent of the commands.
 fn assert_tally<R: Abort>(rt: &R, tally: &Tally, commands: u64, named: u64) {
     assert_eq!(rt; (tally.commands, tally.named), (commands, named));
     assert!(rt; tally.refused > commands / 50, "{tally:?}");

@@ -1,5 +1,6 @@
-//! The parts of a reply (`Shown`). The reply of the runner and the reply of the model are compared
-//! part by part.
+//! The parts of a reply to a command (`Shown`). The runner executes a command on a `ThinVec`, and
+//! the model, a program that specifies the commands, executes it on a `Vec`. Their two replies are
+//! compared part by part.
 use crate::runs::samples::{one, put};
 use std::alloc::{AllocError, Allocator};
 use thin_runner::command::{Command, Reply, Step};
@@ -22,8 +23,8 @@ pub enum Form {
     Never,
 }
 
-/// The index or the range on which a command acts, and the steps over the range. If the command has
-/// only an index, all fields except `start` are 0.
+/// The index or the range on which a command acts, and the steps over the range, which are calls to
+/// `next` or `next_back`. If the command has only an index, all fields except `start` are 0.
 #[derive(Clone, Copy, PartialEq, Eq)]
 pub struct Place {
     /// The index at which the command acts, or the start of the range on which it acts.
@@ -48,8 +49,8 @@ impl Place {
         }
     }
 
-    /// Returns the `Place` of a command that acts on a range. `claim` is a size hint or a number of
-    /// calls, and `steps` contains the steps over the range.
+    /// Returns the `Place` of a command that acts on a range. `claim` is the lower bound of a size
+    /// hint, or a number of calls to `next`, and `steps` contains the steps over the range.
     pub fn range(start: usize, end: usize, claim: usize, steps: &[Step]) -> Place {
         let mut walk: u64 = 1;
         for step in steps {
@@ -100,7 +101,8 @@ impl<T: Drop, A: Allocator + Copy> Shown<T, A> {
         }
     }
 
-    /// Returns the parts of a reply that contains items and a number.
+    /// Returns the parts of a reply that contains items and a number, such as the capacity of a
+    /// list.
     pub fn with_items(
         form: Form,
         cause: Option<ThinVecError>,

@@ -4,7 +4,7 @@ use Rattle.std.proofs.Common.{take}
 use Rattle.thin_replay.specs.Words.{SpellAll}
 use Rattle.thin_replay.proofs.words.items_of.Given as goal
 
--- For each word that has been parsed so far, the `Vec` contains the number that this word spells,
--- in the same order.
+-- The `Vec` contains exactly the numbers that the already parsed words spell, in the order of these
+-- words.
 abbrev pub invariant-loop-word : goal.invariant-loop-word
 invariant-loop-word l = SpellAll (take l.word-index l.words) l.items.items

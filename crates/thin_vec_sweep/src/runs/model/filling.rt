@@ -46,8 +46,8 @@ impl<T: Numbered<A>, A: Allocator + Copy, G: Ruled> Model<T, A, G> {
         made
     }
 
-    // Replaces the range with the first `placed` new items of `order`. Returns the reply, which
-    // contains the remaining new items.
+    // Replaces the range of `order` with the first `placed` of its new items. Returns the reply,
+    // which contains the remaining new items.
     fn fill(
         &mut self,
         alloc: A,
@@ -91,8 +91,8 @@ impl<T: Numbered<A>, A: Allocator + Copy, G: Ruled> Model<T, A, G> {
     // hand if it was taken from the iterator, but no room was found for it. An item is held back if
     // it was stored in a temporary vector.
     //
-    // If there are no items after the range, then no item may be held back. Moreover, either an
-    // item must be in hand and the list full, or no item is in hand and no new item was moved into
+    // If there are no items after the range, then no item may be held back. Moreover, if an item is
+    // in hand, the list must be full. If no item is in hand, no new item may have been moved into
     // the list.
     //
     // If there are items after the range, then the new items must have filled the range. Moreover,

@@ -9,7 +9,7 @@ use std::alloc::{AllocError, Allocator};
 use thin_testing::Ruled;
 use thin_vec::ThinVecError;
 
-// Returns `Refused` if the reply to the command can be `Refused`, and `Never` otherwise.
+// Returns `Refused` if the command can have the reply `Refused`, and `Never` otherwise.
 fn form_of(order: Order) -> Form {
     let may_be = match order.kind {
         Kind::Drain | Kind::Splice => order.steps > 0,
