@@ -152,8 +152,8 @@ impl<T, A: Allocator, G: Growth> ThinVec<T, A, G> {
         } }
 
         // If the call returns an item, the list is full, and `next` may be called on the returned
-        // iterator. The greatest number of items that this iterator can still yield is smaller than
-        // before the call.
+        // iterator. The upper bound on the number of items that the iterator may still yield has
+        // then decreased by more than the number of appended items.
         ensures full { OnSome result.1 (length self.new.items ≡ self.new.capacity) }
         ensures rest { OnSome result.1 (I.can_next result.0 × IsFinite (I.remaining result.0)) }
         ensures nearer { OnSome result.1
