@@ -32,8 +32,8 @@ impl<T, A: Allocator, G: Growth> ThinVec<T, A, G> {
     /// The cause is `CapacityOverflow` if the new capacity would be too large, and `OutOfMemory` if
     /// the allocator failed. There are two cases:
     ///
-    /// - This room cannot be reserved. In this case, the list is unchanged, `in_hand` is `None`,
-    ///   and `rest` is the whole iterator.
+    /// - Room for the lower bound of the size hint cannot be reserved. In this case, the list is
+    ///   unchanged, `in_hand` is `None`, and `rest` is the whole iterator.
     /// - A further item cannot be pushed. In this case, the list keeps the items that were appended
     ///   before, and is full. `in_hand` is the item that could not be pushed, and `rest` yields the
     ///   items after it.
