@@ -21,7 +21,8 @@ pub record IsFilledBy {S X : Type 0} (steps : S → Option X → S → Type 0) (
   -- is still empty.
   pub full : f.ended ≡ false → length items ≡ room
   pub short : f.ended ≡ true → length items < room
-  -- If the iterator has not ended, `next` may be called again. The upper bound on the number of
-  -- remaining items has decreased by at least the number of items that were put into the slots.
+  -- If the iterator has not ended, `next` may be called again, and the upper bound on the number of
+  -- remaining items is finite. In this case, the bound has also decreased by at least the number of
+  -- items that were put into the slots.
   pub asked : f.ended ≡ false → can f.rest × IsFinite (remaining f.rest)
   pub nearer : f.ended ≡ false → length items + size (remaining f.rest) ≤ size (remaining s)

@@ -55,9 +55,9 @@ all_none (x ∷ s) zero e = let n = ap length e in absurd (omega (arith, n))
 all_none (Some x ∷ s) (suc m) e = let n : 1 ≡ 2 = ap head_of e in absurd (omega (arith, n))
 all_none (None ∷ s) (suc m) e = ap (λ l. None ∷ l) (all_none s m (ap tail_of e))
 
--- Suppose that the rows of slots `None ∷ s` and `full ys ++ empty m` have the same length and the
--- same filled slots. Then the two rows are equal, because the first slot is empty, so `ys` is empty
--- too.
+-- Suppose that the rows of slots `None ∷ s` and `full ys ++ empty m` have the same length, and that
+-- the same slots are filled in both rows. Then the first slot of both rows is empty. So `ys` is
+-- empty, and the two rows are equal.
 none_first : {X : Type 0} (s : List (Option X)) (ys : List X) (m : ℕ)
     → false ∷ map is_some s ≡ shape (length ys) m → None ∷ s ≡ full ys ++ empty m
 unfolding head_of

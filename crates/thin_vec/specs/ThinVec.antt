@@ -54,9 +54,9 @@ module _ {T A : Type 0} where
     pub alloc : v.alloc ≡ a
     pub cost : v.cost ≡ no_cost
 
-  -- Every list `v` of items of the type `R` satisfies these limits. The length is at most the
-  -- capacity, the capacity is less than `2 ^ 63`, and a block of this capacity is small enough to
-  -- be allocated.
+  -- `IsWithin R v` states that the length of the list `v` is at most its capacity, that the
+  -- capacity is less than `2 ^ 63`, and that a block with this capacity for items of the type `R`
+  -- is small enough to be allocated. Every list satisfies `IsWithin`.
   pub record IsWithin (R : RattleType) (v : Thin T A) : Type 0 where
     pub room : length v.items ≤ v.capacity
     pub small : v.capacity < 2 ^ 63

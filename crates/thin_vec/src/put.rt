@@ -18,7 +18,7 @@ pub(crate) struct Filled<I> {
     /// The rest of the iterator: it yields the items that have not been taken yet.
     pub(crate) rest: I,
     /// The index of the slot directly after the last item that was placed. If no item was placed,
-    /// the index of the first empty slot.
+    /// this is the index of the first of the empty slots.
     pub(crate) end: usize,
     /// Whether the iterator returned `None` before the slots were full.
     pub(crate) ended: bool,

@@ -14,7 +14,7 @@ module _ {T A : Type 0} where
 
   -- `moves_cloning v i j k` is the number of moves if `k` clones replace the items `i..j` of the
   -- list `v`. The clones are made while the old items are still in the list. So each clone that is
-  -- later moved into the range counts as one move more than in `moves_replacing`.
+  -- later moved into the range costs one move that `moves_replacing` does not count.
   abbrev pub moves_cloning : Thin T A → ℕ → ℕ → ℕ → ℕ
   moves_cloning v i j k = moves_replacing v i j k + min k (j - i)
 

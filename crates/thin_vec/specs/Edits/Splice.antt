@@ -19,9 +19,9 @@ module _ {S T A : Type 0} (steps : S → Option T → S → Type 0) where
   -- `Stopped can remaining s placed error` states that `finish` failed with `error` after it had
   -- inserted the items `placed` of the iterator `s`. The error returns the items that were drawn
   -- afterwards: first the items in `held`, and then the item in the option `in_hand`. If `held` is
-  -- not empty and `in_hand` is `None`, the iterator has ended. Otherwise, `next` may be called
-  -- again on the rest of the iterator (`can`), and the upper bound on the number of its items
-  -- (`remaining`) is finite.
+  -- not empty and `in_hand` is `None`, the iterator has ended. Otherwise, `can` states that `next`
+  -- may be called on the rest of the iterator, and `remaining` is a finite upper bound on the
+  -- number of items that the rest may yield.
   abbrev pub Stopped : (S → Type 0) → (S → Count) → S → List T → SpliceRefused T S A → Type 0
   Stopped can remaining s placed error =
       (PausedAfter steps can remaining s

@@ -41,8 +41,8 @@ pub record TellsOverflowOf {X : Type 0} (R : RattleType) (n : ℕ) (r : Result X
     pub overflow : IsErrOf r CapacityOverflow ↔ (exact_capacity R 0 n ≡ None)
 
 module _ {T A : Type 0} where
-  -- `Costs n v w` states that changing the list `v` to `w` took exactly `n` moves. If the capacity
-  -- changed, the call also took one reallocation, which copied all items of `v`.
+  -- `Costs n v w` states that the call that changed the list `v` to `w` made exactly `n` moves and,
+  -- if the capacity changed, also one reallocation, which copied all items of `v`.
   abbrev pub Costs : ℕ → Thin T A → Thin T A → Type 0
   Costs n v w = w.cost ≡ moving n (cost_at v w.capacity)
 
@@ -55,9 +55,9 @@ module _ {T A : Type 0} where
     -- On success, the new capacity is the capacity that the growth rule determines for `k` more
     -- items (`capacity_for`).
     pub ok : OnOk r (capacity_for rule R v k ≡ Some w.capacity)
-    -- On failure, the list is unchanged, or it had already grown to the capacity that
-    -- `capacity_for` determines when a clone failed. The clause `err` of each call says in which
-    -- cases the list is unchanged.
+    -- On failure, either the list is unchanged, or a clone failed after the list had grown to the
+    -- capacity that `capacity_for` determines. The clause `err` of each call says in which cases
+    -- the list is unchanged.
     pub err : OnErr r ((w ≡ v) ⊎ (capacity_for rule R v k ≡ Some w.capacity))
     -- The call returns the error `CapacityOverflow` if and only if `capacity_for` is `None`, which
     -- means that the capacity would be too large. Every other failure is `OutOfMemory`, the only

@@ -67,10 +67,10 @@ module _ {S T : Type 0} (R : S → T → T → Bool → S → T → T → Type 0
     pub now : slots' ≡ slice_set (slice_set slots i (Some kept_left)) (suc i) (Some later_left)
 
   -- `PairsAskedUpTo m s xs t ys` states that the items of `xs` after the first were tested in
-  -- order, each against the item before it, until the test decided to remove an item, or `xs`
-  -- ended. The first `m` items are kept, and the field `over` contains the item to remove, if there
-  -- is one. The test changed its state from `s` to `t`, and `ys` is `xs` with the tested items as
-  -- the test left them.
+  -- order, each against the item before it. The tests stopped after the first item that is to be
+  -- removed, or at the end of `xs` if there is no such item. The first `m` items are kept. The list
+  -- `over` contains the item to remove, or is empty if there is none. The test changed its state
+  -- from `s` to `t`, and `ys` is `xs` with the tested items as the test left them.
   pub record PairsAskedUpTo (m : ℕ) (s : S) (xs : List T) (t : S) (ys : List T) : Type 0 where
     pub first : T
     pub done : List T

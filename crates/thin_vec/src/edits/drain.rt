@@ -60,16 +60,17 @@ impl<T: Drop, A: Allocator, G: Growth> ThinVec<T, A, G> {
     ghost use Rattle.thin_vec.specs.Edits.Drain.{DrainKeepsAlong, DrainsInOrder, DrainsInReverse, drain_alloc, drain_capacity, drain_cost, drain_kept, drain_lender, drain_rest};
 
     /// Removes the items `start..end` from the list, and returns an iterator that yields them from
-    /// either end. The list is borrowed until the iterator is dropped.
+    /// either end. The range must be in bounds. To check a range that may be out of bounds, use the
+    /// function `bounds` of this crate.
     ///
-    /// Until the iterator is dropped, the list is empty and has capacity 0. When the iterator is
-    /// dropped, it drops the items that were not yielded. After that, the list holds the items
-    /// before the range and the items after the range. If the iterator is leaked, the list stays
-    /// empty.
+    /// The list is borrowed until the iterator is dropped. Until then, it is empty and has capacity
+    /// 0. When the iterator is dropped, it drops the items that were not yielded. After that, the
+    /// list holds the items before the range and the items after the range. If the iterator is
+    /// leaked, the list stays empty.
     ///
     /// Neither the call nor the drop allocates memory, and neither can fail. The call moves no
-    /// item. The drop moves each item after the range once, or none if the range is empty. To check
-    /// a range that may be out of bounds, use the function `bounds` of this crate.
+    /// item. The drop moves each item after the range once. If the range is empty, it moves no
+    /// item.
     pub fn drain(&mut self, start: usize, end: usize) -> Drain<'_, T, A, G>
         requires start_le_end { start ≤ end }
         requires in_bounds { end ≤ length self.old.items }

@@ -19,8 +19,9 @@ use std::alloc::{Allocator, Global};
 use thin_block::{Doubling, Growth};
 
 /// An iterator that tests the items of a range with a closure. It removes and yields, in order,
-/// each item for which the closure returns true. If the closure has changed an item, the changed
-/// item is yielded. The method `extract_if` returns this iterator.
+/// each item for which the closure returns true. The closure may change an item, whether or not the
+/// item is yielded. An item that is yielded includes these changes. The method `extract_if` returns
+/// this iterator.
 ///
 /// Until the `ExtractIf` is dropped, it owns the allocation of the list, and the list is empty and
 /// has capacity 0. After the drop, the list holds every item that was not yielded. Items that were

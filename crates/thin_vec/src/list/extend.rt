@@ -32,8 +32,8 @@ impl<T, A: Allocator, G: Growth> ThinVec<T, A, G> {
     /// The cause is `CapacityOverflow` if the new capacity would be too large, and `OutOfMemory` if
     /// the allocator failed. There are two cases:
     ///
-    /// - This room cannot be reserved. In this case, the list is unchanged, `in_hand` is `None`,
-    ///   and `rest` is the whole iterator.
+    /// - Room for the lower bound of the size hint cannot be reserved. In this case, the list is
+    ///   unchanged, `in_hand` is `None`, and `rest` is the whole iterator.
     /// - A further item cannot be pushed. In this case, the list keeps the items that were appended
     ///   before, and is full. `in_hand` is the item that could not be pushed, and `rest` yields the
     ///   items after it.
@@ -152,8 +152,8 @@ impl<T, A: Allocator, G: Growth> ThinVec<T, A, G> {
         } }
 
         // If the call returns an item, the list is full, and `next` may be called on the returned
-        // iterator. The greatest number of items that this iterator can still yield is smaller than
-        // before the call.
+        // iterator. The upper bound on the number of items that the iterator may still yield has
+        // then decreased by more than the number of appended items.
         ensures full { OnSome result.1 (length self.new.items ≡ self.new.capacity) }
         ensures rest { OnSome result.1 (I.can_next result.0 × IsFinite (I.remaining result.0)) }
         ensures nearer { OnSome result.1

@@ -11,8 +11,8 @@ impl<T, A: Allocator, G: Growth> ThinVec<T, A, G> {
     ghost use Rattle.thin_vec.specs.ThinVec.{IsWithin, cost_shrunk, cost_shrunk_to};
 
     /// Shrinks the capacity to `min_capacity`, or to the length if the length is greater. If this
-    /// would not reduce the capacity, nothing changes. If the new capacity is 0, the block is
-    /// freed, and the `cost` of the list in contracts becomes 0.
+    /// would not reduce the capacity, nothing changes. If the capacity is reduced to 0, the block
+    /// is freed. In contracts, the recorded cost of the list (its field `cost`) is then 0.
     ///
     /// Rust's `Vec` has a method of this name, but the Rust crate thin-vec does not.
     ///
@@ -52,7 +52,8 @@ impl<T, A: Allocator, G: Growth> ThinVec<T, A, G> {
     }
 
     /// Shrinks the capacity to the length. If the list is full, nothing changes. If the list is
-    /// empty, its block is freed, and the `cost` of the list in contracts becomes 0.
+    /// empty, its block is freed. In contracts, the recorded cost of the list (its field `cost`) is
+    /// then 0.
     ///
     /// # Errors
     ///

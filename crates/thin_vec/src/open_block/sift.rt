@@ -137,8 +137,8 @@ impl<T, A: Allocator> OpenBlock<T, A> {
     }
 
     // Tests the remaining items from index `k` onward. Stops at the first item that is to be
-    // removed, and returns its index. If there is no such item, returns the number of remaining
-    // items. No item is moved.
+    // removed, and returns its index. If there is no such item, returns the number of all remaining
+    // items, including the items before index `k`. No item is moved.
     pub(crate) fn test_run<J: Test<T>>(&mut self, k: usize, test: &mut J) -> usize
         requires in_bounds { k ≤ length self.old.rest }
         requires ready { J.ready test.old }

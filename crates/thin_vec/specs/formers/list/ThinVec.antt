@@ -1,6 +1,7 @@
--- The former of `ThinVec` tells the prover that a type may contain lists of itself. This is sound
--- because a list is determined by its items and by values that contain no items. Whether the items
--- are in the first slots depends only on which slots are filled, as `specs/Shapes.antt` proves.
+-- The type former of `ThinVec` tells the prover that a type may contain lists of itself. This is
+-- sound because a list is determined by its items and by values that contain no items. The items of
+-- a list must also be in its first slots. This condition does not depend on the items themselves,
+-- but only on which slots are filled, as `specs/Shapes.antt` proves.
 use Rattle.std.specs.Prelude.{◌≡◌, ℕ, ◌-◌, List, [], ◌∷◌, Option, length, map}
 use Rattle.std.specs.declared.option.Option.TheVariants.{Some, None}
 use mathlib.Core.Path.{refl, sym, ap, ◌∙◌}
