@@ -1,12 +1,12 @@
--- These lemmas are about changes of a text. They show how to undo a change, and which texts result
--- if the changes of a list are applied to a text one after another.
+-- These lemmas are about changes to a text. They show how to undo a change, and which texts result
+-- if a list of changes is applied to a text, one change after another.
 use Rattle.std.proofs.Common.{◌≡◌, ℕ, zero, suc, ◌+◌, ◌-◌, ◌≤◌, List, [], ◌∷◌, ◌++◌, length, take, drop, reverse, slice_range, refl, sym, ap, subst, ◌∙◌, arith, length-append, append_assoc}
 use Rattle.std.proofs.lemmas.List.{drop-drop, drop_at, length-drop, length-reverse, length-take-le, reverse-append, take-append-drop, take_at}
 use Rattle.std.specs.List.{replace_range}
 use Rattle.text_editor.specs.Changes.{AllFit, FitAlong, Fits, changed, texts_along, texts_of}
 use Rattle.text_editor.specs.declared.change.Change.{Change}
 
--- The next lemmas are about a change `change` that turns the text `text` into the text `new`. The
+-- The next lemmas are about one change, `change`. It turns the text `text` into the text `new`. The
 -- range of the change is within `text`, and `n` is the number of characters that the change
 -- inserts.
 module _ (change : Change) (n : ℕ) (text new : List ℕ) (fits : Fits change text)
@@ -59,17 +59,17 @@ module _ (changes rest : List Change) (change : Change) (text after : List ℕ)
   turned : reverse changes ≡ change ∷ reverse rest
   turned = ap (λ (cs : List Change). reverse cs) is ∙ reverse-append rest (change ∷ [])
 
-  -- The list `changes` consists of `rest`, followed by a change that turns `text` into `after`.
-  -- `texts_of` applies this last change first. So `after` is the first resulting text, and
-  -- `texts_of rest after` contains all further texts.
+  -- `texts_of` applies the last change in the list `changes` first. This change turns `text` into
+  -- `after`, so `after` is the first resulting text. The other changes are `rest`, so the further
+  -- resulting texts are `texts_of rest after`.
   pub texts_of-last : texts_of changes text ≡ after ∷ texts_of rest after
   texts_of-last =
       ap (λ (cs : List Change). texts_along cs text) turned
       ∙ ap (λ (t : List ℕ). t ∷ texts_along (reverse rest) t) (sym made)
 
-  -- The list `changes` consists of `rest`, followed by a change that turns `text` into `after`.
-  -- `AllFit` considers this last change first. If it fits `text`, and the changes in `rest` fit
-  -- `after`, then all changes fit `text`.
+  -- `AllFit` considers the last change in the list `changes` first. This change turns `text` into
+  -- `after`, and the other changes are `rest`. If the last change fits `text`, and
+  -- `AllFit rest after` holds, then `AllFit changes text` holds.
   pub AllFit-last : Fits change text → AllFit rest after → AllFit changes text
   AllFit-last fits all =
       subst (λ (cs : List Change). FitAlong cs text) (sym turned)

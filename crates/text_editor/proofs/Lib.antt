@@ -1,2 +1,2 @@
--- This crate has one module of lemmas. The lemmas are about changes of a text.
+-- This crate has one module of lemmas. The lemmas are about changes to a text.
 mod ChangesLemmas

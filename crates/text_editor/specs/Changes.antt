@@ -26,14 +26,13 @@ abbrev pub FitAlong : List Change → List ℕ → Type 0
 FitAlong [] text = Unit {0}
 FitAlong (change ∷ changes) text = Fits change text × FitAlong changes (changed change text)
 
--- `texts_of changes text` contains the text after each change. The changes are applied from the
--- last to the first: the last change is applied to `text`, and each other change to the text that
--- the previous step produced.
+-- `texts_of changes text` applies `changes` to `text` one after another, from the last change in
+-- the list to the first. It contains the resulting text after each change, in the order in which
+-- the changes are applied.
 abbrev pub texts_of : List Change → List ℕ → List (List ℕ)
 texts_of changes text = texts_along (reverse changes) text
 
--- `AllFit changes text` holds if each change fits the text to which it is applied. The changes are
--- applied from the last to the first: the last change is applied to `text`, and each other change
--- to the text that the previous step produced.
+-- Suppose that `changes` are applied to `text` one after another, from the last change in the list
+-- to the first. `AllFit changes text` holds if each change fits the text to which it is applied.
 abbrev pub AllFit : List Change → List ℕ → Type 0
 AllFit changes text = FitAlong (reverse changes) text

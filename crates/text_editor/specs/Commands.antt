@@ -1,4 +1,4 @@
--- This definition says how each command changes the editor.
+-- This file defines how each command changes the state of the editor.
 use Rattle.std.specs.Prelude.{◌≡◌, [], ◌∷◌, take}
 use Rattle.std.specs.List.{replace_range}
 use Rattle.text_editor.specs.History.{History}

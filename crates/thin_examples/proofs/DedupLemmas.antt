@@ -19,9 +19,9 @@ module _ {S T : Type 0} (R : S → T → T → Bool → S → T → T → Type 0
   abbrev Kept : T → List T → List T → Type 0
   Kept k xs zs = zs ≡ dedup_from same k (map f xs)
 
-  -- Suppose that the closure compared the item `x` with the kept item `k`, and returned `b`. If
-  -- `Kept` describes the result for the items `xs` after `x`, then it also describes the result for
-  -- `x ∷ xs`.
+  -- Suppose that the closure has compared the item `x` with the kept item `k` and has returned `b`.
+  -- If `Kept` holds for the result for the items `xs`, which follow `x`, then it also holds for the
+  -- result for `x ∷ xs`.
   one : (b : Bool) (x k x' k' : T) (xs zs : List T) → b ≡ same (f x) k → x' ≡ f x → k' ≡ k
       → MatchBool b (Kept k' xs zs) ((ys : List T) × Kept x' xs ys × (zs ≡ k' ∷ ys))
       → Kept k (x ∷ xs) zs
@@ -49,9 +49,9 @@ module _ {S T : Type 0} (R : S → T → T → Bool → S → T → T → Type 0
         | false ↦ λ m. (m.0, kept_from xs h.1 h.2 m.0 m.1, m.2)
       ]) h.5)
 
-  -- Suppose that the list `v` contains the items `xs`, except that the first item `x` has been
-  -- replaced with `f x`. Suppose also that `dedup_by` turns `v` into `w`. Then the items of `w` are
-  -- `dedup same (map f xs)`.
+  -- Suppose that the items of the list `v` are `xs`, but with `f x` in place of the first item `x`.
+  -- Suppose also that `dedup_by` turns `v` into the list `w`. Then the items of `w` are
+  -- `dedup same (map f xs)`, as if `f` had been applied to every item before the call.
   pub deduped_mapped : {A : Type 0} {s : S} {v w : Thin T A} (xs : List T) (x : T)
       → x ≡ slice_index_or xs 0 x → v.items ≡ slice_set xs 0 (f x) → IsDedupedBy R s v w
       → w.items ≡ dedup same (map f xs)

@@ -11,8 +11,9 @@ module _ {F J T : Type 0} (R : F → T → Bool → F → T → Type 0) (state :
     (one : (f : F) (x : T) (b : Bool) (g : F) (y : T) → R f x b g y
     → keeps (state f) x ≡ (b, (y, state g))) where
   -- Suppose that the closure makes the same decisions as the keeper, and writes the same values to
-  -- the items. For each item of `xs`, let `qs` contain the decision of the closure and the value
-  -- that the item has afterwards. Then `qs` consists of the results of the keeper for `xs`.
+  -- the items. Suppose also that the list `qs` contains, for each item of `xs`, the closure's
+  -- decision and the item's value after this decision. Then `qs` contains exactly the keeper's
+  -- results for `xs`, in order.
   answers-are : (f : F) (xs : List T) (qs : List (Bool × T)) (t : F) → Asked R f xs qs t
       → qs ≡ asked_by keeps (state f) xs
   answers-are f [] qs t a = a.0

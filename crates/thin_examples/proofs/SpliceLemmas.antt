@@ -5,8 +5,8 @@ use Rattle.std.specs.Iterator.Runs.{WholeRun}
 use Rattle.std.specs.Prelude.{OnOk}
 use Rattle.std.specs.declared.result.Result.{Result}
 
--- Consider the statement that, if `r` is `Ok`, the list `items` consists of `front`, all items that
--- the iterator `s` yields, and `tail`, in this order. This statement remains true if `s`, `front`
+-- Suppose that, if the result `r` is `Ok`, the list `items` consists of `front`, all items that the
+-- iterator `s` yields, and `tail`, in this order. Then this statement remains true if `s`, `front`
 -- and `tail` are replaced with equal values.
 pub run_between : {S T X E : Type 0} (steps : S → Option T → S → Type 0) (r : Result X E)
     (items : List T) {s s' : S} {front front' tail tail' : List T} → s ≡ s' → front ≡ front'

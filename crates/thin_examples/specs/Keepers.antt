@@ -2,10 +2,9 @@
 -- keeper for all items of a list.
 use Rattle.std.specs.Prelude.{Bool, List, [], ◌∷◌}
 
--- `asked_by keeps j xs` is the list of the results of a keeper for the items `xs`, in order. The
--- function `keeps` decides about each item, and `j` is the state of the keeper before the first
--- decision. Each result says whether the item is kept, and which value the item has after the
--- decision.
+-- `asked_by keeps j xs` contains the results of a keeper for the items `xs`, in order. Each result
+-- consists of the decision whether to keep the item, and the value of the item after the decision.
+-- The function `keeps` defines each decision, and `j` is the keeper before the first decision.
 abbrev pub asked_by : {J T : Type 0} → (J → T → Bool × (T × J)) → J → List T → List (Bool × T)
 asked_by keeps j [] = []
 asked_by keeps j (x ∷ xs) = ((keeps j x).0, (keeps j x).1.0) ∷ asked_by keeps

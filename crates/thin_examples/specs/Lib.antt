@@ -1,5 +1,5 @@
--- These modules define what the contracts of this crate say about syntax trees, last digits, and
--- keepers. A keeper decides for each item of a list whether to keep it.
+-- These modules contain the definitions that the contracts of this crate use. They are about syntax
+-- trees, last digits, and keepers. A keeper decides for each item of a list whether to keep it.
 pub mod SyntaxTree
 pub mod LastDigits
 pub mod Keepers

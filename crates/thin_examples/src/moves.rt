@@ -127,7 +127,8 @@ fn nine_for_two<A: Allocator>(list: &mut ThinVec<u32, A>, alloc: A) -> Result<()
     Ok(())
 }
 
-// Extracts 4 and 6 from the list 1, 9, 4, 5, 6. Only the number 5 is moved.
+// Extracts the even numbers 4 and 6 from the list 1, 9, 4, 5, 6. The list is then 1, 9, 5, and only
+// the number 5 has been moved.
 fn even_out<A: Allocator>(list: &mut ThinVec<u32, A>)
     requires five { list.old.items ≡ 1 ∷ 9 ∷ 4 ∷ 5 ∷ 6 ∷ [] }
     ensures items { list.new.items ≡ 1 ∷ 9 ∷ 5 ∷ [] }

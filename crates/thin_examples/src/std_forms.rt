@@ -46,8 +46,8 @@ pub fn take_list<T, A: Allocator + Clone, G: Growth>(
     mem::try_take(list)
 }
 
-/// Makes an empty list using the trait `MadeWith`. The method `or_default` of std's maps uses the
-/// same trait.
+/// Makes an empty list using the trait `MadeWith` of Rattle's std. The method `or_default` of maps
+/// uses the same trait.
 pub fn made<A: Allocator, G: Growth>(alloc: A) -> ThinVec<u32, A, G>
     ensures items { result.items ≡ [] }
 {

@@ -1,5 +1,6 @@
--- These modules define what the words and lines of the input mean, and how a judge decides. A judge
--- decides about items in place of the closures that methods such as `retain` take.
+-- These modules define the meaning of the words and lines of the input, and the decisions of a
+-- judge. A judge is a value that decides, for example, which items `retain` keeps. It takes the
+-- place of a closure.
 pub mod DivisorJudge
 pub mod Lines
 pub mod Words

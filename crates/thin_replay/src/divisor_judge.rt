@@ -1,18 +1,19 @@
-//! A judge that decides using the remainder or the quotient of a division. A judge decides about
-//! items in place of the closures that methods such as `retain` take.
+//! A judge that bases its decisions on the remainder or the quotient of a division. A judge is a
+//! value that decides, for example, which items `retain` keeps. It takes the place of a closure.
 ghost use Rattle.std.specs.Prelude.{◌≡◌, ◌<◌};
 
 use crate::line_error::LineError;
 use crate::words::number_of;
 use thin_runner::judge::Judge;
 
-/// A judge that decides about an item by its number. The number of an item is the item plus
-/// `stride` times the count of earlier decisions.
+/// A judge that computes a number for each item, and divides this number by `divisor` to decide
+/// about the item. The number is the sum of the item and `stride * n`, where `n` is how many
+/// decisions the judge has made before.
 ///
-/// The judge chooses an item if `divisor` divides the number of the item. The key of an item is its
-/// number divided by `divisor`. A later item counts as a duplicate of a kept item if the number of
-/// the later item and the kept item itself have the same remainder modulo `divisor`. After each
-/// decision, the judge adds `added` to the items that it may change. All sums are modulo 2^64.
+/// The judge chooses an item if `divisor` divides the number. The key of an item is the quotient,
+/// rounded down. A later item is a duplicate of a kept item if the number for the later item and
+/// the kept item itself have the same remainder modulo `divisor`. After each decision, the judge
+/// adds `added` to the items that it may change. All sums and products are modulo 2^64.
 #[derive(Clone, Copy)]
 pub struct DivisorJudge {
     divisor: u64,

@@ -13,14 +13,14 @@ fn note<V>(order: &Cell<u32>, digit: u32, value: V) -> V {
     value
 }
 
-// Asserts that `thin_vec![alloc => x, y]` evaluates its arguments in the order `alloc`, `x`, `y`.
+// Asserts that `thin_vec![alloc => x, y]` evaluates `alloc` first, then `x`, and then `y`.
 fn assert_order_with_listed_items(rt: &impl Abort, alloc: Global, order: &Cell<u32>) {
     let list = thin_vec![note(order, 1, alloc) => note(order, 2, 7), note(order, 3, 8),];
     assert_list(rt, &list.expect(rt, "memory"), &[7, 8], 2);
     assert_same(rt, order.take(), 123);
 }
 
-// Asserts that `thin_vec![alloc => x; n]` evaluates its arguments in the order `alloc`, `x`, `n`.
+// Asserts that `thin_vec![alloc => x; n]` evaluates `alloc` first, then `x`, and then `n`.
 fn assert_order_with_repeated_item(rt: &impl Abort, alloc: Global, order: &Cell<u32>) {
     let list = thin_vec![note(order, 1, alloc) => note(order, 2, 7); note(order, 3, 2)];
     assert_list(rt, &list.expect(rt, "memory"), &[7, 7], 4);

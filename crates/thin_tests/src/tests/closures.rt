@@ -57,9 +57,9 @@ fn dedup_by_key_drops_its_closure(rt: HostRuntime) {
     assert_without_two(&rt, &list, &drops);
 }
 
-// In this test, the closure owns an `Rc`, whose reference count shows when the closure is dropped.
-// The closure cannot own a `Counted`, which borrows a cell, because the borrow checker does not
-// accept a closure that borrows in this test.
+// In this test, the closure owns an `Rc`. The reference count of the `Rc` shows whether the closure
+// has been dropped. The closure cannot own a `Counted` instead, because a `Counted` borrows a cell,
+// and the borrow checker does not accept a closure with a borrow here.
 #[test]
 fn extract_if_drops_its_closure(rt: HostRuntime) {
     let kept = Rc::new(rt.alloc(), 2).ok().expect(&rt, "memory");

@@ -14,8 +14,8 @@ trait Numbered: Copy + PartialEq + Debug + Drop {
     fn numbered(number: usize) -> Self;
 }
 
-// Each item is a number modulo 251, and 8 is not a multiple of 251. So any two neighboring 8-byte
-// words of a list contain different bytes.
+// The value is the number modulo 251, and not modulo 256. So in a list of consecutive numbers, any
+// two neighboring 8-byte words contain different bytes.
 impl Numbered for u8 {
     fn numbered(number: usize) -> u8 {
         (number % 251) as u8

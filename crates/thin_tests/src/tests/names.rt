@@ -13,8 +13,8 @@ use thin_vec::{
     Doubling, ExtractIf, Growth, IntoIter, Rejected, ThinVec, ThinVecError, fits, thin_vec,
 };
 
-// Compiles only if the type `L` implements the traits in its bounds. The test passes a list of
-// bytes.
+// A call of this function compiles only if the type `L` implements all traits in the bounds below.
+// The test calls the function with a list of bytes.
 fn assert_list_traits<L>(_list: &L)
 where
     L: Clone + Eq + Ord + Hash + Debug + Drop,
@@ -22,15 +22,15 @@ where
     L: Index<usize, Output = u8> + IndexMut<usize> + IntoIterator<Item = u8> + Write,
 {}
 
-// Compiles only if the type `I` implements the traits in its bounds. The test passes an `IntoIter`
-// and a `Drain` of bytes.
+// A call of this function compiles only if the type `I` implements all traits in the bounds below.
+// The test calls the function with an `IntoIter` and with a `Drain` of bytes.
 fn assert_iterator_traits<I>(_items: &I)
 where
     I: DoubleEndedIterator + ExactSizeIterator + FusedIterator + Iterator<Item = u8> + Debug + Drop,
 {}
 
-// Compiles only if the type `E` implements the traits in its bounds. The test passes a
-// `ThinVecError`.
+// A call of this function compiles only if the type `E` implements all traits in the bounds below.
+// The test calls the function with a `ThinVecError`.
 fn assert_error_traits<E>(_cause: &E)
 where
     E: Error + Copy + Eq + From<AllocError> + From<Rejected<u8>>,

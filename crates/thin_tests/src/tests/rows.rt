@@ -10,8 +10,8 @@ use thin_vec::{ThinVec, thin_vec};
 
 // One line for each worked example: its number, how many values it compares, and how many requests
 // for memory it makes. These counts were made by hand, so they expose an example that compares too
-// few values. The requests of example 35 are given as 0, because some of them are made by `format!`
-// of Rattle's library.
+// few values. For example 35, the number of requests is not checked and is given as 0, because
+// `format!` of Rattle's library makes some of them.
 const COUNTS: &str = "\
     1: 5, 0\n\
     2: 12, 2\n\
@@ -49,8 +49,8 @@ const COUNTS: &str = "\
     40: 15, 2\n\
     41: 6, 5\n";
 
-// Runs the worked example with the number `number`. Asserts that the example is ok, and that all
-// memory has been freed. Returns how many values the example compares, and how many requests for
+// Runs worked example number `number`. Asserts that the example succeeds, and that all memory has
+// been freed at the end. Returns how many values the example compares, and how many requests for
 // memory it makes.
 fn run_and_count<R: Abort>(rt: &R, alloc: Global, number: u32) -> (u32, u64) {
     let refusing = Refusing::new(alloc, 0);

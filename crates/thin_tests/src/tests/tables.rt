@@ -14,7 +14,7 @@ use std::process::Abort;
 use thin_rows::{Rows, ThinVecError};
 use thin_testing::Refusing;
 
-// Asserts that the table has a row with the index `row`, as the methods of the table require.
+// Asserts that the table has a row with index `row`. Many methods of the table require this.
 fn assert_row<V, A: Allocator>(rt: &impl Abort, table: &Rows<V, A>, row: usize)
     ensures in_bounds { row < length table.now }
 {

@@ -3,9 +3,9 @@ use Rattle.std.proofs.Common.{◌≡◌, ◌+◌, ◌-◌, ◌^◌, ◌<◌, map
 use Rattle.thin_examples.specs.SyntaxTree.{node_count}
 use Rattle.thin_examples.proofs.syntax_tree.Node.+count.Given as goal
 
--- Consider two numbers: the count so far plus the node counts of the children that have not been
--- visited yet, and the node count of this node. If both numbers are capped at `u64::MAX`, they are
--- equal. Moreover, the count so far is less than `2 ^ 64`.
+-- The node count of this node is the count so far plus the node counts of the children that have
+-- not been visited yet. This equation holds after both of its sides have been capped at `u64::MAX`.
+-- Moreover, the count so far is less than `2 ^ 64`.
 abbrev pub invariant-loop-child : goal.invariant-loop-child
 invariant-loop-child l =
     (min (l.count + sum (map node_count l.child-iterator.rest.now)) (2 ^ 64 - 1) ≡ min
