@@ -149,7 +149,8 @@ module _ {T F A G : Type 0} {g : Ghosts G}
     pub count : length held + length (extract_rest now)
         ≤ length old + length (extract_rest start)
 
-  -- `IsExtracting` holds at the start of the loop, before any item has been yielded.
+  -- `IsExtracting` holds at the start of a loop over an `ExtractIf`, before any item has been
+  -- yielded.
   pub extract_start : (e : ExtractIf T F A G (Holder (Extracting T F A)) g h) (old : List T)
       → IsExtracting e e old old
   extract_start e old =
@@ -186,9 +187,10 @@ module _ {T F A G : Type 0} {g : Ghosts G}
           );
         }
 
-    -- If `IsExtracting` holds and `next` returns `None`, then the loop has appended exactly the
-    -- items of the range that pass the test. After the `ExtractIf` is dropped, the `ThinVec`
-    -- contains the other items of the range and the items outside the range.
+    -- Suppose that `IsExtracting` holds for a loop over an `ExtractIf`, and that `next` returns
+    -- `None`. Then the loop has appended exactly the items of the range that pass `test`. After the
+    -- `ExtractIf` is dropped, the `ThinVec` contains the other items of the range and the items
+    -- outside the range.
     pub extract_end : {start now new : ExtractIf T F A G (Holder (Extracting T F A)) g h}
         {old held : List T} {item : Option T} → IsExtracting start now old held
         → ExtractSteps R now item new → item ≡ None

@@ -101,9 +101,9 @@ first_most : (s : ℕ) → first s ≤ 4
 unfolding first
 first_most s = either_most (nat_lt (2 ^ 61 - 1) s)
 
--- Suppose that a list of capacity `c` needs room for `w` items, and that `c < w`. Then `2 * c` is
--- at most `max 4 (2 * w)`. So is `first s`, the least capacity of the first block of a list with
--- items of `s` bytes.
+-- Suppose that a list of capacity `c` needs room for `w` items, and that `c < w`. Then both `2 * c`
+-- and `first s` are at most `max 4 (2 * w)`. Here, `first s` is the least capacity of the first
+-- block of a list with items of `s` bytes.
 twice-most : (b : Bool) (s c w : ℕ) → c < w → (if b then first s else 2 * c) ≤ max 4 (2 * w)
 twice-most true s c w more = omega (arith, first_most s)
 twice-most false s c w more = omega (arith, more)

@@ -162,8 +162,8 @@ module _ {T A : Type 0} where
       }
 
   -- Suppose that the list `v` gets a new block `b'`, which has `c` slots, the items `xs` and the
-  -- cost `k`. Then contracts describe the list as `v` with three new values: the capacity `c`, the
-  -- items `xs` and the cost `k`.
+  -- cost `k`. Then the list, as contracts describe it, differs from `v` only in its capacity `c`,
+  -- its items `xs` and its cost `k`.
   pub thin_of-becomes : {w v : Thin T A} → w ≡ v → (b' : Block T A) {xs : List T} {c : ℕ} {k : Cost}
       → length b'.slots ≡ c → items_in b'.slots ≡ xs → b'.cost ≡ k
       → thin_of b' w.alloc ≡ record v { items = xs; capacity = c; cost = k }
@@ -175,8 +175,8 @@ module _ {T A : Type 0} where
   }
 
   -- Suppose that the list `v` gets a new block `b'`, which has the same number of slots, the items
-  -- `xs` and the cost `k`. Then contracts describe the list as `v` with two new values: the items
-  -- `xs` and the cost `k`.
+  -- `xs` and the cost `k`. Then the list, as contracts describe it, differs from `v` only in its
+  -- items `xs` and its cost `k`.
   pub thin_of-keeps : {w v : Thin T A} → w ≡ v → (b' : Block T A) {xs : List T} {k : Cost}
       → length b'.slots ≡ w.capacity → items_in b'.slots ≡ xs → b'.cost ≡ k
       → thin_of b' w.alloc ≡ record v { items = xs; cost = k }

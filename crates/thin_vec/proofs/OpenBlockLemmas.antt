@@ -49,13 +49,14 @@ module _ {T : Type 0} where
       ∙ (get_or_append_left (empty k) post None (j - length pre) (omega (arith, length-empty T k))
       ∙ get_or-replicate k (j - length pre) None None n)
 
-  -- If `g` empty slots are followed by one more empty slot, then there are `g + 1` empty slots.
+  -- `empty g` is a list of `g` empty slots. If it is followed by one more empty slot, then the
+  -- result is `empty (g + 1)`.
   pub empty-more : (g : ℕ) (z : List (Option T)) → empty g ++ (None ∷ z) ≡ empty (g + 1) ++ z
   empty-more g z = sym (append_assoc (empty g) (None ∷ []) z) ∙ ap (λ (e : List (Option T)). e ++ z)
       (replicate-append-replicate g 1 None)
 
 module _ {T A : Type 0} where
-  -- `Found h v` holds if `h` is a valid open block and contracts describe it as `v`.
+  -- `Found h v` holds if `h` is a valid open block, and `v` is the description of `h` in contracts.
   pub record Found (h : Inside T A) (v : Open T A) : Type 0 where
     pub lies : IsOpen h
     pub view : open_of h ≡ v
@@ -190,8 +191,8 @@ module _ {T A : Type 0} where
         ∙ items-front v.tail (length v.tail + (v.capacity - reach v))
 
     -- Suppose that the slots and the indices of the open block `h` agree with `v`, as `Shows`
-    -- states. If `h` and `v` also have the same allocator and the same cost, then contracts
-    -- describe `h` as `v`.
+    -- states. If `h` and `v` also have the same allocator and the same cost, then `v` is the
+    -- description of `h` in contracts.
     pub found : h.block.alloc ≡ v.alloc → h.block.cost ≡ v.cost → Found h v
     found alloc cost =
         let gap : h.rest_start - h.front_end ≡ v.gap = omega (arith, s.gap) in
@@ -240,13 +241,13 @@ module _ {T A : Type 0} where
   rest-run h xs e = sym (items-full-alone xs) ∙ ap items_in e
 
   -- Section: the steps of an edit. Each step has two definitions and a lemma. The first definition
-  -- is the open block after the step as it is stored, and the second is this open block as
-  -- contracts describe it. The lemma proves that the two agree.
+  -- is the open block after the step, as it is stored. The second definition is the description of
+  -- this open block in contracts. The lemma proves that the two agree.
 
   module _ (h : Inside T A) (o : IsOpen h) (b : Block T A)
       (some : 0 < length (open_of h).rest) where
-    -- `v` is the open block before its first or last middle item is removed, as contracts describe
-    -- it.
+    -- `v` is the description of the open block `h` in contracts, before the first or the last
+    -- middle item of `h` is removed.
     abbrev v : Open T A
     v = open_of h
 
@@ -261,9 +262,8 @@ module _ {T A : Type 0} where
       len = h.len;
     }
 
-    -- `first-seen ys` is the open block after its first middle item was removed, as contracts
-    -- describe it. The remaining middle items are `ys`, and the gap before them has become one slot
-    -- longer.
+    -- `first-seen ys` is the open block `first-left` as contracts describe it. Its middle items are
+    -- `ys`, and the gap before them is one slot longer than in `h`.
     abbrev pub first-seen : List T → Open T A
     first-seen ys = record {
       front = v.front;
@@ -276,9 +276,9 @@ module _ {T A : Type 0} where
       cost = v.cost;
     }
 
-    -- Suppose that the slot of the first middle item held `x` and was emptied. Then the middle
-    -- items were `x`, followed by a list `ys`. Contracts describe the new open block as `first-seen
-    -- ys`, whose middle items are `ys`.
+    -- Suppose that the slot of the first middle item held `x` and was then emptied. Then there is a
+    -- list `ys` such that the middle items were `x ∷ ys`, and `first-seen ys` is the description of
+    -- the new open block in contracts.
     pub first-step : (x : T) → slot h.block.slots h.rest_start ≡ Some x
         → seen b ≡ record (seen h.block) { slots = set h.block.slots h.rest_start None }
         → (ys : List T) × (v.rest ≡ x ∷ ys) × Found first-left (first-seen ys)
@@ -331,9 +331,8 @@ module _ {T A : Type 0} where
       len = h.len;
     }
 
-    -- `last-seen ys` is the open block after its last middle item was removed, as contracts
-    -- describe it. The remaining middle items are `ys`, and the gap after them has become one slot
-    -- longer.
+    -- `last-seen ys` is the open block `last-left` as contracts describe it. Its middle items are
+    -- `ys`, and the gap after them is one slot longer than in `h`.
     abbrev pub last-seen : List T → Open T A
     last-seen ys = record {
       front = v.front;
@@ -346,9 +345,9 @@ module _ {T A : Type 0} where
       cost = v.cost;
     }
 
-    -- Suppose that the slot of the last middle item held `x` and was emptied. Then the middle items
-    -- were a list `ys`, followed by `x`. Contracts describe the new open block as `last-seen ys`,
-    -- whose middle items are `ys`.
+    -- Suppose that the slot of the last middle item held `x` and was then emptied. Then there is a
+    -- list `ys` such that the middle items were `ys ++ x ∷ []`, and `last-seen ys` is the
+    -- description of the new open block in contracts.
     pub last-step : (x : T) → slot h.block.slots (h.rest_end - 1) ≡ Some x
         → seen b ≡ record (seen h.block) { slots = set h.block.slots (h.rest_end - 1) None }
         → (ys : List T) × (v.rest ≡ ys ++ x ∷ []) × Found last-left (last-seen ys)
@@ -409,8 +408,8 @@ module _ {T A : Type 0} where
   -- This module is about two steps: joining the two gaps of an open block that has no middle items,
   -- and closing an open block that has no gap before its tail items.
   module _ (h : Inside T A) (o : IsOpen h) where
-    -- `joined` is the open block `h` after its two gaps were joined into one gap after the front
-    -- items.
+    -- `joined` is the open block `h` once its two gaps have been joined into one gap, directly
+    -- after the front items.
     abbrev pub joined : Inside T A
     joined = record {
       block = h.block;
@@ -436,8 +435,8 @@ module _ {T A : Type 0} where
           cost = w.cost;
         }
 
-    -- If there are no middle items, then contracts describe the open block `joined` as
-    -- `joined-seen`.
+    -- If the open block `h` has no middle items, then `joined` is a valid open block, and
+    -- `joined-seen` is its description in contracts.
     pub join-step : (open_of h).rest ≡ [] → Found joined joined-seen
     join-step none =
         let w : Open T A = open_of h in
@@ -507,8 +506,8 @@ module _ {T A : Type 0} where
     count-all = omega (arith, length-append (open_of h).front all-after, o.front)
 
     -- Suppose that there is no gap before the tail items. If the middle items and the tail items
-    -- are moved to the slots directly after the front items, then all items fill the block from
-    -- slot 0 onward, and all other slots are empty.
+    -- are moved to the slots directly after the front items, then the items occupy the first slots
+    -- of the block without a gap, and all other slots are empty.
     pub close-row : (open_of h).gap_after ≡ 0
         → moved h.rest_start h.front_end (h.len - h.rest_start) h.block.slots ≡ front
         (items_of (open_of h)) (length h.block.slots)
@@ -594,8 +593,8 @@ module _ {T A : Type 0} where
           cost = b.cost;
         }
 
-    -- If `len` is the number of items in the block `b`, then contracts describe the open block
-    -- `opened len` as `opened-seen`.
+    -- If `len` is the number of items in the block `b`, then `opened len` is a valid open block,
+    -- and `opened-seen` is its description in contracts.
     pub open-step : (len : ℕ) → len ≡ length (items_in b.slots) → Found (opened len) opened-seen
     open-step len all =
         let xs : List T = items_in b.slots in
@@ -633,8 +632,8 @@ module _ {T A : Type 0} where
   -- index of the slot directly after the last written item.
   module _ (h : Inside T A) (o : IsOpen h) (b : Block T A) (xs : List T) (end : ℕ)
       (ends : end ≡ h.front_end + length xs) (fits : end ≤ h.rest_start) where
-    -- `filled` is the open block `h` after the items `xs` were written into the gap after its front
-    -- items.
+    -- `filled` is the open block `h` once the items `xs` have been written into the gap after its
+    -- front items.
     abbrev pub filled : Inside T A
     filled =
         record {
@@ -662,8 +661,8 @@ module _ {T A : Type 0} where
           cost = b.cost;
         }
 
-    -- If the items `xs` were written into the slots directly after the front items, then contracts
-    -- describe the open block `filled` as `filled-seen`.
+    -- If the items `xs` were written into the slots directly after the front items, then `filled`
+    -- is a valid open block, and `filled-seen` is its description in contracts.
     pub fill-step : b.slots ≡ laid h.front_end (full xs) h.block.slots → Found filled filled-seen
     fill-step now =
         let v : Open T A = open_of h in
@@ -768,8 +767,8 @@ module _ {T A : Type 0} where
         (spare ∙ sym (append_assoc (to_tail v) (full v.tail) (empty count ++ end)))
         ∙ slot-in-empty before count end j (omega (arith, long)) (omega (arith, long))
 
-    -- If the tail items were moved up by `count` slots, then contracts describe the open block
-    -- `widened` as `widened-seen`.
+    -- If the tail items were moved up by `count` slots, then `widened` is a valid open block, and
+    -- `widened-seen` is its description in contracts.
     pub widen-step : b.slots ≡ moved h.tail_start (h.tail_start + count)
         (h.len - h.tail_start) h.block.slots
         → Found widened widened-seen

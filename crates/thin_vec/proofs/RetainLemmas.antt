@@ -160,8 +160,7 @@ module _ {S T : Type 0} (R : S → T → Bool → S → T → Type 0) where
     long : length asked-part ≡ m
     long = omega (arith, length-append h.before h.left, h.place, h.reached)
 
-    -- `ys` consists of `asked-part`, the items before index `m`, followed by the items that have
-    -- not been tested yet.
+    -- The list `ys` is `asked-part`, followed by the items that have not been tested yet.
     parted : ys ≡ asked-part ++ h.more
     parted = h.now ∙ sym (append_assoc h.before h.left h.more)
 
@@ -474,9 +473,9 @@ module _ {S T : Type 0} (R : S → T → Bool → S → T → Type 0) where
     moved : w.cost ≡ moving h.count v.cost
     moved = ap (λ u. u.cost) h.now ∙ moving-after v.gap h.count v.cost gap
 
-    -- Suppose that the last tested item, `value`, is then removed from the open block `w`. Then
-    -- `Sifts` relates the open block `v` before the tests to the open block `z`, which is `w`
-    -- without `value`.
+    -- Suppose that after the tests, the last tested item `value` is removed from the open block
+    -- `w`. Then `Sifts` relates the open block `v` before the tests to the open block `z`, which is
+    -- `w` without `value`.
     pub advanced-goes : (value : T) (z : Open T A) → w.rest ≡ value ∷ z.rest
         → z ≡ record w { rest = z.rest; gap = w.gap + 1 } → Sifts R s v t z
     advanced-goes value z rest same =
@@ -619,8 +618,9 @@ module _ {S T : Type 0} (R : S → T → Bool → S → T → Type 0) where
 -- In this module, a test of an item is a struct that calls a closure and returns its result. `J` is
 -- the type of the test, and `inside` maps a state of the test to the state of its closure.
 module _ {J S T : Type 0} (R : S → T → Bool → S → T → Type 0) (inside : J → S) where
-  -- `through` describes the calls to the test. It is the relation `R` of the closure, applied to
-  -- the states of the closure inside the test.
+  -- `through` describes the calls to the test. The test wraps a closure, so each state of the test
+  -- contains a state of the closure. `through` applies the relation `R` of the closure to these
+  -- inner states.
   abbrev through : J → T → Bool → J → T → Type 0
   through s x b t y = R (inside s) x b (inside t) y
 

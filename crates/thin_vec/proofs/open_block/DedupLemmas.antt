@@ -28,8 +28,9 @@ module _ {T : Type 0} where
   over-none (None ∷ s) = refl
   over-none (Some x ∷ s) = refl
 
-  -- `Neighbours` states that the slots `i` and `i + 1` hold the items `k` and `x`, and that writing
-  -- `k'` and `x'` over these items puts `k'` into slot `i` and `x'` into slot `i + 1`.
+  -- `Neighbours` states that the slots `i` and `i + 1` hold the items `k` and `x`. It also states
+  -- that writing `k'` and `x'` over these two items is the same as setting slot `i` to `k'` and
+  -- slot `i + 1` to `x'`.
   pub record Neighbours (s : List (Option T)) (i : ℕ) (k x k' x' : T) : Type 0 where
     pub first : slot s i ≡ Some k
     pub second : slot s (suc i) ≡ Some x
@@ -92,8 +93,8 @@ module _ {T A : Type 0} where
   -- Section: open blocks
 
   -- `WrittenTwo` states that the middle items `x` and `y` of the open block `h`, at the indices `k`
-  -- and `k + 1`, were overwritten with `x'` and `y'`. It also states that contracts describe the
-  -- new open block, which is stored in `b`, as the old one with these two items replaced.
+  -- and `k + 1`, were overwritten with `x'` and `y'`. In contracts, the new open block, which is
+  -- stored in `b`, differs from `h` only in these two items.
   pub record WrittenTwo (h : Inside T A) (o : IsOpen h) (k : ℕ) (b : Block T A)
       (x y x' y' : T) : Type 0 where
     pub pre : List T
@@ -169,8 +170,8 @@ module _ {T A : Type 0} where
         }
 
   -- `WrittenLast` states that the last front item `x` of the open block `h` was overwritten with
-  -- `y`. It also states that contracts describe the new open block, which is stored in `b`, as the
-  -- old one with `y` in place of `x`.
+  -- `y`. In contracts, the new open block, which is stored in `b`, differs from `h` only in this
+  -- item.
   pub record WrittenLast (h : Inside T A) (b : Block T A) (x y : T) : Type 0 where
     pub pre : List T
     pub was : (open_of h).front ≡ pre ++ x ∷ []
@@ -237,8 +238,8 @@ module _ {T A : Type 0} where
             (ap (λ (z : Seen T A). z.cost) now);
       }
 
-  -- If the item `x` was written into the first slot of the gap, then contracts describe the new
-  -- open block with `x` as the last front item and with a gap that is shorter by one slot.
+  -- If the item `x` was written into the first slot of the gap, then `x` is the last front item of
+  -- the new open block, and the gap is one slot shorter than before.
   pub put-step : (h : Inside T A) (o : IsOpen h) (b : Block T A) (x : T) {c : Cost}
       → 0 < (open_of h).gap
       → seen b ≡ record (seen h.block)
@@ -295,7 +296,8 @@ module _ {T A : Type 0} where
       } in
       found i w shows (ap (λ (z : Seen T A). z.alloc) now) refl
 
-  -- If there are front items, then the slot of the last front item is filled.
+  -- If there are front items, then the slot at index `front_end - 1` is filled: it holds the last
+  -- front item.
   pub last-filled : (h : Inside T A) (o : IsOpen h) → 0 < length (open_of h).front
       → IsSome (slot h.block.slots (h.front_end - 1))
   last-filled h o some =

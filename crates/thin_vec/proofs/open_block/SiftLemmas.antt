@@ -30,8 +30,8 @@ split-at (x ∷ xs) (suc k) low =
 
 module _ {T : Type 0} where
   -- Suppose that the slots `a` are followed by the items `pre`, the item `x`, the items `post`, and
-  -- the slots `z`. Then all these slots consist of the slots before `x`, the slot of `x`, and the
-  -- slots after `x`.
+  -- the slots `z`. Then all these slots can be split into the slots before `x`, the slot of `x`,
+  -- and the slots after `x`.
   pub row-at : (a : List (Option T)) (pre : List T) (x : T) (post : List T) (z : List (Option T))
       → a ++ (full (pre ++ x ∷ post) ++ z) ≡ (a ++ full pre) ++ (Some x ∷ (full post ++ z))
   row-at a pre x post z =
@@ -49,8 +49,8 @@ module _ {T A : Type 0} where
 
   module _ (h : Inside T A) (o : IsOpen h) (b : Block T A) (k : ℕ)
       (low : k < length (open_of h).rest) where
-    -- `v` is the open block before its middle item at index `k` was overwritten, as contracts
-    -- describe it.
+    -- `v` is the description of the open block `h` in contracts, before its middle item at index
+    -- `k` is overwritten.
     abbrev v : Open T A
     v = open_of h
 
@@ -70,8 +70,8 @@ module _ {T A : Type 0} where
     abbrev pub written-seen : List T → Open T A
     written-seen ys = record v { rest = ys }
 
-    -- `Written x y` holds if the overwritten item was `x`, and contracts describe the new open
-    -- block as the old one with `y` in place of `x`.
+    -- `Written x y` states that the middle item `x` at index `k` was overwritten with `y`. In
+    -- contracts, the new open block differs from the old one only in this item.
     pub record Written (x y : T) : Type 0 where
       pub pre : List T
       pub post : List T
@@ -141,7 +141,8 @@ module _ {T A : Type 0} where
 
   -- In this module, the first `k` middle items are moved to the end of the front items.
   module _ (h : Inside T A) (o : IsOpen h) (k : ℕ) (low : k ≤ length (open_of h).rest) where
-    -- `u` is the open block before its first `k` middle items were moved, as contracts describe it.
+    -- `u` is the description of the open block `h` in contracts, before its first `k` middle items
+    -- are moved.
     abbrev u : Open T A
     u = open_of h
 
@@ -164,8 +165,8 @@ module _ {T A : Type 0} where
         { front = u.front ++ take k u.rest; rest = drop k u.rest; cost = b.cost }
 
     -- Suppose that the slots of `b` are, in this order: the slots of the front items, the slots of
-    -- the moved items, the gap, and all later slots. Then contracts describe `moved_run b` as
-    -- `moved_run-seen b`.
+    -- the moved items, the gap, and all later slots. Then `moved_run-seen b` is the description of
+    -- the open block `moved_run b` in contracts.
     moved_run-shows : (b : Block T A)
         → b.slots ≡ full u.front
         ++ (full (take k u.rest) ++ (empty u.gap ++ (full (drop k u.rest) ++ past_rest u)))
@@ -224,7 +225,7 @@ module _ {T A : Type 0} where
         (sym none))) refl
 
     -- If the first `k` middle items were moved to the slots directly after the front items, then
-    -- contracts describe `moved_run b` as `moved_run-seen b`.
+    -- `moved_run-seen b` is the description of the open block `moved_run b` in contracts.
     pub move_run_down-step : (b : Block T A) {c : Cost}
         → seen b ≡ record (seen h.block)
         { slots = moved h.rest_start h.front_end k h.block.slots; cost = c }
@@ -239,7 +240,7 @@ module _ {T A : Type 0} where
         (sym o.gap) (sym few))) (ap (λ (z : Seen T A). z.alloc) now)
 
   -- If the first middle item was moved from its slot to the slot directly after the front items,
-  -- then contracts describe it as the last front item.
+  -- then it is the last front item of the new open block, as contracts describe it.
   pub move_one_down-step : (h : Inside T A) (o : IsOpen h) (some : 1 ≤ length (open_of h).rest)
       → 0 < (open_of h).gap → (b : Block T A) {x : T} {c : Cost}
       → slot h.block.slots h.rest_start ≡ Some x

@@ -1,5 +1,4 @@
--- The slots in the range `rest_start..rest_end` are all filled. They hold the middle items, which
--- are the remaining items of the range.
+-- The slots `rest_start..rest_end` hold the middle items, so none of these slots is empty.
 use Rattle.std.proofs.Common.{ap, ◌∙◌}
 use Rattle.thin_vec.specs.OpenBlock.{open_of}
 use Rattle.thin_vec.proofs.OpenBlockLemmas.{rest-filled, rest-run}

@@ -7,7 +7,8 @@ use Rattle.std.proofs.lemmas.List.{nil_from_length}
 use Rattle.thin_vec.proofs.RetainLemmas.{advanced-count, advanced-ends, advanced-goes, none-left}
 use Rattle.thin_vec.proofs.open_block.OpenBlock.sift_last.Goals as goal
 
--- The clause `sifts` holds if `advance_last` returns true, because the next item is then removed.
+-- The clause `sifts` holds if `advance_last` returns true. In this case, the test decided to remove
+-- the only middle item, and `sift_last` drops this item.
 pub returns-then-advance_last-clause-sifts : goal.returns-then-advance_last-clause-sifts
 returns-then-advance_last-clause-sifts g c =
     advanced-goes g.J.Test.tests c.args.test.now c.advance_last.new.test c.args.self.now

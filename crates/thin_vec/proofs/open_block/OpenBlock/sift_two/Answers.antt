@@ -5,7 +5,8 @@ use Rattle.std.proofs.lemmas.Bool.{false≢true}
 use Rattle.thin_vec.proofs.RetainLemmas.{advanced-count, advanced-ends, advanced-goes, none-left}
 use Rattle.thin_vec.proofs.open_block.OpenBlock.sift_two.Goals as goal
 
--- The clause `sifts` holds if `advance_two` returns true, because the next item is then removed.
+-- The clause `sifts` holds if `advance_two` returns true. In this case, the test decided to remove
+-- an item, and `sift_two` drops this item.
 pub returns-then-advance_two-clause-sifts : goal.returns-then-advance_two-clause-sifts
 returns-then-advance_two-clause-sifts g c =
     advanced-goes g.J.Test.tests c.args.test.now c.advance_two.new.test c.args.self.now

@@ -1,4 +1,4 @@
--- The last front item is the last kept item, and its slot is filled. After the test, this slot
+-- The last front item is the last kept item, and its slot is not empty. After the test, this slot
 -- holds the item as the test left it, and nothing else has changed.
 use Rattle.std.proofs.Common.{◌-◌, refl, ap, sym, ◌∙◌, arith, length}
 use Rattle.thin_block.specs.Lends.{with_item}

@@ -1,4 +1,4 @@
--- The slots of the middle items at the indices `k - 1` and `k` are filled. After the test, these
+-- The slots of the middle items at the indices `k - 1` and `k` are not empty. After the test, these
 -- slots hold the two items as the test left them, and nothing else has changed.
 use Rattle.std.proofs.Common.{◌-◌, ap, sym, ◌∙◌, arith, length}
 use Rattle.thin_vec.specs.OpenBlock.{open_of}

@@ -1,6 +1,5 @@
--- The tail items are the items after the range. At least `count` empty slots follow the tail items,
--- so these items can be moved up by `count` slots. The gap before them becomes longer by `count`
--- slots.
+-- At least `count` empty slots follow the tail items, so the tail items can be moved up by `count`
+-- slots. The gap before them becomes `count` slots longer.
 use Rattle.std.proofs.Common.{◌≡◌, ℕ, ◌+◌, ◌-◌, ◌≤◌, ◌∙◌, ap, arith, length, subst, sym}
 use Rattle.std.specs.Prelude.{IsSome}
 use Rattle.thin_block.specs.Block.{seen}
@@ -12,8 +11,8 @@ use Rattle.thin_vec.specs.declared.open_block.OpenBlock.TheInside.{Inside}
 use Rattle.thin_vec.proofs.OpenBlockLemmas.{Found, reached, spare-empty, tail-filled, widen-step, widened, widened-seen}
 use Rattle.thin_vec.proofs.open_block.OpenBlock.widen.Goals as goal
 
--- Suppose that contracts describe `h` as the open block `v`. If at least `k` slots of `v` follow
--- its tail items, then `h` has at least `k` slots from index `h.len` onward.
+-- Suppose that the open block `v` is the description of `h` in contracts. If `v` has at least `k`
+-- empty slots after its tail items, then `h` has at least `k` slots from index `h.len` onward.
 fits : {T A : Type 0} (h : Inside T A) (v : Open T A) (k : ℕ) → Shows h (open_of h) → open_of h ≡ v
     → reach v + k ≤ v.capacity → h.len + k ≤ (open_of h).capacity
 fits h v k shows is room =
