@@ -70,8 +70,8 @@ pub fn some_steps(count: usize, number: usize) -> usize {
     }
 }
 
-/// The range of the indices of the items that remain after some steps from the front and from the
-/// back.
+/// The items that remain after some steps from the front and from the back, represented by the
+/// range of their indices.
 #[derive(Drop)]
 pub struct Remaining {
     start: usize,

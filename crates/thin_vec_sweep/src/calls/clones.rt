@@ -9,8 +9,8 @@ use std::process::Abort;
 use thin_testing::Ruled;
 use thin_vec::ThinVecError;
 
-// Each test item is made from a number. The tests of `resize` and `resize_with` make their new
-// items from this number and from higher numbers.
+// Each test item is made from a number. The tests call `resize` with the item that is made from
+// `FRESH`. The items that `resize_with` adds are made from `FRESH` and the numbers directly above.
 const FRESH: u64 = 80_000;
 
 /// A test that calls `resize` with several new lengths. Some of them are at most the old length,
