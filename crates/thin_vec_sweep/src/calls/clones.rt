@@ -10,7 +10,7 @@ use thin_testing::Ruled;
 use thin_vec::ThinVecError;
 
 // Each test item is made from a number. The tests call `resize` with the item that is made from
-// `FRESH`. The items that `resize_with` adds are made from `FRESH` and the numbers directly above.
+// `FRESH`. The items that `resize_with` adds are made from `FRESH`, `FRESH + 1`, and so on.
 const FRESH: u64 = 80_000;
 
 /// A test that calls `resize` with several new lengths. Some of them are at most the old length,
