@@ -67,9 +67,9 @@ pub fn assert_same_items<T: Sample, R: Abort>(rt: &R, at: &At, items: &[T], numb
     assert_same(rt, at, "first item that differs", difference, None);
 }
 
-/// Makes two assertions. If the ledger counts items of type `T`, exactly `items` of them have not
-/// been dropped yet. The number of allocated blocks is one for each item if items own blocks, plus
-/// one for the list if `capacity` is not 0.
+/// Asserts that exactly `items` items have not been dropped yet, provided that the ledger counts
+/// items of type `T`. Also asserts the number of allocated blocks: one for each item if items own
+/// blocks, plus one for the list if `capacity` is not 0.
 pub fn assert_live<T: Sample, R: Abort>(
     rt: &R,
     at: &At,

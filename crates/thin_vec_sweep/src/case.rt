@@ -137,9 +137,9 @@ impl<T: Sample, G: Ruled> Case<T, G> {
         verdict
     }
 
-    /// Records that the call grows the list to `capacity`, which takes one allocation request.
-    /// Returns whether this growth must succeed. This function is for calls that may grow the list
-    /// several times.
+    /// Records one growth of the list to `capacity`: one expected allocation request and, if this
+    /// request is granted, the new capacity. Returns whether the growth must succeed. `capacity` is
+    /// `None` if the capacity overflows.
     pub fn grows(&mut self, capacity: Option<usize>) -> bool {
         let Some(capacity) = capacity else {
             return false;
@@ -158,8 +158,9 @@ impl<T: Sample, G: Ruled> Case<T, G> {
         self.requests != self.at.refused
     }
 
-    /// Returns the expected outcome of one growth to `capacity`, in a call that may grow the list
-    /// several times. If the list already has this capacity, the call makes no request.
+    /// Returns the expected outcome of a single growth to `capacity`, for a call that may grow the
+    /// list several times. Also updates the expected capacity and the expected number of requests.
+    /// If `capacity` is already the expected capacity, no further request is expected.
     pub fn further_growth(&mut self, capacity: Option<usize>) -> Verdict {
         let Some(wanted) = capacity else {
             return Verdict::Overflow;
@@ -287,7 +288,8 @@ impl<T: Sample, G: Ruled> Case<T, G> {
 
     /// Checks a list after a call that moves all its items to another list. On success, the list
     /// must be empty and keep its capacity. On failure, it must be unchanged. Before the call, the
-    /// list had the shape `shape`, and its items were made from `first` and the following numbers.
+    /// list had the shape `shape`, and its items were made from consecutive numbers, beginning with
+    /// `first`.
     pub fn assert_moved_from<R: Abort>(
         &self,
         rt: &R,
@@ -365,7 +367,7 @@ impl<T: Sample, G: Ruled> Case<T, G> {
 }
 
 /// Returns a list with the length and the spare capacity of `shape`. Its items are made from
-/// `first` and the following numbers.
+/// consecutive numbers, beginning with `first`.
 pub fn filled<T: Sample, G: Ruled, R: Abort>(
     rt: &R,
     ledger: &'static Ledger,
@@ -383,7 +385,7 @@ pub fn filled<T: Sample, G: Ruled, R: Abort>(
     list
 }
 
-/// Returns `count` items, which are made from `first` and the following numbers.
+/// Returns `count` items, which are made from consecutive numbers, beginning with `first`.
 pub fn source<T: Sample, R: Abort>(
     rt: &R,
     ledger: &'static Ledger,

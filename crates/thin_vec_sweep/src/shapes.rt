@@ -8,8 +8,8 @@ pub struct Shape {
     pub spare: usize,
 }
 
-/// The number of list shapes that most tests use. A shape consists of a length and a number of
-/// empty slots. The two longest shapes are not counted.
+/// The number of list shapes that most tests use: all except the two shapes with 100,000 items. A
+/// shape consists of a length and a number of empty slots.
 pub const SHAPES: usize = 110;
 
 /// The number of shapes of lists with at most 40 items. These shapes have the numbers `0..SHORT`.
@@ -19,8 +19,8 @@ pub const SHORT: usize = 107;
 /// items, and only some tests use them.
 pub const LONGEST: usize = SHAPES;
 
-/// The number of all list shapes, including the two longest shapes. A shape consists of a length
-/// and a number of empty slots.
+/// The number of all list shapes, including the two shapes with 100,000 items. A shape consists of
+/// a length and a number of empty slots.
 pub const ALL: usize = LONGEST + 2;
 
 // The numbers of items that a test adds to a list: `FEW` for lists of at most 4 items, `SOME` for
@@ -135,13 +135,13 @@ impl Shape {
     }
 
     /// Returns the number of test cases of a call on the whole list. If the list has at most 6
-    /// items, `cases` contains this number.
+    /// items, this is the number that `cases` contains for the length of the list.
     pub fn cases(self, cases: &Cases) -> usize {
         cases.get(self.length).copied().unwrap_or(self.some())
     }
 
-    // Returns the number of test cases on a list of more than 6 items. It is 0 if the list has
-    // spare capacity.
+    // Returns the number of test cases of a call on a list of more than 6 items, or on one range of
+    // such a list. The number is 0 if the list has spare capacity.
     fn some(self) -> usize {
         self.alone(if self.is_long() { 2 } else { 20 })
     }
@@ -187,7 +187,8 @@ impl Shape {
     }
 
     // Returns one of the four ranges that are tried on a list of more than 6 items. `range` selects
-    // the range, and `number` is the number of a test case on this range.
+    // the range. The returned `Ranged` also contains `number`, the number of a test case on this
+    // range.
     fn some_range(self, range: usize, number: usize) -> Ranged {
         let length = self.length;
         let (start, end) = match range {

@@ -26,7 +26,8 @@ fn all<T: Sample, R: Abort>(rt: &R, alloc: Global) -> Scope {
     }
 }
 
-// Selects the lists to test: lists of all shapes with at most 40 items.
+// Selects the lists to test: lists of every length from 0 to 40, with various numbers of empty
+// slots.
 fn short<R: Abort>(rt: &R, alloc: Global) -> Scope {
     Scope {
         ledger: Ledger::new(rt, alloc),

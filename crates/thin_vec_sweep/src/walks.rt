@@ -21,9 +21,11 @@ pub struct Walk {
 }
 
 impl Walk {
-    /// Returns the walk with the number `number` over `count` items. If `count` is at most 6, the
-    /// steps are the binary digits of `number + 1`, beginning with the last digit and without the
-    /// leading 1. Thus, each walk of at most `count + 1` steps has a number.
+    /// Returns one of the walks over `count` items. `number` selects the walk. If `count` is at
+    /// most 6, the steps are the binary digits of `number + 1`, beginning with the last digit and
+    /// without the leading 1. The digit 1 is a step from the back, and 0 is a step from the front.
+    /// If `count` is greater than 6, `number / 4` selects the number of steps, and `number % 4`
+    /// selects an entry of `ENDS`.
     pub fn nth(count: usize, number: usize) -> Walk {
         if count >= WALKS.len() {
             return Walk {
@@ -68,8 +70,8 @@ pub fn some_steps(count: usize, number: usize) -> usize {
     }
 }
 
-/// The range of the indices of the items that remain after some steps from the front and from the
-/// back.
+/// The items that remain after some steps from the front and from the back, represented by the
+/// range of their indices.
 #[derive(Drop)]
 pub struct Remaining {
     start: usize,

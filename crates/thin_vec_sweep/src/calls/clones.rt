@@ -9,8 +9,8 @@ use std::process::Abort;
 use thin_testing::Ruled;
 use thin_vec::ThinVecError;
 
-// The smallest number from which the tests of `resize` and `resize_with` make new items. Every test
-// item is made from a number.
+// Each test item is made from a number. The tests call `resize` with the item that is made from
+// `FRESH`. The items that `resize_with` adds are made from `FRESH`, `FRESH + 1`, and so on.
 const FRESH: u64 = 80_000;
 
 /// A test that calls `resize` with several new lengths. Some of them are at most the old length,

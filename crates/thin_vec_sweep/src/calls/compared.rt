@@ -111,8 +111,8 @@ impl<T: Sample + Debug, G: Ruled> Call<T, G> for Print {
     }
 }
 
-// Returns the expected text of an `IntoIter` over `items`, formatted with `{:?}` and then with
-// `{:#?}`.
+// Returns the text that is expected if an `IntoIter` over `items` is formatted with `{:?}` and with
+// `{:#?}`. A space separates the two results.
 fn iter_text<D: Debug, R: Abort>(rt: &R, global: Global, items: &D) -> String {
     text(rt, global, &Told { items })
 }

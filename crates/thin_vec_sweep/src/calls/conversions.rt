@@ -10,8 +10,7 @@ use std::process::Abort;
 use thin_testing::{Refusing, Ruled};
 use thin_vec::{Doubling, Rejected, ThinVec, ThinVecError, thin_vec};
 
-// The number from which the test `Repeated` makes all items of its list. Every test item is made
-// from a number.
+// Each test item is made from a number. In the test `Repeated`, all items are made from `FRESH`.
 const FRESH: u64 = 70_000;
 
 // The allocator of the lists under test. It can refuse one request.

@@ -10,8 +10,8 @@ use std::process::Abort;
 use thin_testing::Ruled;
 use thin_vec::Rejected;
 
-// The number from which a test makes the item that it adds to a list. Every test item is made from
-// a number.
+// Each test item is made from a number. The new item that a test adds to a list is made from
+// `FRESH`.
 const FRESH: u64 = 70_000;
 
 // The number from which a test makes the item that it passes to `push_mut` or `insert_mut`. After

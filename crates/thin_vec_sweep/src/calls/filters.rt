@@ -82,9 +82,9 @@ impl<T: Sample, G: Ruled> Call<T, G> for RetainMut {
 }
 
 // Returns the items that remain after the test `RetainMut` on a list of `count` items. Each item is
-// represented by the number from which it was made. The closure replaces the first item with a new
-// item, and each later item with the item before it. `pattern` determines at which indices an item
-// is kept.
+// represented by the number from which it was made. At index 0, the closure writes a new item. At
+// each later index, it writes the old item of the previous index. `pattern` determines at which
+// indices the written items are kept.
 fn moved_up<R: Abort>(rt: &R, global: Global, count: usize, pattern: usize) -> Vec<u64, Global> {
     let mut left = Vec::new(global);
     let mut number = FRESH;

@@ -16,7 +16,7 @@ use thin_vec::Growth;
 // iterator with this new item.
 const FRESH: u64 = 70_000;
 
-// Before the test `IntoIterClone` clones the iterator, it calls `next` or `next_back` `n` times.
+// The test `IntoIterClone` calls `next` or `next_back` `n` times, and then clones the iterator.
 // Returns how many values of `n` are tried. On a list of at most 4 items, these values are
 // `0..=length + 2`.
 fn steps(shape: Shape) -> usize {

@@ -7,8 +7,8 @@ use crate::sweep::Call;
 use std::process::Abort;
 use thin_testing::Ruled;
 
-// The number from which the first item of the second list is made. The other items of this list are
-// made from the following numbers.
+// The number from which the first item of the second list is made. Each further item of this list
+// is made from the next higher number.
 const FRESH: u64 = 80_000;
 
 /// A test that calls `append` with a second list of various lengths. For each length, the second

@@ -9,8 +9,8 @@ use std::mem;
 use std::process::Abort;
 use thin_testing::Ruled;
 
-// The number from which a test makes the item that it writes to a list. Every test item is made
-// from a number.
+// Each test item is made from a number. The new item that a test writes to a list is made from
+// `FRESH`.
 const FRESH: u64 = 70_000;
 
 /// A test that calls `len`, `is_empty`, `has_capacity` and `allocator`.

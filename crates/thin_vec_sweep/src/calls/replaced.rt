@@ -8,8 +8,8 @@ use crate::sweep::Call;
 use std::process::Abort;
 use thin_testing::Ruled;
 
-// The number from which a test makes the first of the items that it puts in place of a range. The
-// other new items are made from the following numbers.
+// The number from which a test makes the first item that replaces a range. Each further new item is
+// made from the next higher number.
 const FRESH: u64 = 80_000;
 
 // The number of test cases on each range. They differ in the number of new items.

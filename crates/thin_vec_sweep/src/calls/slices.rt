@@ -10,8 +10,8 @@ use std::process::Abort;
 use thin_testing::Ruled;
 use thin_vec::ThinVecError;
 
-// The number from which the first item of the slice is made. The other items of the slice are made
-// from the following numbers.
+// The number from which the first item of the slice is made. Each further item of the slice is made
+// from the next higher number.
 const FRESH: u64 = 80_000;
 
 /// A call that appends the items of a slice to a list of `T` with the growth rule `G`.

@@ -299,8 +299,8 @@ fn walk<T: Sample, A: Allocator, G: Growth, I>(
     }
 }
 
-// Asserts that a failed `finish` returned the expected cause, and all new items that it did not
-// move into the list. The iterator had `count` items before the call.
+// Asserts that a failed `finish` returned both the expected cause and all new items that it did not
+// move into the list. Before the call, the iterator over the new items had `count` items.
 fn given_back<T: Sample, A: Allocator, G: Ruled, R: Abort>(
     rt: &R,
     case: &Case<T, G>,

@@ -94,7 +94,7 @@ fn put_new(replies: &mut Vec<Replied, Global>, done: &[Done]) -> Result<(), Allo
     Ok(())
 }
 
-// Asserts that `REPLIES` contains this pair of a command and a reply.
+// Asserts that one of the lines of `REPLIES` describes `replied`, which is a reply to a command.
 fn assert_listed<R: Abort>(rt: &R, alloc: Global, replied: &Replied) {
     let (kind, form, cause) = replied;
     let line = format!(in alloc; "{kind:?} {form:?} {cause:?}\n").expect(rt, "memory");

@@ -115,7 +115,7 @@ pub fn one<T: Drop, A: Allocator>(alloc: A, item: T) -> Result<Vec<T, A>, AllocE
     Ok(items)
 }
 
-/// Returns `count` items, which are made from `number` and the following numbers.
+/// Returns `count` items, which are made from consecutive numbers, beginning with `number`.
 pub fn samples<T: Numbered<A>, A: Allocator + Copy>(
     alloc: A,
     count: usize,

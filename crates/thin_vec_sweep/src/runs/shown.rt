@@ -167,7 +167,7 @@ fn place_of<T, A: Allocator, G: Growth>(command: &Command<T, A, G>) -> Place {
     }
 }
 
-// Returns the items of a command that has an index or a range.
+// Returns the new items of `command`, which must be a command that has an index or a range.
 fn items_with<T: Drop, A: Allocator + Copy, G: Growth>(
     alloc: A,
     command: Command<T, A, G>,

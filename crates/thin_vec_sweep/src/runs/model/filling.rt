@@ -27,9 +27,9 @@ impl<T: Numbered<A>, A: Allocator + Copy, G: Ruled> Model<T, A, G> {
     }
 
     // Increases the capacity as a splice does, and returns whether this succeeded. If there are no
-    // items after the range, the list grows for the size hint, and then for one new item after
-    // another. If there are items after the range, the list grows only if there are enough new
-    // items to fill the range. In this case, it grows first for the size hint, and then for all new
+    // items after the range, the list makes room as the size hint requires, and then for each new
+    // item separately. If there are items after the range, the list makes room only if there are
+    // enough new items to fill the range: first as the size hint requires, and then for all new
     // items at once.
     fn make_rooms(&mut self, order: Order) -> bool {
         let len = self.items.len();
@@ -110,8 +110,8 @@ impl<T: Numbered<A>, A: Allocator + Copy, G: Ruled> Model<T, A, G> {
     }
 
     // Increases the capacity as the command did before its request was refused. If the reply says
-    // that the command had taken items for which it had no room, the capacity grows for the size
-    // hint and for the first `placed` items. Otherwise, the capacity stays the same.
+    // that the command had taken items for which it found no room, the list makes room as the size
+    // hint and the first `placed` new items require. Otherwise, the capacity is unchanged.
     fn make_first_rooms(&mut self, order: Order, placed: usize, given: &Shown<T, A>) {
         if given.number > 0 || given.in_hand {
             let first = Order {
