@@ -186,7 +186,7 @@ module _ {S T : Type 0} (R : OnPairs S T) where
         ∙ drop_at a.before (a.kept ∷ a.later ∷ a.after) (length h.pre) n) in
         record { front = sym fronts; last = sym (cons-head rests); after = cons-tail rests }
 
-    -- The test `a` compared the later of its two items with the last kept item.
+    -- The test `a` called the closure for the first untested item and the last kept item.
     next-asked : (b : Bool) (u : S) (zs : List T) (a : IsPairAskedAt R m t ys b u zs)
         → R t a.later h.last b u a.later_left a.kept_left
     next-asked b u zs a = subst (λ (k : T). R t a.later k b u a.later_left a.kept_left)
@@ -342,8 +342,8 @@ module _ {S T : Type 0} (R : OnPairs S T) where
             now = now;
           }
 
-    -- If the next item `x` was tested and removed, then `Dedups` relates the open block before this
-    -- test to the open block after the removal.
+    -- If the first middle item `x` was tested and removed, then `Dedups` relates the open block
+    -- before this test to the open block after the removal.
     pub dedups-goes : {s t : S} (x y : T) (front : List T)
         → IsLastAsked R s x v.front true t y front → v.rest ≡ x ∷ w.rest → 0 < w.gap
         → Moved front v.cost → Dedups R s v t w
@@ -352,9 +352,9 @@ module _ {S T : Type 0} (R : OnPairs S T) where
         (last-goes s t a.kept x y a.kept_left a.asked) gap
         (now ∙ moved (λ i. a.now i) (sym (moving-none v.cost)))
 
-    -- Suppose that the next item `x` was tested and kept, and that it was moved to the end of the
-    -- front items at the cost of one move. Then `Dedups` relates the open block before this test to
-    -- the open block after this move.
+    -- Suppose that the first middle item `x` was tested and kept, and that it was moved to the end
+    -- of the front items at the cost of one move. Then `Dedups` relates the open block before this
+    -- test to the open block after this move.
     pub dedups-stays : {s t : S} (x y : T) (front : List T)
         → IsLastAsked R s x v.front false t y front → v.rest ≡ x ∷ w.rest
         → 0 < w.gap → Moved (front ++ y ∷ []) (moving 1 v.cost) → Dedups R s v t w
@@ -374,8 +374,8 @@ module _ {S T : Type 0} (R : OnPairs S T) where
       two-front = ap (λ (l : List T). l ++ z ∷ []) a.now
           ∙ append_assoc a.before (a.kept_left ∷ []) (z ∷ [])
 
-      -- If the next item was kept, and the item after it was removed, then `Dedups` relates the
-      -- open block before these two tests to the open block after them.
+      -- If the first middle item was kept, and the second middle item was removed, then `Dedups`
+      -- relates the open block before these two tests to the open block after them.
       pub dedups-two : b ≡ true → (value : T) → zs ≡ value ∷ w.rest → 0 < w.gap
           → Moved (front ++ z ∷ []) (moving 1 v.cost) → Dedups R s v u w
       dedups-two e value rest gap now =
@@ -389,9 +389,9 @@ module _ {S T : Type 0} (R : OnPairs S T) where
           (a.kept_left ∷ z ∷ []) a.was (whole ∙ ap (λ (l : List T). x ∷ l)
           (n.was ∙ ap (λ (l : List T). n.later ∷ l) same)) asked gap (now ∙ moved two-front refl)
 
-      -- Suppose that the next item and the `m` items after it were kept. Suppose also that the item
-      -- after all of these, if there is one, was removed. Then `Dedups` relates the open block
-      -- before these tests to the open block after them.
+      -- Suppose that the first `m + 1` middle items were kept. Suppose also that the middle item
+      -- after them, if there is one, was removed. Then `Dedups` relates the open block before these
+      -- tests to the open block after them.
       pub dedups-run : b ≡ false → (m : ℕ) (q : S) (ws : List T) (r : PairsAskedUpTo R m u zs q ws)
           → r.after ≡ w.rest → suc (trues r.stays) ≡ m
           → 0 < w.gap → Moved ((front ++ z ∷ []) ++ take m ws) (moving m (moving 1 v.cost))

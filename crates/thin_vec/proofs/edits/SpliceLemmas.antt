@@ -244,9 +244,10 @@ module _ {S T A : Type 0} (rule : Rule) (R : RattleType) (v : Thin T A) (tail : 
     by_push = λ no_tail. absurd (omega (arith, some, ap length no_tail));
   }
 
-  -- Suppose that no items follow the range, that the list `held` in the error is empty, and that
-  -- `extend` failed with the same cause and the same item `in_hand`. Then `IsExtendCause` implies
-  -- `IsStopCause`.
+  -- Suppose that no items follow the range, and that the list `held` in `error` is empty. Suppose
+  -- also that `extend` failed with an error that has the same cause and the same item `in_hand` as
+  -- `error`. If `IsExtendCause` holds for the error of `extend`, then `IsStopCause` holds for
+  -- `error`.
   pub stop-at-end : (e : ExtendRefused T S) → tail ≡ [] → error.held.items ≡ []
       → error.cause ≡ e.cause → error.in_hand ≡ e.in_hand → IsExtendCause rule R v left e
       → IsStopCause rule R v tail left error

@@ -51,7 +51,7 @@ memory-no-overflow : {P : Type 0} (cause : ThinVecError) → cause ≡ OutOfMemo
 memory-no-overflow cause is over = cc
 
 module _ {T A : Type 0} (R : RattleType) (v : Thin T A) where
-  -- Suppose that the list `v` satisfies `IsCheap`, a bound on the cost of growth. If the list `w`
+  -- Suppose that the list `v` satisfies `IsCheap`, which bounds the cost of growth. If the list `w`
   -- has the same capacity and the same counts of requests for memory and of copied items, then `w`
   -- satisfies `IsCheap` too.
   cheap-kept : (w : Thin T A) → w.capacity ≡ v.capacity
