@@ -278,8 +278,8 @@ module _ {T A : Type 0} where
       (from-same b b' a t.from (ap (λ v. v.alloc) w))
 
   -- Suppose that the items `ws` are written into the block of an iterator from slot `start` onward.
-  -- Then the view of the iterator in contracts changes in only one way: `ws` replaces the first
-  -- items that have not been yielded yet.
+  -- Then the description of the iterator in contracts changes in only one way: `ws` replaces the
+  -- first items that have not been yielded yet.
   pub view-written : (b : Block T A) (a : A) (start end : ℕ) (ws : List T) → IsWalked b a start end
       → thin_of (block_with_items b start ws) a ≡ with_items (thin_of b a) ws
   view-written b a start end ws t =

@@ -30,8 +30,7 @@ last-same (z ∷ a) (q ∷ b) x y e =
     let p = last-same a b x y (cons-tail e) in
     ((λ i. cons-head e i ∷ p.0 i), p.1)
 
--- `all-stay n` is the list of `n` Boolean flags that are all true: each flag says that its item is
--- kept.
+-- `all-stay n` is a list of `n` flags that are all true. A true flag says that an item is kept.
 abbrev pub all-stay : ℕ → List Bool
 all-stay n = replicate n true
 
@@ -46,8 +45,8 @@ trues-all : (n : ℕ) → trues (replicate n true) ≡ n
 trues-all zero = refl
 trues-all (suc n) = ap suc (trues-all n)
 
--- If the first `n` items of a list are kept, then they are not moved. So their `n` true flags do
--- not change `moved_down`, the number of moved items.
+-- If the first `n` items of a list are kept, then none of them is moved. So `n` true flags at the
+-- start of a list of flags do not change `moved_down`, the number of items that are moved.
 moved-all : (n : ℕ) (b : List Bool) → moved_down (replicate n true ++ b) ≡ moved_down b
 moved-all zero b = refl
 moved-all (suc n) b = moved-all n b
@@ -73,8 +72,8 @@ after-first [] zs k l e some = let n = ap length e in absurd (omega (arith, n, s
 after-first (a ∷ p) zs k l e some = (p, sym (cons-tail e), ap (λ z. z ∷ p) (cons-head e))
 
 module _ {S T : Type 0} (R : OnPairs S T) where
-  -- If the items `xs` were tested after the kept item `k`, then the list of the kept items, which
-  -- includes `k`, is not empty.
+  -- If the items `xs` were tested after the kept item `k`, then the list `ys` of the kept items is
+  -- not empty, because `k` is kept.
   pub last-some : (xs : List T) (s t : S) (k : T) (stays : List Bool) (ys : List T)
       → AskedLast R s k xs stays ys t → 0 < length ys
   last-some [] s t k stays ys h = omega (arith, ap length h.1)
@@ -187,7 +186,7 @@ module _ {S T : Type 0} (R : OnPairs S T) where
         ∙ drop_at a.before (a.kept ∷ a.later ∷ a.after) (length h.pre) n) in
         record { front = sym fronts; last = sym (cons-head rests); after = cons-tail rests }
 
-    -- The test `a` compared the later of its two items with the last kept item.
+    -- The test `a` called the closure for the first untested item and the last kept item.
     next-asked : (b : Bool) (u : S) (zs : List T) (a : IsPairAskedAt R m t ys b u zs)
         → R t a.later h.last b u a.later_left a.kept_left
     next-asked b u zs a = subst (λ (k : T). R t a.later k b u a.later_left a.kept_left)
@@ -307,8 +306,9 @@ module _ {S T : Type 0} (R : OnPairs S T) where
   -- Section: open blocks
 
   module _ {A : Type 0} (v w : Open T A) where
-    -- `Moved front cost` holds if the open block `w` is the open block `v` with the front items
-    -- `front` and the cost `cost`, and perhaps with another gap and other middle items.
+    -- `Moved front cost` holds if the open block `w` has the front items `front` and the cost
+    -- `cost`, and otherwise differs from the open block `v` at most in the gap and the middle
+    -- items.
     abbrev Moved : List T → Cost → Type 0
     Moved front cost = w ≡ record v
         { front = front; gap = w.gap; rest = w.rest; cost = cost }
@@ -342,8 +342,8 @@ module _ {S T : Type 0} (R : OnPairs S T) where
             now = now;
           }
 
-    -- If the next item `x` was tested and removed, then `Dedups` relates the open block before this
-    -- test to the open block after the removal.
+    -- If the first middle item `x` was tested and removed, then `Dedups` relates the open block
+    -- before this test to the open block after the removal.
     pub dedups-goes : {s t : S} (x y : T) (front : List T)
         → IsLastAsked R s x v.front true t y front → v.rest ≡ x ∷ w.rest → 0 < w.gap
         → Moved front v.cost → Dedups R s v t w
@@ -352,9 +352,9 @@ module _ {S T : Type 0} (R : OnPairs S T) where
         (last-goes s t a.kept x y a.kept_left a.asked) gap
         (now ∙ moved (λ i. a.now i) (sym (moving-none v.cost)))
 
-    -- Suppose that the next item `x` was tested and kept, and that it was moved to the end of the
-    -- front items at the cost of one move. Then `Dedups` relates the open block before this test to
-    -- the open block after this move.
+    -- Suppose that the first middle item `x` was tested and kept, and that it was moved to the end
+    -- of the front items at the cost of one move. Then `Dedups` relates the open block before this
+    -- test to the open block after this move.
     pub dedups-stays : {s t : S} (x y : T) (front : List T)
         → IsLastAsked R s x v.front false t y front → v.rest ≡ x ∷ w.rest
         → 0 < w.gap → Moved (front ++ y ∷ []) (moving 1 v.cost) → Dedups R s v t w
@@ -374,8 +374,8 @@ module _ {S T : Type 0} (R : OnPairs S T) where
       two-front = ap (λ (l : List T). l ++ z ∷ []) a.now
           ∙ append_assoc a.before (a.kept_left ∷ []) (z ∷ [])
 
-      -- If the next item was kept, and the item after it was removed, then `Dedups` relates the
-      -- open block before these two tests to the open block after them.
+      -- If the first middle item was kept, and the second middle item was removed, then `Dedups`
+      -- relates the open block before these two tests to the open block after them.
       pub dedups-two : b ≡ true → (value : T) → zs ≡ value ∷ w.rest → 0 < w.gap
           → Moved (front ++ z ∷ []) (moving 1 v.cost) → Dedups R s v u w
       dedups-two e value rest gap now =
@@ -389,9 +389,9 @@ module _ {S T : Type 0} (R : OnPairs S T) where
           (a.kept_left ∷ z ∷ []) a.was (whole ∙ ap (λ (l : List T). x ∷ l)
           (n.was ∙ ap (λ (l : List T). n.later ∷ l) same)) asked gap (now ∙ moved two-front refl)
 
-      -- Suppose that the next item and the `m` items after it were kept. Suppose also that the item
-      -- after all of these, if there is one, was removed. Then `Dedups` relates the open block
-      -- before these tests to the open block after them.
+      -- Suppose that the first `m + 1` middle items were kept. Suppose also that the middle item
+      -- after them, if there is one, was removed. Then `Dedups` relates the open block before these
+      -- tests to the open block after them.
       pub dedups-run : b ≡ false → (m : ℕ) (q : S) (ws : List T) (r : PairsAskedUpTo R m u zs q ws)
           → r.after ≡ w.rest → suc (trues r.stays) ≡ m
           → 0 < w.gap → Moved ((front ++ z ∷ []) ++ take m ws) (moving m (moving 1 v.cost))
@@ -420,8 +420,8 @@ module _ {S T : Type 0} (R : OnPairs S T) where
           ∙ append_assoc a.before (a.kept_left ∷ z ∷ []) r.left)
           (moving-more m 1 v.cost ∙ ap (λ (k : ℕ). moving k v.cost) paid))
 
-  -- Before the first test, `Dedups` relates an open block to itself if it has a gap and at least
-  -- one front item.
+  -- `Dedups` relates every open block that has a gap and at least one front item to itself. This is
+  -- the situation before the first test.
   pub dedups-start : {A : Type 0} (s : S) (v : Open T A) → 0 < length v.front
       → 0 < v.gap → Dedups R s v s v
   dedups-start s v some gap =
@@ -477,9 +477,9 @@ module _ {S T : Type 0} (R : OnPairs S T) where
 
   module _ {A : Type 0} (v w : Open T A) (m : ℕ) (s t : S) (ys : List T)
       (r : PairsAskedUpTo R m s v.rest t ys) where
-    -- `RunPassed` holds if the front items of the open block `w` are exactly the kept items, as the
-    -- tests left them. Apart from this, `w` may differ from the open block `v` only in the gap and
-    -- the middle items.
+    -- `RunPassed` states that the front items of the open block `w` are exactly the kept items, as
+    -- the tests left them. It also states that `w` otherwise differs from the open block `v` at
+    -- most in the gap and the middle items.
     abbrev RunPassed : Type 0
     RunPassed = Moved v w (take m ys) v.cost
 
@@ -543,8 +543,8 @@ module _ {S T : Type 0} (R : OnPairs S T) where
 -- In this module, a test of two items is a struct that calls a closure and returns its result. `J`
 -- is the type of the test, and `inside` maps a state of the test to the state of its closure.
 module _ {J S T : Type 0} (R : OnPairs S T) (inside : J → S) where
-  -- `through` describes the calls to the test. It is the relation `R` of the closure, applied to
-  -- the states of the closure inside the test.
+  -- The test wraps a closure, and the relation `R` describes the calls to this closure. `through`
+  -- describes the calls to the test: it applies `R` to the states of the closure inside the test.
   abbrev through : OnPairs J T
   through s x k b t y l = R (inside s) x k b (inside t) y l
 

@@ -43,17 +43,18 @@ module _ {F T : Type 0} (R : F → T → Bool → F → T → Type 0) where
       answered false more m = omega (arith, more m.0 m.1, ap length m.2)
 
   module _ {S : Type 0} (of : S → F) where
-    -- `J` describes a test that keeps exactly the items that the closure does not extract. If `s`
+    -- `J` describes a test that keeps exactly the items for which the closure returns false. If `s`
     -- is a state of the test, then `of s` is the state of the closure.
     abbrev J : S → T → Bool → S → T → Type 0
     J s x b t y = R (of s) x (not b) (of t) y
 
-    -- In this module, the closure is called with the items `after`, starting in the state
-    -- `between`. It extracts the first of these items, unless there are none.
+    -- In this module, the closure starts in the state `between`. It returns true for the first item
+    -- of the list `after`, unless `after` is empty.
     module _ (between : S) (after : List T) (item : Option T) (t : F) (rest : List T)
         (e : ExtractsNext R (of between) after item t [] rest) where
-      -- Suppose that the closure keeps all items of the list `run`. Then, from the list `run ++
-      -- after`, it extracts the first item of `after`, unless `after` is empty.
+      -- Suppose that the test keeps all items of the list `run`. Then the item that is extracted
+      -- from the list `run ++ after` is the first item of `after`. If `after` is empty, no item is
+      -- extracted.
       picked-after : (s : S) (run left : List T) → Asked J s run (stay left) between
           → ExtractsNext R (of s) (run ++ after) item t left rest
       picked-after s [] [] a =
@@ -71,13 +72,13 @@ module _ {F T : Type 0} (R : F → T → Bool → F → T → Type 0) where
           subst (λ (q : Verdicts T). Asked J a.2 run q between) (sym (cons-tail a.6)) a.5 in
           (false, of a.2, z, called, (left, picked-after a.2 run left on, refl))
 
-    -- If the tests stopped because no item remained, then the closure extracted nothing.
+    -- If the tests stopped because no item remained, then no item is extracted.
     stops-at-end : (between t : S) (after ys : List T) → Stops J between after t ys → ys ≡ []
         → ExtractsNext R (of between) after None (of t) [] ys
     stops-at-end between t [] ys a none = (refl, ap of a.1, refl, none)
     stops-at-end between t (x ∷ xs) ys a none = absurd (cons-not-nil (sym a.2 ∙ none))
 
-    -- If the tests stopped at the item `v`, then the closure extracted `v`.
+    -- If the tests stopped at the item `v`, then `v` is the item that is extracted.
     stops-at-item : (between t : S) (after ys : List T) (v : T) (zs : List T)
         → Stops J between after t ys → ys ≡ v ∷ zs → ExtractsNext R (of between)
         after (Some v) (of t) [] zs
@@ -118,8 +119,8 @@ module _ {F T : Type 0} (R : F → T → Bool → F → T → Type 0) where
       pub picked-room : m ≤ length ys
       picked-room = omega (arith, reached, ap length now, length-append h.left h.end)
 
-      -- Suppose that the closure keeps the first `m` items and then extracts `item` from the items
-      -- after them. Then `item` is also what the closure extracts from the whole list.
+      -- Suppose that the tests kept the first `m` items of the list `xs`. If `item` is extracted
+      -- from the items after them, then `item` is also what is extracted from the whole list `xs`.
       whole : (item : Option T) (rest : List T) → ExtractsNext R (of h.between) h.after item (of t)
           [] rest → ExtractsNext R (of s) xs item (of t) (take m ys) rest
       whole item rest e =
@@ -128,7 +129,7 @@ module _ {F T : Type 0} (R : F → T → Bool → F → T → Type 0) where
           (sym left-is)
           (picked-after h.between h.after item (of t) rest e s h.run h.left h.asked))
 
-      -- If no item follows the kept items, then the closure extracted nothing.
+      -- If no item follows the kept items, then no item is extracted.
       pub picked-none : drop m ys ≡ [] → ExtractsNext R (of s) xs None (of t)
           (take m ys) (drop m ys)
       picked-none none =
@@ -136,7 +137,7 @@ module _ {F T : Type 0} (R : F → T → Bool → F → T → Type 0) where
           (subst (λ (l : List T). ExtractsNext R (of h.between) h.after None (of t) [] l)
           (sym end-is) (stops-at-end h.between t h.after h.end h.stops (sym end-is ∙ none)))
 
-      -- If the first item after the kept items is `v`, then the closure extracted `v`.
+      -- If the first item after the kept items is `v`, then `v` is the item that is extracted.
       pub picked-some : (v : T) (zs : List T) → drop m ys ≡ v ∷ zs
           → ExtractsNext R (of s) xs (Some v) (of t) (take m ys) zs
       picked-some v zs some =

@@ -60,8 +60,9 @@ module _ {S T A : Type 0} {steps : S → Option T → S → Type 0} {can : S →
     {remaining : S → Count} where
   module _ {v : Open T A} {a : A} {s : S} {w : Thin T A} {f : Filled S}
       (p : FillsGap steps can remaining v a s w f) where
-    -- After items were put into the gap of the open block `v`, the length of the list is the number
-    -- of front items, plus the number of tail items, plus the number of inserted items.
+    -- After items have been put into the gap of the open block `v`, and `v` has been closed, the
+    -- length of the list is the number of front items, plus the number of tail items, plus the
+    -- number of inserted items.
     pub filled-long : length w.items ≡ length v.front + length v.tail + length p.0.items
     filled-long = omega (arith, ap length p.1.items, between-length v p.0.items)
 

@@ -1,6 +1,5 @@
 -- These lemmas are about replacing a range of a list with clones. They state what the list contains
--- before the clones are moved into the range, and how contracts describe the open block after this
--- move.
+-- before the clones are moved into the range, and describe the open block after this move.
 use Rattle.std.proofs.Common.{if◌then◌else◌, inl, inr, eqb, min, Bool, true, false, ◌≡◌, ℕ, zero, suc, ◌+◌, ◌-◌, ◌≤◌, List, [], ◌∷◌, ◌++◌, None, Option, append_assoc, ap, arith, drop, length, length-append, refl, sym, take, ◌∙◌}
 use Rattle.std.proofs.lemmas.List.{drop_at, length-drop, length-take-le, replicate-append-replicate, take-append-drop, take-append-le, take_at}
 use Rattle.std.proofs.lemmas.Bool.{cases_lt}
@@ -92,7 +91,8 @@ module _ {T : Type 0} (xs : List T) (i j : ℕ) (order : i ≤ j) (within : j �
 
 module _ {T A : Type 0} (h : Inside T A) (o : IsOpen h) (b : Block T A) (k : ℕ)
     (few : k ≤ length (open_of h).tail) (room : k ≤ (open_of h).gap) where
-  -- `v` is the open block before its last `k` tail items were moved, as contracts describe it.
+  -- `v` is the description of the open block `h` in contracts, before its last `k` tail items are
+  -- moved.
   abbrev v : Open T A
   v = open_of h
 
@@ -108,8 +108,8 @@ module _ {T A : Type 0} (h : Inside T A) (o : IsOpen h) (b : Block T A) (k : ℕ
     len = h.len - k;
   }
 
-  -- `brought-seen` is the open block `brought` as contracts describe it. The last `k` tail items
-  -- have become the last front items.
+  -- `brought-seen` is the description of the open block `brought` in contracts. The last `k` tail
+  -- items have become the last front items.
   abbrev pub brought-seen : Open T A
   brought-seen = record {
     front = v.front ++ drop (length v.tail - k) v.tail;
@@ -123,7 +123,7 @@ module _ {T A : Type 0} (h : Inside T A) (o : IsOpen h) (b : Block T A) (k : ℕ
   }
 
   -- If the last `k` tail items were moved to the slots directly after the front items, then
-  -- contracts describe the open block `brought` as `brought-seen`.
+  -- `brought-seen` is the description of the open block `brought` in contracts.
   pub bring-step : b.slots ≡ moved (h.len - k) h.front_end k h.block.slots
       → Found brought brought-seen
   bring-step now =

@@ -107,9 +107,10 @@ module _ {S X : Type 0} (steps : S → Option X → S → Type 0) where
   yields-drawn s u xs o x is all =
       yields-more steps s all.0 u xs x all.1 (subst (λ r. steps all.0 r u) is all.2)
 
-  -- Suppose that a call to `next` yielded the item `x`, and that later calls yielded the items
-  -- `xs`. If `x ∷ xs` is `held`, followed by the item in the option `o`, then all calls together
-  -- yielded `held` and this item. If `o` is `None`, they yielded `held` and then returned `None`.
+  -- Suppose that a call to `next` yielded `x`, and that later calls yielded `xs`. If `o` is
+  -- `Some y`, and `x ∷ xs` is `held ++ y ∷ []`, then all calls together yielded `held ++ y ∷ []`.
+  -- If `o` is `None`, `x ∷ xs` is `held`, and the later calls finally returned `None`, then all
+  -- calls together yielded `held` and then returned `None`.
   pub drawn-after : (s t u : S) (x : X) (xs held : List X) (o : Option X) → steps s (Some x) t
       → held ++ option_to_list o ≡ x ∷ xs
       → MatchOption o (YieldsThen steps t xs None u) (λ _. Yields steps t xs u)
@@ -243,9 +244,10 @@ module _ {S T A : Type 0} (rule : Rule) (R : RattleType) (v : Thin T A) (tail : 
     by_push = λ no_tail. absurd (omega (arith, some, ap length no_tail));
   }
 
-  -- Suppose that no items follow the range, that the list `held` in the error is empty, and that
-  -- `extend` failed with the same cause and the same item `in_hand`. Then `IsExtendCause` implies
-  -- `IsStopCause`.
+  -- Suppose that no items follow the range, and that the list `held` in `error` is empty. Suppose
+  -- also that `extend` failed with an error that has the same cause and the same item `in_hand` as
+  -- `error`. If `IsExtendCause` holds for the error of `extend`, then `IsStopCause` holds for
+  -- `error`.
   pub stop-at-end : (e : ExtendRefused T S) → tail ≡ [] → error.held.items ≡ []
       → error.cause ≡ e.cause → error.in_hand ≡ e.in_hand → IsExtendCause rule R v left e
       → IsStopCause rule R v tail left error

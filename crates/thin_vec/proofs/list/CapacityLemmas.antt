@@ -49,9 +49,8 @@ module _ {T A : Type 0} {b : Block T A} {a : A} (t : IsThin b a) where
       settled b' a (items_in b.slots) c (ap (λ v. v.slots) w ∙ e) (ap (λ v. v.len) w ∙ t.packed.len)
       room (λ x h. some-same (sym h ∙ ap (λ v. v.alloc) w))
 
-  -- After an attempt to grow a block to `c` slots, the resulting block `b'` is the block of a list
-  -- with the same items, and it has at most `c` slots. This is true whether the attempt succeeded
-  -- or failed.
+  -- Suppose that a call tried to grow a block to `c` slots. Whether or not the growth succeeded,
+  -- the resulting block `b'` is that of a list with the same items, and `b'` has at most `c` slots.
   pub settle-tried : {X E : Type 0} (r : Result X E) (b' : Block T A) (c : ℕ)
       → length b.slots < c
       → OnOk r (seen b' ≡ record (seen b) {

@@ -13,7 +13,8 @@ use Rattle.thin_vec.specs.List.Capacity.{Keeps, Reserves, TellsOverflow, TellsOv
 use Rattle.thin_vec.specs.ThinVec.{HasRoomFor, IsWithin, Thin, capacity_for}
 
 -- `TellsOverflow named r` states that the result `r` is the error `CapacityOverflow` if and only if
--- the needed capacity, `named`, is `None`. This holds if `named` is `Some n` and `r` is `Ok x`.
+-- the needed capacity, `named`, is `None`. `TellsOverflow` holds if `r` is `Ok x` and `named` is
+-- `Some n`.
 pub tells-ok : {X : Type 0} (x : X) (named : Option ℕ) (n : ℕ) → named ≡ Some n
     → TellsOverflow named (Ok x)
 tells-ok x named n is = record {
@@ -50,7 +51,7 @@ memory-no-overflow : {P : Type 0} (cause : ThinVecError) → cause ≡ OutOfMemo
 memory-no-overflow cause is over = cc
 
 module _ {T A : Type 0} (R : RattleType) (v : Thin T A) where
-  -- Suppose that the list `v` satisfies `IsCheap`, a bound on the cost of growth. If the list `w`
+  -- Suppose that the list `v` satisfies `IsCheap`, which bounds the cost of growth. If the list `w`
   -- has the same capacity and the same counts of requests for memory and of copied items, then `w`
   -- satisfies `IsCheap` too.
   cheap-kept : (w : Thin T A) → w.capacity ≡ v.capacity

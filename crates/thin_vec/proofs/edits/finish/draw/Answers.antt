@@ -1,5 +1,5 @@
--- Each iteration of the loop pushes the item `next` to the vector, and then pushes items of the
--- iterator until the capacity of the vector is used up. If `draw_spare` returns one more item, this
+-- Each iteration of the loop pushes the item `next` to the vector `held`, and then pushes items of
+-- the iterator until the capacity of `held` is used up. If `draw_spare` returns one more item, this
 -- item becomes `next` in the following iteration.
 use Rattle.std.proofs.Common.{[], ◌++◌, ◌∷◌, ◌∙◌, ap, arith, length, refl, subst}
 use Rattle.std.proofs.lemmas.List.{append-nil, length_push}
