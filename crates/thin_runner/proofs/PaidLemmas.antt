@@ -86,9 +86,10 @@ module _ {T A : Type 0} (v w : Thin T A) (room : length v.items ≤ v.capacity) 
 
 module _ {T A J : Type 0} (here : Setting T A J) (law : KeepsLaw here.rule) (v w : Thin T A)
     (room : length v.items ≤ v.capacity) where
-  -- Suppose that the items of `v` fit into its capacity. Suppose also that `w` has the capacity
-  -- that the growth rule requires for `n` more items, and that at most `n` items were added. If the
-  -- cost of `w` counts the blocks and the copied items of this growth, then `IsPaid v w` holds.
+  -- Suppose that the items of the list `v` fit into its capacity, and that `w` is `v` after at most
+  -- `n` items were added. Suppose also that `w` has the capacity that the growth rule requires for
+  -- `n` more items. If the cost of `w` is the cost of `v`, plus the blocks and the copied items of
+  -- this growth, then `IsPaid v w` holds.
   ruled-paid : (u : Thin T A) (n : ℕ) → capacity_for here.rule here.R v n ≡ Some w.capacity
       → w ≡ u → u.cost.blocks ≡ (cost_at v w.capacity).blocks
       → u.cost.grown ≡ (cost_at v w.capacity).grown

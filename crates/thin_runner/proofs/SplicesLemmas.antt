@@ -45,8 +45,8 @@ no-items (x ∷ xs) none = absurd (omega (arith, none))
 
 module _ {T A : Type 0} (s : Hinted T A) (placed : List T)
     (error : SpliceRefused T (Hinted T A) A) where
-  -- `Broke` holds if `finish` put the items `placed` of the iterator `s` into the list, and then
-  -- failed with `error`.
+  -- `Broke` states that `finish` failed with `error` after it had moved the items `placed` from the
+  -- iterator `s` to the list.
   abbrev pub Broke : Type 0
   Broke = Stopped (HintedSteps {T = T} {A = A}) (can_next-default (Hinted T A) T) hinted_count s
       placed error

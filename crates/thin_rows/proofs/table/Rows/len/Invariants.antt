@@ -1,5 +1,5 @@
--- The loop in `len` counts the entries of all rows that it has visited so far. Instead of a number
--- greater than `usize::MAX`, the count is `usize::MAX`.
+-- The loop in `len` counts the entries of all rows that it has visited so far. If there are more
+-- than `usize::MAX` entries in these rows, the count is `usize::MAX`.
 use Rattle.std.proofs.Common.{◌≡◌, ◌+◌, ◌-◌, ◌^◌, ◌<◌, map, min, sum}
 use Rattle.std.specs.FinMap.{len}
 use Rattle.thin_rows.proofs.table.Rows.len.Given as goal
