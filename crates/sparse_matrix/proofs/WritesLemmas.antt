@@ -12,9 +12,9 @@ use Rattle.thin_rows.proofs.TableLemmas.{in_order, is_listed, listed}
 never : {P : Type 0} {x : ℕ} → None ≡ Some x → P
 never e = cc
 
--- In this module, a loop writes the entries of `row` into a matrix. Before the loop, the matrix has
--- the number `old j` at the place for column `j`. Writing the number `v` at a place changes the
--- number `u` at this place to `write u v`.
+-- In this module, a loop writes the entries of `row` into a matrix. Before the loop, the matrix
+-- contains the number `old j` at the place where an entry of column `j` is written. If the number
+-- `v` is written at a place with the number `u`, then the new number at this place is `write u v`.
 module _ (write : ℕ → ℕ → ℕ) (row : Columns ℕ) (old : ℕ → ℕ) where
   abbrev column : ℕ → ℕ
   column k = (slice_index_or (columns.entries row) k (0, 0)).0

@@ -60,7 +60,8 @@ module _ {S T J : Type 0} (R : S → T → T → Bool → S → T → T → Type
     → (b, x', k', judge_of u) ≡ same (judge_of s) x k) where
   -- Suppose that a closure asks the judge. Suppose also that it compared each item of `xs` with the
   -- last item kept before that item, and the first item of `xs` with `k`. Then `flags` says which
-  -- items of `xs` the judge keeps, and `ys` is the item `k`, followed by these items.
+  -- items of `xs` the judge keeps. The list `ys` contains `k` and these items, as they are after
+  -- the comparisons.
   pub asked-last-by : (s t : S) (k : T) (xs : List T) (flags : List Bool) (ys : List T)
       → AskedLast R s k xs flags ys t → Leaves flags ys (asked_last same (judge_of s) k xs)
   asked-last-by s t k [] flags ys a = (a.0, a.1)
@@ -82,7 +83,8 @@ module _ {S T J : Type 0} (R : S → T → T → Bool → S → T → T → Type
 
   -- Suppose that a closure asks the judge. Suppose also that it compared each item of `xs`, except
   -- the first one, with the last item kept before that item. Then `ys` contains exactly the items
-  -- that the judge keeps, and the number of moves follows from the verdicts of the judge.
+  -- that the judge keeps. The number of moves is the same, whether it is computed from `flags` or
+  -- from the verdicts of the judge.
   pub asked-pairs-by : (s t : S) (xs : List T) (flags : List Bool) (ys : List T)
       → AskedPairs R s xs flags ys t
       → (moved_down flags ≡ moved_down (flags_of (asked_pairs same (judge_of s) xs)))

@@ -22,9 +22,9 @@ impl Ruled for Doubling {
 }
 
 impl Ruled for PowerBytes {
-    // Returns the number of items that fit into a block whose size in bytes is a power of two. The
-    // first 16 bytes of the block contain the length and the capacity. If `size` is 0, returns the
-    // same capacity as the rule `Doubling`.
+    // Returns how many items fit into the block behind a header of 16 bytes. The size of the block
+    // in bytes is the smallest power of two that is enough both for `want` items and for twice
+    // `capacity` items. If `size` is 0, the result is the same as for `Doubling`.
     fn expected_capacity(size: usize, capacity: usize, want: usize) -> usize {
         if size == 0 {
             return Doubling::expected_capacity(size, capacity, want);
