@@ -88,8 +88,8 @@ module _ {T A J : Type 0} (here : Setting T A J) (law : KeepsLaw here.rule) (v w
     (room : length v.items ≤ v.capacity) where
   -- Suppose that the items of the list `v` fit into its capacity. Suppose also that the list `w`
   -- has at most `n` more items than `v`, and the capacity that the growth rule requires for `n`
-  -- more items. If the blocks and the copied items in the cost of `w` are exactly those in the cost
-  -- of `v` and in the cost of this growth, then `IsPaid v w` holds.
+  -- more items. If the cost of `w` counts exactly the blocks and copied items of `v`, plus the
+  -- blocks and copied items of this growth, then `IsPaid v w` holds.
   ruled-paid : (u : Thin T A) (n : ℕ) → capacity_for here.rule here.R v n ≡ Some w.capacity
       → w ≡ u → u.cost.blocks ≡ (cost_at v w.capacity).blocks
       → u.cost.grown ≡ (cost_at v w.capacity).grown
