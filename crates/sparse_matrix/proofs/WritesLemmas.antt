@@ -12,9 +12,9 @@ use Rattle.thin_rows.proofs.TableLemmas.{in_order, is_listed, listed}
 never : {P : Type 0} {x : ℕ} → None ≡ Some x → P
 never e = cc
 
--- In this module, a loop writes each entry of `row` over the number at the entry's column. `old j`
--- is the number at column `j` before the loop. Writing the number `v` over the number `u` results
--- in the number `write u v`.
+-- In this module, a loop writes the entries of `row` into a matrix. Before the loop, the matrix
+-- contains the number `old j` at the place where an entry of column `j` is written. If the number
+-- `v` is written at a place with the number `u`, then the new number at this place is `write u v`.
 module _ (write : ℕ → ℕ → ℕ) (row : Columns ℕ) (old : ℕ → ℕ) where
   abbrev column : ℕ → ℕ
   column k = (slice_index_or (columns.entries row) k (0, 0)).0

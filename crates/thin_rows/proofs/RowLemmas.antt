@@ -10,8 +10,8 @@ use Rattle.std.specs.Ordering.{eq_by_cmp}
 use Rattle.thin_rows.specs.Entries.{IsGapFor, IsPlaceOf, IsRising}
 use Rattle.thin_rows.proofs.EntriesLemmas.{find_at, find_gap, put_at, put_gap, stays, without_at, without_gap}
 
--- If the columns `q` and `k` compare as equal, then removing all entries of column `c` from a list
--- either removes both an entry of column `q` and an entry of column `k`, or keeps both.
+-- `stays c k` says whether an entry of column `k` is kept when the entry of column `c` is removed.
+-- If the columns `q` and `k` compare as equal, then `stays c k` equals `stays c q`.
 alike : (c q k : ℕ) → nat_cmp q k ≡ Equal → stays c k ≡ stays c q
 alike c q k e = ap (stays c) (sym (ranked q k Equal (sym e)))
 

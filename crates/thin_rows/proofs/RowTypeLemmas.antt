@@ -1,6 +1,6 @@
--- When a list chooses a capacity, it uses nothing of its item type except the size and the
--- alignment. So a contract about capacities for one item type also holds for each item type of the
--- same size and alignment.
+-- The capacity that a list chooses depends only on the size and the alignment of its item type, not
+-- on the type itself. So a contract about capacities for one item type also holds for each item
+-- type of the same size and alignment.
 use Rattle.std.proofs.Common.{◌≡◌, ◌↔◌, ℕ, IsErrOf, None, Option, Result, Ok, Err, ap, refl, sym, ◌∙◌}
 use Rattle.std.specs.Borrow.{RattleType}
 use Rattle.std.specs.Mem.{type_size}

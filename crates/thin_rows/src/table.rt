@@ -78,8 +78,9 @@ impl<V, A: Allocator> Rows<V, A> {
         self.rows.len()
     }
 
-    /// Returns the number of entries in all rows, or `usize::MAX` if there are more. (No memory has
-    /// room for more than `usize::MAX` entries.) The call visits each row.
+    /// Returns the number of entries in all rows. If there were more than `usize::MAX` entries, the
+    /// result would be `usize::MAX`, but no memory has room for so many entries. The call visits
+    /// each row.
     pub fn len(&self) -> usize
         ensures value { result ≡ min (sum (map (λ row. columns.len row) self.now)) (2 ^ 64 - 1) }
     {

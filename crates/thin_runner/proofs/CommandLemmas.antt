@@ -35,7 +35,7 @@ module _ {T A : Type 0} where
     -- Suppose that a call that clones the items `sources` failed, and that it changed neither the
     -- items nor the allocator of the list `v`. Then either nothing else changed, or a source could
     -- not be cloned. In the second case, the new capacity is the one that the growth rule requires
-    -- for `k` more items, and each source before that source counts as one move.
+    -- for `k` more items, and each source that was cloned before the failure counts as one move.
     pub refuses-clone : (R : RattleType) (k : ℕ) {infallible : T → Type 0} {sources : List T}
         {v w : Thin T A} → w.items ≡ v.items → w.alloc ≡ v.alloc
         → (w ≡ v) ⊎ (capacity_for rule R v k ≡ Some w.capacity)

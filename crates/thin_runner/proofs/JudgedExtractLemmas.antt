@@ -16,15 +16,15 @@ use Rattle.thin_runner.specs.commands.Ranges.{walked}
 use Rattle.thin_runner.specs.declared.command.Step.TheVariants.{Front}
 
 module _ {T : Type 0} where
-  -- `goes item` lists the verdicts on `item`, the result of a call to `next`. If `item` is
-  -- `Some x`, the list has one verdict, which says that `x` is removed. If `item` is `None`, the
-  -- list is empty.
+  -- `goes item` is the list of the verdicts on `item`, which is the result of a call to `next`. For
+  -- `Some x`, the list contains one verdict, which says that `x` is removed. For `None`, the list
+  -- is empty.
   abbrev pub goes : Option T → Verdicts T
   goes None = []
   goes (Some x) = (false, x) ∷ []
 
-  -- `handed_out k xs` lists the results of `k` calls to `next` if `xs` is the list of the items to
-  -- extract: first these items in order, and then `None`.
+  -- `handed_out k xs` is the list of the results of `k` calls to `next` if the items to extract are
+  -- `xs`. The calls return these items in order, and then `None`.
   abbrev pub handed_out : ℕ → List T → List (Option T)
   handed_out k xs = walked xs (replicate k Front)
 
@@ -145,8 +145,8 @@ module _ {S T J : Type 0} (R : S → T → Bool → S → T → Type 0) (judge_o
             ∙ ap (left_at false) (none-left (judge_of t) k) in
             subst (λ l. handed_out (suc k) l ≡ None ∷ handed_out k l) (sym empty) refl
 
--- The number `k'` is `k` if `gone` is not 0, and 0 otherwise. Adding `m` moves and then `k'` moves
--- to a cost yields the same cost as adding `m + k'` moves at once.
+-- Let `k'` be 0 if `gone` is 0, and `k` otherwise. Adding first `m` moves and then `k'` moves to a
+-- cost yields the same cost as adding `m + k'` moves at once.
 charged : (gone m k : ℕ) (c : Cost)
     → (if gone == 0 then moving m c else moving k (moving m c))
     ≡ moving (m + (if gone == 0 then 0 else k)) c
@@ -181,8 +181,8 @@ module _ {T : Type 0} (asked : Verdicts T) (start : List T) (before : Cost) wher
     pub paid : at.paid ≡ moving (moved_down (flags_of done)) before
 
   -- Suppose that the next verdicts, `now`, first keep `k` items and then only remove items. If an
-  -- item was extracted before, then these verdicts add `k` moves to the cost. Otherwise, they add
-  -- no moves.
+  -- item has already been extracted in the state `at`, then the verdicts `now` add `k` moves to the
+  -- cost. Otherwise, they add no moves.
   paid-next : (at : Stand T) (h : IsExtracting at) (now : Verdicts T) (k : ℕ)
       → moved_down (flags_of now) ≡ 0 → trues (flags_of now) ≡ k
       → (if at.out == 0 then at.paid else moving k at.paid)

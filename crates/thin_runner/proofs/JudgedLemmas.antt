@@ -58,10 +58,10 @@ module _ {S T J : Type 0} (R : S → T → T → Bool → S → T → T → Type
     (same : J → T → T → Bool × T × T × J)
     (told : (s : S) (x k : T) (b : Bool) (u : S) (x' k' : T) → R s x k b u x' k'
     → (b, x', k', judge_of u) ≡ same (judge_of s) x k) where
-  -- Suppose that a closure asks the judge, and that it compared each item of `xs` with the last
-  -- item kept before that item. The item `k` was kept before the first item of `xs`. Then the list
-  -- `flags` of the verdicts and the list `ys` of the kept items agree with the decisions of the
-  -- judge.
+  -- Suppose that a closure asks the judge. Suppose also that it compared each item of `xs` with the
+  -- last item kept before that item, and the first item of `xs` with `k`. Then `flags` says which
+  -- items of `xs` the judge keeps. The list `ys` contains `k` and these items, as they are after
+  -- the comparisons.
   pub asked-last-by : (s t : S) (k : T) (xs : List T) (flags : List Bool) (ys : List T)
       → AskedLast R s k xs flags ys t → Leaves flags ys (asked_last same (judge_of s) k xs)
   asked-last-by s t k [] flags ys a = (a.0, a.1)
@@ -81,9 +81,10 @@ module _ {S T J : Type 0} (R : S → T → T → Bool → S → T → T → Type
       answered by false m e = let h =
           by a.1 m.0 m.1 in (e ∙ ap (λ l. true ∷ l) h.0, m.2 ∙ ap (λ l. a.2 ∷ l) h.1)
 
-  -- Suppose that a closure asks the judge, and that it compared each item of `xs`, except the first
-  -- one, with the last item kept before it. Then the kept items `ys` and the number of moves agree
-  -- with the decisions of the judge.
+  -- Suppose that a closure asks the judge. Suppose also that it compared each item of `xs`, except
+  -- the first one, with the last item kept before that item. Then `ys` contains exactly the items
+  -- that the judge keeps. The number of moves is the same, whether it is computed from `flags` or
+  -- from the verdicts of the judge.
   pub asked-pairs-by : (s t : S) (xs : List T) (flags : List Bool) (ys : List T)
       → AskedPairs R s xs flags ys t
       → (moved_down flags ≡ moved_down (flags_of (asked_pairs same (judge_of s) xs)))

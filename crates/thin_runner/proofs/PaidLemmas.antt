@@ -70,8 +70,8 @@ module _ {T A : Type 0} (v w : Thin T A) (room : length v.items ≤ v.capacity) 
   same-paid e = subst (IsPaid v) (sym e) (none-paid v room)
 
   -- Suppose that the items of `v` fit into its capacity, and that `w` equals a list `u` with the
-  -- capacity of `v` and at most `length v.items` items. If the costs of `u` and `v` count the same
-  -- blocks and the same copied items, then `IsPaid v w` holds.
+  -- capacity of `v` and at most `length v.items` items. If the costs of `u` and `v` count equally
+  -- many blocks and equally many copied items, then `IsPaid v w` holds.
   kept-paid : (u : Thin T A) → w ≡ u → u.capacity ≡ v.capacity
       → u.cost.blocks ≡ v.cost.blocks → u.cost.grown ≡ v.cost.grown
       → length u.items ≤ length v.items → IsPaid v w
@@ -86,9 +86,10 @@ module _ {T A : Type 0} (v w : Thin T A) (room : length v.items ≤ v.capacity) 
 
 module _ {T A J : Type 0} (here : Setting T A J) (law : KeepsLaw here.rule) (v w : Thin T A)
     (room : length v.items ≤ v.capacity) where
-  -- Suppose that the items of `v` fit into its capacity. Suppose also that `w` has the capacity
-  -- that the growth rule requires for `n` more items, and that at most `n` items were added. If the
-  -- cost of `w` counts the blocks and the copied items of this growth, then `IsPaid v w` holds.
+  -- Suppose that the items of the list `v` fit into its capacity. Suppose also that the list `w`
+  -- has at most `n` more items than `v`, and the capacity that the growth rule requires for `n`
+  -- more items. If the cost of `w` counts exactly the blocks and copied items of `v`, plus the
+  -- blocks and copied items of this growth, then `IsPaid v w` holds.
   ruled-paid : (u : Thin T A) (n : ℕ) → capacity_for here.rule here.R v n ≡ Some w.capacity
       → w ≡ u → u.cost.blocks ≡ (cost_at v w.capacity).blocks
       → u.cost.grown ≡ (cost_at v w.capacity).grown

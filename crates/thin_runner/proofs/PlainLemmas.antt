@@ -189,7 +189,8 @@ module _ {T A G J : Type 0} (here : Setting T A J) (equal : ClonesEqual here.clo
   does-granted v w command reply ok d = absurd d
 
   -- Suppose that each clone equals its source. Then `plain_step` computes the reply and the
-  -- resulting items for each command that does not fail, even if the command is out of range.
+  -- resulting items for each command that does not fail. This includes a command that is out of
+  -- range: its reply is `OutOfRange`, which is not a failure.
   step-plain : (v w : Thin T A) (command : Command T A G) (reply : Reply T A G)
       → IsGranted reply → Steps here v command reply w
       → (seen reply, w.items) ≡ plain_step here v.items command

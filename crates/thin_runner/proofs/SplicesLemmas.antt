@@ -45,8 +45,8 @@ no-items (x ∷ xs) none = absurd (omega (arith, none))
 
 module _ {T A : Type 0} (s : Hinted T A) (placed : List T)
     (error : SpliceRefused T (Hinted T A) A) where
-  -- `Broke` holds if `finish` put the items `placed` of the iterator `s` into the list, and then
-  -- failed with `error`.
+  -- `Broke` states that `finish` failed with `error` after it had moved the items `placed` from the
+  -- iterator `s` to the list.
   abbrev pub Broke : Type 0
   Broke = Stopped (HintedSteps {T = T} {A = A}) (can_next-default (Hinted T A) T) hinted_count s
       placed error
@@ -123,9 +123,9 @@ module _ {T A : Type 0} (old : Thin T A) (a b : ℕ) where
         subst (λ (v : Thin T A). CostsAdding v new (2 * (length old.items - b))) left-is
         (subst (λ (n : ℕ). CostsAdding (left_of block alloc) new (2 * n)) tail-count cost)
 
-    -- `IsExtended` restricts the capacity after a list was extended with the items of an iterator.
-    -- If it holds for the list of the open block and the limit `left`, and `left` equals
-    -- `at_most most`, then it also holds for the list `cut old a b` and the limit `at_most most`.
+    -- `IsExtended` restricts the capacity of a list after it was extended with the items of an
+    -- iterator. The lemma replaces two arguments of `IsExtended` with equal values: the list of the
+    -- open block with the list `cut old a b`, and the limit `left` with the limit `at_most most`.
     pub ruled : (rule : Rule) (R : RattleType) (new : Thin T A) (most : ℕ) (left : Count)
         → left ≡ at_most most
         → IsExtended rule R (left_of block alloc) new.capacity (length new.items) left

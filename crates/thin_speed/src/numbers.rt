@@ -67,7 +67,7 @@ impl Item for u32 {
 }
 
 impl Item for u128 {
-    // Returns the low 64 bits.
+    // Returns the low 64 bits of the item.
     #[inline(always)]
     fn number(&self) -> u64 {
         (*self & 0xffff_ffff_ffff_ffff) as u64

@@ -1,3 +1,3 @@
--- This module defines the growth rules of the tests as functions on numbers, and proves that these
--- rules satisfy the law of growth rules.
+-- The module `Multiples` defines the two growth rules that only tests use. It also proves that each
+-- of them satisfies the law that every growth rule must satisfy.
 pub mod Multiples

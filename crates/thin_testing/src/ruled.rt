@@ -1,6 +1,6 @@
-//! Defines the growth rules a second time, as functions on numbers. Tests use these functions to
-//! compute the capacities that they expect. Unlike the rules, the functions never reject a capacity
-//! because it is too large.
+//! Defines each growth rule a second time, as a function on numbers. Tests use these functions to
+//! compute the capacities that they expect. Unlike a growth rule, such a function also returns
+//! capacities that are too large to be allocated.
 use crate::multiples::{Fourfold, Threefold};
 use thin_vec::{Doubling, Growth, PowerBytes};
 
@@ -22,9 +22,9 @@ impl Ruled for Doubling {
 }
 
 impl Ruled for PowerBytes {
-    // Returns the capacity of a block whose size in bytes is a power of two. The first 16 bytes of
-    // the block hold the capacity and the length. For items of size 0, the result is the same as
-    // under `Doubling`.
+    // Returns how many items fit into the block behind a header of 16 bytes. The size of the block
+    // in bytes is the smallest power of two that is enough both for `want` items and for twice
+    // `capacity` items. If `size` is 0, the result is the same as for `Doubling`.
     fn expected_capacity(size: usize, capacity: usize, want: usize) -> usize {
         if size == 0 {
             return Doubling::expected_capacity(size, capacity, want);

@@ -58,7 +58,7 @@ module _ {T : Type 0} where
   abbrev pub around : List T → ℕ → ℕ → Verdicts T → Verdicts T
   around xs a b verdicts = stay (take a xs) ++ (verdicts ++ stay (drop b xs))
 
-  -- `sifted old verdicts` contains exactly the items of the list `old` that `verdicts` keep, as
+  -- `sifted old verdicts` contains exactly the items of the list `old` that the verdicts keep, as
   -- they are after the test. Each kept item that changes its place counts as one move.
   abbrev pub sifted : {A : Type 0} → Thin T A → Verdicts T → Thin T A
   sifted old verdicts = edited old (left_at true verdicts) (moved_down (flags_of verdicts))

@@ -11,7 +11,7 @@ module _ {T A J : Type 0} (here : Setting T A J) where
   -- `RefusesClone old k sources cause new` states that a call failed without changing the items of
   -- the list. The call clones the items `sources` and needs room for `k` more items. Either nothing
   -- else changed, or there was room (perhaps after growth) but a source could not be cloned. In the
-  -- second case, each source before that source counts as one move.
+  -- second case, each source that was cloned before the failure counts as one move.
   abbrev pub RefusesClone : Thin T A → ℕ → List T → ThinVecError → Thin T A → Type 0
   RefusesClone old k sources cause new =
       ((capacity_for here.rule here.R old k ≡ None) ↔ (cause ≡ CapacityOverflow))

@@ -158,8 +158,8 @@ impl<L: Numbers, const START: usize, const END: usize> Work<L, u64> for DrainFew
     }
 }
 
-/// A workload that replaces two items, at the indices `START..END`, with one or two items. If only
-/// one item is inserted, it also pushes an item.
+/// A workload that replaces two items, at the indices `START..END`, with one or two items. If it
+/// inserts only one item, it then pushes an item, so that the length of the list does not change.
 pub struct SpliceFew<C, const START: usize, const END: usize> {
     count: PhantomData<C>,
 }

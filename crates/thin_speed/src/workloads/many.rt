@@ -105,8 +105,8 @@ pub fn styles<L: List<S>, S: List<u32>>(alloc: Global, size: usize, times: usize
     Ok(sum)
 }
 
-// Makes a style with `number % 4` rules. If `number % 8` is 7, also inserts a fourth rule at the
-// front.
+// Makes a style, which is a list of `number % 4` rules. If `number % 8` is 7, also inserts a fourth
+// rule at the front.
 fn style<S: List<u32>>(alloc: Global, number: usize) -> Result<S, AllocError> {
     let mut style = S::new(alloc);
     for rule in 0..number & 3 {

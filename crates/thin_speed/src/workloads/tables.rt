@@ -42,8 +42,8 @@ pub fn set_all<C: Table>(alloc: Global, size: usize, times: usize) -> Outcome {
     Ok(sum)
 }
 
-/// Makes a table with `size` entries, and then reads all entries `times` times, neither row by row
-/// nor in the order in which they were written.
+/// Makes a table with `size` entries, and then reads all entries `times` times. The entries are
+/// read in a scattered order, which differs from the order in which they were written.
 ///
 /// # Errors
 ///
@@ -61,8 +61,9 @@ pub fn get_all<C: Table>(alloc: Global, size: usize, times: usize) -> Outcome {
     Ok(sum)
 }
 
-// Makes a table, and writes entries at its first `size` places, counted row by row. But the entries
-// are not written row by row. If `size` is a multiple of 7919, some of these places get no entry.
+// Makes a table with thirty columns, and writes entries to its first `size` places. The places are
+// numbered row by row, but the entries are written in a scattered order. If `size` is a multiple of
+// 7919, some of these places get no entry.
 #[inline(never)]
 fn filled_table<C: Table>(alloc: Global, size: usize) -> Result<C, AllocError> {
     let mut table = C::with_rows(alloc, size / 30 + 1)?;

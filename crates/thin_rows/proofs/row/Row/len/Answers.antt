@@ -1,4 +1,5 @@
--- `len` returns the length of the map, which is the number of entries in the stored list.
+-- `len` returns the number of entries in the stored list. This is also the number of entries of the
+-- map that the row represents.
 use Rattle.std.proofs.Common.{sym, ap, ◌∙◌}
 use Rattle.std.specs.FinMap.{len}
 use Rattle.thin_rows.proofs.RowLemmas.{len_is}

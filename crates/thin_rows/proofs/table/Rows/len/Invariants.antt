@@ -1,12 +1,12 @@
--- The loop in `len` counts the entries of all rows that it has visited so far. Instead of a number
--- greater than `usize::MAX`, the count is `usize::MAX`.
+-- The loop in `len` counts the entries of all rows that it has visited so far. If there are more
+-- than `usize::MAX` entries in these rows, the count is `usize::MAX`.
 use Rattle.std.proofs.Common.{◌≡◌, ◌+◌, ◌-◌, ◌^◌, ◌<◌, map, min, sum}
 use Rattle.std.specs.FinMap.{len}
 use Rattle.thin_rows.proofs.table.Rows.len.Given as goal
 
--- The count plus the number of entries in the rows that have not been visited yet equals the number
--- of all entries, or both of these numbers are at least `usize::MAX`. The count fits into a
--- `usize`.
+-- The number of all entries equals the count plus the number of entries in the rows that have not
+-- been visited yet, or this number and this sum are both at least `usize::MAX`. The count fits into
+-- a `usize`.
 abbrev pub invariant-loop-row : goal.invariant-loop-row
 invariant-loop-row g l =
     (min (l.count + sum (map (λ row. len row) l.row-iterator.rest.now)) (2 ^ 64 - 1)

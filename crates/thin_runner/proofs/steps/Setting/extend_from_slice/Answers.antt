@@ -1,5 +1,5 @@
--- `extend_from_slice` is called with the items of the command's vector as a slice. So the clauses
--- about a failed call hold for the vector, too.
+-- The command contains a vector, and `extend_from_slice` is called with a slice of all its items.
+-- So what the contract states about the items of the slice also holds for the items of the vector.
 use Rattle.std.proofs.Common.{Err, ap, arith, length}
 use Rattle.thin_vec.specs.ThinVec.{HasRoomFor}
 use Rattle.thin_runner.proofs.CommandLemmas.{refuses-clone, some-items}
