@@ -482,8 +482,8 @@ module _ {M : Type 1} {𝓤 : Ura M} (𝓛 : Logic 𝓤) (T : RattleType) (L : L
     end_at : far ≡ past τ' j at
     end_at = end ∙ sym (past_is τ' j at)
 
-    -- Turns empty slots into empty words. This also needs the rights (`ways`) to convert the slots,
-    -- and the memory at the end that belongs to no slot.
+    -- Turns empty slots into empty words. The lemma also needs the rights (`ways`) to convert the
+    -- slots, and the memory at the end that belongs to no slot.
     spare_words : ent 𝓤 (sep 𝓤 (sem 𝓛 (places (R E) (empty j) b at))
         (sep 𝓤 (sem 𝓛 (ways τ' m v b at)) (sem 𝓛 Spare)))
         (sem 𝓛 (places (R W) (empty v) b at))

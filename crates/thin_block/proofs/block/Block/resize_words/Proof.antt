@@ -81,8 +81,8 @@ resize_words_spec 𝓤 𝓛 𝓜 𝓡 wired T A m k LT LA fits_m fits_k g d dd m
     let H = 𝓛.H in
     let E : El = record { row = T; laws = LT } in
     let W : El = word_el T LT m in
-    -- `X` is the type of words, made from the memory layout of a word. It is a type argument of a
-    -- call.
+    -- `X` is the type of words together with the memory layout of a word. The call of `resized` has
+    -- the type argument `X`.
     let X : RattleType = arg (word_of (layout T) m) yes W.row in
     let EX : El = record {
       row = X;
@@ -496,11 +496,11 @@ resize_words_spec 𝓤 𝓛 𝓜 𝓡 wired T A m k LT LA fits_m fits_k g d dd m
     use1 𝓛 (‵ (places Rt news b' (o' + 16)) ⊛ ‵ (slots_way τ' m w' cap b' (o' + 16)))
     (words_back 𝓛 T LT m k b' hd items count j' v' w' cap (o' + 16) whole_words slots_are' fill'
     (hd.counts.covers cap)) $ split ! $
-    -- `resized` has succeeded. The words have been converted into filled slots, and the empty words
-    -- into empty slots. The proof context holds, in this order: [the slots; the right to convert
-    -- memory for the slots into memory for words; the length; the capacity; the right to convert
-    -- memory for the header into memory for words; the right to free the block; the lifetime
-    -- tokens].
+    -- `resized` has succeeded. The filled words have been converted into filled slots, and the
+    -- empty words into empty slots. The proof context holds, in this order: [the slots; the right
+    -- to convert the memory of the slots back into memory for words; the length; the capacity; the
+    -- right to convert the memory of the header back into memory for words; the right to free the
+    -- block; the lifetime tokens].
     move ! (3 ∷ 2 ∷ 4 ∷ 1 ∷ 5 ∷ []) $ group ! 5 $
     use1 𝓛 (‵ (frame tok Rt len cap b' o'))
     (header_whole 𝓛 T LT b' m k in_words o' tok len cap wanted wanted_is fits_cap) $
@@ -580,11 +580,11 @@ resize_words_spec 𝓤 𝓛 𝓜 𝓡 wired T A m k LT LA fits_m fits_k g d dd m
     (slots_way τ' m w old b (o + 16)))
     (words_back 𝓛 T LT m k b hd items count j v w old (o + 16) whole_words slots_are fill
     (hd.counts.covers old)) $ split ! $
-    -- `resized` has failed. The words have been converted into filled slots, and the empty words
-    -- into empty slots. The proof context holds, in this order: [the slots; the right to convert
-    -- memory for the slots into memory for words; the length; the capacity; the right to convert
-    -- memory for the header into memory for words; the right to free the block; the lifetime
-    -- tokens].
+    -- `resized` has failed. The filled words have been converted into filled slots, and the empty
+    -- words into empty slots. The proof context holds, in this order: [the slots; the right to
+    -- convert the memory of the slots back into memory for words; the length; the capacity; the
+    -- right to convert the memory of the header back into memory for words; the right to free the
+    -- block; the lifetime tokens].
     move ! (3 ∷ 2 ∷ 4 ∷ 1 ∷ 5 ∷ []) $ group ! 5 $
     use1 𝓛 (‵ (frame tok Rt len old b o))
     (header_whole 𝓛 T LT b m k in_words o tok len old held held_is fits_old) $
