@@ -337,8 +337,8 @@ module _ (E : El) {M : Type 1} {𝓤 : Ura M} (𝓛 : Logic 𝓤) (b o : ℕ) (s
             rewrite ! 0 (λ (l : S). ‵ (Row o l)) result refl $ done !;
       }
 
-  -- The precondition `empty` of `move_run`: each slot to which an item is moved is empty, or is one
-  -- of the slots from which the items are moved.
+  -- `Bare` is the precondition `empty` of `move_run`. It states that each slot to which an item is
+  -- moved is empty or is one of the slots from which the items are moved.
   abbrev pub Bare : Type 0
   Bare = (i : ℕ) → to ≤ i → i < to + k → (i < from) ⊎ (from + k ≤ i) → slot slots i ≡ None
 
@@ -355,7 +355,8 @@ module _ (E : El) {M : Type 1} {𝓤 : Ura M} (𝓛 : Logic 𝓤) (b o : ℕ) (s
       (empty-run slots to k target
       (λ i h j. bare i h j (inl (let q : i < from = omega arith in q))))) far
 
-  -- The distance, in slots, by which the items are moved.
+  -- `distance up` is the number of slots by which the items are moved. They are moved up if `up` is
+  -- true, and down otherwise.
   abbrev pub distance : Bool → ℕ
   distance true = to - from
   distance false = from - to

@@ -393,8 +393,8 @@ resize_words_spec 𝓤 𝓛 𝓜 𝓡 wired T A m k LT LA fits_m fits_k g d dd m
     -- `M` and `K`].
     move ! (2 ∷ 4 ∷ []) $ join ! $ move ! (2 ∷ 0 ∷ []) $ join ! $ move ! (1 ∷ 0 ∷ []) $ join ! $
     move ! (1 ∷ []) $
-    -- The lifetime tokens have been joined. The proof context holds, in this order: [what `resized`
-    -- has returned; the lifetime tokens].
+    -- The lifetime tokens have been joined into one entry. The proof context holds, in this order:
+    -- [what `resized` has returned; the lifetime tokens].
     let inner : Body = inside (head (after 1 fn.body)) in
     let both : Body = head (after 12 inner) in
     let Last : After 𝓤 H = out_of_block 𝓛
@@ -477,9 +477,9 @@ resize_words_spec 𝓤 𝓛 𝓜 𝓡 wired T A m k LT LA fits_m fits_k g d dd m
     returns ! (look_at ! 0 refl) $ free_all ! refl $
     -- `resized` has succeeded. The bytes of the last `k` words have been copied to the memory
     -- directly after the other words, and the header has been written. The proof context holds, in
-    -- this order: [the two halves of the header; the right to convert memory for the header into
-    -- memory for words; what the last `k` words own; the bytes of these words; the empty words; the
-    -- right to free the block; the other words; the lifetime tokens].
+    -- this order: [the two halves of the header; the right to convert the memory of the header back
+    -- into memory for words; what the last `k` words own; the bytes of these words; the empty
+    -- words; the right to free the block; the other words; the lifetime tokens].
     rewrite ! 1 (λ (n : ℕ). ‵ (fat full_share (ty_int w64) b' n (vint w64 len)))
     (let turned : 8 + o' ≡ o' + 8 = omega arith in turned) refl $
     use1 𝓛 (‵ (lies_at usize full_share (block_ptr b' o') cap))
@@ -561,9 +561,9 @@ resize_words_spec 𝓤 𝓛 𝓜 𝓡 wired T A m k LT LA fits_m fits_k g d dd m
     returns ! (look_at ! 0 refl) $ free_all ! refl $
     -- `resized` has failed. The bytes of the last `k` words have been copied to the memory directly
     -- after the other words, and the header has been written. The proof context holds, in this
-    -- order: [the two halves of the header; the right to convert memory for the header into memory
-    -- for words; what the last `k` words own; the bytes of these words; the empty words; the right
-    -- to free the block; the other words; the lifetime tokens].
+    -- order: [the two halves of the header; the right to convert the memory of the header back into
+    -- memory for words; what the last `k` words own; the bytes of these words; the empty words; the
+    -- right to free the block; the other words; the lifetime tokens].
     rewrite ! 1 (λ (n : ℕ). ‵ (fat full_share (ty_int w64) b n (vint w64 len)))
     (let turned : 8 + o ≡ o + 8 = omega arith in turned) refl $
     use1 𝓛 (‵ (lies_at usize full_share (block_ptr b o) old)) (uint_in 𝓛 full_share w64 old b o) $
