@@ -71,13 +71,13 @@ module _ (E : El) (g : Ghosts (el_x E)) (d : Dict) {M : Type 1} {𝓤 : Ura M} (
         use0 𝓛 (raw (fact 𝓤 (slots_len r ≡ length s.now)))
         (fact_i 𝓤 (slots_len r ≡ length s.now) (emp 𝓤) long) $
         use0 𝓛 (raw (fact 𝓤 (κ₁ ⊑ E.row.lives))) (fact_i 𝓤 (κ₁ ⊑ E.row.lives) (emp 𝓤) le) $ join ! $
-        -- The facts that the call requires have been joined. The proof context holds, in this
-        -- order: [these facts; the lifetime tokens of the slice and of its item type; the value of
-        -- type `Slots`; the slice].
+        -- The facts that the call requires have been joined into one entry. The proof context
+        -- holds, in this order: [these facts; the lifetime tokens of the slice and of its item
+        -- type; the value of type `Slots`; the slice].
         nothing ! $ move ! (5 ∷ 0 ∷ []) $ fjoin ! $ move ! (4 ∷ 0 ∷ []) $ fjoin ! $
-        -- The arguments of the call have been joined. The proof context holds, in this order: [the
-        -- value of type `Slots` and the slice; the facts that the call requires; the lifetime
-        -- tokens of the slice and of its item type].
+        -- The arguments of the call have been joined into one entry. The proof context holds, in
+        -- this order: [the value of type `Slots` and the slice; the facts that the call requires;
+        -- the lifetime tokens of the slice and of its item type].
         nothing ! $ move ! (4 ∷ 0 ∷ []) $ join ! $ move ! (3 ∷ 0 ∷ []) $ join ! $ join ! $ done !
 
     pub Copied-gives : (v : Val) → slots_ptr r ≡ block_ptr b o

@@ -53,8 +53,8 @@ module _ (E : El) (Y : Al) {M : Type 1} {𝓤 : Ura M} (𝓛 : Logic 𝓤) (x : 
       (λ us. fsep (cell_at full_share (Br E Y).mir us rb ro)
       ((Br E Y).own_val (with_slots x s same) us)) (block_val (block_ptr b o) ∷ []) $ done !
 
-  -- If a `&mut` to the item in slot `i` ends and the item then has the value `w`, the block is
-  -- complete again, and slot `i` holds `w`.
+  -- Suppose that a `&mut` to the item in slot `i` has ended, and that the item now has the value
+  -- `w`. Then the block is complete again, and slot `i` holds `w`.
   pub item_back : (i : ℕ) → i < length x.slots → (w : el_x E)
       → ent 𝓤 (sep 𝓤 (sem 𝓛 ((mem (R E)).own_at w b (i * sz E + (o + 16))))
       (sem 𝓛 (fsep (besides E 𝓛 b (o + 16) x.slots i) Waiting)))
@@ -68,8 +68,8 @@ module _ (E : El) (Y : Al) {M : Type 1} {𝓤 : Ura M} (𝓛 : Logic 𝓤) (x : 
       (slot_in E 𝓛 b (o + 16) x.slots i within (Some w)) $
       by ! (slots_back y.slots (length-set x.slots i (Some w)))
 
-  -- If a `&mut` to the `k` items in the slots `i..i + k` ends and the items then have the values
-  -- `ws`, the block is complete again, and these slots hold `ws`.
+  -- Suppose that a `&mut` to the `k` items in the slots `i..i + k` has ended, and that the items
+  -- now have the values `ws`. Then the block is complete again, and these slots hold `ws`.
   pub items_back : (i k : ℕ) → i + k ≤ length x.slots
       → ((n : ℕ) → i ≤ n → n < i + k → IsSome (slot x.slots n))
       → (ws : List (el_x E)) → length ws ≡ k

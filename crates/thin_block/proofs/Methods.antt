@@ -1,8 +1,8 @@
 -- These lemmas begin and end the proof of a method that takes `&mut self` or `&self`. The lemmas
 -- assume the laws of the separation logic (`Logic`).
---     `dropped` is the choice to give no argument back to the caller. `all_go` allows this choice.
+--     `dropped` is the choice that returns no argument to the caller. `all_go` allows this choice.
 --     `heard_all` splits a `requires` clause that consists of several facts.
---     `block_stays` is the choice to give only the `&mut` back. `goes` allows this choice.
+--     `block_stays` is the choice that returns only the `&mut`. `goes` allows this choice.
 --     `arrives` begins the proof of any function.
 --     `starts`, `begins` and `begins_with` begin the proof of a method that takes `&mut self`.
 --     `token_out` separates the first lifetime token from the other lifetime tokens.
@@ -55,8 +55,9 @@ others [] = []
 others (s ∷ ss) = ss
 
 module _ {n : ℕ} where
-  -- `dropped ss ks` is the choice to give none of the arguments for the parameters `ss` back to the
-  -- caller.
+  -- `dropped ss ks` is the choice that returns no argument to the caller: every argument for the
+  -- parameters `ss` is consumed. For each parameter, `ks` says for which lifetimes in its type the
+  -- contract mentions the final values of references.
   abbrev pub dropped : (ss : List (Slot n)) (ks : Kepts ss) → Stays ss ks
   dropped [] ks = tt
   dropped (s ∷ ss) ks = (stay_dropped s ks.0, dropped ss ks.1)
@@ -128,8 +129,8 @@ module _ (E : El) (Y : Al) {n : ℕ} (ss : List (Slot (suc n))) where
   abbrev pub on_block : List (Slot (suc n))
   on_block = mut_ref_to (0 ∷ []) tt (plain (λ _. Br E Y)) ∷ ss
 
-  -- `block_stays ks` is the choice to give only the `&mut Block` back to the caller when the method
-  -- returns.
+  -- `block_stays ks` is the choice that returns only the `&mut Block` to the caller at the end of
+  -- the method.
   abbrev pub block_stays : (ks : Kepts ss) → Stays on_block (yes, ks)
   block_stays ks = (stay_ref (0 ∷ []) tt (plain (λ _. Br E Y)), dropped ss ks)
 
@@ -186,9 +187,9 @@ module _ (E : El) (Y : Al) {M : Type 1} {𝓤 : Ura M} (𝓛 : Logic 𝓤) {n : 
   abbrev shared : Slot (suc n)
   shared = shr_ref_to (0 ∷ []) tt (plain (λ _. Br E Y))
 
-  -- The proof context on entry to a method that takes `&mut self`. It holds, in this order: [two
-  -- entries for the `&mut`; the lifetime token of this `&mut`; the other lifetime tokens; what the
-  -- other arguments own; the entries in the list `Γ`].
+  -- The proof context on entry to a method that takes `&mut self`. It holds, in this order: [the
+  -- current value of the `&mut`; the borrow of the block; the lifetime token of this `&mut`; the
+  -- other lifetime tokens; what the other arguments own; the entries in the list `Γ`].
   abbrev Entered : {Bd : Lfts (suc n) → Type 0} → Passed lent ss Bd → List (Item 𝓤) → List (Item 𝓤)
   Entered x Γ = ‵ (fobs x.3.0.ghost_name ((Br E Y).coded.code x.3.0.now)) ∷ ‵
       (fbor x.0.0 (Body (mem (Br E Y)) x.3.0.ref_ptr.0 x.3.0.ref_ptr.1 x.3.0.ghost_name))
@@ -210,8 +211,8 @@ module _ (E : El) (Y : Al) {M : Type 1} {𝓤 : Ura M} (𝓛 : Logic 𝓤) {n : 
       (move ! (5 ∷ []) $ heard_all ! φs (λ said. next said))
 
   -- Begins the proof of a method that takes `&mut self`, and discards the resources of the other
-  -- arguments. After this step the proof context holds, in this order: [two entries for the `&mut`;
-  -- the lifetime token of this `&mut`; the other lifetime tokens].
+  -- arguments. After this step the proof context holds, in this order: [the current value of the
+  -- `&mut`; the borrow of the block; the lifetime token of this `&mut`; the other lifetime tokens].
   pub begins : {Bd : Lfts (suc n) → Type 0} {P : SProp 𝓤} (x : Passed lent ss Bd)
       (φs : List (Type 0))
       → (Shown φs → Sq 𝓛 (‵ (fobs x.3.0.ghost_name ((Br E Y).coded.code x.3.0.now)) ∷ ‵
@@ -255,9 +256,10 @@ module _ {M : Type 1} {𝓤 : Ura M} {𝓛 : Logic 𝓤} {K : Type 0} {Γ : List
   blank k (suc m) = step (λ s. blank k m $ nothing k $ fjoin k $ s)
 
 module _ {M : Type 1} {𝓤 : Ura M} {𝓛 : Logic 𝓤} {K : Type 0} {G : Goal 𝓤 𝓛.H} where
-  -- Ends the proof of a function that gives none of its `m` arguments back to the caller. This step
-  -- joins the proof context [a lifetime token; the result; the other lifetime tokens] into what
-  -- must be proved at the end.
+  -- Ends the proof of a function that gives none of its `m` arguments back to the caller. Before
+  -- this step the proof context holds, in this order: [a lifetime token; the result; the other
+  -- lifetime tokens]. The step combines these entries into what the function must own when it
+  -- returns.
   pub leaves : K → {Q F : Fml} {T : Item 𝓤} (m : ℕ)
       → Step K 𝓛 (((‵ Q ⊛ T) ⊛ ‵ (blanks m) ⊛ ‵ F) ∷ []) G (‵ Q ∷ ‵ F ∷ T ∷ []) G
   leaves k m = step (λ s. move k (0 ∷ 2 ∷ []) $ join k $ blank k m $ move k (0 ∷ 2 ∷ []) $ join k $
@@ -295,9 +297,10 @@ module _ (E : El) (Y : Al) {M : Type 1} {𝓤 : Ura M} {𝓛 : Logic 𝓤} {K : 
       rewrite k 1 (λ (c : ℕ). ‵ (header (t E Y) (R E) y.len c y.alloc b o)) (sym long) refl $
       move k (1 ∷ 0 ∷ []) $ block_closes E Y k z y b o r.ref_ptr.0 r.ref_ptr.1 at $ s)
 
-  -- Ends the proof of a method that takes `&mut self` and `m` further parameters. This step joins
-  -- the proof context [two entries for the `&mut`; the lifetime token of this `&mut`; the result;
-  -- the other lifetime tokens] into what must be proved at the end.
+  -- Ends the proof of a method that takes `&mut self` and `m` further parameters. Before this step
+  -- the proof context holds, in this order: [the current value of the `&mut`; the borrow of the
+  -- block; the lifetime token of this `&mut`; the result; the other lifetime tokens]. The step
+  -- combines these entries into what the method must own when it returns.
   pub leaves_with : K → {κ : Lft} {q : Share} {us : List Val} {F : Fml} {T : Item 𝓤}
       (r : MutBor (Br E Y).Denot) (y : (Br E Y).Denot) (m : ℕ) → us ≡ mut_vals r
       → Step K 𝓛 (((‵ (flft κ q) ⊛ T) ⊛ ‵
@@ -310,8 +313,9 @@ module _ (E : El) (Y : Al) {M : Type 1} {𝓤 : Ura M} {𝓛 : Logic 𝓤} {K : 
       move k (0 ∷ 2 ∷ []) $ join k $ move k (1 ∷ 2 ∷ []) $ join k $ join k $ s)
 
   -- Ends the proof of a method that takes `&mut self` and `m` further parameters, and returns `()`.
-  -- This step joins the proof context [two entries for the `&mut`; the lifetime token of this
-  -- `&mut`; the other lifetime tokens] into what must be proved at the end.
+  -- Before this step the proof context holds, in this order: [the current value of the `&mut`; the
+  -- borrow of the block; the lifetime token of this `&mut`; the other lifetime tokens]. The step
+  -- combines these entries into what the method must own when it returns.
   pub leaves_unit : K → {κ : Lft} {q : Share} {us : List Val} {T : Item 𝓤}
       (r : MutBor (Br E Y).Denot) (y : (Br E Y).Denot) (m : ℕ) → us ≡ mut_vals r
       → Step K 𝓛 (((‵ (flft κ q) ⊛ T) ⊛ ‵

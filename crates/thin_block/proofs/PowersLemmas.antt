@@ -47,8 +47,8 @@ module _ (R : RattleType) (c w size : ℕ) (is : size ≡ capped (type_size R))
   abbrev a : ℕ
   a = type_align R
 
-  -- The greater of `w` and `2 * c`, as the code computes it. If `2 * c` exceeds `usize::MAX`, the
-  -- code uses `usize::MAX` instead.
+  -- `items` is the number that the code computes as the greater of `w` and `2 * c`. If `2 * c`
+  -- exceeds `usize::MAX`, the code uses `usize::MAX` instead of `2 * c`.
   abbrev items : ℕ
   items = max w (min (c * 2) (2 ^ 64 - 1))
 

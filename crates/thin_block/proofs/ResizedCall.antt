@@ -85,9 +85,9 @@ module _ (E : El) (Y : Al) {M : Type 1} {𝓤 : Ura M} (𝓛 : Logic 𝓤) (at_m
         feq_i ! (List Val) (vint w64 len ∷ []) (vint w64 len ∷ []) refl $ fjoin ! $ fjoin ! $
         feq_i ! (List Val) (vptr b o ∷ []) (vptr b o ∷ []) refl $ fjoin ! $ move ! (2 ∷ []) $
         feq_i ! (List Val) (vptr p.0 p.1 ∷ []) (vptr p.0 p.1 ∷ []) refl $ fjoin ! $ fjoin ! $
-        -- The arguments have been joined. The proof context holds, in this order: [the arguments;
-        -- one entry for the required facts and the memory of the block; the lifetime tokens of the
-        -- `&` to the allocator, of `T` and of `A`].
+        -- The arguments have been joined into one entry. The proof context holds, in this order:
+        -- [the arguments; one entry for the required facts and the memory of the block; the
+        -- lifetime tokens of the `&` to the allocator, of `T` and of `A`].
         nothing ! $ move ! (5 ∷ 0 ∷ []) $ join ! $ move ! (4 ∷ 0 ∷ []) $ join ! $
         move ! (3 ∷ 0 ∷ []) $ join ! $ join ! $ join ! $ done !
 

@@ -76,9 +76,9 @@ module _ (E : El) {M : Type 1} {𝓤 : Ura M} (𝓛 : Logic 𝓤) (b o : ℕ) (s
   empty-long : (n : ℕ) → length (empty {T = el_x E} n) ≡ n
   empty-long n = length-replicate n None
 
-  -- If the `d` slots directly before a run of adjacent items are empty, then the items and these
-  -- slots can be separated from the other slots. After the items have been moved down by `d` slots,
-  -- all slots can be put back together.
+  -- If the `d` slots directly before a run of adjacent items are empty, then the memory of the
+  -- items and of these slots can be split off from the memory of the other slots. After the items
+  -- have been moved down by `d` slots, the memory of all slots can be put back together.
   pub slides_down : (d : ℕ) → from ≡ to + d → from + k ≤ length slots → run to d slots ≡ empty d
       → Moves (memory_before_copy (R E) false d k (block_ptr b src) (block_ptr b dst) xs)
       (memory_after_copy (R E) false d k (block_ptr b src) (block_ptr b dst) xs)
@@ -128,9 +128,9 @@ module _ (E : El) {M : Type 1} {𝓤 : Ura M} (𝓛 : Logic 𝓤) (b o : ℕ) (s
             rewrite ! 0 (λ (l : S). ‵ (Row o l)) result refl $ done !;
       }
 
-  -- If the `d` slots directly after a run of adjacent items are empty, then the items and these
-  -- slots can be separated from the other slots. After the items have been moved up by `d` slots,
-  -- all slots can be put back together.
+  -- If the `d` slots directly after a run of adjacent items are empty, then the memory of the items
+  -- and of these slots can be split off from the memory of the other slots. After the items have
+  -- been moved up by `d` slots, the memory of all slots can be put back together.
   pub slides_up : (d : ℕ) → to ≡ from + d → to + k ≤ length slots → run (from + k) d slots ≡ empty d
       → Moves (memory_before_copy (R E) true d k (block_ptr b src) (block_ptr b dst) xs)
       (memory_after_copy (R E) true d k (block_ptr b src) (block_ptr b dst) xs)
@@ -217,9 +217,9 @@ module _ (E : El) {M : Type 1} {𝓤 : Ura M} (𝓛 : Logic 𝓤) (b o : ℕ) (s
       let same : length mid * s ≡ m * s = ap (λ (n : ℕ). n * s) count in
       omega arith
 
-  -- If `k` adjacent slots somewhere above a run of `k` items are empty, then the items and these
-  -- slots can be separated from the other slots. After the items have been moved up into these
-  -- slots, all slots can be put back together.
+  -- If `k` adjacent slots somewhere above a run of `k` items are empty, then the memory of the
+  -- items and of these slots can be split off from the memory of the other slots. After the items
+  -- have been moved up into these slots, the memory of all slots can be put back together.
   goes_over : (m : ℕ) → to ≡ from + k + m → to + k ≤ length slots
       → run to k slots ≡ empty k → Moves Was Is
   goes_over m apart within gap =
@@ -277,9 +277,9 @@ module _ (E : El) {M : Type 1} {𝓤 : Ura M} (𝓛 : Logic 𝓤) (b o : ℕ) (s
             rewrite ! 0 (λ (l : S). ‵ (Row o l)) result refl $ done !;
       }
 
-  -- If `k` adjacent slots somewhere below a run of `k` items are empty, then the items and these
-  -- slots can be separated from the other slots. After the items have been moved down into these
-  -- slots, all slots can be put back together.
+  -- If `k` adjacent slots somewhere below a run of `k` items are empty, then the memory of the
+  -- items and of these slots can be split off from the memory of the other slots. After the items
+  -- have been moved down into these slots, the memory of all slots can be put back together.
   goes_back : (m : ℕ) → from ≡ to + k + m → from + k ≤ length slots
       → run to k slots ≡ empty k → Moves Was Is
   goes_back m apart within gap =
@@ -337,14 +337,14 @@ module _ (E : El) {M : Type 1} {𝓤 : Ura M} (𝓛 : Logic 𝓤) (b o : ℕ) (s
             rewrite ! 0 (λ (l : S). ‵ (Row o l)) result refl $ done !;
       }
 
-  -- The precondition `empty` of `move_run`: each slot to which an item is moved is empty, or is one
-  -- of the slots from which the items are moved.
+  -- `Bare` is the precondition `empty` of `move_run`. It states that each slot to which an item is
+  -- moved is empty or is one of the slots from which the items are moved.
   abbrev pub Bare : Type 0
   Bare = (i : ℕ) → to ≤ i → i < to + k → (i < from) ⊎ (from + k ≤ i) → slot slots i ≡ None
 
   -- Suppose that adjacent items are to be moved to empty slots, and that their old and new slots do
-  -- not overlap. Then the old and new slots can be separated from the other slots. After the move,
-  -- all slots can be put back together.
+  -- not overlap. Then the memory of the old and new slots can be split off from the memory of the
+  -- other slots. After the move, the memory of all slots can be put back together.
   pub apart : from + k ≤ length slots → to + k ≤ length slots → Bare → (from + k ≤ to)
       ⊎ (to + k ≤ from) → Moves Was Is
   apart source target bare far =
@@ -355,7 +355,8 @@ module _ (E : El) {M : Type 1} {𝓤 : Ura M} (𝓛 : Logic 𝓤) (b o : ℕ) (s
       (empty-run slots to k target
       (λ i h j. bare i h j (inl (let q : i < from = omega arith in q))))) far
 
-  -- The distance, in slots, by which the items are moved.
+  -- `distance up` is the number of slots by which the items are moved. They are moved up if `up` is
+  -- true, and down otherwise.
   abbrev pub distance : Bool → ℕ
   distance true = to - from
   distance false = from - to
@@ -376,9 +377,9 @@ module _ (E : El) {M : Type 1} {𝓤 : Ura M} (𝓛 : Logic 𝓤) (b o : ℕ) (s
   abbrev pub GapBelow : Bool → Type 0
   GapBelow up = up ≡ false → (to ≤ from) × AreEmpty slots to (from - to)
 
-  -- Suppose that adjacent items are to be moved only through empty slots. Then the items and these
-  -- empty slots can be separated from the other slots. After the move, all slots can be put back
-  -- together.
+  -- Suppose that adjacent items are to be moved only through empty slots. Then the memory of the
+  -- items and of these empty slots can be split off from the memory of the other slots. After the
+  -- move, the memory of all slots can be put back together.
   pub slides : from + k ≤ length slots → to + k ≤ length slots → (up : Bool) → GapAbove up
       → GapBelow up → Way up
   slides source target true above below =

@@ -25,8 +25,8 @@ use Rattle.thin_block.specs.Growth.{fitting, doubling}
 
 -- Section: rounding up
 
--- `Rounded a x` collects bounds on the size of a block with items that take `x` bytes in total.
--- Each item has the alignment `a`.
+-- Suppose that the items of a block take `x` bytes in total, and that each item has the alignment
+-- `a`. `Rounded a x` collects bounds on the alignment and the size of this block.
 pub record Rounded (a x : ℕ) : Type 0 where
   pub least : 8 ≤ block_align a
   pub most : block_align a ≤ 16

@@ -82,9 +82,9 @@ counts_8 = record {
   few = λ c. omega arith;
 }
 
--- `Laid s a m k` collects facts about words of `m` items: the size and the alignment of a word, and
--- the size of a block of words. Each item has the size `s` and the alignment `a`, and the header
--- takes as many bytes as `k` words.
+-- A word is a struct of 8 or 16 bytes that consists of whole items. `Laid s a m k` collects facts
+-- about words of `m` items: the size and the alignment of a word, and the size of a block of words.
+-- Each item has the size `s` and the alignment `a`, and `k` words are as large as the header.
 abbrev Laid : ℕ → ℕ → ℕ → ℕ → Type 0
 Laid s a m k = (word_size s a m ≡ m * s) × ((word_align a ≡ block_align a)
     × (Dv 8 (word_align a) × (Dv a (word_align a)
@@ -169,9 +169,10 @@ at_size : (s t : ℕ) (p q : ℕ × ℕ) → s ≡ t → ◌≡◌ {A = Option (
 at_size s t p q es e all =
     subst (λ (x : ℕ × (ℕ × ℕ)). AtAny x.0 x.1.0 x.1.1) (λ i. (sym es i, pair (e i))) all
 
--- `tested x y z u v` is the result of `in_words` if the five tests say whether the item size is 1,
--- 2, 4, 8 or 16, in this order. If the result is a pair, it contains the number of items that make
--- a word, and the number of words that take as many bytes as the header.
+-- Suppose that the booleans `x`, `y`, `z`, `u` and `v` say whether the item size is 1, 2, 4, 8 or
+-- 16, in this order. Then `tested x y z u v` is the result of `in_words` for this size. If the
+-- result is a pair, it contains the number of items that make a word, and the number of words that
+-- take as many bytes as the header.
 abbrev tested : Bool → Bool → Bool → Bool → Bool → Option (ℕ × ℕ)
 tested x y z u v = if x then Some (8, 2) else (if y then Some (4, 2) else
     (if z then Some (2, 2) else (if u then Some (1, 2) else (if v then Some (1, 1) else None))))

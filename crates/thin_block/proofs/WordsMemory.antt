@@ -111,10 +111,11 @@ module _ {M : Type 1} {𝓤 : Ura M} (𝓛 : Logic 𝓤) (τ : Ty) (m k b : ℕ)
       split ! $ move ! (2 ∷ []) $
       use1 𝓛 (‵ (froom (ty_array τ (w * m)) b (o + u)) ⊛ ‵ (ways τ m w b (o + u)))
       (ways_out w (o + u)) $ split ! $
-      -- The memory has been split. The proof context holds, in this order: [memory for the items of
-      -- all words except the first; the right to convert this memory into memory for these words;
-      -- memory for the items of the first word; the right to convert this memory into memory for
-      -- the first word].
+      -- The memory of the words has been split into memory for their items and the rights to
+      -- convert it back. The proof context holds, in this order: [memory for the items of all words
+      -- except the first; the right to convert this memory into memory for these words; memory for
+      -- the items of the first word; the right to convert this memory into memory for the first
+      -- word].
       rewrite ! 0 (λ (n : ℕ). ‵ (froom (ty_array τ (w * m)) b n)) (sym (after_run o)) refl $
       move ! (2 ∷ 0 ∷ []) $ use2 𝓛 (‵ (froom (ty_array τ (m + w * m)) b o))
       (room_glue 𝓛 τ m (w * m) b o) $
@@ -132,9 +133,10 @@ module _ {M : Type 1} {𝓤 : Ura M} (𝓛 : Logic 𝓤) (τ : Ty) (m k b : ℕ)
       rewrite ! 0 (λ (n : ℕ). ‵ (froom (ty_array τ n) b o)) (sym (one_more w)) refl $
       use1 𝓛 (‵ (froom run b o) ⊛ ‵ (froom (ty_array τ (w * m)) b (past τ m o)))
       (room_cut 𝓛 τ m (w * m) b o) $ split ! $ move ! (2 ∷ []) $ fsplit ! $
-      -- The memory has been split. The proof context holds, in this order: [the right to convert
-      -- memory for the items of the first word into memory for a word; the same right for the other
-      -- words; memory for the items of the first word; memory for the items of the other words].
+      -- The memory for the items of the first word has been separated from the memory for the other
+      -- items. The proof context holds, in this order: [the right to convert memory for the items
+      -- of the first word into memory for a word; the same right for the other words; memory for
+      -- the items of the first word; memory for the items of the other words].
       move ! (2 ∷ 0 ∷ []) $ use2 𝓛 (‵ (froom ω b o)) (apply∗ 𝓤 (H.room run b o) (H.room ω b o)) $
       move ! (2 ∷ 1 ∷ []) $
       rewrite ! 0 (λ (n : ℕ). ‵ (froom (ty_array τ (w * m)) b n)) (after_run o) refl $
@@ -482,8 +484,8 @@ module _ {M : Type 1} {𝓤 : Ura M} (𝓛 : Logic 𝓤) (T : RattleType) (L : L
     end_at : far ≡ past τ' j at
     end_at = end ∙ sym (past_is τ' j at)
 
-    -- Turns empty slots into empty words. This also needs the rights (`ways`) to convert the slots,
-    -- and the memory at the end that belongs to no slot.
+    -- Turns empty slots into empty words. The lemma also needs the rights (`ways`) to convert the
+    -- slots, and the memory at the end that belongs to no slot.
     spare_words : ent 𝓤 (sep 𝓤 (sem 𝓛 (places (R E) (empty j) b at))
         (sep 𝓤 (sem 𝓛 (ways τ' m v b at)) (sem 𝓛 Spare)))
         (sem 𝓛 (places (R W) (empty v) b at))
@@ -557,9 +559,9 @@ module _ {M : Type 1} {𝓤 : Ura M} (𝓛 : Logic 𝓤) (T : RattleType) (L : L
         qed 𝓛 (‵ (places (R E) (full xs ++ empty j) b o) ∷ ‵ (slots_way τ' m w c b o) ∷ []) ∵
         use1 𝓛 (‵ (places (R E) (full xs) b o) ⊛ ‵ (places (R E) (empty j) b after))
         (cut E 𝓛 b (full xs) (empty j) o after last) $ split ! $ move ! (2 ∷ []) $ fsplit ! $
-        -- The slots and the right to convert them (`slots_way`) have been split. The proof context
-        -- holds, in this order: [the rights (`ways`) for all words; the memory at the end that
-        -- belongs to no slot; the filled slots; the empty slots].
+        -- The filled slots have been separated from the empty slots, and `slots_way` has been split
+        -- into its two parts. The proof context holds, in this order: [the rights (`ways`) for all
+        -- words; the memory at the end that belongs to no slot; the filled slots; the empty slots].
         move ! (2 ∷ 0 ∷ []) $
         use2 𝓛 (‵ (runs_at (R E) N (chunks n xs) b o) ⊛ ‵ (ways τ' m v b after))
         (to_runs n w v xs o after long total at_after) $ split ! $ move ! (3 ∷ 1 ∷ 2 ∷ []) $

@@ -28,7 +28,8 @@ cost_code =
 abbrev pub no_cost : Cost
 no_cost = record { blocks = 0; grown = 0; moves = 0 }
 
--- `growing k c` is the cost `c` plus one granted request for memory that copied `k` items.
+-- `growing k c` is the cost `c` plus the cost of one granted memory request during which `k` items
+-- were copied.
 abbrev pub growing : ℕ → Cost → Cost
 growing k c = record { blocks = c.blocks + 1; grown = c.grown + k; moves = c.moves }
 

@@ -137,14 +137,15 @@ way_back None τ c b o = fwand (parts_for τ c b o) (froom (whole_of τ c) b o)
 way_back (Some w) τ c b o = fsep (header_way τ w.0 w.1 b o)
     (slots_way τ w.0 (div_ceil c w.0) c b (o + 16))
 
--- `backing_for` is the backing of a block. It consists of `way_back`, the right to convert the
--- parts of the block back into memory for the whole block, and of `t`, the right to free the block.
+-- `backing_for` is the backing of a block, which consists of two rights. `way_back` is the right to
+-- convert the parts of the block back into memory for the whole block. `t` is the right to free the
+-- block.
 abbrev pub backing_for : (Ty → Ptr → Fml) → Option (ℕ × ℕ) → Ty → ℕ → ℕ → ℕ → Fml
 backing_for t w τ c b o = fsep (way_back w τ c b o) (t (asked_for w τ c) (block_ptr b o))
 
 -- `backing t R c b o` is the backing of a block of `c` slots for items of the type `R`, at the
--- offset `o` of the allocation `b`. The backing consists of the right to convert the parts of the
--- block back into memory for the whole block, and of `t`, the right to free the block.
+-- offset `o` of the allocation `b`. The backing consists of two rights: the right to convert the
+-- parts of the block back into memory for the whole block, and the right `t` to free the block.
 abbrev pub backing : (Ty → Ptr → Fml) → RattleType → ℕ → ℕ → ℕ → Fml
 backing t R c b o = backing_for t (words_of R) (bare R) c b o
 

@@ -1,7 +1,8 @@
 -- This file proves that the rule `power_bytes` satisfies the law of growth rules. It also proves
--- that each capacity that the rule chooses for items of at least one byte fills a power of two:
--- some `2 ^ j` bytes have room for the header and this number of items, but not for one more item.
--- The proofs are in `specs` and not in `proofs`, because the impl of `Growth` refers to them.
+-- that each capacity `c` that the rule chooses for items of at least one byte fills a power of two.
+-- This means that for some `j`, the header and `c` items fit into `2 ^ j` bytes, but the header and
+-- `c + 1` items do not. The proofs are in `specs` and not in `proofs`, because the impl of `Growth`
+-- refers to them.
 use Rattle.std.specs.Prelude.{◌≡◌, ℕ, zero, suc, ◌+◌, ◌-◌, ◌*◌, ◌/◌, ◌^◌, ◌<◌, ◌≤◌, ◌==◌, nat_le, Bool, true, false, IsTrue, if◌then◌else◌, max, refl}
 use Rattle.std.specs.declared.option.Option.TheVariants.{Some}
 use Rattle.std.specs.Int.{IsPowerOfTwo, IsNextPowerOfTwo}
@@ -22,8 +23,9 @@ below_power : (n : ℕ) → n < 2 ^ n
 below_power zero = omega arith
 below_power (suc n) = omega (arith, below_power n, pow_more 2 n)
 
--- Suppose that `p` is a power of two with `p / 2 < max 1 n`. If `n <= p`, then `p` is the least
--- power of two that is at least `n`. Otherwise, the lemma assumes that `next` is this power.
+-- Suppose that `p` is a power of two with `p / 2 < max 1 n`. Suppose also that if `p < n`, then
+-- `next` is the least power of two that is at least `n`. Then the least power of two that is at
+-- least `n` is `p` if `n <= p`, and `next` otherwise.
 one_step : (b : Bool) (n p next : ℕ) → nat_le n p ≡ b → IsPowerOfTwo p → p / 2 < max 1 n
     → (p < n → IsNextPowerOfTwo n next) → IsNextPowerOfTwo n (if b then p else next)
 one_step true n p next e power half later = (power, leb-true n p e, half)

@@ -76,7 +76,7 @@ impl<T, A: Allocator> Block<T, A> {
     }
 
     // Sets the ghost counters of this block to the counters of the block `from`, plus one request
-    // for memory that copied `from.len()` items. At run time, this function does nothing.
+    // for memory and `from.len()` copied items. At run time, this function does nothing.
     fn charge_as(&mut self, from: &Block<T, A>)
         ensures changes { seen self.new ≡ record (seen self.old) {
           cost = growing from.now.len from.now.cost;

@@ -107,7 +107,8 @@ impl<T, A: Allocator> Block<T, A> {
         block
     }
 
-    /// Moves items down as `close_gap` does, but does not call `close_gap` if `gap` is 1 or 2.
+    /// Moves items down as `close_gap` does. If `gap` is 1 or 2, the items are moved inline,
+    /// without a call to `close_gap`.
     #[inline(always)]
     pub fn close_small_gap(self, to: usize, gap: usize, k: usize) -> Block<T, A>
         requires in_bounds { to + gap + k ≤ length self.slots }

@@ -81,8 +81,8 @@ impl<T, A: Allocator> Block<T, A> {
         }
     }
 
-    /// Moves the item in slot `i` to the caller, and then moves the item in slot `j` into slot `i`.
-    /// Afterwards, slot `j` is empty. If `i` equals `j`, no move is counted.
+    /// Takes the item out of slot `i` and returns it. If `j` differs from `i`, also moves the item
+    /// in slot `j` into slot `i`, which counts as one move. Afterwards, slot `j` is empty.
     pub fn take_replacing(&mut self, i: usize, j: usize) -> T
         requires first { IsSome (slot self.old.slots i) }
         requires second { IsSome (slot self.old.slots j) }

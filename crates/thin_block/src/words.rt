@@ -1,5 +1,6 @@
-//! Defines words. A word is a value that consists of one or more items and has the alignment of a
-//! block. If the items of a block form words, the allocator treats the block as an array of words.
+//! Defines the type `Words`. A value of this type is one word: it consists of one or more items,
+//! and has the alignment of a block. If the items of a block form words, the allocator treats the
+//! block as an array of words.
 ghost use Rattle.std.specs.Prelude.{◌≡◌, ◌*◌, ◌^◌, ◌<◌, List, length};
 ghost use Rattle.std.specs.Mem.{type_size};
 ghost use types.Logic.{sem};

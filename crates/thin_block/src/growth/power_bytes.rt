@@ -25,9 +25,9 @@ impl Growth for PowerBytes {
 
     ghost rule = { power_bytes };
 
-    // Returns the capacity that the rule chooses. If items take at least one byte, there is a power
-    // of two `p` such that `p` bytes have room for the header and this number of items, but not for
-    // one more item.
+    // Returns the capacity that the rule chooses, or `None` if it is too large. If items take at
+    // least one byte, there is a power of two `p` such that the header and the chosen number `n` of
+    // items fit into `p` bytes, but the header and `n + 1` items do not.
     fn next_capacity<T>(cap: usize, want: usize) -> Option<usize>
         requires { cap < want }
         ensures value { result ≡ power_bytes (type_size T.row) (type_align T.row) cap want }

@@ -172,8 +172,8 @@ mapped h d = holding d (map (on_slot h) d.slots)
     (fits d (map (on_slot h) d.slots) (length-map d.slots (on_slot h)))
 
 module _ (g : Former {0}) (Z : Type 0) where
-  -- If slots with the shapes in the list `a` are taken from a row of values, then the number of
-  -- these slots is the length of `a`.
+  -- Suppose that `a` is a list of slot shapes. If a slot of each of these shapes is taken from a
+  -- row of values, then the number of these slots is the length of `a`.
   pub length_got : (X : Type 0) (a : List (Option g.Shape)) (n : Count)
       (v : Row X (list_count (slot g) a n)) → length (list_get (slot g) X a n v).0 ≡ length a
   length_got X [] n v = refl

@@ -1,6 +1,6 @@
--- A `&` to a block lends the two words of the header and the items in the slots. Each word is lent
--- as by a `&` to this word alone, and each item as by a `&` to this item alone. The proof assumes
--- the laws of the separation logic (`Logic`).
+-- A `&` to a block lends the two words of the header and the items in the slots. Each of these
+-- words and items is lent in the same way as by a separate `&`. The proof assumes the laws of the
+-- separation logic (`Logic`).
 use mathlib.Core.List.{List, [], ◌∷◌, ◌++◌, not-mem-nil}
 use Prim.Native.Nat.{ℕ, ◌+◌}
 use mathlib.Core.Bool.{Bool, true}

@@ -191,9 +191,9 @@ copy_in_spec 𝓤 𝓛 𝓜 𝓡 wired T A LT LA copies gc dc g d dd metc met md
     -- the memory that holds the block's pointer; three entries for the open borrow of the block].
     move ! (0 ∷ 4 ∷ 5 ∷ 6 ∷ 7 ∷ 8 ∷ []) $
     closes_over E Y ! tt self y b o at long $
-    -- The borrow of the block has been closed. The proof context holds, in this order: [two entries
-    -- for the `&mut` to the block; the lifetime tokens of this `&mut`, of `T`, of the slice `items`
-    -- and of `A`].
+    -- The borrow of the block has been closed. The proof context holds, in this order: [the current
+    -- value of the `&mut` to the block; the borrow of the block; the lifetime tokens of this
+    -- `&mut`, of `T`, of the slice `items` and of `A`].
     returns ! (look_at ! 0 refl) $ free_all ! refl $
     move ! (3 ∷ 5 ∷ []) $ join ! $ move ! (4 ∷ 0 ∷ []) $ join ! $
     move ! (1 ∷ 2 ∷ 3 ∷ 0 ∷ []) $ leaves_unit E Y ! self y 2 are.0.0 $

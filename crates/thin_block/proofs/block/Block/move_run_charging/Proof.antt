@@ -201,10 +201,10 @@ move_run_charging_spec 𝓤 𝓛 𝓜 𝓡 wired T A LT LA g d dd met md =
     move ! (5 ∷ 0 ∷ 6 ∷ 7 ∷ 8 ∷ 9 ∷ []) $
     rewrite ! 0 (λ (n : ℕ). ‵ (header (t E Y) (R E) y.len n y.alloc b' o')) (sym long_to) refl $
     block_closes E Y ! tt y' b' o' sb so at' $
-    -- The borrow of `to_block` has been closed. The proof context holds, in this order: [two
-    -- entries for the `&mut` to `to_block`; the lifetime token of this `&mut`; the memory at the
-    -- old address of the items; the lifetime tokens of `T` and `A`; the other slots of `self`; the
-    -- header, the pointer and the open borrow of `self`].
+    -- The borrow of `to_block` has been closed. The proof context holds, in this order: [the
+    -- current value and the borrow of `to_block`; the lifetime token of this borrow; the memory at
+    -- the old address of the items; the lifetime tokens of `T` and `A`; the other slots of `self`;
+    -- the header, the pointer and the open borrow of `self`].
     let left : List (Option T.Denot) = emptied from k x.slots in
     let long_empty : length (empty {T = T.Denot} k) ≡ k = length-replicate k None in
     let long_left : length left ≡ length x.slots =
@@ -216,9 +216,10 @@ move_run_charging_spec 𝓤 𝓛 𝓜 𝓡 wired T A LT LA g d dd met md =
     move ! (6 ∷ 0 ∷ 7 ∷ 8 ∷ 9 ∷ 10 ∷ []) $
     rewrite ! 0 (λ (n : ℕ). ‵ (header (t E Y) (R E) x.len n x.alloc b o)) (sym long_left) refl $
     block_closes E Y ! tt x' b o rb ro at $
-    -- The borrow of `self` has been closed too. The proof context holds, in this order: [two
-    -- entries for the `&mut` to `self`; the lifetime token of this `&mut`; two entries for the
-    -- `&mut` to `to_block`; the lifetime token of this `&mut`; the lifetime tokens of `T` and `A`].
+    -- The borrow of `self` has been closed too. The proof context holds, in this order: [the
+    -- current value and the borrow of `self`; the lifetime token of this borrow; the current value
+    -- and the borrow of `to_block`; the lifetime token of this borrow; the lifetime tokens of `T`
+    -- and `A`].
     returns ! (look_at ! 0 refl) $ free_all ! refl $
     feq_i ! (List Val) vss.0 (vptr rb ro ∷ []) are.0.0 $ fjoin3 ! $ move ! (2 ∷ 3 ∷ []) $
     feq_i ! (List Val) vss.1.1.0 (vptr sb so ∷ []) are.1.1.0.0 $ fjoin3 ! $

@@ -81,8 +81,8 @@ resize_words_spec 𝓤 𝓛 𝓜 𝓡 wired T A m k LT LA fits_m fits_k g d dd m
     let H = 𝓛.H in
     let E : El = record { row = T; laws = LT } in
     let W : El = word_el T LT m in
-    -- `X` is the type of words, made from the memory layout of a word. It is a type argument of a
-    -- call.
+    -- `X` is the type of words together with the memory layout of a word. The call of `resized` has
+    -- the type argument `X`.
     let X : RattleType = arg (word_of (layout T) m) yes W.row in
     let EX : El = record {
       row = X;
@@ -393,8 +393,8 @@ resize_words_spec 𝓤 𝓛 𝓜 𝓡 wired T A m k LT LA fits_m fits_k g d dd m
     -- `M` and `K`].
     move ! (2 ∷ 4 ∷ []) $ join ! $ move ! (2 ∷ 0 ∷ []) $ join ! $ move ! (1 ∷ 0 ∷ []) $ join ! $
     move ! (1 ∷ []) $
-    -- The lifetime tokens have been joined. The proof context holds, in this order: [what `resized`
-    -- has returned; the lifetime tokens].
+    -- The lifetime tokens have been joined into one entry. The proof context holds, in this order:
+    -- [what `resized` has returned; the lifetime tokens].
     let inner : Body = inside (head (after 1 fn.body)) in
     let both : Body = head (after 12 inner) in
     let Last : After 𝓤 H = out_of_block 𝓛
@@ -477,9 +477,9 @@ resize_words_spec 𝓤 𝓛 𝓜 𝓡 wired T A m k LT LA fits_m fits_k g d dd m
     returns ! (look_at ! 0 refl) $ free_all ! refl $
     -- `resized` has succeeded. The bytes of the last `k` words have been copied to the memory
     -- directly after the other words, and the header has been written. The proof context holds, in
-    -- this order: [the two halves of the header; the right to convert memory for the header into
-    -- memory for words; what the last `k` words own; the bytes of these words; the empty words; the
-    -- right to free the block; the other words; the lifetime tokens].
+    -- this order: [the two halves of the header; the right to convert the memory of the header back
+    -- into memory for words; what the last `k` words own; the bytes of these words; the empty
+    -- words; the right to free the block; the other words; the lifetime tokens].
     rewrite ! 1 (λ (n : ℕ). ‵ (fat full_share (ty_int w64) b' n (vint w64 len)))
     (let turned : 8 + o' ≡ o' + 8 = omega arith in turned) refl $
     use1 𝓛 (‵ (lies_at usize full_share (block_ptr b' o') cap))
@@ -496,11 +496,11 @@ resize_words_spec 𝓤 𝓛 𝓜 𝓡 wired T A m k LT LA fits_m fits_k g d dd m
     use1 𝓛 (‵ (places Rt news b' (o' + 16)) ⊛ ‵ (slots_way τ' m w' cap b' (o' + 16)))
     (words_back 𝓛 T LT m k b' hd items count j' v' w' cap (o' + 16) whole_words slots_are' fill'
     (hd.counts.covers cap)) $ split ! $
-    -- `resized` has succeeded. The words have been converted into filled slots, and the empty words
-    -- into empty slots. The proof context holds, in this order: [the slots; the right to convert
-    -- memory for the slots into memory for words; the length; the capacity; the right to convert
-    -- memory for the header into memory for words; the right to free the block; the lifetime
-    -- tokens].
+    -- `resized` has succeeded. The filled words have been converted into filled slots, and the
+    -- empty words into empty slots. The proof context holds, in this order: [the slots; the right
+    -- to convert the memory of the slots back into memory for words; the length; the capacity; the
+    -- right to convert the memory of the header back into memory for words; the right to free the
+    -- block; the lifetime tokens].
     move ! (3 ∷ 2 ∷ 4 ∷ 1 ∷ 5 ∷ []) $ group ! 5 $
     use1 𝓛 (‵ (frame tok Rt len cap b' o'))
     (header_whole 𝓛 T LT b' m k in_words o' tok len cap wanted wanted_is fits_cap) $
@@ -561,9 +561,9 @@ resize_words_spec 𝓤 𝓛 𝓜 𝓡 wired T A m k LT LA fits_m fits_k g d dd m
     returns ! (look_at ! 0 refl) $ free_all ! refl $
     -- `resized` has failed. The bytes of the last `k` words have been copied to the memory directly
     -- after the other words, and the header has been written. The proof context holds, in this
-    -- order: [the two halves of the header; the right to convert memory for the header into memory
-    -- for words; what the last `k` words own; the bytes of these words; the empty words; the right
-    -- to free the block; the other words; the lifetime tokens].
+    -- order: [the two halves of the header; the right to convert the memory of the header back into
+    -- memory for words; what the last `k` words own; the bytes of these words; the empty words; the
+    -- right to free the block; the other words; the lifetime tokens].
     rewrite ! 1 (λ (n : ℕ). ‵ (fat full_share (ty_int w64) b n (vint w64 len)))
     (let turned : 8 + o ≡ o + 8 = omega arith in turned) refl $
     use1 𝓛 (‵ (lies_at usize full_share (block_ptr b o) old)) (uint_in 𝓛 full_share w64 old b o) $
@@ -580,11 +580,11 @@ resize_words_spec 𝓤 𝓛 𝓜 𝓡 wired T A m k LT LA fits_m fits_k g d dd m
     (slots_way τ' m w old b (o + 16)))
     (words_back 𝓛 T LT m k b hd items count j v w old (o + 16) whole_words slots_are fill
     (hd.counts.covers old)) $ split ! $
-    -- `resized` has failed. The words have been converted into filled slots, and the empty words
-    -- into empty slots. The proof context holds, in this order: [the slots; the right to convert
-    -- memory for the slots into memory for words; the length; the capacity; the right to convert
-    -- memory for the header into memory for words; the right to free the block; the lifetime
-    -- tokens].
+    -- `resized` has failed. The filled words have been converted into filled slots, and the empty
+    -- words into empty slots. The proof context holds, in this order: [the slots; the right to
+    -- convert the memory of the slots back into memory for words; the length; the capacity; the
+    -- right to convert the memory of the header back into memory for words; the right to free the
+    -- block; the lifetime tokens].
     move ! (3 ∷ 2 ∷ 4 ∷ 1 ∷ 5 ∷ []) $ group ! 5 $
     use1 𝓛 (‵ (frame tok Rt len old b o))
     (header_whole 𝓛 T LT b m k in_words o tok len old held held_is fits_old) $
