@@ -76,8 +76,8 @@ module _ (E : El) {M : Type 1} {𝓤 : Ura M} (𝓛 : Logic 𝓤) (b : ℕ) wher
       (cut xs ys (o + s) at (omega (arith, suc-mul (length xs) s))) $ split ! $
       move ! (2 ∷ 0 ∷ []) $ fjoin ! $ done !
 
-  -- Joins the memory of the slots `xs` with the memory of the slots `ys` into the memory of
-  -- `xs ++ ys`. The memory of `ys` must begin directly behind the memory of `xs`.
+  -- Joins the memory of the slots `xs` and the memory of the slots `ys` into the memory of
+  -- `xs ++ ys`. The memory of `ys` must begin directly after the memory of `xs`.
   pub glue : (xs ys : List (Slot E)) (o at : ℕ) → at ≡ length xs * s + o
       → ent 𝓤 (sep 𝓤 (sem 𝓛 (Row o xs)) (sem 𝓛 (Row at ys))) (sem 𝓛 (Row o (xs ++ ys)))
   glue [] ys o at e = qed 𝓛 (‵ ftrue ∷ ‵ (Row at ys) ∷ []) ∵ skip ! $

@@ -125,7 +125,7 @@ header_way τ m k b o = fwand (header_room b o) (froom (ty_array (word_of τ m) 
 
 -- `slots_way τ m w c b o` contains everything that is needed to convert the memory of `c` slots
 -- into memory for `w` words: the rights (`ways`) to convert memory for items into memory for words,
--- and the unused memory directly behind the last slot. The first slot is at the offset `o` of the
+-- and the unused memory directly after the last slot. The first slot is at the offset `o` of the
 -- allocation `b`.
 abbrev pub slots_way : Ty → ℕ → ℕ → ℕ → ℕ → ℕ → Fml
 slots_way τ m w c b o = fsep (ways τ m w b o) (froom (ty_array τ (w * m - c)) b (o + c * size τ))

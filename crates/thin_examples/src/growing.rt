@@ -164,8 +164,8 @@ pub fn append_line<A: Allocator, G: Growth>(
 ///
 /// # Errors
 ///
-/// Fails with `CapacityOverflow` if the growth rule of `list` provides no capacity for so many
-/// items, and with `OutOfMemory` if the allocator fails. On failure, both lists are unchanged.
+/// Fails with `CapacityOverflow` if the growth rule of `list` provides no capacity for the items of
+/// both lists, and with `OutOfMemory` if the allocator fails. On failure, both lists are unchanged.
 pub fn take_all<T, A: Allocator, G: Growth>(
     list: &mut ThinVec<T, A, G>,
     other: &mut ThinVec<T, A, G>,

@@ -79,7 +79,7 @@ impl<V, A: Allocator> Rows<V, A> {
     }
 
     /// Returns the number of entries in all rows. If there were more than `usize::MAX` entries, the
-    /// result would be `usize::MAX`, but no memory has room for so many entries. The call visits
+    /// result would be `usize::MAX`, but no machine has enough memory for this. The call visits
     /// each row.
     pub fn len(&self) -> usize
         ensures value { result ≡ min (sum (map (λ row. columns.len row) self.now)) (2 ^ 64 - 1) }

@@ -22,7 +22,7 @@ impl Ruled for Doubling {
 }
 
 impl Ruled for PowerBytes {
-    // Returns how many items fit into the block behind a header of 16 bytes. The size of the block
+    // Returns how many items fit into the block after a header of 16 bytes. The size of the block
     // in bytes is the smallest power of two that is enough both for `want` items and for twice
     // `capacity` items. If `size` is 0, the result is the same as for `Doubling`.
     fn expected_capacity(size: usize, capacity: usize, want: usize) -> usize {

@@ -221,8 +221,8 @@ fn a_list_of_pairs_of_words_grows_and_shrinks_in_place(rt: HostRuntime) {
     assert_type::<u128>(&rt, rt.alloc(), 16);
 }
 
-// Pushes 3000 items to a list. Before each growth, another list allocates the memory directly
-// behind the allocation of this list, so this list cannot grow in place.
+// Pushes 3000 items to a list. Before each growth, another list allocates the memory directly after
+// the allocation of this list, so this list cannot grow in place.
 fn assert_pushes_beside_neighbours<T: Numbered>(rt: &impl Abort, alloc: Global) {
     let mut neighbours = ThinVec::<ThinVec<u8>>::new(alloc);
     let mut list = ThinVec::<T>::new(alloc);

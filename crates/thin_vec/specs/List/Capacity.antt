@@ -55,9 +55,9 @@ module _ {T A : Type 0} where
     -- On success, the new capacity is the capacity that the growth rule determines for `k` more
     -- items (`capacity_for`).
     pub ok : OnOk r (capacity_for rule R v k ≡ Some w.capacity)
-    -- On failure, either the list is unchanged, or a clone failed after the list had grown to the
-    -- capacity that `capacity_for` determines. The clause `err` of each call says in which cases
-    -- the list is unchanged.
+    -- On failure, either the list is unchanged, or cloning an item failed. In the second case, the
+    -- capacity is the one that `capacity_for` determines, and the list may have grown to it. The
+    -- clause `err` of each call says in which cases the list is unchanged.
     pub err : OnErr r ((w ≡ v) ⊎ (capacity_for rule R v k ≡ Some w.capacity))
     -- The call returns the error `CapacityOverflow` if and only if `capacity_for` is `None`, which
     -- means that the capacity would be too large. Every other failure is `OutOfMemory`, the only
