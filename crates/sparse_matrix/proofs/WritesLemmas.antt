@@ -32,8 +32,8 @@ module _ (write : ℕ → ℕ → ℕ) (row : Columns ℕ) (old : ℕ → ℕ) w
   pub none_written : IsWritten 0 old
   none_written = record { done = λ k less. absurd (omega arith); left = λ j none. refl }
 
-  -- Suppose that `IsWritten n now` holds. If writing the entry at index `n` turns `now` into
-  -- `next`, and the numbers at all other columns are unchanged, then `IsWritten (n + 1) next`
+  -- Suppose that `IsWritten n now` holds, and that writing the entry at index `n` turns `now` into
+  -- `next` and changes only the number at the column of this entry. Then `IsWritten (n + 1) next`
   -- holds.
   pub one_more : (n : ℕ) (now next : ℕ → ℕ) → n < length (columns.entries row) → IsWritten n now
       → next (column n) ≡ write (now (column n)) (number n)

@@ -145,7 +145,7 @@ impl Editor {
 }
 
 // Removes the last change from the list `from`, and applies it to `text`. Appends to the list `to`
-// a second change that undoes the first. On failure, `text` and the items of both lists are
+// a change that undoes the applied change. On failure, `text` and the items of both lists are
 // unchanged.
 fn step(
     text: &mut ThinVec<char>,

@@ -57,8 +57,8 @@ plainly Rs = Struct (record { name = []; args = []; types = []; fields = Rs })
 abbrev pub block_val : Ptr → Val
 block_val p = vstruct (vcons (ptr_val p) (vcons (vstruct vnil) (vcons (vstruct vnil) vnil)))
 
--- `block_own p vs` states what the fields of a block own if the block has the pointer `p` and the
--- machine values `vs`.
+-- `block_own p vs` states what the fields of a block own. Here, `p` is the pointer of the block,
+-- and `vs` is the list of the block's machine values.
 abbrev pub block_own : Ptr → List Val → Fml
 block_own p = (plainly (RawPtr ∷ plainly [] ∷ plainly [] ∷ [])).own_val (p, (tt, (tt, tt)))
 

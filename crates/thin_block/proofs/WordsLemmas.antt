@@ -1,7 +1,7 @@
 -- Arithmetic lemmas about words. A word is a struct of 8 or 16 bytes that consists of whole items.
 -- The lemmas say which item sizes allow words, and what the size and the alignment of a word are.
---     `InWords` collects the facts that hold if `m` items of `s` bytes make a word, and `k` words
---     take as many bytes as the header.
+--     `InWords` collects the facts that hold if `m` items of `s` bytes make a word, and the header
+--     takes as many bytes as `k` words.
 --     `words_told` says that `InWords` holds for the pair that `in_words` returns, if any.
 --     `nameless` says that `InWords` also holds for a type with all field names erased.
 use Rattle.std.proofs.Common.{◌≡◌, true, false, ℕ, Some, None, ◌+◌, ◌*◌, ◌<◌, ◌≤◌, refl, sym, ap, subst, arith}
@@ -22,7 +22,7 @@ use denote.RattleType.{RattleType}
 use Rattle.thin_block.specs.Capacity.{in_words, block_align, block_bytes}
 use Rattle.std.specs.Option.{is_some}
 
--- `word_align a` is the alignment of a word if its items have the alignment `a`.
+-- `word_align a` is the alignment of a word that consists of items with the alignment `a`.
 abbrev pub word_align : ℕ → ℕ
 word_align a = max a (max 8 1)
 
@@ -84,7 +84,7 @@ counts_8 = record {
 
 -- A word is a struct of 8 or 16 bytes that consists of whole items. `Laid s a m k` collects facts
 -- about words of `m` items: the size and the alignment of a word, and the size of a block of words.
--- Each item has the size `s` and the alignment `a`, and `k` words are as large as the header.
+-- Each item has the size `s` and the alignment `a`, and the header is as large as `k` words.
 abbrev Laid : ℕ → ℕ → ℕ → ℕ → Type 0
 Laid s a m k = (word_size s a m ≡ m * s) × ((word_align a ≡ block_align a)
     × (Dv 8 (word_align a) × (Dv a (word_align a)
@@ -127,8 +127,8 @@ laid_16 w32 d = (refl, (refl, (tt, (tt, λ c. omega arith))))
 laid_16 w64 d = (refl, (refl, (tt, (tt, λ c. omega arith))))
 laid_16 w128 d = (refl, (refl, (tt, (tt, λ c. omega arith))))
 
--- `InWords s a m k` holds if `m` items with the size `s` and the alignment `a` make a word, and `k`
--- words take as many bytes as the header.
+-- `InWords s a m k` holds if `m` items with the size `s` and the alignment `a` make a word, and the
+-- header takes as many bytes as `k` words.
 pub record InWords (s a m k : ℕ) : Type 0 where
   pub counts : Counts m
   pub size : word_size s a m ≡ m * s

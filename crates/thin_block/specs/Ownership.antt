@@ -51,7 +51,7 @@ places R [] b o = ftrue
 places R (x ∷ xs) b o = fsep (place R x b o) (places R xs b (o + type_size R))
 
 -- `whole_of τ c` is the type of a whole block of `c` slots for items of the type `τ`. It is a
--- struct that consists of the two words of the header and an array of the slots.
+-- struct that consists of the capacity, the length and an array of the slots.
 abbrev pub whole_of : Ty → ℕ → Ty
 whole_of τ c = ty_struct []
     (tcons (ty_int w64) (tcons (ty_int w64) (tcons (ty_array τ c) tnil)))
@@ -70,9 +70,9 @@ whole R c = whole_of (bare R) c
 abbrev pub word_of : Ty → ℕ → Ty
 word_of τ m = ty_struct [] (tcons (ty_array τ m) (tcons (ty_array (ty_int w64) 0) tnil))
 
--- `words_of R` is `Some (m, k)` if `m` items of the type `R` form one word, and `k` words are as
--- large as the header. If the items form no words, `words_of R` is `None`. Its value depends only
--- on the size of an item.
+-- `words_of R` is `Some (m, k)` if `m` items of the type `R` form one word, and the header is as
+-- large as `k` words. If the items form no words, `words_of R` is `None`. Its value depends only on
+-- the size of an item.
 abbrev pub words_of : RattleType → Option (ℕ × ℕ)
 words_of R = in_words (size (bare R))
 
@@ -88,7 +88,7 @@ asked_for (Some w) τ c = ty_array (word_of τ w.0) (w.1 + div_ceil c w.0)
 abbrev pub asked : RattleType → ℕ → Ty
 asked R c = asked_for (words_of R) (bare R) c
 
--- `header_room b o` is uninitialized memory for the two words of the header, at the offset `o` of
+-- `header_room b o` is uninitialized memory for the capacity and the length, at the offset `o` of
 -- the allocation `b`.
 abbrev pub header_room : ℕ → ℕ → Fml
 header_room b o = fsep (froom (ty_int w64) b o) (froom (ty_int w64) b (o + 8))
@@ -180,15 +180,15 @@ places_lent R [] b o = nothing
 places_lent R (x ∷ xs) b o = beside (place_lent R x (block_ptr b o))
     (places_lent R xs b (o + type_size R))
 
--- `frame_lent` contains a `&` to each of the two words of the header. It also contains the fact
--- that the block is small enough to be allocated.
+-- `frame_lent` contains a `&` to the capacity and a `&` to the length of a block. It also contains
+-- the fact that the block is small enough to be allocated.
 abbrev pub frame_lent : (R : RattleType) → ℕ → ℕ → ℕ → ℕ → Lft → Fml
 frame_lent R n c b o =
     beside (lent_at usize (block_ptr b o) c)
     (beside (lent_at usize (block_ptr b (o + 8)) n) (said (feq Bool (fits_block R c) true)))
 
--- `block_lent` states what a `&` to a block lends: a `&` to each of the two words of the header,
--- and a `&` to each item in the slots.
+-- `block_lent` states what a `&` to a block lends: a `&` to the capacity, a `&` to the length, and
+-- a `&` to each item in the slots.
 abbrev pub block_lent : {D : Type 0} → (R : RattleType) → Ptr → ℕ
     → List (Option R.Denot) → Option D → Lft → Fml
 block_lent R null_ptr n xs a = said ffalse

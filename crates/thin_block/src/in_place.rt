@@ -51,7 +51,7 @@ impl<T, A: Allocator> Block<T, A> {
     ghost use Rattle.thin_block.specs.Block.{IsFrom, seen};
 
     // Resizes the block to `cap` slots, and may leave the items at their address. `M` items form a
-    // word, and `K` words are as large as the header. `len` must be a multiple of `M` and at least
+    // word, and the header is as large as `K` words. `len` must be a multiple of `M` and at least
     // `K * M`. The call fails only if the allocator fails. In this case, the block is unchanged.
     #[cold]
     pub(crate) fn remake_in_place<const M: usize, const K: usize>(
@@ -102,8 +102,8 @@ impl<T, A: Allocator> Block<T, A> {
         grown
     }
 
-    // Returns this block with `cap` slots and the same items. `M` items form a word, and `K` words
-    // are as large as the header. The items form `count` words, and `count` is at least `K`.
+    // Returns this block with `cap` slots and the same items. `M` items form a word, and the header
+    // is as large as `K` words. The items form `count` words, and `count` is at least `K`.
     //
     // The items are turned into words, and the last `K` words are stored in the memory of the
     // header until the allocator returns. So the block starts with an array of `count` words, which

@@ -84,8 +84,8 @@ impl<T, A: Allocator> Block<T, A> {
         let mut block = self;
         // This call tells the prover that the number of slots is less than `2 ^ 63`.
         let _cap = block.cap();
-        // In each arm with a number, LLVM knows the value of `gap` and turns the call into a
-        // `memmove`.
+        // In each arm whose pattern is a number, LLVM knows the value of `gap`, so it turns the
+        // call in this arm into a `memmove`.
         match gap {
             1 => block.move_down(to, gap, k),
             2 => block.move_down(to, gap, k),
@@ -145,8 +145,8 @@ impl<T, A: Allocator> Block<T, A> {
         let mut block = self;
         // This call tells the prover that the number of slots is less than `2 ^ 63`.
         let _cap = block.cap();
-        // In each arm with a number, LLVM knows the value of `gap` and turns the call into a
-        // `memmove`.
+        // In each arm whose pattern is a number, LLVM knows the value of `gap`, so it turns the
+        // call in this arm into a `memmove`.
         match gap {
             1 => block.move_up(from, gap, k),
             2 => block.move_up(from, gap, k),

@@ -4,7 +4,7 @@ ghost use Rattle.std.specs.Prelude.{◌≡◌, ◌-◌, ◌<◌, ◌≤◌, ◌+
 use std::alloc::Allocator;
 use thin_vec::{Growth, ThinVec};
 
-/// Overwrites the first number with `value`.
+/// Overwrites the first number with `value`. The list must not be empty.
 pub fn set_first<A: Allocator, G: Growth>(list: &mut ThinVec<u32, A, G>, value: u32)
     requires not_empty { 0 < length list.old.items }
     ensures items { list.new.items ≡ slice_set list.old.items 0 value }
@@ -15,7 +15,7 @@ pub fn set_first<A: Allocator, G: Growth>(list: &mut ThinVec<u32, A, G>, value: 
     }
 }
 
-/// Overwrites the last number with `value`.
+/// Overwrites the last number with `value`. The list must not be empty.
 pub fn set_last<A: Allocator, G: Growth>(list: &mut ThinVec<u32, A, G>, value: u32)
     requires not_empty { 0 < length list.old.items }
     ensures items { list.new.items ≡ slice_set list.old.items (length list.old.items - 1) value }

@@ -1,12 +1,12 @@
--- This file defines how a `DivisorJudge` decides about items, and what it writes to the items. A
--- judge decides about items in place of the closures that methods such as `retain` take.
+-- This file defines what a `DivisorJudge` decides, and what it writes to the items. A judge makes
+-- decisions in place of a closure: for example, it decides which items `retain` keeps.
 use Rattle.std.specs.Prelude.{◌≡◌, ℕ, List, Bool, ◌+◌, ◌/◌, ◌%◌, ◌^◌, ◌==◌}
 use Rattle.thin_runner.specs.Judge.{Judging}
 use Rattle.thin_replay.specs.Words.{Spells}
 use Rattle.thin_replay.specs.declared.divisor_judge.DivisorJudge.{DivisorJudge}
 
--- `number_for judge x` is the number that the judge divides by its divisor to decide about the item
--- `x`.
+-- `number_for judge x` is the number that the judge computes for the item `x`, and then divides by
+-- its divisor.
 abbrev pub number_for : DivisorJudge → ℕ → ℕ
 number_for judge x = (x + judge.offset) % 2 ^ 64
 

@@ -1,6 +1,6 @@
 -- This file defines which words of an input line describe a command, and which words describe the
--- judge of the command. A judge decides about items in place of the closures that methods such as
--- `retain` take.
+-- judge of the command. A judge makes decisions in place of a closure: for example, it decides
+-- which items `retain` keeps.
 use Rattle.std.specs.Prelude.{◌≡◌, ℕ, ◌≤◌, List, codes, drop, length, ⊤}
 use Rattle.std.specs.Iterator.{DrainsIf}
 use Rattle.std.specs.Str.Iter.{split_whitespace_rest, split_whitespace_steps}
@@ -20,8 +20,8 @@ abbrev pub BeginsForm : Words → List ℕ → ℕ → Type 0
 BeginsForm words name count = (count ≤ length words) × (word words 0 ≡ name)
 
 -- `Says words command` holds if the words have the form of a line with the command `command`, and
--- spell the arguments of this command. If the command needs a judge to decide about items, the
--- words for the judge may be arbitrary.
+-- spell the arguments of this command. If the command calls methods of a judge, the words for the
+-- judge may be arbitrary.
 abbrev pub Says : {A G : Type 0} → Words → Command ℕ A G → Type 0
 Says words (Push item) = HasForm words (codes "push") 2 × Spells (word words 1) item
 Says words Pop = HasForm words (codes "pop") 1
@@ -64,7 +64,7 @@ Says words (Splice start end steps items lower) = BeginsForm words (codes "splic
     × (Spells (word words 4) lower × SpellAll (drop 5 words) items.items))))
 
 -- `SaysJudge words command judge` holds if the last three words spell the divisor, the stride and
--- the addend of `judge`. It also holds if the command needs no judge to decide about items.
+-- the addend of `judge`. It also holds if the command calls no method of a judge.
 abbrev pub SaysJudge : {A G : Type 0} → Words → Command ℕ A G → DivisorJudge → Type 0
 SaysJudge words Retain judge = SpellsJudge (word words 1) (word words 2) (word words 3) judge
 SaysJudge words RetainMut judge = SpellsJudge (word words 1) (word words 2) (word words 3) judge
@@ -74,7 +74,7 @@ SaysJudge words (ExtractIf start end calls) judge =
     SpellsJudge (word words 4) (word words 5) (word words 6) judge
 SaysJudge words command judge = Unit {0}
 
--- `AsksNone command` holds if the command needs no judge to decide about items.
+-- `AsksNone command` holds if the command calls no method of a judge.
 abbrev pub AsksNone : {A G : Type 0} → Command ℕ A G → Type 0
 AsksNone Retain = ⊥
 AsksNone RetainMut = ⊥
@@ -83,14 +83,14 @@ AsksNone DedupByKey = ⊥
 AsksNone (ExtractIf start end calls) = ⊥
 AsksNone command = Unit {0}
 
--- `SaysUnjudged words command` holds if the words describe the command, and the command needs no
--- judge to decide about items.
+-- `SaysUnjudged words command` holds if the words describe the command, and the command calls no
+-- method of a judge.
 abbrev pub SaysUnjudged : {A G : Type 0} → Words → Command ℕ A G → Type 0
 SaysUnjudged words command = Says words command × AsksNone command
 
 -- `IsFilter name command` holds if `name` is the name of the command, and a line with this command
--- consists of the name and three words that describe a judge. A judge decides about items in place
--- of a closure.
+-- consists of the name and three words that describe a judge. A judge makes decisions in place of a
+-- closure.
 abbrev pub IsFilter : {A G : Type 0} → List ℕ → Command ℕ A G → Type 0
 IsFilter name Retain = name ≡ codes "retain"
 IsFilter name RetainMut = name ≡ codes "retain_mut"
@@ -98,8 +98,8 @@ IsFilter name DedupBy = name ≡ codes "dedup_by"
 IsFilter name DedupByKey = name ≡ codes "dedup_by_key"
 IsFilter name command = ⊥
 
--- `IsCall words call` holds if the words describe the command of `call`. If this command needs a
--- judge to decide about items, the last three words must describe the judge of `call`.
+-- `IsCall words call` holds if the words describe the command of `call`. If this command calls
+-- methods of a judge, the last three words must describe the judge of `call`.
 abbrev pub IsCall : Words → Call → Type 0
 IsCall words call = Says words call.command × SaysJudge words call.command call.judge
 

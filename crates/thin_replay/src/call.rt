@@ -14,8 +14,9 @@ use crate::line_error::LineError;
 use std::alloc::Global;
 use thin_runner::command::Command;
 
-/// A command and a judge. The judge decides about items in place of a closure. If the command needs
-/// no judge, `judge` may have any value.
+/// A command and a judge. The judge makes decisions in place of a closure: for example, it decides
+/// which items `retain` keeps. If the command calls no method of the judge, `judge` may have any
+/// value.
 #[derive(Drop)]
 pub struct Call {
     pub command: Command<u64>,
@@ -26,10 +27,10 @@ impl Call {
     ghost use Rattle.std.specs.Prelude.{◌≡◌, IfOk, IfSome};
     ghost use Rattle.thin_replay.specs.Lines.{IsCall};
 
-    /// Parses the words of a line as a command. If the command needs a judge to decide about items,
-    /// parses the judge, too. Returns `None` if the words do not have the form of a command. Fails
-    /// if they have this form but one of the words cannot be parsed, or if there is not enough
-    /// memory for the command.
+    /// Parses the words of a line as a command. If the command calls methods of a judge, also
+    /// parses the judge. Returns `None` if the words do not have the form of a command. Fails if
+    /// they have this form but one of the words cannot be parsed, or if there is not enough memory
+    /// for the command.
     pub fn parse(alloc: Global, words: &[&str]) -> Result<Option<Call>, LineError>
         ensures says { IfOk result (λ found. IfSome found (IsCall words.now)) }
     {
@@ -40,7 +41,7 @@ impl Call {
         Ok(command.map(Call::unjudged))
     }
 
-    // Makes a `Call` from a command that needs no judge to decide about items.
+    // Makes a `Call` from a command, such as `Push`, that calls no method of a judge.
     fn unjudged(command: Command<u64>) -> Call
         ensures command { result.command ≡ command }
     {
@@ -49,8 +50,8 @@ impl Call {
     }
 }
 
-// Parses the words of a line as a command that needs no judge to decide about items. Returns `None`
-// if the words do not have the form of such a command.
+// Parses the words of a line as a command that calls no method of a judge. Returns `None` if the
+// words do not have the form of such a command.
 fn parse_command(alloc: Global, words: &[&str]) -> Result<Option<Command<u64>>, LineError>
     ensures says { IfOk result (λ found. IfSome found (SaysUnjudged words.now)) }
 {

@@ -6,9 +6,9 @@ use crate::line_error::LineError;
 use crate::words::number_of;
 use thin_runner::judge::Judge;
 
-/// A judge that computes a number for each item, and divides this number by `divisor` to decide
-/// about the item. The number is the sum of the item and `stride * n`, where `n` is how many
-/// decisions the judge has made before.
+/// A judge that computes a number for each item, and divides this number by `divisor`. The number
+/// is the sum of the item and `stride * n`, where `n` is the number of decisions that the judge has
+/// made before.
 ///
 /// The judge chooses an item if `divisor` divides the number. The key of an item is the quotient,
 /// rounded down. A later item is a duplicate of a kept item if the number for the later item and
@@ -56,8 +56,8 @@ impl DivisorJudge {
         })
     }
 
-    // Returns the number that the judge divides by `divisor` to decide about `item`. Also counts
-    // this decision.
+    // Returns the number that the judge computes for `item` and then divides by `divisor`. The call
+    // counts as one decision.
     fn number(&mut self, item: u64) -> u64
         ensures value { result ≡ number_for self.old item }
         ensures counted { self.new ≡ counted self.old }

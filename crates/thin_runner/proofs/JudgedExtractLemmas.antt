@@ -80,8 +80,8 @@ module _ {S T J : Type 0} (R : S → T → Bool → S → T → Type 0) (judge_o
   none-left j zero = refl
   none-left j (suc k) = refl
 
-  -- In this module, a call to `next` returns `item`. After the call, the items `rest` are untested,
-  -- the closure is in the state `t`, and up to `k` more calls follow.
+  -- In this module, a call to `next` returns `item`. After this call, the items `rest` are still
+  -- untested, the closure is in the state `t`, and `k` more calls to `next` follow.
   module _ (t : S) (k : ℕ) (item : Option T) (rest : List T) where
     -- Suppose that a call to `next` keeps the items `kept` and returns `item`. Then the verdicts of
     -- this call and of `k` more calls are, in this order: the verdicts that keep `kept`, the

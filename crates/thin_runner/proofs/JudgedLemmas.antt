@@ -168,9 +168,10 @@ module _ {T J : Type 0} where
       → length (left_at true (asked ask j xs)) ≤ length xs
   few-asked ask j xs = omega (arith, few-left (asked ask j xs), asked-length ask j xs)
 
-  -- If each item of `xs` is compared with the last item kept before it, the number of verdicts is
-  -- `length xs`. The lemma `pairs-length` states the same for a list whose first item is kept
-  -- without a comparison.
+  -- If the item `k` was kept, and each item of `xs` is then compared with the last item kept before
+  -- it, the number of verdicts is `length xs`. The lemma `pairs-length` is about a list whose first
+  -- item is kept without a comparison. This item has a verdict, too, so there are again as many
+  -- verdicts as items.
   last-length : (same : J → T → T → Bool × T × T × J) (j : J) (k : T) (xs : List T)
       → length (asked_last same j k xs).1 ≡ length xs
   last-length same j k [] = refl

@@ -27,8 +27,8 @@ use Rattle.thin_runner.proofs.JudgedLemmas.{dedup-pairs}
 use Rattle.thin_runner.proofs.WalkLemmas.{last-of}
 use Rattle.thin_runner.proofs.WeakerClonesLemmas.{zip-weaker}
 
--- `Some x ≡ None` is false, so it implies every statement `B`. If no call failed, then this lemma
--- rules out every reply that contains a cause of failure.
+-- `Some x ≡ None` is false, so it implies every statement `B`. The lemma is used for replies with a
+-- cause of failure `x`: if no call failed, there is no such reply.
 refused : {X B : Type 0} (x : X) → Some x ≡ None → B
 refused x e = cc
 

@@ -72,9 +72,9 @@ pub enum Command<T, A: Allocator = Global, G: Growth = Doubling> {
     /// there is not enough memory for the results of the steps.
     Drain(usize, usize, Vec<Step, A>),
     /// Calls `extract_if` on the range from the first index up to, but not including, the second,
-    /// with the method `take` of the judge. The third number says how often `next` is called before
-    /// the `ExtractIf` is dropped. The reply is `Answers`, or `Refused` if there is not enough
-    /// memory for the results of these calls.
+    /// with the method `take` of the judge. The third number says how many times `next` is called
+    /// before the `ExtractIf` is dropped. The reply is `Answers`, or `Refused` if there is not
+    /// enough memory for the results of these calls.
     ExtractIf(usize, usize, usize),
     /// Calls `splice` on the range from the first index up to, but not including, the second. Then
     /// takes the steps in order, and calls `finish`. The new items are the items of the second

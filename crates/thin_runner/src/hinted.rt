@@ -8,12 +8,12 @@ ghost use Rattle.std.specs.Iterator.SizeHint.{IsWithinCount};
 use std::alloc::{Allocator, Global};
 use std::vec::IntoIter;
 
-/// An iterator that yields its items in order, and then `None` forever. The lower bound of its size
-/// hint is always the same.
+/// An iterator that yields its items in order, and then always returns `None`. The lower bound of
+/// its size hint is always the same.
 ///
-/// This lower bound may exceed the number of items that are left. The contract of `size_hint`
-/// requires that the lower bound does not exceed the ghost value `remaining`. So `remaining` is the
-/// number of items that are left, plus the lower bound.
+/// This lower bound may exceed the number of items that are left. But the contract of `size_hint`
+/// does not allow a lower bound above the ghost value `remaining`. To satisfy this contract,
+/// `remaining` is defined as the number of items that are left, plus the lower bound.
 #[derive(Drop)]
 pub struct Hinted<T, A: Allocator = Global> {
     items: IntoIter<T, A>,

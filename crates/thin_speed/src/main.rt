@@ -22,9 +22,10 @@ fn main(rt: HostRuntime) -> io::Result<()> {
     Ok(())
 }
 
-// Runs the workload that a line names. The line has four words: the kind of list (`thin` or `kit`),
-// the name of the workload, the size (such as the number of items, or the depth of a tree), and how
-// often the work is done. Returns `None` if the line is not of this form.
+// Runs the workload that `line` names. The first four words of the line are the kind of list
+// (`thin` for `ThinVec`, or `kit` for the `Vec` of Rattle's library), the name of the workload, the
+// size (such as the number of items, or the depth of a tree), and the number of times that the work
+// is done. Returns `None` if one of these words is missing or invalid.
 fn asked(alloc: Global, line: &str) -> Option<Outcome> {
     let mut words = line.split_whitespace();
     let list = words.next()?;

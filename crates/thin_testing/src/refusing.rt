@@ -1,18 +1,19 @@
-//! Defines `Refusing`, an allocator for tests. It refuses one request, which the test chooses.
+//! Defines `Refusing`, an allocator for tests. It wraps another allocator, `inner`, and refuses one
+//! request, which the test chooses.
 //!
 //! A request is a call to `allocate`, `grow` or `shrink`, so each growth of a list is one request.
-//! The methods `grow` and `shrink` call the same method of `inner`, which may resize a block in
-//! place. Pass the allocator by reference, as `&Refusing<Global>`. A reference to an allocator is
-//! itself an allocator, and it is `Copy`.
+//! The methods `grow` and `shrink` call the methods of the same name of `inner`, which may resize a
+//! block in place. Pass the allocator by reference, as `&Refusing<Global>`. A reference to an
+//! allocator is itself an allocator, and it is `Copy`.
 //!
 //! The method `blocks` returns the number of blocks that are allocated and have not been freed yet.
 //! So a test can detect a leak, although no contract says that a list frees its block. A block that
 //! is grown or shrunk still counts as one block. The sizes of blocks are not counted, so a call
 //! that requests too many bytes is not detected.
 //!
-//! Contracts cannot mention the content of a `Cell`. So only tests show which request is refused,
-//! and what `requests` and `blocks` return. It is proved that all blocks come from `inner` and are
-//! returned to `inner`.
+//! Contracts cannot mention the contents of a `Cell`. So only tests show which request is refused,
+//! and what `requests` and `blocks` return. It is proved that every block comes from `inner`, and
+//! that a block that is freed is returned to `inner`.
 use std::alloc::{AllocError, Allocator};
 use std::cell::Cell;
 

@@ -1,5 +1,5 @@
--- These lemmas are for callers that collect the items of an iterator in a `ThinVec`. They state
--- which items the new list contains.
+-- These lemmas are for proofs about code that collects the items of an iterator in a `ThinVec`.
+-- They state which items the new list contains.
 use Rattle.std.proofs.Common.{◌≡◌, Err, IfOk, List, Ok, Option, Result}
 use Rattle.std.proofs.lemmas.Iterator.{YieldsList}
 use Rattle.std.proofs.lemmas.Iterator.Adapters.{fact_from_collect}

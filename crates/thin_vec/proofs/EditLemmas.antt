@@ -1,5 +1,6 @@
--- These lemmas are for callers of `dedup_by`, `dedup_by_key` and `extract_if`. Most of them require
--- that the closure changes no item, and that its result depends only on the items passed to it.
+-- These lemmas are for proofs about code that calls `dedup_by`, `dedup_by_key` or `extract_if`.
+-- Most of them require that the closure changes no item, and that its result depends only on the
+-- items passed to it.
 use Rattle.std.proofs.Common.{◌≡◌, ◌+◌, ◌≤◌, Bool, true, false, List, [], ◌∷◌, ◌++◌, Option, None, Some, ap, append_assoc, arith, length, refl, sym, ◌∙◌}
 use Rattle.std.proofs.lemmas.Fn.{dedup_same}
 use Rattle.std.proofs.lemmas.List.{append-nil, length-append}

@@ -1,5 +1,6 @@
--- These lemmas are for callers that know the item type. They state how many items a list can hold
--- without an overflow of its capacity, and how large a capacity the growth rule `Doubling` chooses.
+-- These lemmas are for proofs about lists whose item type is known. They state how many items a
+-- list can hold without an overflow of its capacity, and how large a capacity the growth rule
+-- `Doubling` chooses.
 use Rattle.std.proofs.Common.{if◌then◌else◌, Bool, true, false, ◌≡◌, ℕ, zero, suc, ◌+◌, ◌-◌, ◌*◌, ◌^◌, ◌<◌, ◌≤◌, ap, arith, length, IfErr, Option, Result, Ok, Err, Some, None, inl, inr, refl, sym, ◌∙◌}
 use Rattle.std.specs.Borrow.{RattleType}
 use Rattle.std.specs.Align.{type_align}

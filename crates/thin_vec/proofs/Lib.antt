@@ -1,6 +1,6 @@
--- This file lists the modules of lemmas. `ThinVecLemmas` and `RetainLemmas` are for this crate and
--- for its callers. `UndoLemmas`, `FewLemmas`, `SliceLemmas`, `TakenLemmas`, `CollectLemmas` and
--- `EditLemmas` are only for callers.
+-- This file lists the modules of lemmas. `ThinVecLemmas` and `RetainLemmas` are for the proofs of
+-- this crate and of other crates. `UndoLemmas`, `FewLemmas`, `SliceLemmas`, `TakenLemmas`,
+-- `CollectLemmas` and `EditLemmas` are only for the proofs of other crates.
 mod ListLemmas
 pub mod ThinVecLemmas
 pub mod UndoLemmas

@@ -467,9 +467,9 @@ module _ {T A : Type 0} where
     abbrev all-after : List T
     all-after = (open_of h).rest ++ (open_of h).tail
 
-    -- If there is no gap before the tail items, then the slots are, in this order: the slots of the
-    -- front items, the gap, the slots of the middle items, the slots of the tail items, and the
-    -- empty slots at the end.
+    -- If there is no gap before the tail items, then the block consists, in this order, of the
+    -- slots of the front items, the gap before the middle items, the slots of the middle items and
+    -- of the tail items, and the empty slots at the end.
     side-by-side : (open_of h).gap_after ≡ 0 → h.block.slots ≡ full (open_of h).front
         ++ (empty (open_of h).gap ++ (full all-after ++ past_tail (open_of h)))
     side-by-side none =

@@ -1,6 +1,6 @@
--- These lemmas bound the number of items of an iterator that are put into slots. They also state
--- what a block contains while the items of a `Vec` are moved into its slots, beginning with the
--- last item.
+-- These lemmas bound how many items of an iterator are put into empty slots. They also state what a
+-- block contains while the items of a `Vec` are moved into the slots of the block, beginning with
+-- the last item.
 use Rattle.std.proofs.Common.{◌≡◌, ℕ, ◌+◌, ◌<◌, ◌≤◌, List, [], ◌∷◌, ◌++◌, length, take, drop, Option, Some, None, sym, ap, ◌∙◌, append_assoc, arith, get_or, length-append}
 use Rattle.std.proofs.lemmas.List.{append-nil, length-take-le, length_push, set_at, take_more}
 use lib.ListN.{set}

@@ -360,12 +360,12 @@ module _ {S T : Type 0} (R : S → T → Bool → S → T → Type 0) where
     run-long : length r.left ≡ m
     run-long = omega (arith, r.reached)
 
-    -- After the tests, the list `ys` consists of the kept items and the items after them.
+    -- After the tests, the list `ys` consists of the kept items, followed by the items after them.
     run-now : ys ≡ r.left ++ r.end
     run-now = r.now ∙ ap (λ (l : List T). l ++ (r.left ++ r.end)) run-none
 
-    -- Before the tests, the list `xs` consisted of the items that the tests then kept, and the
-    -- items after them.
+    -- Before the tests, the list `xs` consisted of the run of items that the tests kept, followed
+    -- by the items after this run.
     pub run-was : xs ≡ r.run ++ r.after
     run-was = r.was ∙ ap (λ (l : List T). l ++ (r.run ++ r.after)) run-none
 
@@ -647,7 +647,7 @@ module _ {J S T : Type 0} (R : S → T → Bool → S → T → Type 0) (inside 
     },
   )
 
--- Section: for callers
+-- Section: which items `retain` keeps, and how many
 
 -- In this module, `R` describes the calls to a closure that only reads the item.
 module _ {S T : Type 0} (R : S → T → Bool → S → Type 0) where

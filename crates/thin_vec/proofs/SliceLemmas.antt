@@ -1,5 +1,5 @@
--- These lemmas are for callers that write through a slice of all items of a list. They state which
--- items the list contains after the write.
+-- These lemmas are for proofs about code that writes through a slice of all items of a list. They
+-- state which items the list contains after the write.
 use Rattle.std.proofs.Common.{◌≡◌, List, ◌++◌, ap, drop, length, sym, take, ◌∙◌}
 use Rattle.std.proofs.Math.Seq.{take-append_seam}
 use Rattle.std.specs.List.{refill}

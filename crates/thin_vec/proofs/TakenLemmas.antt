@@ -1,5 +1,5 @@
--- These lemmas are for callers that call `next` on an `IntoIter`. They state which items the
--- `IntoIter` has yielded.
+-- These lemmas are for proofs about code that calls `next` on an `IntoIter`. They state which items
+-- the `IntoIter` has yielded.
 use Rattle.std.proofs.Common.{◌≡◌, List, [], ◌∷◌, ◌++◌, ap, sym, ◌∙◌}
 use Rattle.std.proofs.lemmas.List.{append-nil}
 use Rattle.std.specs.Iterator.{Drains, Yields, YieldsFirst}

@@ -1,6 +1,6 @@
 -- These lemmas are about the capacity of a list, and about the cost that is recorded when the list
--- grows: requests for memory and copied items. They are for this crate and for its callers. The
--- definitions that they use are in `specs/ThinVec.antt` and `specs/Cheap.antt`.
+-- grows: requests for memory and copied items. They are for the proofs of this crate and of other
+-- crates. The definitions that the lemmas use are in `specs/ThinVec.antt` and `specs/Cheap.antt`.
 use Rattle.thin_block.proofs.Outcomes.{some-same}
 use Rattle.std.proofs.Common.{if◌then◌else◌, Bool, ◌≡◌, ℕ, zero, suc, ◌+◌, ◌*◌, ◌^◌, ◌<◌, ◌≤◌, true, false, Some, ap, List, [], arith, eqb, inl, inr, length, refl, subst, sym, ◌∙◌}
 use Rattle.std.specs.Borrow.{RattleType}
@@ -97,7 +97,7 @@ module _ {T A : Type 0} (v : Thin T A) (c : ℕ) where
       go true = refl
       go false = refl
 
--- These rewrite rules compute the cost of growing a list. They are for callers that know the
+-- These rewrite rules compute the cost of growing a list. They are for proofs that can compare the
 -- capacities before and after the growth.
 pub ruleset costs = (cost_at-same, cost_at-more)
 
@@ -127,7 +127,8 @@ cheap-growing {c = suc c} {k} n c' h le larger doubled =
 
 module _ {T A : Type 0} (rule : Rule) (R : RattleType) (law : KeepsLaw rule)
     (v : Thin T A) (k c : ℕ) where
-  -- If the list `v` has room for `k` more items, then the growth rule does not change its capacity.
+  -- If the list `v` has room for `k` more items, then reserving room for these items does not
+  -- change the capacity of `v`.
   pub cap-kept : length v.items + k ≤ v.capacity → capacity_for rule R v k ≡ Some c → c ≡ v.capacity
   cap-kept room e = some-same (sym e ∙ ruled-same rule R v.capacity (length v.items + k) room)
 

@@ -1,4 +1,5 @@
--- These lemmas are for callers that insert an item and then remove it at the same index.
+-- These lemmas are for proofs about code that inserts an item and then removes it at the same
+-- index.
 use Rattle.std.proofs.Common.{◌≡◌, ℕ, zero, suc, ◌≤◌, List, [], ◌∷◌, ap, arith, length, refl}
 use Rattle.std.specs.Prelude.{Some, insert, remove, slice_get}
 

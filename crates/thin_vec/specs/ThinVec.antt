@@ -67,8 +67,9 @@ module _ {T A : Type 0} where
   HasRoomFor v k = length v.items + k ≤ v.capacity
 
   -- `capacity_for rule R v k` is the capacity of the list `v` after room for `k` more items of the
-  -- type `R` has been reserved. It is the old capacity if `v` has enough room. Otherwise, the
-  -- growth rule chooses it, and it is `None` if it would be too large.
+  -- type `R` has been reserved. If `v` already has enough room, this is the old capacity.
+  -- Otherwise, it is the capacity that the growth rule chooses, or `None` if that capacity would be
+  -- too large.
   abbrev pub capacity_for : Rule → RattleType → Thin T A → ℕ → Option ℕ
   capacity_for rule R v k = ruled_capacity rule R v.capacity (length v.items + k)
 

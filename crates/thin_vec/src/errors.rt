@@ -15,7 +15,7 @@ use thin_block::ThinVecError;
 /// returns the argument in this error.
 #[derive(Drop)]
 pub struct Rejected<S> {
-    /// The argument, unchanged. The caller owns it again.
+    /// The argument of the failed call, unchanged. The caller owns it again.
     pub value: S,
     /// The reason why the call failed.
     pub cause: ThinVecError,

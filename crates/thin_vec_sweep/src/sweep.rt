@@ -70,8 +70,8 @@ fn each_refusal<C: Call<T, G>, T: Sample, G: Ruled, R: Abort>(
     }
 }
 
-// Runs one test case. Returns the number of allocation requests of the call, or 1 if the call was
-// skipped because it would need too much memory.
+// Runs one test case. Returns the number of allocation requests that the call under test made, or 1
+// if the call was skipped because it would have needed too much memory.
 #[inline(never)]
 fn case<C: Call<T, G>, T: Sample, G: Ruled, R: Abort>(
     rt: &R,

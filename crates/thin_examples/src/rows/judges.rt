@@ -1,5 +1,5 @@
-//! The judge that the worked example for commands passes to `run`. A judge is a value that decides
-//! about items in place of the closures that methods such as `retain` take.
+//! The judge that the worked example for commands passes to `run`. A judge is a value that makes
+//! decisions in place of a closure: for example, it decides which items `retain` keeps.
 ghost use Rattle.std.specs.Ordering.{int_eq};
 ghost use Rattle.std.specs.Prelude.{int_rem, pos};
 

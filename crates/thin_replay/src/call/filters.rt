@@ -1,5 +1,5 @@
-//! The parser for commands that need a judge. A judge decides about items in place of the closures
-//! that methods such as `retain` take.
+//! The parser for commands that call methods of a judge. A judge makes decisions in place of a
+//! closure: for example, it decides which items `retain` keeps.
 ghost use Rattle.std.specs.Prelude.{IfOk, IfSome};
 ghost use Rattle.thin_replay.specs.Lines.{IsCall, IsFilter};
 
@@ -9,7 +9,7 @@ use crate::line_error::LineError;
 use crate::words::count_of;
 use thin_runner::command::Command;
 
-/// Parses the words of a line as a command and a judge. A judge decides about items in place of a
+/// Parses the words of a line as a command and a judge. A judge makes decisions in place of a
 /// closure. Returns `None` if the words do not have the form of a command with a judge.
 pub fn parse(words: &[&str]) -> Result<Option<Call>, LineError>
     ensures says { IfOk result (λ found. IfSome found (IsCall words.now)) }
@@ -34,8 +34,8 @@ pub fn parse(words: &[&str]) -> Result<Option<Call>, LineError>
 }
 
 // Returns the command with the name `name` if a line with this command consists of the name and
-// three words that describe a judge. Otherwise, returns `None`. A judge decides about items in
-// place of a closure.
+// three words that describe a judge. Otherwise, returns `None`. A judge makes decisions in place of
+// a closure.
 fn filter(name: &str) -> Option<Command<u64>>
     ensures filter { IfSome result (IsFilter name.now) }
 {

@@ -1,4 +1,4 @@
-//! The commands that remove items of a range: `Drain` and `ExtractIf`.
+//! The commands that remove items from a range of the list: `Drain` and `ExtractIf`.
 ghost use Rattle.std.specs.Prelude.{◌≡◌, ◌+◌, ◌≤◌, List, ◌∷◌, ◌++◌, length, vec_capacity, vec_len};
 ghost use Rattle.thin_runner.specs.Setting.{setting};
 ghost use Rattle.thin_runner.specs.Steps.{Steps};

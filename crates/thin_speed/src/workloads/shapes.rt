@@ -9,7 +9,7 @@ pub trait Work<L, T> {
     /// remove into `sum`. The other kinds return `sum` unchanged.
     ///
     /// The meaning of `number` depends on the caller. `refilled` passes the length of the list.
-    /// `repeated` passes how often the work has already been done.
+    /// `repeated` passes the number of times that the work has already been done.
     ///
     /// # Errors
     ///

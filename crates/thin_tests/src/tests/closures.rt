@@ -1,6 +1,6 @@
 //! Tests that methods such as `retain` drop their closure, together with the values that the
-//! closure owns, when the call ends. An `ExtractIf` drops its closure when the `ExtractIf` itself
-//! is dropped.
+//! closure owns, when the call ends. Also tests that an `ExtractIf` drops its closure when the
+//! `ExtractIf` is dropped.
 use crate::tests::support::assertions::{assert_items, assert_len, assert_same};
 use crate::tests::support::counted::Counted;
 use crate::tests::support::items::list_of;

@@ -127,8 +127,8 @@ fn assert_drained<T: PartialEq + std::fmt::Debug + Drop, A: Allocator>(
     assert_same(rt, list.capacity(), capacity);
 }
 
-// Asserts that the `Drain` yields the items in `wanted`, and then `None` at both ends. Takes the
-// items from the front, or from the back if `is_reverse` is true.
+// Asserts that the `Drain` yields the items in `wanted`, and that `next` and `next_back` then
+// return `None`. Takes the items from the front, or from the back if `is_reverse` is true.
 fn assert_yields<T: PartialEq + std::fmt::Debug + Drop, A: Allocator>(
     rt: &impl Abort,
     drain: &mut Drain<'_, T, A>,

@@ -153,8 +153,9 @@ fn assert_capacity_made<T: Numbered, B: Allocator>(
     assert_same(rt, refusing.requests(), 2);
 }
 
-// Makes a full list of `len` items, increases its capacity by `more` twice, and reduces it by
-// `more` once. Then fills the list, truncates it to `len` items, and reduces its capacity to `len`.
+// Makes a full list of `len` items. Adds `more` to its capacity, adds `more` again, and then
+// subtracts `more`. Then fills the list, truncates it to `len` items, and reduces its capacity to
+// `len`. Checks each change of the capacity with `assert_capacity_made`.
 fn assert_capacities<T: Numbered, B: Allocator>(
     rt: &impl Abort,
     refusing: &Refusing<B>,

@@ -93,12 +93,13 @@ module _ {F T : Type 0} (R : F → T → Bool → F → T → Type 0) where
       none-before : h.before ≡ []
       none-before = nil_from_length h.before h.place
 
-      -- Before the tests, the list `xs` consisted of the items that the tests then kept, and the
-      -- items after them.
+      -- Before the tests, the list `xs` consisted of the run of items that the tests kept, followed
+      -- by the items after this run.
       was : xs ≡ h.run ++ h.after
       was = h.was ∙ ap (λ (l : List T). l ++ (h.run ++ h.after)) none-before
 
-      -- After the tests, the list `ys` consists of the kept items and the items after them.
+      -- After the tests, the list `ys` consists of the kept items, followed by the items after
+      -- them.
       now : ys ≡ h.left ++ h.end
       now = h.now ∙ ap (λ (l : List T). l ++ (h.left ++ h.end)) none-before
 

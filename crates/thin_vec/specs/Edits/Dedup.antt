@@ -30,8 +30,8 @@ module _ {S T : Type 0} (R : S → T → T → Bool → S → T → T → Type 0
   AskedPairs s (x ∷ xs) stays ys t = AskedLast s x xs stays ys t
 
   -- `IsDedupedTo s v w t` states that the list `v` became `w` when its duplicates were removed. The
-  -- recorded cost increased by one move for each item that was kept after the first removed item.
-  -- The test that found the duplicates changed its state from `s` to `t`.
+  -- recorded cost increased by one move for each kept item that follows the first removed item. The
+  -- test that found the duplicates changed its state from `s` to `t`.
   pub record IsDedupedTo {A : Type 0} (s : S) (v w : Thin T A) (t : S) : Type 0 where
     pub stays : List Bool
     pub asked : AskedPairs s v.items stays w.items t

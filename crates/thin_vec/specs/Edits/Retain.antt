@@ -10,8 +10,9 @@ trues [] = zero
 trues (true ∷ flags) = suc (trues flags)
 trues (false ∷ flags) = trues flags
 
--- `moved_down stays` is the number of items that are kept after the first removed item, and that
--- therefore move down. The flags `stays` say for each item of a list whether the item is kept.
+-- The flags `stays` say for each item of a list whether the item is kept. `moved_down stays` is the
+-- number of kept items that follow the first removed item in the list. These are the items that
+-- move down.
 abbrev pub moved_down : List Bool → ℕ
 moved_down [] = zero
 moved_down (true ∷ stays) = moved_down stays
@@ -54,8 +55,8 @@ module _ {S T : Type 0} (R : S → T → Bool → S → T → Type 0) where
       × (verdicts ≡ (b, y) ∷ rest)
 
   -- `IsRetainedTo s v w t` states that the list `v` became `w` when the items that failed the test
-  -- were removed. The recorded cost increased by one move for each item that was kept after the
-  -- first removed item. The test changed its state from `s` to `t`.
+  -- were removed. The recorded cost increased by one move for each kept item that follows the first
+  -- removed item. The test changed its state from `s` to `t`.
   pub record IsRetainedTo {A : Type 0} (s : S) (v w : Thin T A) (t : S) : Type 0 where
     pub verdicts : Verdicts T
     pub asked : Asked s v.items verdicts t

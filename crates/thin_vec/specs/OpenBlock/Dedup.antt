@@ -110,9 +110,9 @@ module _ {S T : Type 0} (R : S → T → T → Bool → S → T → T → Type 0
 
   -- `IsDeduped s v t w` states that all untested items (middle items) of the open block `v` except
   -- the first were tested, each against the last item kept before it. The first middle item and the
-  -- kept items became the front of the open block `w`, whose middle run is empty. Each item that
-  -- was kept after the first removed item counts as one move. The test changed its state from `s`
-  -- to `t`.
+  -- kept items became the front of the open block `w`, whose middle run is empty. Each kept item
+  -- that follows the first removed item counts as one move. The test changed its state from `s` to
+  -- `t`.
   pub record IsDeduped {A : Type 0} (s : S) (v : Open T A) (t : S) (w : Open T A) : Type 0 where
     pub stays : List Bool
     pub asked : AskedPairs R s v.rest stays w.front t

@@ -80,7 +80,7 @@ module _ {S T : Type 0} (R : S → T → Bool → S → T → Type 0) where
 
   -- `IsSifted s v t w` states that all untested items (middle items) of the open block `v` were
   -- tested in order. The kept items became the last front items of the open block `w`, whose middle
-  -- run is empty. Each item that was kept after the first removed item counts as one move. The test
+  -- run is empty. Each kept item that follows the first removed item counts as one move. The test
   -- changed its state from `s` to `t`.
   pub record IsSifted {A : Type 0} (s : S) (v : Open T A) (t : S) (w : Open T A) : Type 0 where
     pub verdicts : Verdicts T

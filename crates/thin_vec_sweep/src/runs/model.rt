@@ -244,8 +244,8 @@ impl<T: Numbered<A>, A: Allocator + Copy, G: Ruled> Model<T, A, G> {
     }
 
     // If `asked` is `None`, appends the item to the list. Otherwise, `asked` is the kind of the
-    // command, and the judge, which replaces a closure, decides about the item. If the judge
-    // removes the item, appends the item to `answers`. If not, appends it to the list.
+    // command, and the judge, which replaces a closure, decides whether the item is kept. If the
+    // item is kept, appends it to the list. Otherwise, appends it to `answers`.
     fn sift_one<J: Judge<T>>(
         &mut self,
         asked: Option<Kind>,

@@ -72,8 +72,9 @@ pub struct Shown<T, A: Allocator> {
     pub form: Form,
     /// The cause of the failure, if the command failed.
     pub cause: Option<ThinVecError>,
-    /// The results of the calls to `next` and `next_back`, or the item that was removed or
-    /// replaced.
+    /// For a command that makes an iterator, the results of the calls to `next` and `next_back`.
+    /// For a command that removes or replaces one item, only this item, or `None` if there was no
+    /// such item.
     pub answers: Vec<Option<T>, A>,
     /// The items of the list in the reply, or the items that a failed command returned.
     pub items: Vec<T, A>,

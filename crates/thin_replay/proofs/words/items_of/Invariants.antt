@@ -4,7 +4,6 @@ use Rattle.std.proofs.Common.{take}
 use Rattle.thin_replay.specs.Words.{SpellAll}
 use Rattle.thin_replay.proofs.words.items_of.Given as goal
 
--- The `Vec` contains exactly the numbers that the already parsed words spell, in the order of these
--- words.
+-- The `Vec` contains exactly the numbers that have been parsed so far, in the order of their words.
 abbrev pub invariant-loop-word : goal.invariant-loop-word
 invariant-loop-word l = SpellAll (take l.word-index l.words) l.items.items

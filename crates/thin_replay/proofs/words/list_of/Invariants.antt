@@ -4,7 +4,7 @@ use Rattle.std.proofs.Common.{take}
 use Rattle.thin_replay.specs.Words.{SpellAll}
 use Rattle.thin_replay.proofs.words.list_of.Given as goal
 
--- The `ThinVec` contains exactly the numbers that the already parsed words spell, in the order of
--- these words.
+-- The `ThinVec` contains exactly the numbers that have been parsed so far, in the order of their
+-- words.
 abbrev pub invariant-loop-word : goal.invariant-loop-word
 invariant-loop-word l = SpellAll (take l.word-index l.words) l.list.items

@@ -14,8 +14,8 @@ pub struct Scarce<'a> {
 }
 
 impl<'a> Scarce<'a> {
-    /// Returns an item that counts its drops in `drops`. The number in `granted` limits how often
-    /// the item can be cloned.
+    /// Returns an item that counts its drops in `drops`. The number in `granted` limits how many
+    /// times the item can be cloned.
     pub fn new(drops: &'a Cell<u32>, granted: &'a Cell<u32>) -> Scarce<'a> {
         Scarce {
             drops,

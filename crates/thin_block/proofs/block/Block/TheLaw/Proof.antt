@@ -1,6 +1,5 @@
--- A `&` to a block lends the two words of the header and the items in the slots. Each of these
--- words and items is lent in the same way as by a separate `&`. The proof assumes the laws of the
--- separation logic (`Logic`).
+-- A `&` to a block lends the capacity, the length and the items in the slots, as if there were a
+-- separate `&` to each of them. The proof assumes the laws of the separation logic (`Logic`).
 use mathlib.Core.List.{List, [], ◌∷◌, ◌++◌, not-mem-nil}
 use Prim.Native.Nat.{ℕ, ◌+◌}
 use mathlib.Core.Bool.{Bool, true}

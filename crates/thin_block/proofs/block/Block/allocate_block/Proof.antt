@@ -1,4 +1,4 @@
--- `allocate_block` allocates the memory of a whole block and writes the two words of the header.
+-- `allocate_block` allocates the memory of a whole block, and writes the capacity and the length.
 -- All slots are empty. The proof assumes the laws of the separation logic (`Logic`).
 use Rattle.std.proofs.Common.{◌≡◌, ℕ, ◌+◌, ◌<◌, List, [], ◌∷◌, ◌++◌, length, replicate, Bool, true, refl, sym, ap, ◌∙◌, arith, lit<, w64, Some, None, Option}
 use mir.Syntax.{Ty, Body, ty_int}
@@ -140,7 +140,7 @@ allocate_block_spec 𝓤 𝓛 𝓜 𝓡 wired T A LT LA g d dd met md =
     (froom (items Rt cap) b (o + 16)) ⊛ ‵ (way_back (words_of Rt) (bare Rt) cap b o))
     (carve_asked 𝓛 E b cap o) $ split3 ! $ move ! (2 ∷ []) $ split ! $ move ! (2 ∷ 3 ∷ []) $
     -- The new memory has been split into its parts. The proof context holds, in this order: [memory
-    -- for the two words of the header; memory for the slots; the right to put these parts back
+    -- for the capacity and the length; memory for the slots; the right to put these parts back
     -- together; the right to free the block; the lifetime tokens].
     rewrite ! 1 (λ (k : ℕ). ‵ (froom (ty_int w64) b k))
     (let turned : o + 8 ≡ 8 + o = omega arith in turned) refl $

@@ -1,4 +1,4 @@
--- `len` reads the length through a `&` to the block. The length is the second word of the header.
+-- `len` reads the length through a `&` to the block. The length is the second half of the header.
 -- The proof assumes the laws of the separation logic (`Logic`).
 use Rattle.std.proofs.Common.{ℕ, ◌+◌, ◌^◌, List, ◌∷◌, [], ◌++◌, length, refl, w64}
 use mir.Val.{Val, vint, vptr}

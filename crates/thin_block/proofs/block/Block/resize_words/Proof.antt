@@ -449,8 +449,8 @@ resize_words_spec 𝓤 𝓛 𝓜 𝓡 wired T A m k LT LA fits_m fits_k g d dd m
     move ! (1 ∷ []) $
     -- The array that `resized` has returned has been split. The proof context holds, in this order:
     -- [the bytes of the last `k` words, in the memory of the header; what these `k` words own;
-    -- uninitialized memory directly after the other words; the empty words; the right to free the
-    -- block; the other words; the lifetime tokens].
+    -- uninitialized memory directly after the preceding words; the empty words; the right to free
+    -- the block; the preceding words; the lifetime tokens].
     sets ! (of_opd ! (load ! (through ! refl (stop !)) (look ! 0 refl))) refl good' $
     assigns ! (of_opd ! (get ! refl)) (through ! refl (stop !)) (init ! 2 refl good') $
     use1 𝓛 (‵ (froom (ty_array ω k) b' o')) (𝓛.laws.at_room (ty_array ω k) b' o' u₂) $
@@ -475,11 +475,11 @@ resize_words_spec 𝓤 𝓛 𝓜 𝓡 wired T A m k LT LA fits_m fits_k g d dd m
     exec ! C Λ En (after 2 fn.body) (at_ret En Post) $
     sets ! (of_opd ! (get ! refl)) refl (tt, (record { fits = lit< tt }, (words, tt))) $
     returns ! (look_at ! 0 refl) $ free_all ! refl $
-    -- `resized` has succeeded. The bytes of the last `k` words have been copied to the memory
-    -- directly after the other words, and the header has been written. The proof context holds, in
-    -- this order: [the two halves of the header; the right to convert the memory of the header back
-    -- into memory for words; what the last `k` words own; the bytes of these words; the empty
-    -- words; the right to free the block; the other words; the lifetime tokens].
+    -- The call to `resized` has succeeded. The bytes of the last `k` words have been copied to the
+    -- memory directly after the preceding words, and the header has been written. The proof context
+    -- holds, in this order: [the two halves of the header; the right to convert the memory of the
+    -- header back into memory for words; what the last `k` words own; the bytes of these words; the
+    -- empty words; the right to free the block; the preceding words; the lifetime tokens].
     rewrite ! 1 (λ (n : ℕ). ‵ (fat full_share (ty_int w64) b' n (vint w64 len)))
     (let turned : 8 + o' ≡ o' + 8 = omega arith in turned) refl $
     use1 𝓛 (‵ (lies_at usize full_share (block_ptr b' o') cap))
@@ -496,11 +496,11 @@ resize_words_spec 𝓤 𝓛 𝓜 𝓡 wired T A m k LT LA fits_m fits_k g d dd m
     use1 𝓛 (‵ (places Rt news b' (o' + 16)) ⊛ ‵ (slots_way τ' m w' cap b' (o' + 16)))
     (words_back 𝓛 T LT m k b' hd items count j' v' w' cap (o' + 16) whole_words slots_are' fill'
     (hd.counts.covers cap)) $ split ! $
-    -- `resized` has succeeded. The filled words have been converted into filled slots, and the
-    -- empty words into empty slots. The proof context holds, in this order: [the slots; the right
-    -- to convert the memory of the slots back into memory for words; the length; the capacity; the
-    -- right to convert the memory of the header back into memory for words; the right to free the
-    -- block; the lifetime tokens].
+    -- The call to `resized` has succeeded. The filled words have been converted into filled slots,
+    -- and the empty words into empty slots. The proof context holds, in this order: [the slots; the
+    -- right to convert the memory of the slots back into memory for words; the length; the
+    -- capacity; the right to convert the memory of the header back into memory for words; the right
+    -- to free the block; the lifetime tokens].
     move ! (3 ∷ 2 ∷ 4 ∷ 1 ∷ 5 ∷ []) $ group ! 5 $
     use1 𝓛 (‵ (frame tok Rt len cap b' o'))
     (header_whole 𝓛 T LT b' m k in_words o' tok len cap wanted wanted_is fits_cap) $
@@ -532,10 +532,10 @@ resize_words_spec 𝓤 𝓛 𝓜 𝓡 wired T A m k LT LA fits_m fits_k g d dd m
     let good' = (((array_at_laws 3 Rw (param_laws 0 W.row W.laws) k).lawful 𝓛).typed ys (u₂ ∷ [])
     is_u₂).0 in
     move ! (1 ∷ []) $
-    -- `resized` has failed, and the old array has been split. The proof context holds, in this
-    -- order: [the bytes of the last `k` words, in the memory of the header; what these `k` words
-    -- own; uninitialized memory directly after the other words; the empty words; the right to free
-    -- the block; the other words; the lifetime tokens].
+    -- The call to `resized` has failed, and the old array has been split. The proof context holds,
+    -- in this order: [the bytes of the last `k` words, in the memory of the header; what these `k`
+    -- words own; uninitialized memory directly after the preceding words; the empty words; the
+    -- right to free the block; the preceding words; the lifetime tokens].
     sets ! (of_opd ! (load ! (through ! refl (stop !)) (look ! 0 refl))) refl good' $
     assigns ! (of_opd ! (get ! refl)) (through ! refl (stop !)) (init ! 2 refl good') $
     use1 𝓛 (‵ (froom (ty_array ω k) b o)) (𝓛.laws.at_room (ty_array ω k) b o u₂) $
@@ -559,11 +559,11 @@ resize_words_spec 𝓤 𝓛 𝓜 𝓡 wired T A m k LT LA fits_m fits_k g d dd m
     exec ! C Λ En (after 2 fn.body) (at_ret En Post) $
     sets ! (of_opd ! (get ! refl)) refl (tt, (record { fits = lit< tt }, (words, tt))) $
     returns ! (look_at ! 0 refl) $ free_all ! refl $
-    -- `resized` has failed. The bytes of the last `k` words have been copied to the memory directly
-    -- after the other words, and the header has been written. The proof context holds, in this
-    -- order: [the two halves of the header; the right to convert the memory of the header back into
-    -- memory for words; what the last `k` words own; the bytes of these words; the empty words; the
-    -- right to free the block; the other words; the lifetime tokens].
+    -- The call to `resized` has failed. The bytes of the last `k` words have been copied to the
+    -- memory directly after the preceding words, and the header has been written. The proof context
+    -- holds, in this order: [the two halves of the header; the right to convert the memory of the
+    -- header back into memory for words; what the last `k` words own; the bytes of these words; the
+    -- empty words; the right to free the block; the preceding words; the lifetime tokens].
     rewrite ! 1 (λ (n : ℕ). ‵ (fat full_share (ty_int w64) b n (vint w64 len)))
     (let turned : 8 + o ≡ o + 8 = omega arith in turned) refl $
     use1 𝓛 (‵ (lies_at usize full_share (block_ptr b o) old)) (uint_in 𝓛 full_share w64 old b o) $
@@ -580,11 +580,11 @@ resize_words_spec 𝓤 𝓛 𝓜 𝓡 wired T A m k LT LA fits_m fits_k g d dd m
     (slots_way τ' m w old b (o + 16)))
     (words_back 𝓛 T LT m k b hd items count j v w old (o + 16) whole_words slots_are fill
     (hd.counts.covers old)) $ split ! $
-    -- `resized` has failed. The filled words have been converted into filled slots, and the empty
-    -- words into empty slots. The proof context holds, in this order: [the slots; the right to
-    -- convert the memory of the slots back into memory for words; the length; the capacity; the
-    -- right to convert the memory of the header back into memory for words; the right to free the
-    -- block; the lifetime tokens].
+    -- The call to `resized` has failed. The filled words have been converted into filled slots, and
+    -- the empty words into empty slots. The proof context holds, in this order: [the slots; the
+    -- right to convert the memory of the slots back into memory for words; the length; the
+    -- capacity; the right to convert the memory of the header back into memory for words; the right
+    -- to free the block; the lifetime tokens].
     move ! (3 ∷ 2 ∷ 4 ∷ 1 ∷ 5 ∷ []) $ group ! 5 $
     use1 𝓛 (‵ (frame tok Rt len old b o))
     (header_whole 𝓛 T LT b m k in_words o tok len old held held_is fits_old) $

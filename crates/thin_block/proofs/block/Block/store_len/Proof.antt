@@ -1,5 +1,5 @@
--- `store_len` writes the length, which is the second of the two words of the header. The proof
--- assumes the laws of the separation logic (`Logic`).
+-- `store_len` writes the length, which is the second half of the header. The proof assumes the laws
+-- of the separation logic (`Logic`).
 use Rattle.std.proofs.Common.{◌≡◌, ℕ, ◌+◌, ◌≤◌, ◌∷◌, [], ◌++◌, length, refl, sym, arith, w64}
 use mir.Syntax.{ty_int}
 use mir.Val.{vint, vunit}
