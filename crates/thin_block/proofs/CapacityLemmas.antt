@@ -59,8 +59,8 @@ ruled-grows rule R c w n law more e = elim (dec_lt w (2 ^ 64)) [
 pub fits-small : (R : RattleType) (c : ℕ) → Fits R c → c < 2 ^ 63
 fits-small R c e = (fits_tells R c (opened R c e)).few
 
--- If a block of capacity `c` is small enough to be allocated, then `c` items take less than `2 ^
--- 63` bytes.
+-- If a block of capacity `c` is small enough to be allocated, then `c` items take less than
+-- `2 ^ 63` bytes.
 pub fits-bytes : (R : RattleType) (c : ℕ) → Fits R c → c * type_size R < 2 ^ 63
 fits-bytes R c e = let room = (fits_tells R c (opened R c e)).room in omega arith
 
@@ -129,8 +129,8 @@ pub exact-same : (R : RattleType) (c w : ℕ) → w ≤ c → exact_capacity R c
 unfolding exact_capacity
 exact-same R c w enough = rw (le-leb w c enough) refl
 
--- If `c < w` and a block of capacity `w` is small enough to be allocated, then `exact_capacity R c
--- w` is `Some w`.
+-- If `c < w` and a block of capacity `w` is small enough to be allocated, then
+-- `exact_capacity R c w` is `Some w`.
 pub exact-fits : (R : RattleType) (c w : ℕ) → c < w → Fits R w → exact_capacity R c w ≡ Some w
 unfolding exact_capacity fitting
 exact-fits R c w more fit = rw (lt-leb w c more, fit) refl

@@ -87,7 +87,7 @@ module _ (E : El) (Y : Al) {M : Type 1} {𝓤 : Ura M} (𝓛 : Logic 𝓤) (at_m
         feq_i ! (List Val) (vptr p.0 p.1 ∷ []) (vptr p.0 p.1 ∷ []) refl $ fjoin ! $ fjoin ! $
         -- The arguments have been joined into one entry. The proof context holds, in this order:
         -- [the arguments; one entry for the required facts and the memory of the block; the
-        -- lifetime tokens of the `&` to the allocator, of `T` and of `A`].
+        -- lifetime tokens of the shared reference to the allocator, of `T` and of `A`].
         nothing ! $ move ! (5 ∷ 0 ∷ []) $ join ! $ move ! (4 ∷ 0 ∷ []) $ join ! $
         move ! (3 ∷ 0 ∷ []) $ join ! $ join ! $ join ! $ done !
 

@@ -21,7 +21,7 @@ same_or_not i j =
 
 module _ {T : Type 0} where
   -- If `i ≡ j`, then swapping the contents of the slots `i` and `j` has the same result as writing
-  -- the content of slot `i` back to slot `i`.
+  -- the contents of slot `i` back to slot `i`.
   pub set-same : (s : List (Option T)) (i j : ℕ) → i ≡ j
       → set s i (slot s i) ≡ set (set s i (slot s j)) j (slot s i)
   set-same s i j same =

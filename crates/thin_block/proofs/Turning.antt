@@ -282,9 +282,10 @@ module _ {M : Type 1} {𝓤 : Ura M} (𝓛 : Logic 𝓤) (E : El) (b : ℕ) (k :
           rewrite ! 0 (λ (j : ℕ). ‵ (froom (array_of (R E) spare) b j)) turned refl $
           move ! (1 ∷ 0 ∷ 2 ∷ []) $ fjoin3 ! $ done !
 
-      -- Splits an array that begins at the start of the block into four parts. The first part is
-      -- its first `k` items, which are in the memory of the header. The other parts are its other
-      -- items, the memory after all items, and the right to free the block.
+      -- Splits the ownership of a block whose items form one array at the start of the block. The
+      -- parts are: the first `k` items of the array, which are in the memory of the header; the
+      -- remaining items; uninitialized memory for `k` items; `m` empty slots; and the right to free
+      -- the block.
       pub turn_down : ent 𝓤 (sem 𝓛 Whole) (sep 𝓤 (sem 𝓛 (Last o))
           (sep 𝓤 (sem 𝓛 (Slots' (o + 16) (full xs))) (sep 𝓤 (H.room (ty_array τ' k) b there)
           (sep 𝓤 (sem 𝓛 (Slots' past_all (empty m))) (sem 𝓛 Token)))))

@@ -437,8 +437,9 @@ module _ {M : Type 1} {𝓤 : Ura M} (𝓛 : Logic 𝓤) (T : RattleType) (L : L
       rewrite ! 0 (λ (n : ℕ). ‵ (ways τ' m n b o)) {x = suc (j + n)} (omega (arith, ew)) refl $
       fsplit ! $
       -- The slots and the rights (`ways`) have been split. The proof context holds, in this order:
-      -- [the right for the first word; the rights for the other words; the items of the first word;
-      -- the slots with the items of the other words].
+      -- [the right to convert memory for the items of the first word into memory for this word; the
+      -- same rights for all later words; the items of the first word; the slots with the items of
+      -- the other words].
       move ! (2 ∷ 0 ∷ []) $ fjoin ! $ move ! (2 ∷ 1 ∷ []) $
       use2 𝓛 (‵ (runs_at (R E) N (chunks n (rest m xs)) b far) ⊛ ‵ (ways τ' m j b at))
       (to_runs n (j + n) j (rest m xs) far at (rest_long n xs o long) refl
@@ -468,9 +469,10 @@ module _ {M : Type 1} {𝓤 : Ura M} (𝓛 : Logic 𝓤) (T : RattleType) (L : L
       use2 𝓛 (‵ (places (R E) (full (rest m xs)) b far) ⊛ ‵ (ways τ' m (j + n) b far))
       (of_runs n (j + n) j (rest m xs) far at (rest_long n xs o long) refl
       (omega (arith, ea, suc-mul n u'))) $ split ! $
-      -- All words except the first have been turned into slots. The proof context holds, in this
-      -- order: [the slots with the items of these words; the rights (`ways`) for these words; the
-      -- slots with the items of the first word; the right for the first word].
+      -- All words have been turned into slots. The proof context holds, in this order: [the slots
+      -- with the items of all words except the first; for these words and the `j` words after them,
+      -- the rights (`ways`) to convert memory for items back into memory for words; the slots with
+      -- the items of the first word; the same right for the first word].
       move ! (2 ∷ 0 ∷ []) $ use2 𝓛 (‵ (places (R E) (full c ++ full (rest m xs)) b o))
       (glue E 𝓛 b (full c) (full (rest m xs)) o far (next n xs o long)) $
       rewrite ! 0 (λ (l : List (Option X)). ‵ (places (R E) l b o)) (sym (parted xs)) refl $
@@ -562,8 +564,9 @@ module _ {M : Type 1} {𝓤 : Ura M} (𝓛 : Logic 𝓤) (T : RattleType) (L : L
         use1 𝓛 (‵ (places (R E) (full xs) b o) ⊛ ‵ (places (R E) (empty j) b after))
         (cut E 𝓛 b (full xs) (empty j) o after last) $ split ! $ move ! (2 ∷ []) $ fsplit ! $
         -- The filled slots have been separated from the empty slots, and `slots_way` has been split
-        -- into its two parts. The proof context holds, in this order: [the rights (`ways`) for all
-        -- words; the memory at the end that belongs to no slot; the filled slots; the empty slots].
+        -- into its two parts. The proof context holds, in this order: [for all words, the rights
+        -- (`ways`) to convert memory for items into memory for words; the memory at the end that
+        -- belongs to no slot; the filled slots; the empty slots].
         move ! (2 ∷ 0 ∷ []) $
         use2 𝓛 (‵ (runs_at (R E) N (chunks n xs) b o) ⊛ ‵ (ways τ' m v b after))
         (to_runs n w v xs o after long total at_after) $ split ! $ move ! (3 ∷ 1 ∷ 2 ∷ []) $
@@ -593,8 +596,8 @@ module _ {M : Type 1} {𝓤 : Ura M} (𝓛 : Logic 𝓤) (T : RattleType) (L : L
         (froom (ty_array τ' pad') b (o + c * size τ')))
         (spare_slots j v pad' after (o + c * size τ') whole end) $ split3 ! $
         -- The empty words have been turned into empty slots. The proof context holds, in this
-        -- order: [the empty slots; the rights (`ways`) to convert them back; the memory at the end
-        -- that belongs to no slot; the words that hold items].
+        -- order: [the empty slots; the rights (`ways`) to convert these slots back into words; the
+        -- memory at the end that belongs to no slot; the words that hold items].
         move ! (3 ∷ 1 ∷ []) $
         use2 𝓛 (‵ (places (R E) (full xs) b o) ⊛ ‵ (ways τ' m w b o))
         (of_runs n w v xs o after long total at_after) $ split ! $ move ! (0 ∷ 2 ∷ []) $

@@ -55,10 +55,10 @@ unfoldable pub least_power : ℕ → ℕ
 least_power n = doubled_to n n 1
 
 -- `power_bytes s a c w` is the capacity that the rule `PowerBytes` chooses if the old capacity is
--- `c` and the required capacity is `w`. The rule adds the size of the header to the size of `max w
--- (2 * c)` items, and rounds the sum up to a power of two. It chooses the greatest number of items
--- that fit into that many bytes together with the header. For items of size 0, it chooses the same
--- capacity as `doubling`.
+-- `c` and the required capacity is `w`. The rule adds the size of the header to the size of
+-- `max w (2 * c)` items, and rounds the sum up to a power of two. It chooses the greatest number of
+-- items that fit into that many bytes together with the header. For items of size 0, it chooses the
+-- same capacity as `doubling`.
 unfoldable pub power_bytes : Rule
 power_bytes s a c w = if s == 0 then doubling s a c w else fitting s a
     ((least_power (items_offset a + max w (2 * c) * s) - items_offset a) / s)

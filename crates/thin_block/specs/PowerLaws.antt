@@ -31,8 +31,8 @@ one_step : (b : Bool) (n p next : ℕ) → nat_le n p ≡ b → IsPowerOfTwo p �
 one_step true n p next e power half later = (power, leb-true n p e, half)
 one_step false n p next e power half later = later (leb-false n p e)
 
--- Suppose that `p` is a power of two with `p / 2 < max 1 n` and `n <= 2 ^ k * p`. Then `doubled_to
--- k n p` is the least power of two that is at least `n`.
+-- Suppose that `p` is a power of two with `p / 2 < max 1 n` and `n <= 2 ^ k * p`. Then
+-- `doubled_to k n p` is the least power of two that is at least `n`.
 doubled_is : (k n p : ℕ) → IsPowerOfTwo p → p / 2 < max 1 n → n ≤ 2 ^ k * p
     → IsNextPowerOfTwo n (doubled_to k n p)
 doubled_is zero n p power half enough = (power, omega (arith, enough), half)
@@ -74,9 +74,10 @@ pub powers_of_none : (s a c w : ℕ) → s ≡ 0 → power_bytes s a c w ≡ dou
 unfolding power_bytes
 powers_of_none s a c w none = let test : (s == 0) ≡ true = grind (arith, nat_tests) in rw test refl
 
--- If items take at least one byte, `power_bytes` adds the size of the header to the size of `max w
--- (2 * c)` items, and rounds the sum up to a power of two. It chooses the greatest number of items
--- that fit into that many bytes together with the header, or `None` if this capacity is too large.
+-- If items take at least one byte, `power_bytes` adds the size of the header to the size of
+-- `max w (2 * c)` items, and rounds the sum up to a power of two. It chooses the greatest number of
+-- items that fit into that many bytes together with the header, or `None` if this capacity is too
+-- large.
 pub powers_of_some : (s a c w : ℕ) → 0 < s → power_bytes s a c w ≡ fitting s a
     ((least_power (items_offset a + max w (2 * c) * s) - items_offset a) / s)
 unfolding power_bytes

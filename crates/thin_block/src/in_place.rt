@@ -1,6 +1,8 @@
-//! Grows and shrinks a block in place. A word is a value of 8 or 16 bytes that consists of one or
-//! more items. If the items of a block form whole words, the allocator can treat the block as an
-//! array of words, and may then leave the block at its address.
+//! Resizes a block with the methods `grow` and `shrink` of the allocator, which may leave the block
+//! at its address. These methods resize arrays. So the block is converted into an array of words
+//! before the call, and back into a block after the call. A word is a value of 8 or 16 bytes that
+//! consists of one or more items. The conversion is possible only if the items of the block form
+//! whole words.
 ghost use Rattle.std.specs.Prelude.{◌≡◌, ◌+◌, ◌*◌, ◌/◌, ◌<◌, ◌≤◌, IfErr, IfOk, List, OnErr, OnOk, length};
 ghost use Rattle.std.specs.declared.option.Option.TheVariants.{Some};
 ghost use Rattle.std.specs.Int.{div_ceil};

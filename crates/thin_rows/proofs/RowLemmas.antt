@@ -22,8 +22,8 @@ module _ {V : Type 0} (es : List (ℕ × V)) (rising : IsRising es) where
   abbrev row : map.FinMap nat_cmp V
   row = from_sorted es
 
-  -- If the list `es` of entries is sorted by column, then the map that it represents has `length
-  -- es` entries.
+  -- If the list `es` of entries is sorted by column, then the map that it represents has
+  -- `length es` entries.
   pub len_is : map.len row ≡ length es
   len_is = len-entries row ∙ ap length (entries-from_sorted nat_cmp es rising)
 
@@ -39,7 +39,8 @@ module _ {V : Type 0} (es : List (ℕ × V)) (rising : IsRising es) where
           ∙ (sym is_put ∙ (ap (put nat_cmp c v) (sym (entries-from_sorted nat_cmp es rising))
           ∙ sym (entries-insert nat_cmp_total row c v))))
 
-    -- In this module, the list `new` is the list `es` of entries without the entry of column `c`.
+    -- In this module, the list `new` contains those entries of the list `es` whose column is not
+    -- `c`.
     module _ (new : List (ℕ × V)) (is_left : where_key nat_cmp (stays c) es ≡ new) where
       left_rises : IsRising new
       left_rises = subst IsRising is_left (is_sorted-where_key nat_cmp (stays c) es rising)

@@ -206,9 +206,10 @@ module _ {T A G J : Type 0} (here : Setting T A J) (equal : ClonesEqual here.clo
       ∙ sym (cond-true (in_range v.items command) (granted here v.items command)
       (says (OutOfRange command), v.items) inside)
 
-  -- Suppose that each clone equals its source, and that no call of the run fails. Then the fold of
-  -- `items_after` over the commands is the list of the final items. The scan with `reply_to` is the
-  -- list of the replies, each reduced to the part that `seen` extracts.
+  -- Suppose that each clone equals its source, and that no call of the run fails. Then the final
+  -- items are the result of folding `items_after` over the commands. The replies, each reduced to
+  -- the part that `seen` extracts, are the result of scanning the commands with `items_after` and
+  -- `reply_to`.
   pub run-plain : (v w : Thin T A) (commands : List (Command T A G)) (replies : List (Reply T A G))
       → All IsGranted replies → Runs here v commands replies w
       → (w.items ≡ fold (items_after here) v.items commands)

@@ -123,9 +123,9 @@ module _ {T A : Type 0} (old : Thin T A) (a b : ℕ) where
         subst (λ (v : Thin T A). CostsAdding v new (2 * (length old.items - b))) left-is
         (subst (λ (n : ℕ). CostsAdding (left_of block alloc) new (2 * n)) tail-count cost)
 
-    -- `IsExtended` restricts the capacity of a list after it was extended with the items of an
-    -- iterator. The lemma replaces two arguments of `IsExtended` with equal values: the list of the
-    -- open block with the list `cut old a b`, and the limit `left` with the limit `at_most most`.
+    -- Suppose that the limit `left` equals `at_most most`. If `IsExtended` holds for the list of
+    -- the open block and the limit `left`, then it also holds for the list `cut old a b` and the
+    -- limit `at_most most`.
     pub ruled : (rule : Rule) (R : RattleType) (new : Thin T A) (most : ℕ) (left : Count)
         → left ≡ at_most most
         → IsExtended rule R (left_of block alloc) new.capacity (length new.items) left

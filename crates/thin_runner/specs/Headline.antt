@@ -20,10 +20,10 @@ module _ {T A G J : Type 0} (here : Setting T A J) where
     -- The replies to the commands of the run. They were appended to the replies in `before`.
     pub replies : List (Reply T A G)
     pub appended : after ≡ before ++ replies
-    -- Suppose that each clone equals its source, and that no call failed. Then the fold of
-    -- `items_after` over the commands computes the final items, and the scan with `reply_to`
-    -- computes the part of each reply that `seen` extracts. The functions `items_after` and
-    -- `reply_to` are defined on plain lists of items.
+    -- Suppose that each clone equals its source, and that no call failed. Then the final items are
+    -- the result of folding `items_after` over the commands. The replies, each reduced to the part
+    -- that `seen` extracts, are the result of scanning the commands with `items_after` and
+    -- `reply_to`. The functions `items_after` and `reply_to` are defined on plain lists of items.
     pub plain : ClonesEqual here.clones → All IsGranted replies
         → (new.items ≡ fold (items_after here) old.items commands)
         × (map seen replies ≡ scan (items_after here) (reply_to here) old.items commands)

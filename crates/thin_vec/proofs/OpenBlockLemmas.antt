@@ -66,8 +66,8 @@ module _ {T A : Type 0} where
   abbrev pub to_rest : Open T A → List (Option T)
   to_rest v = full v.front ++ empty v.gap
 
-  -- `to_after v` is the list of the slots of the open block `v` from the first slot to the slot of
-  -- the last middle item.
+  -- `to_after v` is the list of the slots of the open block `v` up to the end of the middle items:
+  -- `to_rest v`, followed by the slots of the middle items.
   abbrev to_after : Open T A → List (Option T)
   to_after v = to_rest v ++ full v.rest
 
@@ -90,19 +90,19 @@ module _ {T A : Type 0} where
   past_rest v = empty v.gap_after ++ past_after v
 
   module _ (h : Inside T A) (v : Open T A) (s : Shows h v) where
-    -- The slots of the open block `h` are, in this order: the slots before the middle items, the
-    -- slots of the middle items, and the slots after the middle items.
+    -- The slots of the open block `h` are, in this order: `to_rest v` (the slots before the middle
+    -- items), the slots of the middle items, and `past_rest v` (the slots after the middle items).
     pub by_rest : h.block.slots ≡ to_rest v ++ (full v.rest ++ past_rest v)
     by_rest = s.row ∙ sym
         (append_assoc (full v.front) (empty v.gap) (full v.rest ++ past_rest v))
 
-    -- The slots of the open block `h` are the slots from the first slot to the slot of the last
-    -- middle item, followed by all later slots.
+    -- The slots of the open block `h` are `to_after v` (the slots up to the end of the middle
+    -- items), followed by `past_rest v` (the slots after the middle items).
     by_after : h.block.slots ≡ to_after v ++ past_rest v
     by_after = by_rest ∙ sym (append_assoc (to_rest v) (full v.rest) (past_rest v))
 
-    -- The slots of the open block `h` are the slots before the tail items, followed by the slots
-    -- from the first tail item onward.
+    -- The slots of the open block `h` are `to_tail v` (the slots before the tail items), followed
+    -- by `past_after v` (the slots from the first tail item onward).
     by_tail : h.block.slots ≡ to_tail v ++ past_after v
     by_tail = by_after ∙ sym (append_assoc (to_after v) (empty v.gap_after) (past_after v))
 
@@ -251,7 +251,7 @@ module _ {T A : Type 0} where
     abbrev v : Open T A
     v = open_of h
 
-    -- `first-left` is the open block `h` after its first middle item was removed.
+    -- `first-left` is the open block `h` after its first middle item has been removed.
     abbrev pub first-left : Inside T A
     first-left = record {
       block = b;
@@ -320,7 +320,7 @@ module _ {T A : Type 0} where
               (ap (λ (z : Seen T A). z.cost) now),
         )
 
-    -- `last-left` is the open block `h` after its last middle item was removed.
+    -- `last-left` is the open block `h` after its last middle item has been removed.
     abbrev pub last-left : Inside T A
     last-left = record {
       block = b;
@@ -709,7 +709,7 @@ module _ {T A : Type 0} where
   -- `count` empty slots follow the tail items.
   module _ (h : Inside T A) (o : IsOpen h) (b : Block T A) (count : ℕ)
       (room : h.len + count ≤ (open_of h).capacity) where
-    -- `widened` is the open block `h` after its tail items were moved up by `count` slots.
+    -- `widened` is the open block `h` after its tail items have been moved up by `count` slots.
     abbrev pub widened : Inside T A
     widened = record {
       block = b;

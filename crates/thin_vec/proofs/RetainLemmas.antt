@@ -377,8 +377,8 @@ module _ {S T : Type 0} (R : S → T → Bool → S → T → Type 0) where
     pub run-end : drop m ys ≡ r.end
     run-end = ap (drop m) run-now ∙ drop_at r.left r.end m run-long
 
-    -- If an item `v` follows the kept items, then this item was tested, and the closure returned
-    -- false.
+    -- If the kept items are directly followed by the item `v`, then the closure returned false for
+    -- this item. `x` is the item before its test.
     pub stop-goes : (u : S) (b e : List T) (v : T) (rest : List T) → Stops R u b t e → e ≡ v ∷ rest
         → (x : T) × (b ≡ x ∷ rest) × R u x false t v
     stop-goes u [] e v rest h k = absurd (cons-not-nil (sym k ∙ h.0))
@@ -389,8 +389,9 @@ module _ {S T : Type 0} (R : S → T → Bool → S → T → Type 0) where
           subst (λ (y : T). R u x false t y) (cons-head same) h.1,
         )
 
-    -- If an item `v` follows the kept items, then `v` is to be removed, and the items `rest` after
-    -- `v` have not been tested yet.
+    -- Suppose that, in the list `ys`, the first `m` items (the kept items) are directly followed by
+    -- the item `v`, and then by the items `rest`. Then `v` is to be removed, and the items `rest`
+    -- have not been tested yet.
     pub part-goes : (v : T) (rest : List T) → drop m ys ≡ v ∷ rest → Part m s xs t (take m ys) rest
     part-goes v rest k =
         let g = stop-goes r.between r.after r.end v rest r.stops (sym run-end ∙ k) in

@@ -270,8 +270,8 @@ impl<T, A: Allocator, G: Growth> ThinVec<T, A, G> {
 }
 
 impl<T: Drop, A: Allocator, G: Growth> Drop for ThinVec<T, A, G> {
-    // Drops each item, and then frees the block. The stored length is not updated, because the
-    // block is freed anyway. If the list has no block, `drop_block` is not called.
+    // If the list has a block, calls `drop_block`, which drops each item and then frees the block.
+    // The stored length is not updated, because the block is freed anyway.
     #[inline(always)]
     fn drop(self) {
         let (block, alloc) = self.into_parts();

@@ -1,11 +1,12 @@
-//! Workloads that insert, remove or replace items at indices of a list.
+//! Workloads that edit a list at the front or in the middle, and one workload that shrinks a list.
 use crate::lists::{Family, Numbers};
 use crate::numbers::{Count, FOUR, InTurn, One, Outcome, Three, Two, mixed, seen};
 use crate::workloads::shapes::{Work, filled, refill, refilled, repeated};
 use std::alloc::Global;
 use std::marker::PhantomData;
 
-/// The workloads that insert, remove or replace items at indices of a list.
+/// The workloads that edit a list at the front or in the middle, and the workload `ShrinkPush`,
+/// which shrinks a list.
 #[derive(Clone, Copy)]
 pub enum Editing {
     InsertFront,
@@ -26,7 +27,7 @@ pub enum Editing {
     ShrinkPush,
 }
 
-/// Runs the workload `workload`, which edits a list at indices, on lists of the kind `F`.
+/// Runs `workload` on lists of the kind `F`.
 ///
 /// # Errors
 ///

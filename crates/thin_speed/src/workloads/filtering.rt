@@ -28,7 +28,7 @@ pub enum Filtering {
     ExtractRandom,
 }
 
-/// Runs the workload `workload`, which removes items, on lists of the kind `F`.
+/// Runs `workload` on lists of the kind `F`.
 ///
 /// # Errors
 ///

@@ -37,7 +37,7 @@ pub enum Growing {
     RefillWide,
 }
 
-/// Runs the workload `workload`, which grows, refills or reads lists of the kind `F`.
+/// Runs `workload` on lists of the kind `F`.
 ///
 /// # Errors
 ///

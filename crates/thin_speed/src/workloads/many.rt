@@ -15,7 +15,7 @@ pub enum Many {
     Leaves,
 }
 
-/// Runs the workload `workload`, which uses many lists of the kind `F`.
+/// Runs `workload`, which uses many lists of the kind `F`.
 ///
 /// # Errors
 ///

@@ -10,7 +10,7 @@ pub enum Tables {
     TableGet,
 }
 
-/// Runs the workload `workload` on a table of the kind `F`.
+/// Runs `workload` on a table of the kind `F`.
 ///
 /// # Errors
 ///

@@ -1,6 +1,6 @@
 //! Functions whose contracts state the capacity of a list after each of five pushes. They also
 //! state how many blocks are allocated, and how many items are copied, while the list grows. So all
-//! these numbers are proved.
+//! these numbers are proved to be correct.
 ghost use Rattle.std.specs.Prelude.{◌≡◌, ◌+◌, ◌*◌, ◌<◌, [], ◌∷◌, IfOk, OnOk, length};
 ghost use Rattle.thin_vec.specs.ThinVec.{HasRoomFor};
 

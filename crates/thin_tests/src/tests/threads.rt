@@ -1,5 +1,6 @@
 //! Tests that lists, and values made from lists, can be passed to functions with the bounds `Send`
-//! and `Sync`. No thread is started, because it suffices that the calls compile and are proved.
+//! and `Sync`. No thread is started, because it suffices that the tests compile and that the
+//! checker accepts them.
 ghost use Rattle.std.specs.Prelude.{◌≡◌};
 
 use crate::tests::support::assertions::assert_same;

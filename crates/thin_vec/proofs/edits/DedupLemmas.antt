@@ -274,8 +274,9 @@ module _ {S T : Type 0} (R : OnPairs S T) where
     pub run-over : drop m ys ≡ r.over ++ r.after
     run-over = ap (drop m) r.now ∙ drop_at r.left (r.over ++ r.after) m r.long
 
-    -- If an item follows the `m` kept items, then this item is to be removed, and the items after
-    -- it have not been tested yet.
+    -- Suppose that, in the list `ys`, the first `m` items (the kept items) are directly followed by
+    -- the item `value`, and then by the items `rest`. Then `value` is to be removed, and the items
+    -- `rest` have not been tested yet.
     pub run-goes : (value : T) (rest : List T) → drop m ys ≡ value ∷ rest → (r.after ≡ rest)
         × (r.stays ≡ all-stay r.more ++ false ∷ [])
     run-goes value rest k =

@@ -96,8 +96,8 @@ module _ {T A : Type 0} (h : Inside T A) (o : IsOpen h) (b : Block T A) (k : ℕ
   abbrev v : Open T A
   v = open_of h
 
-  -- `brought` is the open block after its last `k` tail items were moved to the end of its front
-  -- items.
+  -- `brought` is the open block after its last `k` tail items have been moved to the end of its
+  -- front items.
   abbrev pub brought : Inside T A
   brought = record {
     block = b;
@@ -277,10 +277,10 @@ pub record IsParted (k r k1 k2 : ℕ) : Type 0 where
   -- The number of all clones is `k1 + k2`.
   pub all : k1 + k2 ≡ k
 
--- Suppose that `t` items follow a range of `r` items. To replace the range with `k` clones, `k2`
--- clones are inserted directly after the range, and `k1` clones are appended to the list and then
--- moved into the range. This takes `min k r` more moves than a replacement with `k` items that
--- already exist.
+-- Suppose that `t` items follow a range of `r` items, and that `k` clones replace this range. The
+-- first `k1` clones, where `k1` is `min k r`, are appended to the list and then moved into the
+-- range. The other `k2` clones are inserted directly after the range. Then the replacement takes
+-- `min k r` more moves than a replacement with `k` items that already exist.
 pub cloning-moves : {k r k1 k2 : ℕ} → IsParted k r k1 k2 → (t : ℕ) {z u : ℕ} → z ≡ 0 → u ≡ t + k2
     → ((k2 + (if eqb k2 z then 0 else t)) + k1) + (k1 + (if eqb k1 r then 0 else u))
     ≡ (k + (if eqb k r then 0 else t)) + min k r

@@ -71,8 +71,8 @@ closed-moves v w n paid none same count = go (eqb w.gap 0) refl
         false-true : false ≡ true → ⊥
         false-true h = cc
 
--- Suppose that `n` items are moved up, or no item if `count` is 0, and that `k + m` more moves
--- follow. Then the total number of moves is `k + x` for some number `x` that is at most `n + m`.
+-- Suppose that `n` items are moved up (none if `count` is 0), and that `k + m` more moves follow.
+-- Then the total number of moves is `k + x` for some number `x` with `x ≤ n + m`.
 pub run-moves : (count n k m : ℕ) (c d : Cost) → d ≡ (if eqb count 0 then c else moving n c)
     → (x : ℕ) × (moving (k + m) d ≡ moving (k + x) c) × (x ≤ n + m)
 run-moves count n k m c d e = go (eqb count 0) e

@@ -149,8 +149,8 @@ module _ {T A : Type 0} where
   }
 
 -- Suppose that the list `v` became `w` when the items `xs` were appended, at the cost of one move
--- for each item. Then `w` differs from `v` only in its items and in `length w.items - length
--- v.items` additional moves.
+-- for each item. Then `w` differs from `v` only in its items and in
+-- `length w.items - length v.items` additional moves.
 pub spare-kept : {T A : Type 0} (v w : Thin T A) (xs : List T)
     → w ≡ record v { items = v.items ++ xs; cost = moving (length xs) v.cost }
     → w ≡ record v
@@ -211,8 +211,8 @@ module _ (rule : Rule) (R : RattleType) (law : KeepsLaw rule) where
 
 module _ {T A : Type 0} where
   -- Suppose that the list `v` grew at most once, and became `w` when `k` items were appended with
-  -- `k` moves. If the growth copied at most one item for each slot that it added, then `CostsAdding
-  -- v w 0` holds: apart from the growth, no old item was moved.
+  -- `k` moves. If the growth copied at most one item for each slot that it added, then
+  -- `CostsAdding v w 0` holds: apart from the growth, no old item was moved.
   pub filled-at : (v w : Thin T A) (k : ℕ) → w.cost ≡ moving k (cost_at v w.capacity)
       → length w.items ≡ length v.items + k
       → (cost_at v w.capacity).grown + v.capacity ≤ v.cost.grown + w.capacity → CostsAdding v w 0

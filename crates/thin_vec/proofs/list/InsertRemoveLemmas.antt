@@ -229,8 +229,8 @@ module _ {T : Type 0} where
         ∙ ap (λ (s : List (Option T)). s ++ post)
         (replicate-append-replicate (i - k) 1 None ∙ ap empty more))))
 
-  -- After all slots from index `k` onward have been emptied, the row of slots is `front (take k xs)
-  -- c`: slots with the first `k` items of `xs`, followed by empty slots.
+  -- After all slots from index `k` onward have been emptied, the row of slots is
+  -- `front (take k xs) c`: slots with the first `k` items of `xs`, followed by empty slots.
   pub emptying-all : (xs : List T) (k c : ℕ) → k ≤ length xs → length xs ≤ c
       → emptying xs k (length xs) c ≡ front (take k xs) c
   emptying-all xs k c order room =

@@ -22,8 +22,8 @@ tells-ok x named n is = record {
 }
 
 -- Suppose that `exact_capacity` returns the same capacity for `m` items of type `R` and for `n`
--- items of type `S`. If `TellsOverflowOf R m` holds for the result `Ok x`, then `TellsOverflowOf S
--- n` holds for the result `Ok y`.
+-- items of type `S`. If `TellsOverflowOf R m` holds for the result `Ok x`, then
+-- `TellsOverflowOf S n` holds for the result `Ok y`.
 pub tells-made : {X : Type 0} {x y : X} (R S : RattleType) (m n : ℕ)
     → exact_capacity R 0 m ≡ exact_capacity S 0 n
     → TellsOverflowOf R m (let r : Result X ThinVecError = Ok x in r)
@@ -36,8 +36,8 @@ tells-made {x = x} {y} R S m n e told = record {
 }
 
 -- Suppose that `exact_capacity` returns the same capacity for `m` items of type `R` and for `n`
--- items of type `S`. If `TellsOverflowOf R m r` holds for the result `r`, then `TellsOverflowOf S n
--- r` holds.
+-- items of type `S`. If `TellsOverflowOf R m r` holds for the result `r`, then
+-- `TellsOverflowOf S n r` holds.
 pub tells-same : {X : Type 0} {r : Result X ThinVecError} (R S : RattleType) (m n : ℕ)
     → exact_capacity R 0 m ≡ exact_capacity S 0 n → TellsOverflowOf R m r → TellsOverflowOf S n r
 tells-same R S m n e told = record {

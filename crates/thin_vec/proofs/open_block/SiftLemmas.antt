@@ -198,8 +198,9 @@ module _ {T A : Type 0} where
         })
         alloc refl
 
-    -- The slots from the first middle item onward are the slots of the first `k` middle items,
-    -- followed by all later slots.
+    -- The slots from the first middle item onward are, in this order: the slots of the first `k`
+    -- middle items, the slots of the other middle items, and `past_rest u` (the slots after the
+    -- middle items).
     cut : full u.rest ++ past_rest u ≡ full (take k u.rest) ++ (full (drop k u.rest) ++ past_rest u)
     cut =
         ap (λ (l : List T). full l ++ past_rest u) (sym (take-append-drop k u.rest))

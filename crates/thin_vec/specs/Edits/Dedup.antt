@@ -37,8 +37,8 @@ module _ {S T : Type 0} (R : S → T → T → Bool → S → T → T → Type 0
     pub asked : AskedPairs s v.items stays w.items t
     pub cost : w.cost ≡ moving (moved_down stays) v.cost
 
-  -- `IsDedupedBy s v w` states that there is a final state `t` of the test for which `IsDedupedTo s
-  -- v w t` holds.
+  -- `IsDedupedBy s v w` states that there is a final state `t` of the test for which
+  -- `IsDedupedTo s v w t` holds.
   abbrev pub IsDedupedBy : {A : Type 0} → S → Thin T A → Thin T A → Type 0
   IsDedupedBy s v w = (t : S) × IsDedupedTo s v w t
 

@@ -63,8 +63,8 @@ module _ {S T : Type 0} (R : S → T → Bool → S → T → Type 0) where
     pub items : w.items ≡ left_at true verdicts
     pub cost : w.cost ≡ moving (moved_down (flags_of verdicts)) v.cost
 
-  -- `IsRetained s v w` states that there is a final state `t` of the test for which `IsRetainedTo s
-  -- v w t` holds.
+  -- `IsRetained s v w` states that there is a final state `t` of the test for which
+  -- `IsRetainedTo s v w t` holds.
   abbrev pub IsRetained : {A : Type 0} → S → Thin T A → Thin T A → Type 0
   IsRetained s v w = (t : S) × IsRetainedTo s v w t
 

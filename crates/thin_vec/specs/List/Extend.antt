@@ -24,8 +24,8 @@ pub record PausedAfter {S X : Type 0} (steps : S → Option X → S → Type 0) 
   pub finite : IsFinite (remaining t)
 
 -- `IsLoose rule R c d` holds if `d` is `c`, or if `d` is at least as large as a capacity that the
--- growth rule chooses when a block of capacity `c` needs room for more than `c` items. So a
--- capacity that changes from `c` to `d` at least doubles.
+-- growth rule chooses when a block of capacity `c` needs room for more than `c` items. So if `d` is
+-- not `c`, then `d` is at least `2 * c`.
 abbrev pub IsLoose : Rule → RattleType → ℕ → ℕ → Type 0
 IsLoose rule R c d =
     (d ≡ c) ⊎ ((w : ℕ) × (n : ℕ) × (c < w) × (ruled_capacity rule R c w ≡ Some n) × (n ≤ d))
@@ -42,32 +42,33 @@ IsRuled rule R d n = (e w : ℕ) × (e < w) × (w ≤ n) × (ruled_capacity rule
 abbrev pub IsKeptOrRuled : Rule → RattleType → ℕ → ℕ → ℕ → Type 0
 IsKeptOrRuled rule R c d n = (d ≡ c) ⊎ IsRuled rule R d n
 
--- `IsExtended rule R v d n left` restricts the capacity `d` after the list `v` was extended to `n`
--- items. There are two cases: `d` satisfies `IsKeptOrRuled` for at most `n` items, or `d` is
--- `capacity_for rule R v h`. Here, `h` is a possible lower bound of the size hint of an iterator
--- that yields at most `left` items.
+-- `IsExtended rule R v d n left` states that `d` is an allowed capacity of the list that results
+-- from extending the list `v` to `n` items. There are two cases: `d` satisfies `IsKeptOrRuled` for
+-- at most `n` items, or `d` is `capacity_for rule R v h`. Here, `h` is a possible lower bound of
+-- the size hint of an iterator that yields at most `left` items.
 abbrev pub IsExtended : {T A : Type 0} → Rule → RattleType → Thin T A → ℕ → ℕ → Count → Type 0
 IsExtended rule R v d n left =
     IsKeptOrRuled rule R v.capacity d n
     ⊎ ((h : ℕ) × IsWithinCount h left × (capacity_for rule R v h ≡ Some d))
 
--- `IsCollected rule R d n left` restricts the capacity `d` of a new list of `n` items. There are
--- two cases: `d` satisfies `IsRuled` for at most `n` items, or `d` is the capacity of a new block
--- for exactly `h` items. Here, `h` is a possible lower bound of the size hint of an iterator that
--- yields at most `left` items.
+-- `IsCollected rule R d n left` states that `d` is an allowed capacity of a new list of `n` items.
+-- There are two cases: `d` satisfies `IsRuled` for at most `n` items, or `d` is the capacity of a
+-- new block for exactly `h` items. Here, `h` is a possible lower bound of the size hint of an
+-- iterator that yields at most `left` items.
 abbrev pub IsCollected : Rule → RattleType → ℕ → ℕ → Count → Type 0
 IsCollected rule R d n left =
     IsRuled rule R d n ⊎ ((h : ℕ) × IsWithinCount h left × (exact_capacity R 0 h ≡ Some d))
 
 module _ {T A : Type 0} where
-  -- These clauses restrict the capacity of the list `w` after items of an iterator were added to
-  -- the list `v`, which became `w`. `left` is an upper bound on the number of items that the
-  -- iterator may yield.
+  -- These clauses state which capacity the list `w` may have if adding items of an iterator turned
+  -- the list `v` into `w`. `left` is an upper bound on the number of items that the iterator may
+  -- yield.
   pub record GrowsFor (rule : Rule) (R : RattleType) (v w : Thin T A) (left : Count) : Type 0 where
     -- If `v` has room for all items that the iterator may yield, the capacity does not change.
     pub had_room : HasRoomFor v (size left) → w.capacity ≡ v.capacity
-    -- Either the capacity does not change, or it becomes at least as large as a capacity that the
-    -- growth rule chooses. So a capacity that changes at least doubles.
+    -- Either the capacity does not change, or the new capacity is at least as large as one that the
+    -- growth rule chooses for more items than the old capacity. So if the capacity changes, it at
+    -- least doubles.
     pub loose : IsLoose rule R v.capacity w.capacity
     -- Either the capacity does not change, or the growth rule chooses it. The rule chooses it
     -- either for at most the final number of items, or for a possible lower bound of the iterator's

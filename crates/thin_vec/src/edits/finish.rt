@@ -195,7 +195,7 @@ impl<T: Drop, A: Allocator, G: Growth> ThinVec<T, A, G> {
         requires can_next { I.can_next iter }
         requires finite { IsFinite (I.remaining iter) }
 
-        // All clauses of `Splice::finish` follow from this clause.
+        // All `ensures` clauses of `Splice::finish` follow from this clause.
         ensures { IsFinished I.next_gives I.can_next I.remaining G.rule T.row block self.old.alloc
             iter self.new result }
     {
@@ -244,7 +244,7 @@ impl<T: Drop, A: Allocator, G: Growth> ThinVec<T, A, G> {
         requires can_next { I.can_next iter }
         requires finite { IsFinite (I.remaining iter) }
 
-        // All clauses of `Splice::finish` follow from this clause.
+        // All `ensures` clauses of `Splice::finish` follow from this clause.
         ensures { IsFinished I.next_gives I.can_next I.remaining G.rule T.row block self.old.alloc
             iter self.new result }
     {

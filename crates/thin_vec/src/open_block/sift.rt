@@ -239,9 +239,9 @@ impl<T, A: Allocator> OpenBlock<T, A> {
 impl<T: Drop, A: Allocator> OpenBlock<T, A> {
     ghost use Rattle.thin_vec.specs.OpenBlock.Sift.{IsSifted, Sifts};
 
-    // Tests each remaining item, in order, and drops the items that are not kept. After the first
-    // removal, the kept items are moved down to close the gap. After the call, no item remains to
-    // be tested.
+    // Tests each remaining item, in order, and drops the items that are not kept. Each item that is
+    // kept after the first removal is moved down, so that there are no empty slots between the kept
+    // items. After the call, no item remains to be tested.
     pub(crate) fn sift<J: Test<T>>(&mut self, test: &mut J)
         requires none { self.old.gap ≡ 0 }
         requires ready { J.ready test.old }

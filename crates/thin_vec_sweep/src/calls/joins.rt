@@ -11,7 +11,7 @@ use thin_testing::Ruled;
 // is made from the next higher number.
 const FRESH: u64 = 80_000;
 
-/// A test that calls `append` with a second list of various lengths. For each length, the second
+/// A test that calls `append` with second lists of various lengths. For each length, the second
 /// list is tried once without spare capacity, and once with one empty slot.
 pub struct Append {}
 

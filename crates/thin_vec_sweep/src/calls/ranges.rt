@@ -34,8 +34,8 @@ impl<T: Sample, G: Ruled> Call<T, G> for Drained {
     }
 }
 
-// Returns the items outside `range`, in a list of `length` items. Each item is represented by the
-// number from which it was made.
+// Returns those items of a list of `length` items that lie outside `range`. Each item is
+// represented by the number from which it was made.
 fn outside<R: Abort>(rt: &R, global: Global, range: Ranged, length: usize) -> Vec<u64, Global> {
     let mut left = Vec::new(global);
     for index in 0..length {

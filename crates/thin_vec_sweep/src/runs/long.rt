@@ -136,7 +136,8 @@ fn earlier_reply<'a, R: Abort>(rt: &R, alloc: Lender<'a>) -> Replies<'a> {
     replies
 }
 
-// Returns whether `replies` contains only the reply from `earlier_reply`.
+// Returns whether `replies` contains exactly one reply, and this reply has the cause
+// `CapacityOverflow`, like the reply that the function `earlier_reply` makes.
 fn has_earlier_alone(replies: &Replies<'_>) -> bool {
     match replies.as_slice() {
         [left] => left.refusal() == Some(ThinVecError::CapacityOverflow),

@@ -76,7 +76,8 @@ pub struct Shown<T, A: Allocator> {
     /// For a command that removes or replaces one item, only this item, or `None` if there was no
     /// such item.
     pub answers: Vec<Option<T>, A>,
-    /// The items of the list in the reply, or the items that a failed command returned.
+    /// The items of the list in the reply, the items that a failed command returned, or the new
+    /// items of a command that is out of range.
     pub items: Vec<T, A>,
     /// The capacity of the list in the reply, or the number of items that a failed splice had
     /// stored in a temporary vector.

@@ -51,7 +51,8 @@ use Rattle.thin_block.specs.contracts.in_place.resized.Key as key
 use Rattle.thin_block.proofs.in_place.resized.Statement as stated
 use Rattle.thin_block.proofs.in_place.resized.Code as code
 
--- The two statements that return the value of the local variable `k`.
+-- `gives k` is the code that returns the value of the local variable with the index `k`: it assigns
+-- this value to the variable with the index 0, which holds the result, and then returns.
 abbrev gives : ℕ → Body
 gives k = seq (assign (place 0 []) (rv_opd (copy (place k [])))) return
 
@@ -120,8 +121,8 @@ module _ (E : El) (Y : Al) {M : Type 1} {𝓤 : Ura M} (𝓛 : Logic 𝓤) (at_m
   left x y b o = resized_if_ok (token Y r.now) (R E) x len held wanted xs (result_of y b o)
 
   -- Ends the proof of `resized`. Before this step the proof context holds, in this order: [the
-  -- resources that the call to `grow` or `shrink` has returned; the lifetime tokens of the `&` to
-  -- the allocator, of `T` and of `A`].
+  -- resources that the call to `grow` or `shrink` has returned; the lifetime tokens of the shared
+  -- reference to the allocator, of `T` and of `A`].
   exits : (x : Ptr) (y : Bool) (b o : ℕ)
       → ent 𝓤 (⋆ 𝓛 (‵ (left x y b o) ∷ ‵ (flft κ q) ∷ ‵ (flft κT qT) ∷ (‵ (flft κA qA) ⊛ ‵ ftrue)
       ∷ [])) (Post x (answer_val y b o))
@@ -171,7 +172,8 @@ module _ (E : El) (Y : Al) {M : Type 1} {𝓤 : Ura M} (𝓛 : Logic 𝓤) (at_m
       move ! (1 ∷ []) $ split ! $ split3 ! $ move ! (3 ∷ []) $ fsplit ! $ fsplit ! $
       keep ! (6 ∷ 1 ∷ 3 ∷ 4 ∷ 5 ∷ []) $
       -- The `requires` clauses have been read. The proof context holds, in this order: [the block;
-      -- the `&` to the allocator; the lifetime tokens of this `&`, of `T` and of `A`].
+      -- the shared reference to the allocator; the lifetime tokens of this reference, of `T` and of
+      -- `A`].
       enter ! C Λ (here E Y) (vs x) _ $ alloc_all ! (λ l. pass_all ! refl (
         (tt, tt),
         (

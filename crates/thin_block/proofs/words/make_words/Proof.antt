@@ -1,6 +1,6 @@
--- For each word, `make_words` reads the items of the word and writes them back as one word at the
--- same address. It begins with the first word. The proof assumes the laws of the separation logic
--- (`Logic`).
+-- A word is a value of the struct `Words`, which holds one or more items. For each word,
+-- `make_words` reads the items of the word, and writes them back as one word at the same address.
+-- It begins with the first word. The proof assumes the laws of the separation logic (`Logic`).
 use mathlib.Core.Path.{◌≡◌, refl, sym, ap, ◌∙◌}
 use mathlib.Core.List.{List, [], ◌∷◌, map}
 use mathlib.Core.WellFounded.InvImage
@@ -110,7 +110,8 @@ module _ (E : El) (m : ℕ) where
   word_fits : (v : Val) → Fits (ty_array (layout E.row) m) v → Fits (layout Wr) (word_val v)
   word_fits v fits = (both (has_ty (ty_array (layout E.row) m) v) _ fits.0 tt, (fits.1, (tt, tt)))
 
-  -- A word owns what its items own.
+  -- Converts what an array of the items `xs` owns into what the word of these items owns. If `v` is
+  -- the machine value of the array, then `word_val v` is the machine value of the word.
   word_made : {M : Type 1} {𝓤 : Ura M} (𝓛 : Logic 𝓤) (xs : List (el_x E)) (v : Val)
       → ent 𝓤 (sem 𝓛 (Arr.own_val xs (v ∷ [])))
       (sem 𝓛 (Wr.own_val (word (R E) N xs) (word_val v ∷ [])))

@@ -83,8 +83,8 @@ allocate_block_spec 𝓤 𝓛 𝓜 𝓡 wired T A LT LA g d dd met md =
     let bytes_are : bytes ≡ size_of_block = said.1.1.1.1.0 in
     let align_is : al ≡ align_of_block = said.1.1.1.1.1 in
     fsplit ! $ drop ! $ keep ! (0 ∷ 1 ∷ 2 ∷ []) $
-    -- The `requires` clauses have been read. The proof context holds, in this order: [the `&` to
-    -- the allocator; the lifetime token of this `&`; the other lifetime tokens].
+    -- The `requires` clauses have been read. The proof context holds, in this order: [the shared
+    -- reference to the allocator; the lifetime token of this reference; the other lifetime tokens].
     let fits : fits_block Rt cap ≡ true = opened Rt cap small in
     let short = (fits_tells Rt cap fits).short in
     let sixteen = (rounded Rt 0).most in

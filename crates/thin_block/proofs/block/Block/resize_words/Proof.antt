@@ -205,7 +205,7 @@ resize_words_spec 𝓤 𝓛 𝓜 𝓡 wired T A m k LT LA fits_m fits_k g d dd m
     block_had E Y ! x vss.0 (λ b o at told fits.
     -- The block has been split into its header and its slots. The proof context holds, in this
     -- order: [the header; the slots; what the other arguments own; the lifetime tokens of `A`, `M`
-    -- and `K`, of the `&` to the allocator, and of `T`].
+    -- and `K`, of the shared reference to the allocator, and of `T`].
     let here : Ptr = block_ptr b o in
     let there : ℕ = count * s + o in
     let same_bytes : count * s ≡ len * type_size Rt = ap (λ (n : ℕ). count * n) hd.size
@@ -235,7 +235,8 @@ resize_words_spec 𝓤 𝓛 𝓜 𝓡 wired T A m k LT LA fits_m fits_k g d dd m
     keep ! (2 ∷ 3 ∷ 4 ∷ 5 ∷ 0 ∷ 9 ∷ 10 ∷ 6 ∷ 7 ∷ 8 ∷ []) $
     -- The slots have been converted into items and empty words. The proof context holds, in this
     -- order: [the items; the empty words; memory for the header; the right to free the block; the
-    -- `&` to the allocator; the lifetime tokens of this `&` and of `T`, `A`, `M` and `K`].
+    -- shared reference to the allocator; the lifetime tokens of this reference and of `T`, `A`, `M`
+    -- and `K`].
     regoal ! (λ (us : List Val). prop (WpFn 𝓤 H C Λ fn us Post))
     (λ i. told i ++ (are.1.0.0 i ++ (are.1.1.0.0 i ++ (are.1.1.1.0.0 i ++ (are.1.1.1.1.0.0 i
     ++ (are.1.1.1.1.1.0.0 i ++ (are.1.1.1.1.1.1.0.0 i ++ (are.1.1.1.1.1.1.1.0.0 i ++ []))))))))
@@ -309,8 +310,8 @@ resize_words_spec 𝓤 𝓛 𝓜 𝓡 wired T A m k LT LA fits_m fits_k g d dd m
     lands_as ! (ap only is_unit) refl (tt, tt) $ move ! (0 ∷ 2 ∷ []) $
     -- `make_words` has converted the items into words. The proof context holds, in this order: [the
     -- words; the empty words; the lifetime tokens of `T` and `M`; memory for the header; the right
-    -- to free the block; the `&` to the allocator; the lifetime tokens of this `&`, of `A` and of
-    -- `K`].
+    -- to free the block; the shared reference to the allocator; the lifetime tokens of this
+    -- reference, of `A` and of `K`].
     use2 𝓛 (‵ (places Rw (full ws ++ empty v) b (o + 16)))
     (words_joined 𝓛 T LT m k b hd items count j v w old (o + 16) whole_words slots_are fill
     (hd.counts.covers old)) $
@@ -321,14 +322,14 @@ resize_words_spec 𝓤 𝓛 𝓜 𝓡 wired T A m k LT LA fits_m fits_k g d dd m
     $ split3 ! $ move ! (3 ∷ []) $ split3 ! $ move ! (2 ∷ []) $ drop ! $
     -- The last `k` words have been separated from the words before them. The proof context holds,
     -- in this order: [the lifetime tokens of `T` and `M`; the words before the last `k` words; the
-    -- last `k` words; the empty words; memory for the header; the right to free the block; the `&`
-    -- to the allocator; the lifetime tokens of this `&`, of `A` and of `K`].
+    -- last `k` words; the empty words; memory for the header; the right to free the block; the
+    -- shared reference to the allocator; the lifetime tokens of this reference, of `A` and of `K`].
     move ! (1 ∷ 10 ∷ []) $ join ! $ move ! (9 ∷ 0 ∷ []) $ join ! $
     move ! (3 ∷ 2 ∷ 4 ∷ 5 ∷ 6 ∷ 7 ∷ 8 ∷ 1 ∷ 0 ∷ []) $
     -- The entries of the proof context have been put into a new order: [the last `k` words; the
     -- words before them; the empty words; memory for the header; the right to free the block; the
-    -- `&` to the allocator; the lifetime tokens of this `&` and of `T`; the lifetime tokens of `A`,
-    -- `M` and `K`].
+    -- shared reference to the allocator; the lifetime tokens of this reference and of `T`; the
+    -- lifetime tokens of `A`, `M` and `K`].
     use1 𝓛 (exists (λ (u : Val). ‵ (fat full_share (ty_array ω k) b there u) ⊛ ‵
     (Arr.own_val ys (u ∷ [])))) (part_out 𝓛 (Array Rw k) refl full_share ys b there) $
     pick ! (λ u₁. split ! $
@@ -346,15 +347,16 @@ resize_words_spec 𝓤 𝓛 𝓜 𝓡 wired T A m k LT LA fits_m fits_k g d dd m
     sets ! (of_opd ! (load ! (through ! refl (stop !)) (look ! 0 refl))) refl good $
     assigns ! (of_opd ! (get ! refl)) (through ! refl (stop !)) (init ! 4 refl good) $
     -- The bytes of the last `k` words have been copied into the memory of the header. The proof
-    -- context holds, in this order: [these bytes at their old address; what the last `k` words own;
-    -- the words before them; the empty words; the same bytes in the memory of the header; the right
-    -- to free the block; the `&` to the allocator; the lifetime tokens].
+    -- context holds, in this order: [the bytes at the old address of these words; what these words
+    -- own; the words before them; the empty words; the copied bytes in the memory of the header;
+    -- the right to free the block; the shared reference to the allocator; the lifetime tokens].
     use1 𝓛 (‵ (froom (ty_array ω k) b there)) (𝓛.laws.at_room (ty_array ω k) b there u₁) $
     move ! (4 ∷ 1 ∷ []) $ use2 𝓛 (‵ (part_at (Array Rw k) full_share ys b o))
     (part_in 𝓛 (Array Rw k) refl full_share ys b o u₁) $
     -- The last `k` words are now in the memory of the header. The proof context holds, in this
     -- order: [the last `k` words; uninitialized memory at their old address; the words before them;
-    -- the empty words; the right to free the block; the `&` to the allocator; the lifetime tokens].
+    -- the empty words; the right to free the block; the shared reference to the allocator; the
+    -- lifetime tokens].
     move ! (0 ∷ 2 ∷ 1 ∷ 3 ∷ 4 ∷ []) $ group ! 5 $
     use1 𝓛 (‵ (block_with_items tok Rw here count held (ys ++ xs)))
     (turn_up 𝓛 W b k sixteen o xs ys long count v parted tok w held filled held_is) $
@@ -389,8 +391,8 @@ resize_words_spec 𝓤 𝓛 𝓜 𝓡 wired T A m k LT LA fits_m fits_k g d dd m
     (Resizing-gives EX Y 𝓛 𝓜.mem 𝓡.returns κ κT κA q qT z.0.1.1.1.0 z.0.2.0 handle_at h b o count
     held wanted (ys ++ xs) u) $ await ! tt $ split ! $ move ! (1 ∷ []) $ split3 ! $
     -- `resized` has returned. The proof context holds, in this order: [the lifetime tokens of the
-    -- `&` to the allocator, of `T` and of `A`; what `resized` has returned; the lifetime tokens of
-    -- `M` and `K`].
+    -- shared reference to the allocator, of `T` and of `A`; what `resized` has returned; the
+    -- lifetime tokens of `M` and `K`].
     move ! (2 ∷ 4 ∷ []) $ join ! $ move ! (2 ∷ 0 ∷ []) $ join ! $ move ! (1 ∷ 0 ∷ []) $ join ! $
     move ! (1 ∷ []) $
     -- The lifetime tokens have been joined into one entry. The proof context holds, in this order:

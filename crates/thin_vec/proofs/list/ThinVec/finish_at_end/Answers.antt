@@ -41,8 +41,7 @@ taken g c =
     } in
     subst (λ z. HasTaken g.G.Growth.rule (param 0 g.row.T) z w n more) (left g c) now
 
--- The call to `extend` satisfies `IsExtended`, which restricts the capacity of the list after the
--- call.
+-- After the call to `extend`, the list has a capacity that `IsExtended` allows.
 ruled : (g : _) (c : After-extend g)
     → IsExtended g.G.Growth.rule (param 0 g.row.T) (left_of c.args.block c.args.self.now.alloc)
     c.extend.new.self.capacity (length c.extend.new.self.items)
