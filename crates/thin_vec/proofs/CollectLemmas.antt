@@ -11,8 +11,8 @@ use Rattle.thin_vec.specs.ThinVec.{Thin}
 
 module _ {T A E : Type 0} where
   -- Suppose that every list with the property `P` also has the property `Q`. If the result `r`
-  -- contains a list with the property `P`, then this list also has the property `Q`. If `r` is an
-  -- error, then the lemma claims nothing.
+  -- contains a list with the property `P`, then this list also has the property `Q`. Nothing is
+  -- claimed if `r` is an error.
   if_ok : {P Q : Thin T A → Type 0} (r : Result (Thin T A) E) → ((v : Thin T A) → P v → Q v)
       → IfOk r P → IfOk r Q
   if_ok (Ok v) implies p = implies v p

@@ -23,9 +23,9 @@ use Rattle.thin_vec.specs.declared.edits.holder.Holds.{Ghosts as HoldsGhosts}
 -- relates the old state of the closure, the two items, the result, the new state, and the two items
 -- after the call.
 module _ {S T : Type 0} (R : S → T → T → Bool → S → T → T → Type 0) where
-  -- Suppose that the items `xs` follow the kept item `k`, and that each item of `xs` was compared
-  -- with the last item kept before it. Suppose also that `ys` is the list of all kept items,
-  -- including `k`. Then std's `DedupsFrom` holds for `k`, `xs` and `ys`.
+  -- Suppose that the items `xs` follow the kept item `k`. Each item of `xs` was compared with the
+  -- last item kept before it, and `ys` is the list of all kept items, including `k`. Then std's
+  -- `DedupsFrom` holds: if the duplicates are removed from `k ∷ xs`, then `ys` remains.
   dedups_from : (xs : List T) (s : S) (k : T) (stays : List Bool) (ys : List T) (t : S)
       → AskedLast R s k xs stays ys t → DedupsFrom R s k xs ys
   dedups_from [] s k stays ys t h = h.1
@@ -45,16 +45,17 @@ module _ {S T : Type 0} (R : S → T → T → Bool → S → T → T → Type 0
         ]) h.7,
   )
 
-  -- If each item of the list `xs`, except the first, was compared with the last item kept before
-  -- it, then std's `DedupsAll` holds for `xs` and the kept items `ys`.
+  -- Suppose that each item of the list `xs`, except the first, was compared with the last item kept
+  -- before it, and that `ys` is the list of the kept items. Then std's `DedupsAll` holds: if the
+  -- duplicates are removed from `xs`, then `ys` remains.
   dedups_all : (xs : List T) (s : S) (stays : List Bool) (ys : List T) (t : S)
       → AskedPairs R s xs stays ys t → DedupsAll R s xs ys
   dedups_all [] s stays ys t h = h.1
   dedups_all (x ∷ xs) s stays ys t h = dedups_from xs s x stays ys t h
 
   -- If `dedup_by` or `dedup_by_key` turned the list `v` into the list `w`, then std's `IsDeduped`
-  -- holds for the items of `v` and the items of `w`. Lemmas about `IsDeduped` are in the file
-  -- `lemmas/Fn` of std's proofs.
+  -- holds: the items of `w` remain if the duplicates are removed from the items of `v`. Lemmas
+  -- about `IsDeduped` are in the file `lemmas/Fn` of std's proofs.
   pub deduped_deduped : {A : Type 0} (s : S) (v w : Thin T A) → IsDedupedBy R s v w
       → IsDeduped R s v.items w.items
   deduped_deduped s v w h =
@@ -77,9 +78,9 @@ module _ {T : Type 0} (test : T → Bool) where
   abbrev pub others : List T → List T
   others xs = filter (λ x. not (test x)) xs
 
-  -- `Parts` describes one call to `next`, which tests the items of the list `xs`, in order, until
-  -- one of them passes. `item` is this item, or `None` if no item passes. The items `kept` were
-  -- tested but not yielded, and the items `rest` were not tested.
+  -- `Parts` describes one call to `next`. The call tests the items of the list `xs`, in order,
+  -- until an item passes the test. `item` is this item, or `None` if no item passes. The items
+  -- `kept` were tested and did not pass, and the items `rest` were not tested.
   pub record Parts (xs : List T) (item : Option T) (kept rest : List T) : Type 0 where
     pub gone : filter test xs ≡ option_to_list item ++ filter test rest
     pub stay : others xs ≡ kept ++ others rest
@@ -119,8 +120,8 @@ module _ {T : Type 0} (test : T → Bool) where
           ended = then.ended;
         }
 
-    -- Suppose that the untested items are `xs` when `next` is called. If the closure changes no
-    -- item and always returns the result of `test`, then `Parts` describes this call.
+    -- Suppose that `xs` is the list of the untested items before a call to `next`. If the closure
+    -- changes no item and always returns the result of `test`, then `Parts` describes this call.
     pub parts : (s : S) (xs : List T) (item : Option T) (t : S) (kept rest : List T)
         → ExtractsNext R s xs item t kept rest → Parts xs item kept rest
     parts s [] item t kept rest e = record {
@@ -133,12 +134,12 @@ module _ {T : Type 0} (test : T → Bool) where
         part x xs item t e.1 e.2 kept rest e.0 answer.0 answer.1
         (λ ks n. parts e.1 xs item t ks rest n) e.4
 
--- In this module, `test` is a predicate on items. An `ExtractIf` is the iterator that the method
--- `extract_if` returns.
+-- This module is about loops over an `ExtractIf`, the iterator that the method `extract_if`
+-- returns. The predicate `test` says which items the `ExtractIf` extracts.
 module _ {T F A G : Type 0} {g : Ghosts G}
     {h : HoldsGhosts (Holder (Extracting T F A)) (Extracting T F A)} (test : T → Bool) where
   -- `IsExtracting` is the invariant of a loop that appends each item yielded by an `ExtractIf` to a
-  -- list. When the loop began, the `ExtractIf` was `start` and the list was `old`. Now the
+  -- list. When the loop began, the `ExtractIf` was `start` and the list was `old`. At present, the
   -- `ExtractIf` is `now` and the list is `held`.
   pub record IsExtracting (start now : ExtractIf T F A G (Holder (Extracting T F A)) g h)
       (old held : List T) : Type 0 where

@@ -28,8 +28,9 @@ exact-few R (suc n) few small =
 none_some : {A B : Type 0} (x : A) → None ≡ Some x → B
 none_some x e = cc
 
--- Suppose that the error `cause` is `CapacityOverflow` only if no capacity could be chosen. If a
--- capacity was chosen, then `cause` is `OutOfMemory`.
+-- Suppose that `named` is the capacity that a call needs, or `None` if this capacity is too large.
+-- By `IsCause`, the error `cause` of the call is `CapacityOverflow` only if `named` is `None`. So
+-- if `named` is `Some n`, then `cause` is `OutOfMemory`.
 cause-named : (named : Option ℕ) (n : ℕ) (cause : ThinVecError) → named ≡ Some n
     → IsCause named cause → cause ≡ OutOfMemory
 cause-named named n OutOfMemory here told = refl
@@ -51,15 +52,15 @@ either_few : (b : Bool) (m n : ℕ) → m < 2 ^ 31 → n < 2 ^ 31 → (if b then
 either_few true m n few less = few
 either_few false m n few less = less
 
--- `first s` is the least capacity that the growth rule `doubling` chooses for the first block of a
--- list with items of `s` bytes. It is less than `2 ^ 31`.
+-- The least capacity that the growth rule `doubling` chooses for the first block of a list is
+-- `first s`, where `s` is the size of an item in bytes. This capacity is less than `2 ^ 31`.
 first_few : (s : ℕ) → first s < 2 ^ 31
 unfolding first
 first_few s = either_few (nat_lt (2 ^ 61 - 1) s) 1 4 (omega arith) (omega arith)
 
--- Suppose that a list needs room for `w` items. If `w` is less than `2 ^ 30`, and the size of an
--- item in bytes is less than `2 ^ 31`, then the growth rule `doubling` chooses a capacity instead
--- of reporting an overflow.
+-- Suppose that a list of capacity `c` needs room for `w` items. If `w` is less than `2 ^ 30`, and
+-- the size of an item in bytes is less than `2 ^ 31`, then the growth rule `doubling` chooses a
+-- capacity. So there is no overflow.
 pub doubling-few : (R : RattleType) (c w : ℕ) → w < 2 ^ 30 → type_size R < 2 ^ 31
     → (n : ℕ) × (ruled_capacity doubling R c w ≡ Some n)
 unfolding doubling fitting
@@ -96,15 +97,15 @@ either_most : (b : Bool) → (if b then 1 else 4) ≤ 4
 either_most true = omega arith
 either_most false = omega arith
 
--- `first s` is the least capacity that the growth rule `doubling` chooses for the first block of a
--- list with items of `s` bytes. It is at most 4.
+-- The least capacity that the growth rule `doubling` chooses for the first block of a list is
+-- `first s`, where `s` is the size of an item in bytes. This capacity is at most 4.
 first_most : (s : ℕ) → first s ≤ 4
 unfolding first
 first_most s = either_most (nat_lt (2 ^ 61 - 1) s)
 
--- Suppose that a list of capacity `c` needs room for `w` items, and that `c < w`. Then both `2 * c`
--- and `first s` are at most `max 4 (2 * w)`. Here, `first s` is the least capacity of the first
--- block of a list with items of `s` bytes.
+-- If `c < w`, then each of the numbers `first s` and `2 * c` is at most `max 4 (2 * w)`. Here,
+-- `first s` is the least capacity of the first block of a list with items of `s` bytes. The flag
+-- `b` selects one of the two numbers.
 twice-most : (b : Bool) (s c w : ℕ) → c < w → (if b then first s else 2 * c) ≤ max 4 (2 * w)
 twice-most true s c w more = omega (arith, first_most s)
 twice-most false s c w more = omega (arith, more)

@@ -14,9 +14,9 @@ use Rattle.thin_vec.proofs.list.InsertRemoveLemmas.{full-set}
 use Rattle.thin_vec.proofs.ListLemmas.{IsWritten, Settled, settle-front, thin-room}
 
 module _ {T : Type 0} where
-  -- Suppose that the items `ws` are written over slots that hold the items `xs`. Then `ws` replaces
-  -- the first items of `xs`, and items of `ws` beyond the length of `xs` are ignored. The `k` empty
-  -- slots after `xs` do not change.
+  -- Suppose that the slots of the items `xs` are followed by `k` empty slots, and that the items
+  -- `ws` are written over these slots. Then `ws` replaces the first items of `xs`. Items of `ws`
+  -- beyond the length of `xs` are ignored, and the empty slots do not change.
   pub over-front : (xs : List T) (k : ℕ) (ws : List T) → over (full xs ++ empty k) 0 ws ≡ full
       (refill (length xs) xs ws) ++ empty k
   over-front [] zero ws = refl
@@ -25,9 +25,9 @@ module _ {T : Type 0} where
   over-front (x ∷ xs) k (w ∷ ws) = ap (λ l. Some w ∷ l) (over-front xs k ws)
 
 module _ {T A : Type 0} where
-  -- If the items `ws` are written over the first items in the block `b` of a list, then the new
-  -- block `b'` is the block of a list of the same length. In this list, the items `ws` replace the
-  -- first items.
+  -- Suppose that the items `ws` are written over the first items in the block `b` of a list, and
+  -- that `b'` is the new block. Then `b'` is the block of a list with the same length and the same
+  -- items, except that `ws` replaces the first items.
   pub settle-over : {b : Block T A} {a : A} → IsThin b a → (b' : Block T A) (ws : List T)
       {k : Cost} → IsWritten b b' (over b.slots 0 ws) b.len k
       → Settled b' a (refill (length (items_in b.slots)) (items_in b.slots) ws) (length b.slots)
@@ -41,15 +41,17 @@ module _ {T A : Type 0} where
       (t.packed.len ∙ sym same) (omega (arith, same, thin-room b a t))
 
   -- Suppose that the items `ws` are written over the first items in the block `b` of a list. Then
-  -- the view of the list in contracts changes in only one way: `ws` replaces the first items.
+  -- contracts describe the new list as the old list with `ws` in place of the first items. Nothing
+  -- else about the list changes.
   pub view-with_items : (b : Block T A) (a : A) (ws : List T) → IsThin b a
       → thin_of (block_with_items b 0 ws) a ≡ with_items (thin_of b a) ws
   view-with_items b a ws t =
       let f = settle-over t (block_with_items b 0 ws) ws refl in
       λ i. record { items = f.items i; capacity = f.cap i; alloc = a; cost = b.cost }
 
-  -- If `v` is written into the slot of the item at index `i`, then the new block `b'` is the block
-  -- of a list in which `v` replaces this item.
+  -- Suppose that `v` is written into the slot of the item at index `i`, and that `b'` is the new
+  -- block. Then `b'` is the block of a list with the same items, except that `v` is the item at
+  -- index `i`.
   pub settle-set : {b : Block T A} {a : A} → IsThin b a → (b' : Block T A) (i : ℕ) (v : T)
       {k : Cost} → i < length (items_in b.slots) → IsWritten b b' (set b.slots i (Some v)) b.len k
       → Settled b' a (set (items_in b.slots) i v) (length b.slots)
@@ -63,8 +65,8 @@ module _ {T A : Type 0} where
       (t.packed.len ∙ sym same) (omega (arith, same, thin-room b a t))
 
   -- Suppose that `i` is less than the length of a list, and that the item `w` is written into slot
-  -- `i` of its block. Then the view of the list in contracts changes in only one way: `w` replaces
-  -- the item at index `i`.
+  -- `i` of its block `b`. Then contracts describe the new list as the old list with `w` as the item
+  -- at index `i`. Nothing else about the list changes.
   pub view-with_item : (b : Block T A) (a : A) (i : ℕ) (w : T) → IsThin b a
       → i < length (items_in b.slots) → thin_of (block_with_item b i w)
       a ≡ with_item (thin_of b a) i w

@@ -33,8 +33,8 @@ module _ {T : Type 0} where
   items-full-alone [] = refl
   items-full-alone (x ∷ xs) = ap (λ (ys : List T). x ∷ ys) (items-full-alone xs)
 
-  -- `front xs c` consists of slots that hold the items `xs`, followed by empty slots. Its items are
-  -- exactly `xs`.
+  -- `front xs c` is a list of slots that hold the items `xs`, followed by empty slots up to the
+  -- capacity `c`. It contains exactly the items `xs`.
   pub items-front : (xs : List T) (c : ℕ) → items_in (front xs c) ≡ xs
   items-front xs c = items-full xs (replicate (c - length xs) None)
       ∙ (ap (λ (ys : List T). xs ++ ys) (items-empty (c - length xs)) ∙ append-nil xs)
@@ -58,8 +58,8 @@ module _ {T : Type 0} where
   pub full-same : (xs ys : List T) → full xs ≡ full ys → xs ≡ ys
   full-same xs ys e = sym (items-full-alone xs) ∙ (ap items_in e ∙ items-full-alone ys)
 
-  -- If `i` is less than the length of `xs`, then slot `i` of `full xs ++ s` holds `get_or xs i d`,
-  -- the item at index `i` of `xs`.
+  -- If `i` is less than the length of `xs`, then slot `i` of `full xs ++ s` holds the item at index
+  -- `i` of `xs`. This item is `get_or xs i d`. The default value `d` of `get_or` is not used here.
   pub slot-full : (xs : List T) (s : List (Option T)) (i : ℕ) (d : T) → i < length xs
       → slot (full xs ++ s) i ≡ Some (get_or xs i d)
   slot-full xs s i d h =
@@ -82,9 +82,8 @@ module _ {T : Type 0} where
       (sym (map_push (λ (x : T). Some x) xs v))
       ∙ ap (λ (n : ℕ). full (xs ++ v ∷ []) ++ replicate n None) m)))
 
-  -- Suppose that `i` is less than the length of `xs`, and that slot `i` of `full xs ++ s` is
-  -- emptied. Then the new slots are, in this order: the slots of the items before index `i`, one
-  -- empty slot, the slots of the items after index `i`, and the slots `s`.
+  -- Suppose that `i` is less than the length of `xs`. If slot `i` of `full xs ++ s` is emptied,
+  -- then all other slots remain unchanged.
   pub full-take : (xs : List T) (s : List (Option T)) (i : ℕ) (d : T) → i < length xs
       → set (full xs ++ s) i None ≡ full (take i xs) ++ (None ∷ (full (drop (suc i) xs) ++ s))
   full-take [] s i d h = absurd (omega arith)
@@ -118,8 +117,8 @@ module _ {T : Type 0} where
       (replicate-append-replicate (c - length xs) (d - c) None
       ∙ ap (λ (q : ℕ). replicate q None) m)
 
-  -- If `i` is less than the length of `xs`, then the content of slot `i` of `full xs ++ s` is equal
-  -- to `slice_get xs i`.
+  -- Suppose that `i` is less than the length of `xs`. Then slot `i` of `full xs ++ s` holds the
+  -- item at index `i` of `xs`, which is the result of `slice_get xs i`.
   pub slot-get : (xs : List T) (s : List (Option T)) (i : ℕ) → i < length xs
       → slot (full xs ++ s) i ≡ slice_get xs i
   slot-get [] s i h = absurd (omega arith)
@@ -161,9 +160,10 @@ module _ {T A : Type 0} where
         cap = l;
       }
 
-  -- Suppose that the list `v` gets a new block `b'`, which has `c` slots, the items `xs` and the
-  -- cost `k`. Then the list, as contracts describe it, differs from `v` only in its capacity `c`,
-  -- its items `xs` and its cost `k`.
+  -- Suppose that the block of the list `v` is replaced with the block `b'`, which has `c` slots,
+  -- the items `xs` and the cost `k`. Then contracts describe the new list as `v` with the capacity
+  -- `c`, the items `xs` and the cost `k`. The premise `w ≡ v` says that `w` and `v` are the same
+  -- list.
   pub thin_of-becomes : {w v : Thin T A} → w ≡ v → (b' : Block T A) {xs : List T} {c : ℕ} {k : Cost}
       → length b'.slots ≡ c → items_in b'.slots ≡ xs → b'.cost ≡ k
       → thin_of b' w.alloc ≡ record v { items = xs; capacity = c; cost = k }
@@ -174,9 +174,10 @@ module _ {T A : Type 0} where
     cost = cost i;
   }
 
-  -- Suppose that the list `v` gets a new block `b'`, which has the same number of slots, the items
-  -- `xs` and the cost `k`. Then the list, as contracts describe it, differs from `v` only in its
-  -- items `xs` and its cost `k`.
+  -- Suppose that the block of the list `v` is replaced with the block `b'`, which has the items
+  -- `xs`, the cost `k` and the same number of slots as the old block. Then contracts describe the
+  -- new list as `v` with the items `xs` and the cost `k`. The premise `w ≡ v` says that `w` and `v`
+  -- are the same list.
   pub thin_of-keeps : {w v : Thin T A} → w ≡ v → (b' : Block T A) {xs : List T} {k : Cost}
       → length b'.slots ≡ w.capacity → items_in b'.slots ≡ xs → b'.cost ≡ k
       → thin_of b' w.alloc ≡ record v { items = xs; cost = k }
@@ -207,17 +208,17 @@ module _ {T A : Type 0} where
   abbrev pub IsWritten : Block T A → Block T A → List (Option T) → ℕ → Cost → Type 0
   IsWritten b b' s n k = seen b' ≡ record (seen b) { slots = s; len = n; cost = k }
 
-  -- Suppose that the slots of a list's block became `front xs c`, and that the stored length became
-  -- the length of `xs`. Then the new block `b'` is the block of a list with the items `xs` and the
-  -- capacity `c`.
+  -- Suppose that an operation turns the block `b` of a list into the block `b'`. If the slots of
+  -- `b'` are `front xs c`, and the stored length of `b'` is the length of `xs`, then `b'` is the
+  -- block of a list with the items `xs` and the capacity `c`.
   pub settle-front : {b : Block T A} {a : A} → IsThin b a → (b' : Block T A) (xs : List T) (c : ℕ)
       {s : List (Option T)} {n : ℕ} {k : Cost} → IsWritten b b' s n k → s ≡ front xs c
       → n ≡ length xs → length xs ≤ c → Settled b' a xs c
   settle-front {b} {a} t b' xs c w e n h = settled b' a xs c (ap (λ v. v.slots) w ∙ e)
       (ap (λ v. v.len) w ∙ n) h (from-same b b' a t.from (ap (λ v. v.alloc) w))
 
-  -- If `v` was written into the slot directly after the last item, and the stored length was
-  -- incremented, then the new block is the block of the list with `v` appended.
+  -- Suppose that `v` was written into the slot directly after the last item, and that the stored
+  -- length was incremented. Then the new block `b'` is the block of the list with `v` appended.
   pub settle-push : {b : Block T A} {a : A} → IsThin b a → (b' : Block T A) (v : T) (i : ℕ)
       {k : Cost} → i ≡ b.len → i < length b.slots
       → IsWritten b b' (set b.slots i (Some v)) (i + 1) k
@@ -251,8 +252,8 @@ module _ {T A : Type 0} where
       (drop_more xs j v l
       ∙ (ap (λ (r : List T). get_or xs j v ∷ r) z ∙ ap (λ (r : T). r ∷ []) (sym y)))
 
-  -- If the slot of the last item was emptied, and the stored length was decremented, then the new
-  -- block is the block of the list without its last item.
+  -- Suppose that the slot of the last item was emptied, and that the stored length was decremented.
+  -- Then the new block `b'` is the block of the list without its last item.
   pub settle-pop : {b : Block T A} {a : A} → IsThin b a → (b' : Block T A) (v : T) (j : ℕ)
       {k : Cost} → j + 1 ≡ b.len → slot b.slots j ≡ Some v
       → IsWritten b b' (set b.slots j None) j k
@@ -284,8 +285,8 @@ module _ {T A : Type 0} where
       → IsSome (slot b.slots i)
   thin-filled b a i t h = rw (thin-slot b a i t h) (get-some (items_in b.slots) i h)
 
-  -- If the first slots of a list's block, up to the stored length, hold exactly the items `xs`,
-  -- then the items of the list are `xs`.
+  -- Suppose that `n` is the length that the block `b` of a list stores. If the first `n` slots of
+  -- `b` hold exactly the items `xs`, then `xs` is the list of the items in `b`.
   pub thin-run : (b : Block T A) (a : A) (xs : List T) (n : ℕ) → IsThin b a → n ≡ b.len
       → full xs ≡ slice_range b.slots 0 n → xs ≡ items_in b.slots
   thin-run b a xs n t len run =

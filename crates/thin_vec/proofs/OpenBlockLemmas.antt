@@ -32,7 +32,8 @@ last-of (x ∷ z ∷ zs) h = let p = last-of (z ∷ zs) (omega arith) in
     (x ∷ p.0, p.1, ap (λ q. x ∷ q) p.2)
 
 module _ {T : Type 0} where
-  -- In the list of slots `pre ++ (full xs ++ post)`, each slot of the part `full xs` holds an item.
+  -- If `j` is the index of a slot in the part `full xs` of `pre ++ (full xs ++ post)`, then slot
+  -- `j` holds an item.
   pub slot-in-full : (pre : List (Option T)) (xs : List T) (post : List (Option T)) (j : ℕ)
       → length pre ≤ j → j < length pre + length xs → IsSome (slot (pre ++ (full xs ++ post)) j)
   slot-in-full pre xs post j low high =
@@ -40,7 +41,8 @@ module _ {T : Type 0} where
       ∙ slot-get xs post (j - length pre) (omega arith))
       (get-some xs (j - length pre) (omega arith))
 
-  -- In the list of slots `pre ++ (empty k ++ post)`, each slot of the part `empty k` is empty.
+  -- If `j` is the index of a slot in the part `empty k` of `pre ++ (empty k ++ post)`, then slot
+  -- `j` is empty.
   slot-in-empty : (pre : List (Option T)) (k : ℕ) (post : List (Option T)) (j : ℕ) → length pre ≤ j
       → j < length pre + k → slot (pre ++ (empty k ++ post)) j ≡ None
   slot-in-empty pre k post j low high =
@@ -56,7 +58,8 @@ module _ {T : Type 0} where
       (replicate-append-replicate g 1 None)
 
 module _ {T A : Type 0} where
-  -- `Found h v` holds if `h` is a valid open block, and `v` is the description of `h` in contracts.
+  -- `Found h v` holds if `h` is a valid open block, and contracts describe `h` as `v`. An open
+  -- block is the block of a list during an edit.
   pub record Found (h : Inside T A) (v : Open T A) : Type 0 where
     pub lies : IsOpen h
     pub view : open_of h ≡ v
@@ -117,7 +120,8 @@ module _ {T A : Type 0} where
       s.gap,
     )
 
-    -- The number of slots up to and including the slot of the last middle item is `h.rest_end`.
+    -- `to_after v` contains all slots up to the end of the middle items. The number of these slots
+    -- is `h.rest_end`.
     at_after : length (to_after v) ≡ h.rest_end
     at_after = omega (
       arith,
@@ -137,11 +141,11 @@ module _ {T A : Type 0} where
       s.gap_after,
     )
 
-    -- The number of slots up to and including the slot of the last tail item is `h.len`.
+    -- `reach v` is the index directly after the slots of the tail items. It is equal to `h.len`.
     pub reached : reach v ≡ h.len
     reached = omega (arith, s.front, s.gap, s.rest, s.gap_after, s.tail)
 
-    -- The number of slots of the open block `h` is `v.capacity`.
+    -- The open block `h` has `v.capacity` slots.
     shown-cap : length h.block.slots ≡ v.capacity
     shown-cap =
         omega (
@@ -157,8 +161,8 @@ module _ {T A : Type 0} where
           s.room,
         )
 
-    -- The items in the slots before index `front_end` are `v.front`, the front items of the open
-    -- block.
+    -- The items in the slots of the open block `h` before index `front_end` are its front items
+    -- `v.front`.
     shown-front : items_in (take h.front_end h.block.slots) ≡ v.front
     shown-front =
         ap items_in (ap (take h.front_end) s.row
@@ -166,8 +170,8 @@ module _ {T A : Type 0} where
         (length-full v.front ∙ s.front))
         ∙ items-full-alone v.front
 
-    -- The items in the slots `rest_start..rest_end` are `v.rest`, the middle items of the open
-    -- block.
+    -- The items in the slots `rest_start..rest_end` of the open block `h` are its middle items
+    -- `v.rest`.
     shown-rest : items_in (slice_range h.block.slots h.rest_start h.rest_end) ≡ v.rest
     shown-rest =
         let count : length (full v.rest) ≡ h.rest_end - h.rest_start =
@@ -179,8 +183,8 @@ module _ {T A : Type 0} where
         ∙ take_at (full v.rest) (past_rest v) (h.rest_end - h.rest_start) count))
         ∙ items-full-alone v.rest
 
-    -- The items in the slots from index `tail_start` onward are `v.tail`, the tail items of the
-    -- open block.
+    -- The items in the slots of the open block `h` from index `tail_start` onward are its tail
+    -- items `v.tail`.
     shown-tail : items_in (drop h.tail_start h.block.slots) ≡ v.tail
     shown-tail =
         let some : length v.tail + (v.capacity - reach v) - length v.tail ≡ v.capacity - reach v =
@@ -190,9 +194,9 @@ module _ {T A : Type 0} where
         ∙ ap (λ (k : ℕ). full v.tail ++ empty k) (sym some)))
         ∙ items-front v.tail (length v.tail + (v.capacity - reach v))
 
-    -- Suppose that the slots and the indices of the open block `h` agree with `v`, as `Shows`
-    -- states. If `h` and `v` also have the same allocator and the same cost, then `v` is the
-    -- description of `h` in contracts.
+    -- Suppose that the slots and the indices of the open block `h` have the layout that `v`
+    -- describes. If `h` and `v` also have the same allocator and the same cost, then `h` is a valid
+    -- open block, and contracts describe `h` as `v`.
     pub found : h.block.alloc ≡ v.alloc → h.block.cost ≡ v.cost → Found h v
     found alloc cost =
         let gap : h.rest_start - h.front_end ≡ v.gap = omega (arith, s.gap) in
@@ -233,21 +237,22 @@ module _ {T A : Type 0} where
         (omega (arith, length-full v.front, s.front))
         (omega (arith, length-full v.front, s.front, s.gap))
 
-  -- If the slots `rest_start..rest_end` hold exactly the items `xs`, then the middle items are
-  -- `xs`.
+  -- If the slots `rest_start..rest_end` of the open block `h` hold exactly the items `xs`, then
+  -- `xs` is the list of the middle items of `h`.
   pub rest-run : (h : Inside T A) (xs : List T) → full xs
       ≡ slice_range h.block.slots h.rest_start h.rest_end
       → xs ≡ (open_of h).rest
   rest-run h xs e = sym (items-full-alone xs) ∙ ap items_in e
 
-  -- Section: the steps of an edit. Each step has two definitions and a lemma. The first definition
-  -- is the open block after the step, as it is stored. The second definition is the description of
-  -- this open block in contracts. The lemma proves that the two agree.
+  -- The following lemmas are about the steps of an edit, such as the removal of one item. For each
+  -- step, there are two definitions and one lemma. The first definition is the stored open block
+  -- after the step. The second definition is this open block as it appears in contracts. The lemma
+  -- proves that the two definitions agree.
 
   module _ (h : Inside T A) (o : IsOpen h) (b : Block T A)
       (some : 0 < length (open_of h).rest) where
-    -- `v` is the description of the open block `h` in contracts, before the first or the last
-    -- middle item of `h` is removed.
+    -- `v` is the open block `h` as it appears in contracts, before one of its middle items is
+    -- removed.
     abbrev v : Open T A
     v = open_of h
 
@@ -262,8 +267,8 @@ module _ {T A : Type 0} where
       len = h.len;
     }
 
-    -- `first-seen ys` is the open block `first-left` as contracts describe it. Its middle items are
-    -- `ys`, and the gap before them is one slot longer than in `h`.
+    -- Contracts describe the open block `first-left` as `first-seen ys`. The middle items of
+    -- `first-seen ys` are `ys`. The gap before them is one slot longer than in `h`.
     abbrev pub first-seen : List T → Open T A
     first-seen ys = record {
       front = v.front;
@@ -276,9 +281,9 @@ module _ {T A : Type 0} where
       cost = v.cost;
     }
 
-    -- Suppose that the slot of the first middle item held `x` and was then emptied. Then there is a
-    -- list `ys` such that the middle items were `x ∷ ys`, and `first-seen ys` is the description of
-    -- the new open block in contracts.
+    -- Suppose that the slot of the first middle item held `x` and was then emptied. Then the middle
+    -- items were `x ∷ ys` for some list `ys`. Contracts describe the new open block as `first-seen
+    -- ys`.
     pub first-step : (x : T) → slot h.block.slots h.rest_start ≡ Some x
         → seen b ≡ record (seen h.block) { slots = set h.block.slots h.rest_start None }
         → (ys : List T) × (v.rest ≡ x ∷ ys) × Found first-left (first-seen ys)
@@ -331,8 +336,8 @@ module _ {T A : Type 0} where
       len = h.len;
     }
 
-    -- `last-seen ys` is the open block `last-left` as contracts describe it. Its middle items are
-    -- `ys`, and the gap after them is one slot longer than in `h`.
+    -- Contracts describe the open block `last-left` as `last-seen ys`. The middle items of
+    -- `last-seen ys` are `ys`. The gap after them is one slot longer than in `h`.
     abbrev pub last-seen : List T → Open T A
     last-seen ys = record {
       front = v.front;
@@ -345,9 +350,9 @@ module _ {T A : Type 0} where
       cost = v.cost;
     }
 
-    -- Suppose that the slot of the last middle item held `x` and was then emptied. Then there is a
-    -- list `ys` such that the middle items were `ys ++ x ∷ []`, and `last-seen ys` is the
-    -- description of the new open block in contracts.
+    -- Suppose that the slot of the last middle item held `x` and was then emptied. Then the middle
+    -- items were `ys ++ x ∷ []` for some list `ys`. Contracts describe the new open block as
+    -- `last-seen ys`.
     pub last-step : (x : T) → slot h.block.slots (h.rest_end - 1) ≡ Some x
         → seen b ≡ record (seen h.block) { slots = set h.block.slots (h.rest_end - 1) None }
         → (ys : List T) × (v.rest ≡ ys ++ x ∷ []) × Found last-left (last-seen ys)
@@ -405,11 +410,12 @@ module _ {T A : Type 0} where
               (ap (λ (z : Seen T A). z.cost) now),
         )
 
-  -- This module is about two steps: joining the two gaps of an open block that has no middle items,
-  -- and closing an open block that has no gap before its tail items.
+  -- This module is about two steps of an edit of the open block `h`. If `h` has no middle items,
+  -- then its two gaps can be joined. If `h` has no gap before its tail items, then `h` can be
+  -- closed: the items are moved to the first slots of the block.
   module _ (h : Inside T A) (o : IsOpen h) where
-    -- `joined` is the open block `h` once its two gaps have been joined into one gap, directly
-    -- after the front items.
+    -- `joined` is the open block `h` after its two gaps have been joined. The joined gap lies
+    -- between the front items and the tail items.
     abbrev pub joined : Inside T A
     joined = record {
       block = h.block;
@@ -420,8 +426,8 @@ module _ {T A : Type 0} where
       len = h.len;
     }
 
-    -- `joined-seen` is the open block `joined` as contracts describe it. Its first gap contains the
-    -- slots of both gaps of `h`, and its second gap is empty.
+    -- Contracts describe the open block `joined` as `joined-seen`. The first gap of `joined-seen`
+    -- contains the slots of both gaps of `h`, and the second gap is empty.
     abbrev pub joined-seen : Open T A
     joined-seen = let w : Open T A = open_of h in
         record {
@@ -435,8 +441,8 @@ module _ {T A : Type 0} where
           cost = w.cost;
         }
 
-    -- If the open block `h` has no middle items, then `joined` is a valid open block, and
-    -- `joined-seen` is its description in contracts.
+    -- If the open block `h` has no middle items, then `joined` is a valid open block, and contracts
+    -- describe it as `joined-seen`.
     pub join-step : (open_of h).rest ≡ [] → Found joined joined-seen
     join-step none =
         let w : Open T A = open_of h in
@@ -463,13 +469,13 @@ module _ {T A : Type 0} where
         } in
         found joined joined-seen shows refl refl
 
-    -- `all-after` is the list of the middle items, followed by the tail items.
+    -- `all-after` is the list of the middle items of `h`, followed by the tail items of `h`.
     abbrev all-after : List T
     all-after = (open_of h).rest ++ (open_of h).tail
 
-    -- If there is no gap before the tail items, then the block consists, in this order, of the
-    -- slots of the front items, the gap before the middle items, the slots of the middle items and
-    -- of the tail items, and the empty slots at the end.
+    -- Suppose that there is no gap before the tail items. Then the block begins with the slots of
+    -- the front items and the empty slots of the first gap. The rest of the block consists of the
+    -- slots of `all-after` (the middle items and the tail items) and the empty slots at the end.
     side-by-side : (open_of h).gap_after ≡ 0 → h.block.slots ≡ full (open_of h).front
         ++ (empty (open_of h).gap ++ (full all-after ++ past_tail (open_of h)))
     side-by-side none =
@@ -486,8 +492,8 @@ module _ {T A : Type 0} where
     count-after none =
         omega (arith, length-append (open_of h).rest (open_of h).tail, o.rest, o.gap_after, o.tail)
 
-    -- If there is no gap before the tail items, then each slot from the slot of the first middle
-    -- item to the slot of the last tail item is filled.
+    -- If there is no gap before the tail items, then each slot in the range `rest_start..len` is
+    -- filled: it holds a middle item or a tail item.
     pub after-filled : (open_of h).gap_after ≡ 0 → (j : ℕ) → h.rest_start ≤ j → j < h.len
         → IsSome (slot h.block.slots j)
     after-filled none j low high =
@@ -579,7 +585,9 @@ module _ {T A : Type 0} where
           len = len;
         }
 
-    -- `opened-seen` is the open block `opened len` as contracts describe it.
+    -- Contracts describe the open block `opened len` as `opened-seen`. Its front items are the
+    -- items of the list before index `start`, its middle items are the items `start..end`, and its
+    -- tail items are the items from index `end` onward.
     abbrev pub opened-seen : Open T A
     opened-seen = let xs : List T = items_in b.slots in
         record {
@@ -594,7 +602,7 @@ module _ {T A : Type 0} where
         }
 
     -- If `len` is the number of items in the block `b`, then `opened len` is a valid open block,
-    -- and `opened-seen` is its description in contracts.
+    -- and contracts describe it as `opened-seen`.
     pub open-step : (len : ℕ) → len ≡ length (items_in b.slots) → Found (opened len) opened-seen
     open-step len all =
         let xs : List T = items_in b.slots in
@@ -628,11 +636,11 @@ module _ {T A : Type 0} where
               omega (arith, all, thin-room b a t);
         }) refl refl
 
-  -- In this module, the items `xs` are written into the gap after the front items. `end` is the
-  -- index of the slot directly after the last written item.
+  -- In this module, the items `xs` are written into the gap after the front items of the open block
+  -- `h`. `end` is the index of the slot directly after these items.
   module _ (h : Inside T A) (o : IsOpen h) (b : Block T A) (xs : List T) (end : ℕ)
       (ends : end ≡ h.front_end + length xs) (fits : end ≤ h.rest_start) where
-    -- `filled` is the open block `h` once the items `xs` have been written into the gap after its
+    -- `filled` is the open block `h` after the items `xs` have been written into the gap after its
     -- front items.
     abbrev pub filled : Inside T A
     filled =
@@ -645,8 +653,8 @@ module _ {T A : Type 0} where
           len = h.len;
         }
 
-    -- `filled-seen` is the open block `filled` as contracts describe it. The items `xs` have become
-    -- its last front items, and each of them has shortened the gap by one slot.
+    -- Contracts describe the open block `filled` as `filled-seen`. The items `xs` are its last
+    -- front items, and its first gap is shorter than the first gap of `h` by `length xs` slots.
     abbrev pub filled-seen : Open T A
     filled-seen =
         let v : Open T A = open_of h in
@@ -662,7 +670,7 @@ module _ {T A : Type 0} where
         }
 
     -- If the items `xs` were written into the slots directly after the front items, then `filled`
-    -- is a valid open block, and `filled-seen` is its description in contracts.
+    -- is a valid open block, and contracts describe it as `filled-seen`.
     pub fill-step : b.slots ≡ laid h.front_end (full xs) h.block.slots → Found filled filled-seen
     fill-step now =
         let v : Open T A = open_of h in
@@ -705,8 +713,8 @@ module _ {T A : Type 0} where
         } in
         found filled filled-seen shows refl refl
 
-  -- In this module, the tail items of `h` are moved up by `count` slots. Before the move, at least
-  -- `count` empty slots follow the tail items.
+  -- In this module, the tail items of the open block `h` are moved up by `count` slots. Before the
+  -- move, at least `count` empty slots follow the tail items.
   module _ (h : Inside T A) (o : IsOpen h) (b : Block T A) (count : ℕ)
       (room : h.len + count ≤ (open_of h).capacity) where
     -- `widened` is the open block `h` after its tail items have been moved up by `count` slots.
@@ -720,8 +728,8 @@ module _ {T A : Type 0} where
       len = h.len + count;
     }
 
-    -- `widened-seen` is the open block `widened` as contracts describe it. The gap before the tail
-    -- items is `count` slots longer than before the move.
+    -- Contracts describe the open block `widened` as `widened-seen`. The gap before the tail items
+    -- is `count` slots longer than in `h`.
     abbrev pub widened-seen : Open T A
     widened-seen =
         let v : Open T A = open_of h in
@@ -768,7 +776,7 @@ module _ {T A : Type 0} where
         ∙ slot-in-empty before count end j (omega (arith, long)) (omega (arith, long))
 
     -- If the tail items were moved up by `count` slots, then `widened` is a valid open block, and
-    -- `widened-seen` is its description in contracts.
+    -- contracts describe it as `widened-seen`.
     pub widen-step : b.slots ≡ moved h.tail_start (h.tail_start + count)
         (h.len - h.tail_start) h.block.slots
         → Found widened widened-seen

@@ -1,6 +1,7 @@
--- These lemmas bound how many items of an iterator are put into empty slots. They also state what a
--- block contains while the items of a `Vec` are moved into the slots of the block, beginning with
--- the last item.
+-- These lemmas are about loops that put items into the empty slots of a block. Some of the lemmas
+-- bound the number of items that an iterator yields to such a loop. Other lemmas state what the
+-- slots contain while the items of a `Vec` are moved into them one by one, beginning with the last
+-- item.
 use Rattle.std.proofs.Common.{◌≡◌, ℕ, ◌+◌, ◌<◌, ◌≤◌, List, [], ◌∷◌, ◌++◌, length, take, drop, Option, Some, None, sym, ap, ◌∙◌, append_assoc, arith, get_or, length-append}
 use Rattle.std.proofs.lemmas.List.{append-nil, length-take-le, length_push, set_at, take_more}
 use lib.ListN.{set}
@@ -13,8 +14,8 @@ use Rattle.thin_vec.specs.declared.put.Filled.{Filled}
 
 module _ {S X : Type 0} {steps : S → Option X → S → Type 0} {can : S → Type 0}
     {remaining : S → Count} {s : S} {f : Filled S} where
-  -- If `IsFilledBy` describes how items of an iterator were put into `room` empty slots, then at
-  -- most `room` items were put into these slots.
+  -- `IsFilledBy` states that items of an iterator were put into `room` empty slots. If it holds,
+  -- then at most `room` items were put into these slots.
   pub filled-fits : {room : ℕ} (by : IsFilledBy steps can remaining room s f)
       → length by.items ≤ room
   filled-fits {room} by = go f.ended by.full by.short
@@ -24,7 +25,8 @@ module _ {S X : Type 0} {steps : S → Option X → S → Type 0} {can : S → T
       go true full short = omega (arith, short refl)
       go false full short = omega (arith, full refl)
 
-  -- If `m` equals `n`, and `IsFilledBy` holds for `m` slots, then it also holds for `n` slots.
+  -- `IsFilledBy` states that items of an iterator were put into a number of empty slots. If it
+  -- holds for `m` slots, and `m` equals `n`, then it also holds for `n` slots.
   abbrev pub filled-room : {m n : ℕ} → m ≡ n → IsFilledBy steps can remaining m s f
       → IsFilledBy steps can remaining n s f
   filled-room same by = record {
@@ -37,9 +39,9 @@ module _ {S X : Type 0} {steps : S → Option X → S → Type 0} {can : S → T
   }
 
 module _ {T : Type 0} where
-  -- Suppose that the slots `ys` are written from index `i + 1` onward, and that the slot `y` is
-  -- then written at index `i`. Then the result is the same as if the slots `y ∷ ys` were written
-  -- from index `i` onward.
+  -- Suppose that `i` is the index of a slot in `s`, and that `k` is `i + 1`. Writing the slots `ys`
+  -- from index `k` onward, and then the slot `y` at index `i`, has the same result as writing the
+  -- slots `y ∷ ys` from index `i` onward.
   laid-before : (i k : ℕ) (y : Option T) (ys s : List (Option T)) → k ≡ i + 1 → i < length s
       → set (laid k ys s) i y ≡ laid i (y ∷ ys) s
   laid-before i k y ys s next low =
@@ -55,14 +57,14 @@ module _ {T : Type 0} where
 
   -- `IsMoving` is the invariant of a loop that moves the items `xs` into the slots from index
   -- `start` onward, beginning with the last item. The items `left` have not been moved yet. The
-  -- moves so far have turned the slots `r` into the slots `s`.
+  -- slots were `r` before the loop, and they are `s` at present.
   pub record IsMoving (xs left : List T) (start : ℕ) (r s : List (Option T)) : Type 0 where
     pub rest : List T
     pub parts : xs ≡ left ++ rest
     pub row : s ≡ laid (start + length left) (full rest) r
 
-  -- `IsMoving` holds before the first item is moved: no item of `xs` has been moved, and the slots
-  -- are unchanged.
+  -- `IsMoving` holds before the first item is moved. At this point, all items of `xs` still have to
+  -- be moved, and the slots `s` have not changed.
   pub moving-first : (xs : List T) (start : ℕ) (s : List (Option T)) → IsMoving xs xs start s s
   moving-first xs start s =
       record {
@@ -72,8 +74,8 @@ module _ {T : Type 0} where
       }
 
   -- Suppose that `IsMoving` holds, and that `v` is the last item that has not been moved yet. If
-  -- `v` is moved into its slot, then `IsMoving` holds again, and only the items `left` before `v`
-  -- have not been moved yet.
+  -- `v` is moved into its slot, then `IsMoving` still holds, and only the items `left`, which
+  -- precede `v`, still have to be moved.
   pub moving-next : {xs : List T} (left : List T) {start : ℕ} (i : ℕ) (v : T)
       {r s : List (Option T)} → IsMoving xs (left ++ v ∷ []) start r s → i ≡ start + length left
       → start + length xs ≤ length r → IsMoving xs left start r (set s i (Some v))

@@ -25,7 +25,8 @@ pub moving-none : (c : Cost) → moving 0 c ≡ c
 moving-none c = let e : c.moves + 0 ≡ c.moves = omega arith in
     λ i. record { blocks = c.blocks; grown = c.grown; moves = e i }
 
--- If there is a gap of empty slots, then moving `k` items across the gap costs `k` moves.
+-- If a gap of empty slots lies before `k` items, then moving these items across the gap costs `k`
+-- moves.
 pub moving-after : (gap k : ℕ) (c : Cost) → 0 < gap
     → (if gap == 0 then c else moving k c) ≡ moving k c
 moving-after gap k c some =
@@ -62,22 +63,23 @@ none-left [] none = refl
 none-left (x ∷ xs) none = absurd (none (omega arith))
 
 module _ {T : Type 0} where
-  -- The kept items of the test results `a ++ b` are the kept items of `a`, followed by the kept
-  -- items of `b`.
+  -- A verdict says whether an item is kept. The items that the verdicts `a ++ b` keep are the items
+  -- that `a` keeps, followed by the items that `b` keeps.
   pub left_at-append : (a b : Verdicts T) → left_at true (a ++ b) ≡ left_at true a ++ left_at true b
   left_at-append [] b = refl
   left_at-append ((true, x) ∷ a) b = ap (λ (l : List T). x ∷ l) (left_at-append a b)
   left_at-append ((false, x) ∷ a) b = left_at-append a b
 
-  -- The number of kept items of the test results `a ++ b` is the number of kept items of `a` plus
-  -- the number of kept items of `b`.
+  -- A verdict says whether an item is kept. The number of items that the verdicts `a ++ b` keep is
+  -- the number of items that `a` keeps, plus the number of items that `b` keeps.
   pub trues-append : (a b : Verdicts T) → trues (flags_of (a ++ b)) ≡ trues
       (flags_of a) + trues (flags_of b)
   trues-append [] b = omega arith
   trues-append ((true, x) ∷ a) b = let e = trues-append a b in omega arith
   trues-append ((false, x) ∷ a) b = trues-append a b
 
-  -- If the tests keep all items and leave them as `xs`, then the list of the kept items is `xs`.
+  -- `stay xs` is the list of verdicts of a test that keeps every item. If such a test leaves the
+  -- items as `xs`, then `xs` is the list of the kept items.
   pub left_at-stay : (xs : List T) → left_at true (stay xs) ≡ xs
   left_at-stay [] = refl
   left_at-stay (x ∷ xs) = ap (λ (l : List T). x ∷ l) (left_at-stay xs)
@@ -87,8 +89,9 @@ module _ {T : Type 0} where
   trues-stay [] = refl
   trues-stay (x ∷ xs) = ap suc (trues-stay xs)
 
-  -- Only items after the first removed item are moved down. So if all items of `xs` are kept, the
-  -- number of moved items depends only on the test results `a` for the items after `xs`.
+  -- If a test keeps all items of `xs`, then none of these items is moved down, because only items
+  -- after the first removed item are moved down. So the number of moved items depends only on the
+  -- verdicts `a` on the items after `xs`.
   pub moved_down-stay : (xs : List T) (a : Verdicts T) → moved_down (flags_of (stay xs ++ a))
       ≡ moved_down (flags_of a)
   moved_down-stay [] a = refl
@@ -98,9 +101,10 @@ module _ {S T : Type 0} (R : S → T → Bool → S → T → Type 0) where
   -- In this module, the items `ys` were tested with the results `b`. The tests changed the state of
   -- the closure from `t` to `u`.
   module _ (t u : S) (ys : List T) (b : Verdicts T) (k : Asked R t ys b u) where
-    -- If the tests of the items `xs` changed the state of the closure from `s` to `t`, and the
-    -- tests of `ys` changed it from `t` to `u`, then the tests of `xs ++ ys` changed it from `s` to
-    -- `u`.
+    -- Suppose that the tests of the items `xs` returned the verdicts `a` and changed the state of
+    -- the closure from `s` to `t`. If the tests of `ys` then returned `b` and changed the state
+    -- from `t` to `u`, then the tests of `xs ++ ys` returned `a ++ b` and changed the state from
+    -- `s` to `u`.
     asked-append : (xs : List T) (s : S) (a : Verdicts T) → Asked R s xs a t
         → Asked R s (xs ++ ys) (a ++ b) u
     asked-append [] s a h = subst (λ (c : Verdicts T). Asked R s ys (c ++ b) u) (sym h.0)
@@ -115,15 +119,16 @@ module _ {S T : Type 0} (R : S → T → Bool → S → T → Type 0) where
       ap (λ (c : Verdicts T). c ++ b) h.6,
     )
 
-  -- If a single item `x` was tested, then `Asked` holds for the list `x ∷ []`.
+  -- `Asked` states that all items of a list were tested. It holds for the list `x ∷ []` if the item
+  -- `x` was tested with the result `b` and was left as `y`.
   pub asked-one : (s t : S) (x y : T) (b : Bool) → R s x b t y → Asked R s (x ∷ []) ((b, y) ∷ []) t
   asked-one s t x y b h = (b, y, t, [], h, (refl, refl), refl)
 
-  -- Section: sequences of adjacent items that are all kept
+  -- The following definitions and lemmas are about adjacent items that a closure tests and keeps.
 
-  -- `Stays` states that the items `k..m` of the list `xs` were tested, that all of them were kept,
-  -- and that the tests changed the state of the closure from `s` to `t`. `ys` is the list `xs`
-  -- after these tests.
+  -- `Stays` states that the items `k..m` of the list `xs` were tested, and that all of them were
+  -- kept. The tests changed the list from `xs` to `ys`, and the state of the closure from `s` to
+  -- `t`.
   pub record Stays (k m : ℕ) (s : S) (xs : List T) (t : S) (ys : List T) : Type 0 where
     pub before : List T
     pub run : List T
@@ -164,8 +169,8 @@ module _ {S T : Type 0} (R : S → T → Bool → S → T → Type 0) where
     parted : ys ≡ asked-part ++ h.more
     parted = h.now ∙ sym (append_assoc h.before h.left h.more)
 
-    -- Suppose that the item at index `m` is tested next. Then the items before it are `asked-part`,
-    -- and the item at index `m` is the first item that has not been tested yet.
+    -- Suppose that the next test, `a`, tests the item at index `m`. Then the items before index `m`
+    -- are `asked-part`, and the item at index `m` is the first item that was untested before `a`.
     next-parts : (b : Bool) (u : S) (zs : List T) (a : IsAskedAt R m t ys b u zs)
         → (a.before ≡ asked-part) × (h.more ≡ a.item ∷ a.after)
     next-parts b u zs a =
@@ -176,7 +181,7 @@ module _ {S T : Type 0} (R : S → T → Bool → S → T → Type 0) where
               ∙ (ap (drop m) e ∙ drop_at a.before (a.item ∷ a.after) m a.place),
         )
 
-    -- The test of the item at index `m` changes no other item.
+    -- The test `a` of the item at index `m` changes no other item of the list.
     next-now : (b : Bool) (u : S) (zs : List T) (a : IsAskedAt R m t ys b u zs)
         → zs ≡ h.before ++ (h.left ++ a.left ∷ a.after)
     next-now b u zs a = a.now ∙ (ap (λ (l : List T). l ++ a.left ∷ a.after) (next-parts b u zs a).0
@@ -206,8 +211,9 @@ module _ {S T : Type 0} (R : S → T → Bool → S → T → Type 0) where
               (sym (append_assoc h.left (a.left ∷ []) a.after));
         }
 
-    -- If the test of the item at index `m` decides to remove this item, then `AskedUpTo` holds: the
-    -- tests stop at index `m`.
+    -- Suppose that the items `k..m` were tested and kept. If the test of the item at index `m`
+    -- decides to remove this item, then `AskedUpTo` holds: the item at index `m` is the first item
+    -- to be removed.
     pub stays-goes : (u : S) (zs : List T) → IsAskedAt R m t ys false u zs
         → AskedUpTo R k m s xs u zs
     stays-goes u zs a =
@@ -226,7 +232,8 @@ module _ {S T : Type 0} (R : S → T → Bool → S → T → Type 0) where
           now = next-now false u zs a;
         }
 
-    -- If there is no item at index `m`, then `AskedUpTo` holds: the tests stop at index `m`.
+    -- Suppose that the items `k..m` were tested and kept. If the list has no item at index `m`,
+    -- then `AskedUpTo` holds: the tests stopped at the end of the list.
     pub stays-end : length ys ≤ m → AskedUpTo R k m s xs t ys
     stays-end short =
         let none : h.more ≡ [] =
@@ -292,19 +299,22 @@ module _ {S T : Type 0} (R : S → T → Bool → S → T → Type 0) where
         stop-count r.between r.after t r.end r.stops,
       )
 
-  -- If the first item was tested and kept, then `Stays` holds for this one item.
+  -- `Stays` states that a range of items was tested and kept. It holds for the range `0..1` if the
+  -- first item was tested and kept.
   pub one-stays : (s : S) (xs : List T) (t : S) (ys : List T)
       → IsAskedAt R 0 s xs true t ys → Stays 0 1 s xs t ys
   one-stays s xs t ys a = stays-more 0 0 s xs s xs (stays-start 0 s xs (omega arith)) t ys a
 
-  -- If the first two items were tested and kept, then `Stays` holds for these two items.
+  -- `Stays` states that a range of items was tested and kept. It holds for the range `0..2` if the
+  -- first two items were tested and kept.
   pub two-stay : (s : S) (xs : List T) (t : S) (ys : List T) (u : S) (zs : List T)
       → IsAskedAt R 0 s xs true t ys → IsAskedAt R 1 t ys true u zs → Stays 0 2 s xs u zs
   two-stay s xs t ys u zs a b = stays-more 0 1 s xs t ys (one-stays s xs t ys a) u zs b
 
   module _ (m n : ℕ) where
-    -- If all items before index `m` were tested and kept, and the tests from index `m` onward
-    -- stopped at index `n`, then the tests from index 0 onward stopped at index `n`.
+    -- Suppose that all items before index `m` were tested and kept. If the tests from index `m`
+    -- onward kept all items before index `n` and stopped at `n`, then the tests from index 0 onward
+    -- also kept all items before index `n` and stopped at `n`.
     pub runs-join : (s : S) (xs : List T) (t : S) (ys : List T) (u : S) (zs : List T)
         → Stays 0 m s xs t ys → AskedUpTo R m n t ys u zs → AskedUpTo R 0 n s xs u zs
     runs-join s xs t ys u zs h r =
@@ -338,7 +348,8 @@ module _ {S T : Type 0} (R : S → T → Bool → S → T → Type 0) where
               ∙ sym (append_assoc h.left r.left r.end));
         }
 
-  -- Section: the kept items before the first item to be removed
+  -- The following definition and lemmas are about tests that stop at the first item to be removed.
+  -- They state which items were kept before this item.
 
   -- `Part` states that the items of the list `xs` before `rest` were tested, and that `m` of them
   -- were kept. `kept` contains the kept items as the closure left them. The tests changed the state
@@ -352,7 +363,8 @@ module _ {S T : Type 0} (R : S → T → Bool → S → T → Type 0) where
     pub count : trues (flags_of verdicts) ≡ m
 
   module _ (m : ℕ) (s : S) (xs : List T) (t : S) (ys : List T) (r : AskedUpTo R 0 m s xs t ys) where
-    -- No items precede the kept items, because the tests began at index 0.
+    -- `r.before` is the list of the items before the first tested item. It is empty because the
+    -- tests began at index 0.
     run-none : r.before ≡ []
     run-none = nil_from_length r.before r.place
 
@@ -360,12 +372,13 @@ module _ {S T : Type 0} (R : S → T → Bool → S → T → Type 0) where
     run-long : length r.left ≡ m
     run-long = omega (arith, r.reached)
 
-    -- After the tests, the list `ys` consists of the kept items, followed by the items after them.
+    -- After the tests, the list `ys` consists of the kept items `r.left`, followed by `r.end`. The
+    -- list `r.end` contains the item to be removed, if there is one, and the untested items.
     run-now : ys ≡ r.left ++ r.end
     run-now = r.now ∙ ap (λ (l : List T). l ++ (r.left ++ r.end)) run-none
 
-    -- Before the tests, the list `xs` consisted of the run of items that the tests kept, followed
-    -- by the items after this run.
+    -- Before the tests, the list `xs` began with `r.run`, the list of the items that the tests
+    -- kept. All other items of `xs` are in the list `r.after`.
     pub run-was : xs ≡ r.run ++ r.after
     run-was = r.was ∙ ap (λ (l : List T). l ++ (r.run ++ r.after)) run-none
 
@@ -373,12 +386,14 @@ module _ {S T : Type 0} (R : S → T → Bool → S → T → Type 0) where
     pub run-kept : take m ys ≡ r.left
     run-kept = ap (take m) run-now ∙ take_at r.left r.end m run-long
 
-    -- The items of the list `ys` from index `m` onward are the items after the kept items.
+    -- From index `m` onward, the list `ys` consists of the items `r.end`: the item to be removed,
+    -- if there is one, and the untested items.
     pub run-end : drop m ys ≡ r.end
     run-end = ap (drop m) run-now ∙ drop_at r.left r.end m run-long
 
-    -- If the kept items are directly followed by the item `v`, then the closure returned false for
-    -- this item. `x` is the item before its test.
+    -- Suppose that `b` is the list of the items after the kept items, and that the last test turned
+    -- `b` into `v ∷ rest`. Then `b` is `x ∷ rest` for some item `x`. The closure returned false for
+    -- `x`, and left `x` as `v`.
     pub stop-goes : (u : S) (b e : List T) (v : T) (rest : List T) → Stops R u b t e → e ≡ v ∷ rest
         → (x : T) × (b ≡ x ∷ rest) × R u x false t v
     stop-goes u [] e v rest h k = absurd (cons-not-nil (sym k ∙ h.0))
@@ -414,8 +429,9 @@ module _ {S T : Type 0} (R : S → T → Bool → S → T → Type 0) where
               );
         }
 
-    -- If no item follows the kept items, then the tests ended with the last kept item, and the
-    -- state of the closure did not change afterward.
+    -- Suppose that `b` is the list of the items after the kept items, and that this list is empty
+    -- after the tests. Then `b` was also empty before the tests, and the state of the closure has
+    -- not changed since the last kept item was tested.
     pub stop-ends : (u : S) (b e : List T) → Stops R u b t e → e ≡ [] → (b ≡ []) × (t ≡ u)
     stop-ends u [] e h k = (refl, h.1)
     stop-ends u (x ∷ b) e h k = absurd (cons-not-nil (sym h.2 ∙ k))
@@ -436,9 +452,10 @@ module _ {S T : Type 0} (R : S → T → Bool → S → T → Type 0) where
   -- Section: open blocks
 
   module _ {A : Type 0} (v w : Open T A) where
-    -- Suppose that middle items of the open block `v` were tested in order, beginning with the
-    -- first. Suppose also that `m` of them were kept and moved to the end of the front items, at
-    -- the cost of one move each. Then `Sifts` relates `v` to the new open block `w`.
+    -- Suppose that the first middle items of the open block `v` were tested in order, and that `m`
+    -- of them were kept. Suppose also that the kept items were moved to the end of the front items,
+    -- at the cost of one move each. Then `Sifts` relates `v` to the open block `w` after these
+    -- moves.
     pub sifts-of : (m : ℕ) (s t : S) (kept : List T) → Part m s v.rest t kept w.rest
         → 0 < w.gap → w ≡ record v {
           front = v.front ++ kept;
@@ -461,9 +478,9 @@ module _ {S T : Type 0} (R : S → T → Bool → S → T → Type 0) where
           });
         }
 
-  -- In this module, the open block `v` has a gap of empty slots before its middle items. These
-  -- items were tested in order until the test found an item to be removed, or no item remained. The
-  -- open block after the tests is `w`.
+  -- In this module, the open block `v` has a gap of empty slots before its middle items. The middle
+  -- items were tested in order, until the closure decided to remove an item or no item was left.
+  -- The open block after these tests is `w`.
   module _ {A : Type 0} (s t : S) (v w : Open T A) (gap : 0 < v.gap)
       (h : Advances R s v t w) where
     -- `kept` is the list of the tested items that are kept, as the closure left them.
@@ -487,8 +504,8 @@ module _ {S T : Type 0} (R : S → T → Bool → S → T → Type 0) where
         (same ∙ (λ i. record (h.now i)
         { gap = sym (ap (λ u. u.gap) same) i; rest = z.rest; cost = moved i }))
 
-    -- If the open block `w` has no middle items after the tests, then no item has to be removed,
-    -- and `Sifts` relates `v` to `w`.
+    -- If the open block `w` after the tests has no middle items, then the tests found no item to be
+    -- removed, and `Sifts` relates `v` to `w`.
     pub advanced-ends : w.rest ≡ [] → Sifts R s v t w
     advanced-ends none =
         sifts-of v w h.count s t kept
@@ -549,9 +566,9 @@ module _ {S T : Type 0} (R : S → T → Bool → S → T → Type 0) where
 
   module _ {A : Type 0} (v w : Open T A) (m : ℕ) (s t : S) (ys : List T)
       (run : AskedUpTo R 0 m s v.rest t ys) where
-    -- `Passed` holds if the kept items became the last front items of the open block `v` and stayed
-    -- in their slots. Apart from this, the new open block `w` may differ from `v` only in the gap
-    -- and the middle items.
+    -- `Passed` holds if the front items of the open block `w` are the front items of the open block
+    -- `v`, followed by the kept items. Apart from the front items, `w` may differ from `v` only in
+    -- the gap and the middle items. The cost is the same, because the kept items were not moved.
     abbrev Passed : Type 0
     Passed = w ≡ record v
         { front = v.front ++ take m ys; gap = w.gap; rest = w.rest }
@@ -633,9 +650,9 @@ module _ {J S T : Type 0} (R : S → T → Bool → S → T → Type 0) (inside 
   asked-through (x ∷ xs) s t a h =
       (h.0, h.1, inside h.2, h.3, h.4, asked-through xs h.2 t h.3 h.5, h.6)
 
-  -- Suppose that `retain` was called with a test that calls a closure and returns its result. If
-  -- the list `w` contains exactly the items of the list `v` that the test keeps, then these are
-  -- also exactly the items that the closure keeps.
+  -- Suppose that a test calls a closure and returns its result. If a call to `retain` with this
+  -- test turns the list `v` into the list `w`, then a call to `retain` with the closure itself also
+  -- turns `v` into `w`.
   pub retained-through : {A : Type 0} (s : J) (v w : Thin T A) (t : J)
       → IsRetainedTo through s v w t → IsRetained R (inside s) v w
   retained-through s v w t h = (
@@ -648,7 +665,7 @@ module _ {J S T : Type 0} (R : S → T → Bool → S → T → Type 0) (inside 
     },
   )
 
--- Section: which items `retain` keeps, and how many
+-- The following lemmas state which items `retain` keeps, and bound the number of kept items.
 
 -- In this module, `R` describes the calls to a closure that only reads the item.
 module _ {S T : Type 0} (R : S → T → Bool → S → Type 0) where
@@ -671,8 +688,8 @@ module _ {S T : Type 0} (R : S → T → Bool → S → Type 0) where
       (ap suc rest.0, (h.2, answer, rest.1), first b y x a xs left rest.2)
     where
       -- This is the induction step of the lemma `told`. Suppose that the kept items of `xs` are the
-      -- items whose flag is true. If the test left the item `x` unchanged, then the kept items of
-      -- `x ∷ xs` are also the items whose flag is true.
+      -- items whose flag is true, and that the test left the item `x` unchanged. Then the kept
+      -- items of `x ∷ xs` are also the items whose flag is true.
       first : (b : Bool) (y x : T) (a : Verdicts T) (xs : List T) → y ≡ x
           → left_at true a ≡ items_where_true (flags_of a) xs
           → left_at true ((b, y) ∷ a) ≡ items_where_true (b ∷ flags_of a) (x ∷ xs)
@@ -680,8 +697,9 @@ module _ {S T : Type 0} (R : S → T → Bool → S → Type 0) where
       first false y x a xs e f = f
 
   -- Suppose that `retain` was called with a closure that only reads the items, and that it turned
-  -- the list `v` into the list `w`. Then std's `IsFiltered` holds for the items of `v` and the
-  -- items of `w`. Lemmas about `IsFiltered` are in the file `lemmas/Fn` of std's proofs.
+  -- the list `v` into the list `w`. Then std's `IsFiltered` holds: the items of `w` are the items
+  -- of `v` for which the closure returned true. Lemmas about `IsFiltered` are in the file
+  -- `lemmas/Fn` of std's proofs.
   pub retained_filtered : {A : Type 0} (s : S) (v w : Thin T A) → IsRetained (Looks R) s v w
       → IsFiltered R s v.items w.items
   retained_filtered s v w h =

@@ -6,7 +6,8 @@ use Rattle.std.specs.List.{refill}
 use Rattle.thin_vec.specs.Lends.{with_items}
 use Rattle.thin_vec.specs.ThinVec.{Thin}
 
--- If the list `ws` has the same length as the list `xs`, then writing `ws` over `xs` yields `ws`.
+-- If the list `ws` has the same length as the list `xs`, then writing the items of `ws` over the
+-- items of `xs` replaces all items of `xs`. The result is exactly `ws`.
 pub refill_all : {T : Type 0} (xs ws : List T) → length ws ≡ length xs
     → refill (length xs) xs ws ≡ ws
 refill_all xs ws same =

@@ -27,15 +27,17 @@ module _ {T A : Type 0} (R : RattleType) (b : Block T A) (a : A) where
       in
       subst (IsWithin R) is here
 
-  -- Suppose that an operation changed the items of a list to `xs` and its capacity to `c`. If a
-  -- block of capacity `c` is small enough to be allocated, then the new list satisfies `IsWithin`.
+  -- Suppose that a list has the items `xs` and the capacity `c` after an operation. If a block of
+  -- capacity `c` is small enough to be allocated, then this list satisfies `IsWithin`: its length
+  -- and its capacity are within their bounds.
   pub within-settled : (xs : List T) (c : ℕ) → Fits R c → Settled b a xs c
       → IsWithin R (thin_of b a)
   within-settled xs c fits after =
       within-of (thin_of b a) after.thin refl (subst (Fits R) (sym after.cap) fits)
 
-  -- If a list satisfies `IsWithin`, then it still satisfies `IsWithin` after an operation that does
-  -- not change its capacity.
+  -- `IsWithin` states that the length and the capacity of a list are within their bounds. If a list
+  -- satisfies `IsWithin`, then it still satisfies `IsWithin` after an operation that does not
+  -- change its capacity.
   pub within-stays : (b' : Block T A) (v : Thin T A) (xs : List T) → IsWithin R v → thin_of b a ≡ v
       → Settled b' a xs (length b.slots) → IsWithin R (thin_of b' a)
   within-stays b' v xs kept is after = record {
@@ -44,8 +46,9 @@ module _ {T A : Type 0} (R : RattleType) (b : Block T A) (a : A) where
     fits = subst (Fits R) (sym (after.cap ∙ ap (λ (w : Thin T A). w.capacity) is)) kept.fits;
   }
 
-  -- If the block of a list is small enough to be allocated, and an operation does not change the
-  -- capacity, then the list satisfies `IsWithin` before and after the operation.
+  -- Suppose that the block of the list `v` is small enough to be allocated, and that an operation
+  -- does not change the capacity of the list. Then the list satisfies `IsWithin` both before and
+  -- after this operation.
   pub within-kept : (b' : Block T A) (v : Thin T A) (xs : List T) → IsThin b a → thin_of b a ≡ v
       → Fits R (length b.slots) → Settled b' a xs (length b.slots) → IsWithin R v
       × IsWithin R (thin_of b' a)
@@ -67,8 +70,8 @@ module _ {T A : Type 0} (R : RattleType) (w : Thin T A) where
     fits = subst (Fits R) (sym nothing) (fits-none R);
   }
 
-  -- If the list `v` satisfies `IsWithin`, the list `w` has the same capacity as `v`, and the length
-  -- of `w` is at most this capacity, then `w` also satisfies `IsWithin`.
+  -- Suppose that the list `v` satisfies `IsWithin`, and that the list `w` has the same capacity as
+  -- `v`. If the length of `w` is at most this capacity, then `w` also satisfies `IsWithin`.
   pub within-like : (v : Thin T A) → IsWithin R v → w.capacity ≡ v.capacity
       → length w.items ≤ v.capacity → IsWithin R w
   within-like v kept same room =
@@ -84,8 +87,8 @@ module _ {T A : Type 0} (v : Thin T A) (c : ℕ) where
   pub cost_at-same : c ≡ v.capacity → cost_at v c ≡ v.cost
   cost_at-same e = let t : eqb c v.capacity ≡ true = grind (arith, nat_tests) in rw t refl
 
-  -- If the capacity grew to `c`, then the new cost is the old cost plus one request for memory that
-  -- copied every item.
+  -- If the capacity grew from `v.capacity` to `c`, then the new cost is the old cost plus one
+  -- request for memory and `length v.items` copied items.
   pub cost_at-more : v.capacity < c → cost_at v c ≡ growing (length v.items) v.cost
   cost_at-more e = let t : eqb c v.capacity ≡ false = grind (arith, nat_tests) in rw t refl
 
@@ -101,9 +104,10 @@ module _ {T A : Type 0} (v : Thin T A) (c : ℕ) where
 -- capacities before and after the growth.
 pub ruleset costs = (cost_at-same, cost_at-more)
 
--- Suppose that a cost is within the bound `IsCheapAt` for the capacity `c`, and that at most `c`
--- items are copied into a new block of capacity `c'`. If `c < c'` and `2 * c ≤ c'`, then the new
--- cost is within the bound for `c'`.
+-- `IsCheapAt` bounds the requests for memory and the copied items for a given capacity. Suppose
+-- that the cost `k` is within the bound for the capacity `c`, and that at most `c` items are copied
+-- into a new block of capacity `c'`. If `c < c'` and `2 * c ≤ c'`, then the new cost is within the
+-- bound for `c'`.
 cheap-growing : {c : ℕ} {k : Cost} (n c' : ℕ) → IsCheapAt c k → n ≤ c → c < c' → 2 * c ≤ c'
     → IsCheapAt c' (growing n k)
 cheap-growing {c = zero} {k} n c' h le larger doubled =
@@ -147,7 +151,8 @@ module _ {T A : Type 0} (rule : Rule) (R : RattleType) (law : KeepsLaw rule)
       (g.enough, g.doubled)
 
   -- Suppose that the list `v` has no room for `k` more items. If it grows to the capacity `c` that
-  -- the rule chooses, then its cost increases by one request for memory that copies every item.
+  -- the growth rule chooses, then its cost increases by one request for memory and by `length
+  -- v.items` copied items.
   pub cost_at-grown : v.capacity < length v.items + k → capacity_for rule R v k ≡ Some c
       → cost_at v c ≡ growing (length v.items) v.cost
   cost_at-grown more e =
@@ -168,8 +173,9 @@ module _ {T A : Type 0} (rule : Rule) (R : RattleType) (law : KeepsLaw rule)
             omega (arith, paid, cap-kept spare e)
       ]
 
-  -- If the cost of the list `v` is within the bound `IsCheap`, then it is still within this bound
-  -- after the list has grown to the capacity that the growth rule chooses.
+  -- `IsCheap` bounds the requests for memory and the copied items of a list. If the cost of the
+  -- list `v` is within this bound, then it is still within the bound after the list has grown to
+  -- the capacity that the growth rule chooses.
   pub cheap-regrown : IsCheap v → length v.items ≤ v.capacity → capacity_for rule R v k ≡ Some c
       → IsCheapAt c (cost_at v c)
   cheap-regrown h room e =

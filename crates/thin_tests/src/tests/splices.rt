@@ -1,5 +1,6 @@
-//! Functions whose contracts show what a caller of `splice` can conclude. The tests check which
-//! items a list has after a failed call to `finish`, and what the failed call returns.
+//! The functions in this file call `splice`. Their contracts show what a caller can conclude from
+//! the contract of `splice`. The tests check which items a list has after a splice, and what a
+//! failed call to `finish`, the method that completes a splice, returns.
 ghost use Rattle.std.specs.Prelude.{◌≡◌, ◌≤◌, ◌++◌, OnOk, drop, length, take};
 
 use crate::tests::support::assertions::{assert_items, assert_len, assert_list, assert_same};
@@ -11,8 +12,8 @@ use std::process::Abort;
 use thin_examples::spliced::splice_by;
 use thin_vec::{Growth, SpliceRefused, ThinVec, ThinVecError};
 
-/// Replaces the items `start..end` of the list with `numbers`. If this fails, the numbers that were
-/// not inserted are dropped.
+/// Replaces the items `start..end` of the list with `numbers`. On failure, drops the numbers that
+/// were not inserted.
 pub fn replace<A: Allocator, G: Growth>(
     list: &mut ThinVec<u32, A, G>,
     start: usize,
@@ -66,9 +67,9 @@ fn second_splice_undoes_the_first(rt: HostRuntime) {
     }
 }
 
-// Asserts that the error of a failed `finish` has the contents `wanted`: the cause, the items in
-// `held`, the item in `in_hand`, and the items that the iterator `rest` still yields, in this
-// order.
+// Asserts that `refused`, the error of a failed call to `finish`, has the contents `wanted`. The
+// tuple `wanted` contains, in this order: the cause, the items in the field `held`, the item in the
+// field `in_hand`, and the items that the iterator `rest` still yields.
 fn assert_refused<A: Allocator>(
     rt: &impl Abort,
     refused: SpliceRefused<i32, Claims<'_>, A>,
@@ -89,8 +90,8 @@ fn assert_refused<A: Allocator>(
 }
 
 // Tries to replace a range of a list with the items of `iter`, and asserts that this fails. Then
-// asserts that the list has the items and the capacity in `left`, and that the error has the
-// contents `wanted`.
+// asserts that the list has the items and the capacity in the pair `left`. Finally, asserts that
+// the error has the contents in `wanted`.
 fn assert_range_refused<A: Allocator + Copy>(
     rt: &impl Abort,
     alloc: A,
@@ -124,8 +125,8 @@ fn row_12_refused_finish_returns_the_item_in_hand(rt: HostRuntime) {
 #[test]
 fn row_39_refused_finish_returns_the_held_items(rt: HostRuntime) {
     // The first request allocates the memory of the list. The second request allocates a vector for
-    // the items that do not fit into the range. The third request, which should grow the list, is
-    // refused.
+    // the items that do not fit into the range. The third request, which is made to grow the list,
+    // is refused.
     let refusing = refusing_nth(&rt, rt.alloc(), 3);
     let iter = Claims::new(&[7, 8, 9], 0);
     let left = (&[1, 7, 3][..], 3);
@@ -133,8 +134,8 @@ fn row_39_refused_finish_returns_the_held_items(rt: HostRuntime) {
     assert_range_refused(&rt, refusing, &[1, 2, 3], (1, 2), iter, left, wanted);
 }
 
-// Replaces the second item of the list with `count` numbers. The iterator's size hint has a lower
-// bound of 0.
+// Replaces the second item of the list with `count` numbers. The iterator over these numbers has a
+// size hint with the lower bound 0.
 fn splice_without_hint(rt: &impl Abort, list: &mut ThinVec<i32>, count: i32, alloc: Global)
     requires in_bounds { 2 ≤ length list.old.items }
 {

@@ -83,8 +83,8 @@ fn with_rows_returns_the_cause(rt: HostRuntime) {
     }
 }
 
-// Sets four values in row 0. Each value counts its drops, and the fourth value replaces the second
-// value.
+// Sets a value in row 0 four times. Each value counts its drops, and the fourth value replaces the
+// second value.
 fn set_counted<'a>(rt: &impl Abort, table: &mut Rows<Counted<'a>>, drops: &'a Cell<u32>) {
     for column in [3, 1, 2, 1] {
         assert_row(rt, table, 0);
@@ -166,9 +166,10 @@ fn fill_columns<A: Allocator>(rt: &impl Abort, table: &mut Rows<u32, A>, columns
     }
 }
 
-// Tests a table with two long rows. It has three allocations: one for the table itself, and one for
-// each of the two rows. Each row makes 11 requests, because its capacity doubles from 4 to 4096.
-// Together with the request for the table itself, there are 23 requests.
+// Tests a table in which only two rows have entries. The table has three allocations: one for the
+// table itself, and one for each of the two rows. The capacity of each of these rows grows from 4
+// to 4096 by doubling, which takes 11 requests for memory. Together with the request for the table
+// itself, there are 23 requests.
 #[test]
 fn set_adds_thousands_of_columns_to_a_row(rt: HostRuntime) {
     let refusing = refusing_nth(&rt, rt.alloc(), 0);
@@ -220,8 +221,8 @@ fn a_cleared_row_frees_its_block_and_makes_no_request(rt: HostRuntime) {
     assert_counts(&rt, refusing, 0, 2);
 }
 
-// Makes a row of `columns` entries, and sets each entry a second time. Asserts that setting the
-// entries a second time makes no request for memory.
+// Sets `columns` entries in one row, and then sets each of them again. Asserts that the second pass
+// makes no request for memory.
 fn assert_set_again(rt: &impl Abort, refusing: &Refusing<Global>, columns: usize) {
     let mut table = Rows::with_rows(refusing, 1).expect(rt, "memory");
     for column in 0..columns {

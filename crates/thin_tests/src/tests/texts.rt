@@ -7,7 +7,8 @@ use std::fmt::{Debug, Display};
 use std::process::Abort;
 use thin_vec::{CollectRefused, ExtendRefused, Rejected, SpliceRefused, ThinVec, ThinVecError};
 
-/// Asserts that `{:?}`, `{:#?}` and `{:04?}` print the value as the three texts, in this order.
+/// Asserts that `{:?}`, `{:#?}` and `{:04?}` format the value as the three strings in `texts`, in
+/// this order.
 pub fn assert_texts<D: Debug>(rt: &impl Abort, alloc: Global, value: &D, texts: [&str; 3]) {
     assert_text(rt, alloc, value, texts[0]);
     let lines = format!(in alloc; "{value:#?}").expect(rt, "memory");
@@ -90,8 +91,8 @@ fn assert_prints_cause<E: Debug + Display>(
     assert_same(rt, told.as_str(), wanted.as_str());
 }
 
-// Calls `assert_prints_cause` with one error of each error type that contains values. All these
-// errors have the cause `cause`.
+// Calls `assert_prints_cause` for one error of each error type that returns values to the caller,
+// such as `Rejected`. All these errors have the cause `cause`.
 fn assert_all_print_cause(rt: &impl Abort, alloc: Global, cause: ThinVecError) {
     let (value, in_hand, rest) = (1, Some(1), 2);
     let rejected = Rejected { value, cause };

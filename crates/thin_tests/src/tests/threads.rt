@@ -9,7 +9,7 @@ use std::marker::{Send, Sync};
 use thin_rows::Rows;
 use thin_vec::{Growth, PowerBytes, ThinVec, thin_vec};
 
-// A node of a tree, with a list of the children of the node.
+// A node of a tree. It contains a list of its child nodes.
 #[derive(Drop)]
 struct Node {
     value: u8,
@@ -32,8 +32,8 @@ fn needs_sync<X: Sync>(value: &X) -> &X
     value
 }
 
-// Passes a list to `needs_send`. The list may have any item type, allocator and growth rule that
-// are `Send`.
+// Passes a list to `needs_send`, and returns it. The compiler accepts this for all item types,
+// allocators and growth rules with the bound `Send`.
 fn send_list<T: Send, A: Allocator + Send, G: Growth + Send>(
     list: ThinVec<T, A, G>,
 ) -> ThinVec<T, A, G>
@@ -42,8 +42,8 @@ fn send_list<T: Send, A: Allocator + Send, G: Growth + Send>(
     needs_send(list)
 }
 
-// Passes a list to `needs_sync`. The list may have any item type, allocator and growth rule that
-// are `Sync`.
+// Passes a reference to a list to `needs_sync`, and returns it. The compiler accepts this for all
+// item types, allocators and growth rules with the bound `Sync`.
 fn share_list<T: Sync, A: Allocator + Sync, G: Growth + Sync>(
     list: &ThinVec<T, A, G>,
 ) -> &ThinVec<T, A, G>

@@ -35,7 +35,8 @@ fn a_leaf_owns_no_block(rt: HostRuntime) {
     }
 }
 
-// Returns a list that contains the numbers in `rules` and has spare capacity.
+// Returns a list that contains the numbers in the slice `rules`. The list has spare capacity,
+// because it is created with room for 10 items.
 fn roomy(rt: &impl Abort, alloc: Global, rules: &[u32]) -> ThinVec<u32> {
     let mut style = ThinVec::with_capacity(alloc, 10).expect(rt, "memory");
     for rule in rules {
@@ -130,7 +131,8 @@ fn move_range_moves_a_range_to_another_list(rt: HostRuntime) {
     assert_items(&rt, other.as_slice(), &[9, 2, 3]);
 }
 
-// Asserts that `spliced_middle` replaces the third and the fourth item of a list of five items.
+// Asserts that the example function `spliced_middle` replaces the third and the fourth item of a
+// list of five items with three new items.
 fn assert_spliced(rt: &impl Abort, alloc: Global) {
     let mut five = list_of(rt, alloc, &[1, 2, 3, 4, 5]);
     spliced_middle(&mut five, alloc).expect(rt, "memory");

@@ -36,8 +36,8 @@ module _ {T : Type 0} where
       (replicate-append-replicate start 1 None))
 
   -- Suppose that the slots are, in this order: `start` empty slots, the items `xs`, the item `x`,
-  -- and `k` empty slots. Then they consist of the slots before `x`, the slot of `x`, and the empty
-  -- slots after `x`.
+  -- and `k` empty slots. Then this list of slots can be split directly before the slot of `x`. The
+  -- part before it is `empty start ++ full xs`.
   row-last : (start k : ℕ) (xs : List T) (x : T) → empty start ++ (full (xs ++ x ∷ []) ++ empty k)
       ≡ (empty start ++ full xs) ++ (Some x ∷ empty k)
   row-last start k xs x =
@@ -81,8 +81,9 @@ module _ {T : Type 0} where
       all : (ys : List T) (n : ℕ) → n ≡ length ys → take n ys ≡ ys
       all ys n same = ap (take n) (sym (append-nil ys)) ∙ take_at ys [] n (sym same)
 
-  -- Suppose that `start` empty slots are followed by the slots `s`. Then writing the items `ws`
-  -- from slot `start` onward is the same as writing `ws` over the items of `s`.
+  -- Suppose that `start` empty slots precede the slots `s`. If the items `ws` are written from
+  -- index `start` onward, then the empty slots do not change, and `ws` is written over the items in
+  -- `s`.
   over-after : (start : ℕ) (s : List (Option T)) (ws : List T)
       → over (empty start ++ s) start ws ≡ empty start ++ over s 0 ws
   over-after zero s ws = refl
@@ -176,13 +177,13 @@ module _ {T A : Type 0} where
     abbrev xs : List T
     xs = items_in b.slots
 
-    -- `gap` is the number of empty slots after the items.
+    -- `gap` is the number of empty slots after the items that have not been yielded yet.
     abbrev gap : ℕ
     gap = length b.slots - end
 
-    -- Suppose that the slots are `start` empty slots, the items `ys`, and `k` empty slots. If slot
-    -- `start` holds `v`, then `v` is the first item of `ys`. If this slot is emptied, then
-    -- `start + 1` empty slots precede the other items.
+    -- Suppose that the items `ys` lie between `start` empty slots and `k` empty slots. If slot
+    -- `start` holds `v`, then `v` is the first item of `ys`. If this slot is emptied, then `start +
+    -- 1` empty slots precede the other items.
     first-of : (ys : List T) (k : ℕ) → 0 < length ys
         → slot (empty start ++ (full ys ++ empty k)) start ≡ Some v
         → (ys ≡ v ∷ drop 1 ys)
@@ -209,8 +210,8 @@ module _ {T A : Type 0} where
     pub first-item : slot b.slots start ≡ Some v → xs ≡ v ∷ drop 1 xs
     first-item e = (first e).0
 
-    -- If slot `start` held `v` and was emptied, then the new block is the block of the iterator
-    -- without its first item.
+    -- If slot `start` of the block `b` held `v` and was emptied, then the new block `b'` is the
+    -- block of the iterator without its first item.
     pub settle-first : slot b.slots start ≡ Some v
         → seen b' ≡ record (seen b) { slots = set b.slots start None }
         → Walking b' a (drop 1 xs) (start + 1) end (length b.slots)
@@ -246,8 +247,8 @@ module _ {T A : Type 0} where
         let same : get_or xs (end - 1 - start) v ≡ v = cc in
         whole ∙ ap (λ (x : T). most ++ x ∷ []) same
 
-    -- If slot `end - 1` was emptied, then the new block is the block of the iterator without its
-    -- last item.
+    -- If slot `end - 1` of the block `b` was emptied, then the new block `b'` is the block of the
+    -- iterator without its last item.
     pub settle-last : seen b' ≡ record (seen b) { slots = set b.slots (end - 1) None }
         → Walking b' a most start (end - 1) (length b.slots)
     settle-last w =
@@ -260,9 +261,9 @@ module _ {T A : Type 0} where
         place (omega (arith, walked-room b a start end t))
         (from-same b b' a t.from (ap (λ v. v.alloc) w))
 
-  -- If the items `ws` were written over the items from slot `start` onward, then the new block `b'`
-  -- belongs to an iterator with the same number of items. In this iterator, the items `ws` replace
-  -- the first items.
+  -- Suppose that the items `ws` were written into the block `b` of an iterator from slot `start`
+  -- onward. Then the new block `b'` is the block of an iterator with the same number of items, in
+  -- which `ws` replaces the first items.
   pub settle-written : (b b' : Block T A) (a : A) (start end : ℕ) (ws : List T)
       → IsWalked b a start end → seen b' ≡ record (seen b) { slots = over b.slots start ws }
       → Walking b' a (refill (length (items_in b.slots)) (items_in b.slots) ws)
@@ -277,16 +278,16 @@ module _ {T A : Type 0} where
       (omega (arith, t.len, length_refill (length xs) xs ws refl)) (walked-room b a start end t)
       (from-same b b' a t.from (ap (λ v. v.alloc) w))
 
-  -- Suppose that the items `ws` are written into the block of an iterator from slot `start` onward.
-  -- Then the description of the iterator in contracts changes in only one way: `ws` replaces the
-  -- first items that have not been yielded yet.
+  -- Suppose that the items `ws` are written into the block `b` of an iterator from slot `start`
+  -- onward. Then contracts describe the new iterator as the old one with `ws` in place of the first
+  -- items that have not been yielded yet. Nothing else about the iterator changes.
   pub view-written : (b : Block T A) (a : A) (start end : ℕ) (ws : List T) → IsWalked b a start end
       → thin_of (block_with_items b start ws) a ≡ with_items (thin_of b a) ws
   view-written b a start end ws t =
       let f = settle-written b (block_with_items b start ws) a start end ws t refl in
       λ i. record { items = f.items i; capacity = f.cap i; alloc = a; cost = b.cost }
 
-  -- If all items have been yielded, then every slot is empty.
+  -- If all items of an iterator have been yielded, then every slot of its block is empty.
   pub walked-empty : (b : Block T A) (a : A) (start end : ℕ) → IsWalked b a start end
       → length (items_in b.slots) ≡ 0 → b.slots ≡ empty (length b.slots)
   walked-empty b a start end t none =

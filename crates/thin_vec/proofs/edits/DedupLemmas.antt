@@ -1,6 +1,7 @@
--- These lemmas state which items are kept if each item is tested against the last item kept before
--- it, and how the results of consecutive tests combine. In this file, `R` describes the calls to
--- the closure, and `s`, `t` and `u` are states of the closure.
+-- These lemmas are about closures that remove duplicates from a list. Each item except the first is
+-- tested against the last item kept before it. The lemmas state which items are kept, and how the
+-- results of consecutive tests combine. In this file, `R` describes the calls to the closure, and
+-- `s`, `t` and `u` are states of the closure.
 use Rattle.std.proofs.Common.{◌≡◌, ℕ, zero, suc, ◌+◌, ◌<◌, ◌≤◌, Bool, true, false, List, [], ◌∷◌, ◌++◌, length, take, drop, refl, sym, ap, subst, ◌∙◌, arith, inl, inr, append_assoc}
 use Rattle.std.proofs.lemmas.List.{append-nil, drop_at, length_push, replicate-append-replicate, take_at}
 use Rattle.std.specs.List.{dedup, dedup_from}
@@ -63,9 +64,9 @@ map-answer : (b : Bool) {P Q P' Q' : Type 0} → (P → P') → (Q → Q') → M
 map-answer true f g m = f m
 map-answer false f g m = g m
 
--- Suppose that a list of at least two items begins with `k` and ends with `l`. Then the list still
--- ends with `l` if its first item is removed, and it still begins with `k` if its last item is
--- removed.
+-- Suppose that a list has at least two items, and that it begins with `k` and ends with `l`. If its
+-- first item is removed, then the list still ends with `l`. If instead its last item is removed,
+-- then the list still begins with `k`.
 after-first : {X : Type 0} (pre zs : List X) (k l : X) → pre ++ l ∷ [] ≡ k ∷ zs → 0 < length zs
     → (p : List X) × (zs ≡ p ++ l ∷ []) × (pre ≡ k ∷ p)
 after-first [] zs k l e some = let n = ap length e in absurd (omega (arith, n, some))
@@ -96,9 +97,9 @@ module _ {S T : Type 0} (R : OnPairs S T) where
   -- In this module, the items `zs` were tested after the kept item `l`. The tests changed the state
   -- of the closure from `t` to `u`.
   module _ (t u : S) (l : T) (g : List Bool) (ws zs : List T) (m : AskedLast R t l zs g ws u) where
-    -- If the tests of the items `xs` changed the state of the closure from `s` to `t`, and the
-    -- tests of `zs` changed it from `t` to `u`, then the tests of `xs ++ zs` changed it from `s` to
-    -- `u`.
+    -- Suppose that the tests of the items `xs` changed the state of the closure from `s` to `t`,
+    -- and that `l` was then the last kept item. If the tests of `zs` changed the state from `t` to
+    -- `u`, then the tests of `xs ++ zs` changed it from `s` to `u`.
     last-append : (xs : List T) (s : S) (k : T) (f : List Bool) (pre : List T)
         → AskedLast R s k xs f (pre ++ l ∷ []) t → AskedLast R s k (xs ++ zs) (f ++ g) (pre ++ ws) u
     last-append [] s k f pre h =
@@ -127,11 +128,11 @@ module _ {S T : Type 0} (R : OnPairs S T) where
           h.7,
     )
 
-  -- Section: sequences of adjacent items that are all kept
+  -- The following definitions and lemmas are about adjacent items that are all kept.
 
-  -- `PairStays` states that the first `m` items of the list `xs` were kept: the first item without
-  -- a test, and each later item after its test. It also states that the tests turned `xs` into
-  -- `ys`, and changed the state of the closure from `s` to `t`.
+  -- `PairStays` states that the first `m` items of the list `xs` were kept. The first item is kept
+  -- without a test, and each later item was tested against the item before it. The tests turned
+  -- `xs` into `ys`, and changed the state of the closure from `s` to `t`.
   pub record PairStays (m : ℕ) (s : S) (xs : List T) (t : S) (ys : List T) : Type 0 where
     pub first : T
     pub done : List T
@@ -161,15 +162,16 @@ module _ {S T : Type 0} (R : OnPairs S T) where
       }
 
   module _ (m : ℕ) (s : S) (xs : List T) (t : S) (ys : List T) (h : PairStays m s xs t ys) where
-    -- `NextPair` states that the test `a` compared the first untested item with the last kept item.
+    -- `NextPair` states that the next test, `a`, compared the first untested item with the last
+    -- kept item.
     pub record NextPair (b : Bool) (u : S) (zs : List T)
         (a : IsPairAskedAt R m t ys b u zs) : Type 0 where
       pub front : a.before ≡ h.pre
       pub last : a.kept ≡ h.last
       pub after : h.after ≡ a.later ∷ a.after
 
-    -- If the test `a` compared the item at index `m` with the item before it, then `NextPair`
-    -- holds: `a` compared the first untested item with the last kept item.
+    -- If the next test, `a`, compared the item at index `m` with the item before it, then
+    -- `NextPair` holds: `a` compared the first untested item with the last kept item.
     next-pair : (b : Bool) (u : S) (zs : List T) (a : IsPairAskedAt R m t ys b u zs)
         → NextPair b u zs a
     next-pair b u zs a =
@@ -186,22 +188,24 @@ module _ {S T : Type 0} (R : OnPairs S T) where
         ∙ drop_at a.before (a.kept ∷ a.later ∷ a.after) (length h.pre) n) in
         record { front = sym fronts; last = sym (cons-head rests); after = cons-tail rests }
 
-    -- The test `a` called the closure for the first untested item and the last kept item.
+    -- The next test, `a`, called the closure with the first untested item `a.later` and the last
+    -- kept item `h.last`.
     next-asked : (b : Bool) (u : S) (zs : List T) (a : IsPairAskedAt R m t ys b u zs)
         → R t a.later h.last b u a.later_left a.kept_left
     next-asked b u zs a = subst (λ (k : T). R t a.later k b u a.later_left a.kept_left)
         (next-pair b u zs a).last a.asked
 
-    -- The list `xs` consists of, in this order: its first item, the items that were tested before
-    -- the test `a`, the item that `a` tested, and the untested items.
+    -- The list `xs` consists of four parts, in this order: its first item, the items that were
+    -- tested before the next test `a`, the item that `a` tested, and the items that are still
+    -- untested.
     next-was : (b : Bool) (u : S) (zs : List T) (a : IsPairAskedAt R m t ys b u zs)
         → xs ≡ h.first ∷ ((h.done ++ a.later ∷ []) ++ a.after)
     next-was b u zs a = h.was ∙ ap (λ (l : List T). h.first ∷ l)
         (ap (λ (l : List T). h.done ++ l) (next-pair b u zs a).after
         ∙ sym (append_assoc h.done (a.later ∷ []) a.after))
 
-    -- After the test `a`, the list `zs` contains the two items of this test as the test left them.
-    -- No other item has changed.
+    -- After the test `a`, the list `zs` contains the two items that `a` compared, as `a` left them.
+    -- All other items are unchanged.
     next-now : (b : Bool) (u : S) (zs : List T) (a : IsPairAskedAt R m t ys b u zs)
         → zs ≡ (h.pre ++ a.kept_left ∷ []) ++ a.later_left ∷ a.after
     next-now b u zs a =
@@ -239,7 +243,7 @@ module _ {S T : Type 0} (R : OnPairs S T) where
         }
 
     -- If the test of the item at index `m` decides to remove this item, then `PairsAskedUpTo`
-    -- holds: the tests stop at this item, after the first `m` items were kept.
+    -- holds: the first `m` items were kept, and the tests stopped at the next item.
     pub pair-goes : (u : S) (zs : List T) → IsPairAskedAt R m t ys true u zs
         → PairsAskedUpTo R m s xs u zs
     pair-goes u zs a =
@@ -261,7 +265,8 @@ module _ {S T : Type 0} (R : OnPairs S T) where
           stops = inl (refl, refl);
         }
 
-  -- Section: the kept items before the first item to be removed
+  -- The following lemmas are about tests that stop at the first item to be removed. They describe
+  -- the kept items before this item.
 
   module _ (m : ℕ) (s : S) (xs : List T) (t : S) (ys : List T)
       (r : PairsAskedUpTo R m s xs t ys) where
@@ -269,8 +274,9 @@ module _ {S T : Type 0} (R : OnPairs S T) where
     pub run-left : take m ys ≡ r.left
     run-left = ap (take m) r.now ∙ take_at r.left (r.over ++ r.after) m r.long
 
-    -- From index `m` onward, the list `ys` consists of the item to be removed, if there is one, and
-    -- the untested items.
+    -- From index `m` onward, the list `ys` consists of `r.over` and `r.after`. The list `r.over`
+    -- contains the item to be removed, if there is one. The list `r.after` contains the untested
+    -- items.
     pub run-over : drop m ys ≡ r.over ++ r.after
     run-over = ap (drop m) r.now ∙ drop_at r.left (r.over ++ r.after) m r.long
 
@@ -314,17 +320,18 @@ module _ {S T : Type 0} (R : OnPairs S T) where
     Moved front cost = w ≡ record v
         { front = front; gap = w.gap; rest = w.rest; cost = cost }
 
-    -- Replacing the front items and the cost of an open block with equal ones yields an equal open
-    -- block.
+    -- Suppose that the front items `f` and `f'` are equal, and that the costs `k` and `k'` are
+    -- equal. Then the open block with `f` and `k` is equal to the open block with `f'` and `k'`.
     moved : {f f' : List T} {k k' : Cost} → f ≡ f' → k ≡ k'
         → record v { front = f; gap = w.gap; rest = w.rest; cost = k }
         ≡ record v { front = f'; gap = w.gap; rest = w.rest; cost = k' }
     moved e n = λ i. record v { front = e i; gap = w.gap; rest = w.rest; cost = n i }
 
     module _ (s t : S) where
-      -- Suppose that the first middle items, `done`, were tested, and that the kept items of `done`
-      -- were moved to the end of the front items, at the cost of one move each. Then `Dedups`
-      -- relates the open block before these tests to the open block after these moves.
+      -- Suppose that the first middle items, `done`, were tested, and that `first` was the last
+      -- front item before the tests. Suppose also that the kept items of `done` were moved to the
+      -- end of the front items, at the cost of one move each. Then `Dedups` relates the open block
+      -- `v` before the tests to the open block `w` after these moves.
       dedups-of : (before : List T) (first : T) (done : List T) (stays : List Bool) (kept : List T)
           → v.front ≡ before ++ first ∷ [] → v.rest ≡ done ++ w.rest
           → AskedLast R s first done stays kept t → 0 < w.gap
@@ -343,8 +350,8 @@ module _ {S T : Type 0} (R : OnPairs S T) where
             now = now;
           }
 
-    -- If the first middle item `x` was tested and removed, then `Dedups` relates the open block
-    -- before this test to the open block after the removal.
+    -- If the first middle item `x` was tested and removed, then `Dedups` relates the open block `v`
+    -- before this test to the open block `w` after the removal.
     pub dedups-goes : {s t : S} (x y : T) (front : List T)
         → IsLastAsked R s x v.front true t y front → v.rest ≡ x ∷ w.rest → 0 < w.gap
         → Moved front v.cost → Dedups R s v t w
@@ -354,8 +361,8 @@ module _ {S T : Type 0} (R : OnPairs S T) where
         (now ∙ moved (λ i. a.now i) (sym (moving-none v.cost)))
 
     -- Suppose that the first middle item `x` was tested and kept, and that it was moved to the end
-    -- of the front items at the cost of one move. Then `Dedups` relates the open block before this
-    -- test to the open block after this move.
+    -- of the front items at the cost of one move. Then `Dedups` relates the open block `v` before
+    -- this test to the open block `w` after this move.
     pub dedups-stays : {s t : S} (x y : T) (front : List T)
         → IsLastAsked R s x v.front false t y front → v.rest ≡ x ∷ w.rest
         → 0 < w.gap → Moved (front ++ y ∷ []) (moving 1 v.cost) → Dedups R s v t w
@@ -368,15 +375,17 @@ module _ {S T : Type 0} (R : OnPairs S T) where
     module _ (s t u : S) (x y z : T) (front ys zs : List T)
         (a : IsLastAsked R s x v.front false t y front) (b : Bool)
         (n : IsNextAsked R t y ys b u z zs) (whole : v.rest ≡ x ∷ ys) where
-      -- Suppose that the item `x` was kept, and that the item after `x` was tested next. Then the
-      -- last two front items are the old last front item, as the test of `x` left it, and `x`, as
-      -- the test of the item after `x` left it.
+      -- Suppose that the first middle item was tested and kept, and that the second middle item was
+      -- then tested. After these tests, the last two front items are `a.kept_left`, which was the
+      -- last front item before the tests, and `z`, which was the first middle item. Both items are
+      -- as the tests left them.
       two-front : (front ++ z ∷ [] ≡ a.before ++ a.kept_left ∷ z ∷ [])
       two-front = ap (λ (l : List T). l ++ z ∷ []) a.now
           ∙ append_assoc a.before (a.kept_left ∷ []) (z ∷ [])
 
-      -- If the first middle item was kept, and the second middle item was removed, then `Dedups`
-      -- relates the open block before these two tests to the open block after them.
+      -- Suppose that the first middle item was kept, and that the second middle item was tested and
+      -- removed. Then `Dedups` relates the open block `v` before these two tests to the open block
+      -- `w` after them.
       pub dedups-two : b ≡ true → (value : T) → zs ≡ value ∷ w.rest → 0 < w.gap
           → Moved (front ++ z ∷ []) (moving 1 v.cost) → Dedups R s v u w
       dedups-two e value rest gap now =
@@ -390,9 +399,9 @@ module _ {S T : Type 0} (R : OnPairs S T) where
           (a.kept_left ∷ z ∷ []) a.was (whole ∙ ap (λ (l : List T). x ∷ l)
           (n.was ∙ ap (λ (l : List T). n.later ∷ l) same)) asked gap (now ∙ moved two-front refl)
 
-      -- Suppose that the first `m + 1` middle items were kept. Suppose also that the middle item
-      -- after them, if there is one, was removed. Then `Dedups` relates the open block before these
-      -- tests to the open block after them.
+      -- Suppose that the first `m + 1` middle items were tested and kept. Suppose also that the
+      -- next middle item, if there is one, was tested and removed. Then `Dedups` relates the open
+      -- block `v` before these tests to the open block `w` after them.
       pub dedups-run : b ≡ false → (m : ℕ) (q : S) (ws : List T) (r : PairsAskedUpTo R m u zs q ws)
           → r.after ≡ w.rest → suc (trues r.stays) ≡ m
           → 0 < w.gap → Moved ((front ++ z ∷ []) ++ take m ws) (moving m (moving 1 v.cost))
@@ -421,8 +430,8 @@ module _ {S T : Type 0} (R : OnPairs S T) where
           ∙ append_assoc a.before (a.kept_left ∷ z ∷ []) r.left)
           (moving-more m 1 v.cost ∙ ap (λ (k : ℕ). moving k v.cost) paid))
 
-  -- `Dedups` relates every open block that has a gap and at least one front item to itself. This is
-  -- the situation before the first test.
+  -- If the open block `v` has a gap and at least one front item, then `Dedups` relates `v` to
+  -- itself. This is the situation before the first test.
   pub dedups-start : {A : Type 0} (s : S) (v : Open T A) → 0 < length v.front
       → 0 < v.gap → Dedups R s v s v
   dedups-start s v some gap =
@@ -479,8 +488,8 @@ module _ {S T : Type 0} (R : OnPairs S T) where
   module _ {A : Type 0} (v w : Open T A) (m : ℕ) (s t : S) (ys : List T)
       (r : PairsAskedUpTo R m s v.rest t ys) where
     -- `RunPassed` states that the front items of the open block `w` are exactly the kept items, as
-    -- the tests left them. It also states that `w` otherwise differs from the open block `v` at
-    -- most in the gap and the middle items.
+    -- the tests left them. Apart from the front items, `w` may differ from the open block `v` only
+    -- in the gap and the middle items.
     abbrev RunPassed : Type 0
     RunPassed = Moved v w (take m ys) v.cost
 
@@ -549,8 +558,8 @@ module _ {J S T : Type 0} (R : OnPairs S T) (inside : J → S) where
   abbrev through : OnPairs J T
   through s x k b t y l = R (inside s) x k b (inside t) y l
 
-  -- If the test was applied to the items `xs` after the kept item `k`, then its closure was called
-  -- with the same items and returned the same results.
+  -- Suppose that the items `xs` follow the kept item `k`, and that they were passed to a test that
+  -- calls a closure. Then the closure was called with the same items and returned the same results.
   last-through : (xs : List T) (s t : J) (k : T) (f : List Bool) (ys : List T)
       → AskedLast through s k xs f ys t → AskedLast R (inside s) k xs f ys (inside t)
   last-through [] s t k f ys h = (h.0, h.1, ap inside h.2)
@@ -566,16 +575,16 @@ module _ {J S T : Type 0} (R : OnPairs S T) (inside : J → S) where
         (λ q. (q.0, last-through xs h.3 t h.1 h.4 q.0 q.1, q.2)) h.7,
   )
 
-  -- If the test was applied to the items `xs`, then its closure was called with the same items and
-  -- returned the same results.
+  -- Suppose that the items `xs` were passed to a test that calls a closure. Then the closure was
+  -- called with the same items and returned the same results.
   pairs-through : (xs : List T) (s t : J) (f : List Bool) (ys : List T)
       → AskedPairs through s xs f ys t → AskedPairs R (inside s) xs f ys (inside t)
   pairs-through [] s t f ys h = (h.0, h.1, ap inside h.2)
   pairs-through (x ∷ xs) s t f ys h = last-through xs s t x f ys h
 
-  -- Suppose that `dedup_by` was called with a test that calls a closure and returns its result. If
-  -- the list `w` contains exactly the items of the list `v` that the test keeps, then these are
-  -- also exactly the items that the closure keeps.
+  -- Suppose that a test calls a closure and returns its result. If a call to `dedup_by` with this
+  -- test turns the list `v` into the list `w`, then a call to `dedup_by` with the closure itself
+  -- also turns `v` into `w`.
   pub deduped-through : {A : Type 0} (s : J) (v w : Thin T A) (t : J) → IsDedupedTo through s v w t
       → IsDedupedBy R (inside s) v w
   deduped-through s v w t h = (
@@ -591,8 +600,9 @@ module _ {J S T : Type 0} (R : OnPairs S T) (inside : J → S) where
 -- In this module, the test is the function `E`, which has no state. Whether an item is kept depends
 -- only on this item and the last kept item.
 module _ {S T : Type 0} (E : T → T → Bool) where
-  -- If the items `xs` were tested after the kept item `k`, then the flags `unlike_from E k xs` say
-  -- which of them are kept. The kept items, including `k`, are `dedup_from E k xs`.
+  -- Suppose that the items `xs` follow the kept item `k`, and that the function `E` tested them.
+  -- Then the flags `f`, which say which of these items are kept, are `unlike_from E k xs`. The list
+  -- `ys` of the kept items, including `k`, is `dedup_from E k xs`.
   last-compares : (xs : List T) (s t : S) (k : T) (f : List Bool) (ys : List T)
       → AskedLast (Compares E) s k xs f ys t → (f ≡ unlike_from E k xs) × (ys ≡ dedup_from E k xs)
   last-compares [] s t k f ys h = (h.0, h.1)
@@ -618,8 +628,9 @@ module _ {S T : Type 0} (E : T → T → Bool) where
       ]
       h.5.0 h.6 h.7
 
-  -- If the items `xs` were tested, then the flags `unlike E xs` say which items after the first are
-  -- kept. The kept items, including the first item, are `dedup E xs`.
+  -- Suppose that the function `E` tested the items of the list `xs` after the first item. Then the
+  -- flags `f`, which say which of these items are kept, are `unlike E xs`. The list `ys` of the
+  -- kept items, including the first item, is `dedup E xs`.
   pub pairs-compare : (xs : List T) (s t : S) (f : List Bool) (ys : List T)
       → AskedPairs (Compares E) s xs f ys t → (f ≡ unlike E xs) × (ys ≡ dedup E xs)
   pairs-compare [] s t f ys h = (h.0, h.1)
@@ -634,7 +645,7 @@ module _ {S T : Type 0} (R : OnPairs S T) where
   few-last (x ∷ xs) s t k stays ys h =
       one h.0 h.7 (λ l zs m. few-last xs h.3 t l h.4 zs m)
     where
-      -- One more test adds at most one item to the kept items.
+      -- One more test increases the number of kept items by at most 1.
       one : (b : Bool) → MatchBool b (AskedLast R h.3 h.2 xs h.4 ys t)
           ((zs : List T) × AskedLast R h.3 h.1 xs h.4 zs t × (ys ≡ h.2 ∷ zs))
           → ((l : T) (zs : List T) → AskedLast R h.3 l xs h.4 zs t → length zs ≤ suc (length xs))

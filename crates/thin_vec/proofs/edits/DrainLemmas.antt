@@ -11,8 +11,8 @@ use Rattle.thin_vec.specs.declared.edits.holder.Holder.{Holder}
 use Rattle.thin_vec.specs.declared.edits.holder.Holds.{Ghosts as HoldsGhosts}
 
 module _ {T A G : Type 0} {g : Ghosts G} {h : HoldsGhosts (Holder (Open T A)) (Open T A)} where
-  -- `DrainKeeps` is transitive: if it holds for `a` and `b`, and for `b` and `c`, then it holds for
-  -- `a` and `c`.
+  -- `DrainKeeps a b` states that dropping `a` results in the same list as dropping `b`. It is
+  -- transitive: if it holds for `a` and `b`, and for `b` and `c`, then it holds for `a` and `c`.
   drain_keeps_more : (a b c : Drain T A G (Holder (Open T A)) g h) → DrainKeeps a b
       → DrainKeeps b c → DrainKeeps a c
   drain_keeps_more a b c p q =
@@ -25,7 +25,8 @@ module _ {T A G : Type 0} {g : Ghosts G} {h : HoldsGhosts (Holder (Open T A)) (O
         cost = q.cost ∙ p.cost;
       }
 
-  -- Calls to `next` do not change the list that remains after the `Drain` is dropped.
+  -- No sequence of calls to `next` on a `Drain` affects the list that remains after the `Drain` is
+  -- dropped.
   pub drain_keeps_along : (d : Drain T A G (Holder (Open T A)) g h) → DrainKeepsAlong d
   drain_keeps_along d [] later e = subst (λ t. DrainKeeps d t) e
       (record { lender = refl; kept = refl; capacity = refl; alloc = refl; cost = refl })

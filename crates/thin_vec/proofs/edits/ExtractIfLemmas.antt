@@ -16,8 +16,9 @@ not-not true = refl
 not-not false = refl
 
 module _ {F T : Type 0} (R : F → T → Bool → F → T → Type 0) where
-  -- The length of the list `xs` is the number of kept items, plus 1 if an item was extracted, plus
-  -- the number of untested items.
+  -- Suppose that a call to `next` tests items of the list `xs`. Then the length of `xs` is the
+  -- number of kept items, plus 1 if an item was extracted, plus the number of items that are still
+  -- untested.
   pub picked-count : (s : F) (xs : List T) (item : Option T) (t : F) (kept rest : List T)
       → ExtractsNext R s xs item t kept rest → length xs ≡ length kept + length
       (option_to_list item) + length rest
@@ -29,8 +30,8 @@ module _ {F T : Type 0} (R : F → T → Bool → F → T → Type 0) where
   picked-count s (x ∷ xs) item t kept rest e =
       answered e.0 (λ ks m. picked-count e.1 xs item t ks rest m) e.4
     where
-      -- This is the induction step of `picked-count`: if the lemma holds for the items after the
-      -- first item, then it holds for all items.
+      -- This is the induction step of the lemma `picked-count`. If the lemma holds for the items
+      -- after the first item, then it holds for the whole list.
       answered : (b : Bool)
           → ((ks : List T) → ExtractsNext R e.1 xs item t ks rest
           → length xs ≡ length ks + length (option_to_list item) + length rest)
@@ -43,18 +44,18 @@ module _ {F T : Type 0} (R : F → T → Bool → F → T → Type 0) where
       answered false more m = omega (arith, more m.0 m.1, ap length m.2)
 
   module _ {S : Type 0} (of : S → F) where
-    -- `J` describes a test that keeps exactly the items for which the closure returns false. If `s`
-    -- is a state of the test, then `of s` is the state of the closure.
+    -- `J` describes the calls to a test that calls a closure and negates its result. So the test
+    -- keeps exactly the items for which the closure returns false. If `s` is a state of the test,
+    -- then `of s` is the state of the closure.
     abbrev J : S → T → Bool → S → T → Type 0
     J s x b t y = R (of s) x (not b) (of t) y
 
-    -- In this module, the closure starts in the state `between`. It returns true for the first item
-    -- of the list `after`, unless `after` is empty.
+    -- In this module, the items of the list `after` are tested next, and the test is in the state
+    -- `between`. The closure returns true for the first item of `after`, unless `after` is empty.
     module _ (between : S) (after : List T) (item : Option T) (t : F) (rest : List T)
         (e : ExtractsNext R (of between) after item t [] rest) where
-      -- Suppose that the test keeps all items of the list `run`. Then the item that is extracted
-      -- from the list `run ++ after` is the first item of `after`. If `after` is empty, no item is
-      -- extracted.
+      -- Suppose that the test keeps all items of the list `run`. Then the first item of `after` is
+      -- extracted from the list `run ++ after`. If `after` is empty, then no item is extracted.
       picked-after : (s : S) (run left : List T) → Asked J s run (stay left) between
           → ExtractsNext R (of s) (run ++ after) item t left rest
       picked-after s [] [] a =
@@ -78,7 +79,7 @@ module _ {F T : Type 0} (R : F → T → Bool → F → T → Type 0) where
     stops-at-end between t [] ys a none = (refl, ap of a.1, refl, none)
     stops-at-end between t (x ∷ xs) ys a none = absurd (cons-not-nil (sym a.2 ∙ none))
 
-    -- If the tests stopped at the item `v`, then `v` is the item that is extracted.
+    -- If the tests stopped at an item and left it as `v`, then `v` is the extracted item.
     stops-at-item : (between t : S) (after ys : List T) (v : T) (zs : List T)
         → Stops J between after t ys → ys ≡ v ∷ zs → ExtractsNext R (of between)
         after (Some v) (of t) [] zs
@@ -89,17 +90,19 @@ module _ {F T : Type 0} (R : F → T → Bool → F → T → Type 0) where
 
     module _ (m : ℕ) (s : S) (xs : List T) (t : S) (ys : List T)
         (h : AskedUpTo J 0 m s xs t ys) where
-      -- No items precede the kept items, because the tests began at index 0.
+      -- `h.before` is the list of the items before the first tested item. It is empty because the
+      -- tests began at index 0.
       none-before : h.before ≡ []
       none-before = nil_from_length h.before h.place
 
-      -- Before the tests, the list `xs` consisted of the run of items that the tests kept, followed
-      -- by the items after this run.
+      -- Before the tests, the list `xs` began with `h.run`, the list of the items that the tests
+      -- kept. All other items of `xs` are in the list `h.after`.
       was : xs ≡ h.run ++ h.after
       was = h.was ∙ ap (λ (l : List T). l ++ (h.run ++ h.after)) none-before
 
-      -- After the tests, the list `ys` consists of the kept items, followed by the items after
-      -- them.
+      -- After the tests, the list `ys` consists of the kept items `h.left`, followed by `h.end`.
+      -- The list `h.end` contains the item to be extracted, if there is one, and the untested
+      -- items.
       now : ys ≡ h.left ++ h.end
       now = h.now ∙ ap (λ (l : List T). l ++ (h.left ++ h.end)) none-before
 
@@ -111,7 +114,8 @@ module _ {F T : Type 0} (R : F → T → Bool → F → T → Type 0) where
       left-is : take m ys ≡ h.left
       left-is = ap (take m) now ∙ take_at h.left h.end m reached
 
-      -- The items of the list `ys` from index `m` onward are the items after the kept items.
+      -- From index `m` onward, the list `ys` consists of the items `h.end`: the item to be
+      -- extracted, if there is one, and the untested items.
       end-is : drop m ys ≡ h.end
       end-is = ap (drop m) now ∙ drop_at h.left h.end m reached
 
@@ -120,8 +124,9 @@ module _ {F T : Type 0} (R : F → T → Bool → F → T → Type 0) where
       pub picked-room : m ≤ length ys
       picked-room = omega (arith, reached, ap length now, length-append h.left h.end)
 
-      -- Suppose that the tests kept the first `m` items of the list `xs`. If `item` is extracted
-      -- from the items after them, then `item` is also what is extracted from the whole list `xs`.
+      -- Suppose that the tests kept the first `m` items of the list `xs`. If the extraction from
+      -- the later items results in `item`, then the extraction from the whole list `xs` also
+      -- results in `item`.
       whole : (item : Option T) (rest : List T) → ExtractsNext R (of h.between) h.after item (of t)
           [] rest → ExtractsNext R (of s) xs item (of t) (take m ys) rest
       whole item rest e =
@@ -138,15 +143,16 @@ module _ {F T : Type 0} (R : F → T → Bool → F → T → Type 0) where
           (subst (λ (l : List T). ExtractsNext R (of h.between) h.after None (of t) [] l)
           (sym end-is) (stops-at-end h.between t h.after h.end h.stops (sym end-is ∙ none)))
 
-      -- If the first item after the kept items is `v`, then `v` is the item that is extracted.
+      -- If the first item after the kept items is `v`, then `v` is the extracted item.
       pub picked-some : (v : T) (zs : List T) → drop m ys ≡ v ∷ zs
           → ExtractsNext R (of s) xs (Some v) (of t) (take m ys) zs
       picked-some v zs some =
           whole (Some v) zs (stops-at-item h.between t h.after h.end v zs
           h.stops (sym end-is ∙ some))
 
--- If the list `xs` contains at least `k` items, then moving `k` items costs the same as moving the
--- items `take k xs`. If there is no gap, then no item is moved, and the cost does not change.
+-- Suppose that the list `xs` contains at least `k` items. Then moving `k` items across a gap costs
+-- the same as moving the items `take k xs` across it. If the gap is empty, then no item is moved,
+-- and the cost does not change.
 pub cost-of : {T : Type 0} (gap : ℕ) (cost : Cost) (k : ℕ) (xs : List T) → k ≤ length xs
     → (if gap == 0 then cost else moving k cost)
     ≡ (if gap == 0 then cost else moving (length (take k xs)) cost)

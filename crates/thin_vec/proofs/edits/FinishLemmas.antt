@@ -21,9 +21,9 @@ use Rattle.thin_vec.proofs.list.ExtendLemmas.{yields-join}
 use Rattle.thin_vec.proofs.edits.SpliceLemmas.{between-length, between-more, drains-more, run-moves, stopped-more, taken-join, taken-spare}
 
 module _ {T A : Type 0} where
-  -- `IsWide` describes the open block `b` after a gap of `count` slots was made in the list `u`
+  -- `IsWide` describes the open block `b` after a gap of `count` slots was opened in the list `u`,
   -- before the item at index `at`. Unless `count` is 0, the items from index `at` onward were moved
-  -- up to make this gap.
+  -- up to open this gap, at the cost of one move each.
   pub record IsWide (b : Open T A) (u : Thin T A) (at count : ℕ) : Type 0 where
     pub in_bounds : at ≤ length u.items
     pub front : b.front ≡ take at u.items
@@ -34,18 +34,17 @@ module _ {T A : Type 0} where
 module _ {S T A : Type 0} (steps : S → Option T → S → Type 0) (can : S → Type 0)
     (remaining : S → Count) where
   -- `FillsGap v a s w f` states that items of the iterator `s` were put into the gap of the open
-  -- block `v`, until the gap was full or the iterator ended. It also states that `v` was then
-  -- closed and became the block of the list `w`, which has the allocator `a`. `f` contains the rest
-  -- of the iterator.
+  -- block `v`, until the gap was full or the iterator ended. The open block was then closed, and
+  -- became the block of the list `w` with the allocator `a`. `f` contains the rest of the iterator.
   abbrev pub FillsGap : Open T A → A → S → Thin T A → Filled S → Type 0
   FillsGap v a s w f =
       (by : IsFilledBy steps can remaining v.gap s f) × IsClosedWith v by.items a w
       × (f.end ≡ length v.front + length by.items)
 
-  -- `IsReached` states that calls to `next` on the iterator `s` yielded the items `xs`, which are
-  -- enough to fill the gap of the open block `v`. The rest of the iterator is `t`. It also states
-  -- that the list `u` consists of the front items of `v`, the items `xs` and the tail items of `v`,
-  -- and that `end` is the index directly after the items `xs`.
+  -- `IsReached` describes a state during a call to `finish`. Calls to `next` on the iterator `s`
+  -- have yielded the items `xs`, which are enough to fill the gap of the open block `v`. The rest
+  -- of the iterator is `t`. The list `u` consists of the front items of `v`, the items `xs` and the
+  -- tail items of `v`. `end` is the index directly after the items `xs`.
   pub record IsReached (v : Open T A) (s : S) (u : Thin T A) (xs : List T) (end : ℕ)
       (t : S) : Type 0 where
     pub items : u.items ≡ with_between v xs
@@ -60,9 +59,9 @@ module _ {S T A : Type 0} {steps : S → Option T → S → Type 0} {can : S →
     {remaining : S → Count} where
   module _ {v : Open T A} {a : A} {s : S} {w : Thin T A} {f : Filled S}
       (p : FillsGap steps can remaining v a s w f) where
-    -- After items have been put into the gap of the open block `v`, and `v` has been closed, the
-    -- length of the list is the number of front items, plus the number of tail items, plus the
-    -- number of inserted items.
+    -- Suppose that items were put into the gap of the open block `v`, and that `v` was then closed.
+    -- Then the length of the list `w` is the number of front items, plus the number of tail items,
+    -- plus the number of inserted items.
     pub filled-long : length w.items ≡ length v.front + length v.tail + length p.0.items
     filled-long = omega (arith, ap length p.1.items, between-length v p.0.items)
 
@@ -86,16 +85,18 @@ module _ {S T A : Type 0} {steps : S → Option T → S → Type 0} {can : S →
     filled-drains done = (f.rest, subst (λ b. Gives steps s p.0.items b f.rest) done p.0.gave)
 
     module _ (rule : Rule) (R : RattleType) (n : ℕ) (left : Count) where
-      -- If closing the gap took at most `n` moves, then `HasTaken` holds with the bound `n` on the
-      -- moves of old items.
+      -- `HasTaken` describes how a list changed when items of an iterator were added. If closing
+      -- the gap moved old items at most `n` times in total, then `HasTaken` holds with the bound
+      -- `n` on these moves.
       pub filled-taken : p.1.cost.0 ≤ n → HasTaken rule R (left_of v a) w n left
       filled-taken few =
           taken-spare rule R (left_of v a) w (length p.0.items) p.1.cost.0 n left p.1.cost.1
           p.1.capacity (omega (arith, filled-long, length-append v.front v.tail)) few p.1.alloc
 
-      -- Suppose that a gap was opened in the list `u`, that items of the iterator were put into it,
-      -- and that it was then closed. If opening and closing the gap took at most `n` moves, then
-      -- `HasTaken` holds for `u` and the new list, with the bound `n` on the moves of old items.
+      -- Suppose that a gap was opened in the list `u`, that items of an iterator were put into it,
+      -- and that it was then closed. If opening and closing the gap moved old items at most `n`
+      -- times in total, then `HasTaken` relates `u` to the new list `w`, with the bound `n` on
+      -- these moves.
       pub wide-taken : (u : Thin T A) (at count : ℕ) → IsWide v u at count → a ≡ u.alloc
           → p.1.cost.0 + (length u.items - at) ≤ n → HasTaken rule R u w n left
       wide-taken u at count wide from few =
@@ -134,9 +135,10 @@ module _ {S T A : Type 0} {steps : S → Option T → S → Type 0} {can : S →
       nearer = p.nearer;
     }
 
-    -- Suppose that `HasTaken` holds for the steps of `finish` before the list `u` was reached, with
-    -- the bound `m` on the moves of old items. Suppose also that it holds for the steps after `u`,
-    -- with the bound `n`. Then it holds for all steps with each bound `k` that is at least `m + n`.
+    -- `HasTaken` includes a bound on the moves of old items. Suppose that it holds for the steps of
+    -- `finish` before the list `u` was reached, with the bound `m`, and for the later steps, with
+    -- the bound `n`. Then it holds for all steps together, with each bound `k` that is at least `m
+    -- + n`.
     pub reached-taken : (rule : Rule) (R : RattleType) → KeepsLaw rule → (a : A) (w : Thin T A)
         (m n k : ℕ) → m + n ≤ k → HasTaken rule R (left_of v a) u m (remaining s)
         → HasTaken rule R u w n (remaining t) → HasTaken rule R (left_of v a) w k (remaining s)
@@ -147,9 +149,10 @@ module _ {S T A : Type 0} {steps : S → Option T → S → Type 0} {can : S →
         (λ fit same. omega (arith, fit, same, ap length p.items, long, left, p.nearer))
         before now
 
-    -- Suppose that the steps of `finish` before the list `u` was reached did not change the
-    -- capacity. If the steps after `u` satisfy `IsExtended` with the new capacity `d`, then all
-    -- steps together also satisfy it with `d`.
+    -- `IsExtended` describes which capacity a list has after items were added. Suppose that the
+    -- steps of `finish` before the list `u` was reached did not change the capacity. If the later
+    -- steps satisfy `IsExtended` with the new capacity `d`, then all steps together also satisfy it
+    -- with `d`.
     pub reached-extended : (rule : Rule) (R : RattleType) (a : A) (d n : ℕ)
         → u.capacity ≡ v.capacity → IsExtended rule R u d n (remaining t)
         → IsExtended rule R (left_of v a) d n (remaining s)
@@ -167,8 +170,8 @@ module _ {S T A : Type 0} {steps : S → Option T → S → Type 0} {can : S →
         )
 
     -- Suppose that more items were inserted into the list `u` at index `end`, and that the iterator
-    -- has not ended yet. Then `IsReached` also holds for the new list `w`, with the inserted items
-    -- included.
+    -- has not ended yet. Then `IsReached` also holds for the new list `w` and all items that have
+    -- been inserted so far.
     pub reached-more : {w : Thin T A} {room : ℕ} {f : Filled S}
         (by : IsFilledBy steps can remaining room t f)
         → w.items ≡ (take end u.items ++ by.items) ++ drop end u.items
@@ -190,7 +193,8 @@ module _ {S T A : Type 0} {steps : S → Option T → S → Type 0} {can : S →
 
   module _ {rule : Rule} {R : RattleType} (v : Open T A) (a : A) (s : S) (w : Thin T A) where
     -- Suppose that `finish` returned `Ok` and placed all items that the iterator yields. If
-    -- `HasTaken` and `IsExtended` hold for the new list, then `IsFinished` holds.
+    -- `HasTaken` and `IsExtended` hold for the new list, then `IsFinished`, which describes the
+    -- whole call, also holds.
     pub finished-ok : (x : Unit {0})
         → (xs : List T) × Drains steps s xs × (w.items ≡ with_between v xs)
         → HasTaken rule R (left_of v a) w (2 * length v.tail) (remaining s)
@@ -209,8 +213,8 @@ module _ {S T A : Type 0} {steps : S → Option T → S → Type 0} {can : S →
     }
 
     -- Suppose that `finish` first placed the items `xs`, and that at least one tail item follows
-    -- them. If the rest of `finish` returns the result `r` and satisfies the hypotheses of this
-    -- lemma, then `IsFinished` holds for the whole call with the result `r`.
+    -- them. If the rest of the call returns `r` and satisfies the premises of this lemma, then
+    -- `IsFinished`, which describes a whole call to `finish`, holds with the result `r`.
     pub finished-from : {t : S} {u : Thin T A} {xs : List T} {end : ℕ}
         (r : Result (Unit {0}) (SpliceRefused T S A))
         → IsReached steps can remaining v s u xs end t → 0 < length v.tail

@@ -15,7 +15,7 @@ pub fn assert_same<T: PartialEq + Debug + Drop>(rt: &impl Abort, value: T, wante
     assert_eq!(rt; value, wanted);
 }
 
-/// Asserts that the two slices have equal items.
+/// Asserts that the two slices contain equal items in the same order.
 pub fn assert_items<T: PartialEq + Debug>(rt: &impl Abort, items: &[T], wanted: &[T]) {
     assert_eq!(rt; items, wanted);
 }
@@ -26,8 +26,8 @@ pub fn assert_text<D: Debug>(rt: &impl Abort, alloc: Global, value: &D, line: &s
     assert_same(rt, text.as_str(), line);
 }
 
-/// Asserts that the list has `len` items. A test needs this fact to prove that a range is within
-/// the list.
+/// Asserts that the list has `len` items. After a call to this function, the prover knows the
+/// length of the list. Tests need this to prove that a range is within the list.
 pub fn assert_len<T, A: Allocator, G: Growth>(rt: &impl Abort, list: &ThinVec<T, A, G>, len: usize)
     ensures len { length list.now.items ≡ len }
 {
@@ -47,8 +47,8 @@ pub fn assert_list<A: Allocator, G: Growth>(
     assert_same(rt, (list.as_slice(), list.capacity()), (items, capacity));
 }
 
-/// Asserts that `requests` requests for memory were made, and that `blocks` blocks are currently
-/// allocated.
+/// Asserts that the allocator `refusing` has counted `requests` requests for memory, and that
+/// `blocks` blocks are currently allocated.
 pub fn assert_counts(rt: &impl Abort, refusing: &Refusing<Global>, requests: u64, blocks: u64) {
     let counts = (refusing.requests(), refusing.blocks());
     assert_same(rt, counts, (requests, blocks));

@@ -45,7 +45,7 @@ pub fn push_all<A: Allocator, G: Growth>(
     }
 }
 
-/// Returns a list of boxes, each of which contains one of the items.
+/// Returns a list that contains a box for each of the items, in the same order.
 pub fn boxes_of(
     alloc: Global,
     items: &[i32],

@@ -1,5 +1,6 @@
--- The items of the vector become the items of the list. This holds because the list has no items
--- before the call, and `put_vec` puts the items of the vector into the slots from slot 0 onward.
+-- Before the call, the list has no items. The function `put_vec` puts the items of the vector into
+-- the slots of the list, beginning with slot 0. So after the call, the list contains exactly the
+-- items of the vector.
 use Rattle.std.proofs.Common.{◌≡◌, [], ◌++◌, ◌∙◌, ap, arith, length, sym, rules}
 use Rattle.thin_block.proofs.BlockLemmas.{then-len}
 use Rattle.thin_block.specs.Slots.{items_in}

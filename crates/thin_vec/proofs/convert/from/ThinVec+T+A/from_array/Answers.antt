@@ -1,5 +1,6 @@
--- The items of the array become the items of the new list. This holds because the new list has no
--- items, and `put_array` puts the items of the array into its slots from slot 0 onward.
+-- At first, the new list has no items. The function `put_array` puts the items of the array into
+-- the slots of the list, beginning with slot 0. So the new list contains exactly the items of the
+-- array.
 use Rattle.std.proofs.lemmas.Grind.{common_steps}
 use Rattle.std.proofs.Common.{◌++◌, ap, arith, length, sym, ◌∙◌}
 use Rattle.thin_block.proofs.BlockLemmas.{then-len}

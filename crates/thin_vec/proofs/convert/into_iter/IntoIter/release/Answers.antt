@@ -1,5 +1,5 @@
--- The block may be released because all its slots are empty: `release` requires that no item
--- remains.
+-- The block may be released only if all its slots are empty. This holds because `IntoIter::release`
+-- requires that the iterator has no remaining items.
 use Rattle.std.proofs.Common.{ap, arith, length}
 use Rattle.thin_vec.proofs.convert.IntoIterLemmas.{walked-empty}
 use Rattle.thin_vec.proofs.convert.into_iter.IntoIter.release.Goals as goal

@@ -15,7 +15,8 @@ some g c = omega (
   ap (λ v. length v.items) c.self.view_is,
 )
 
--- Slot `end - 1` is filled, as the call to `take` requires.
+-- The call to `take` requires that slot `end - 1` is filled. This holds because at least one item
+-- remains.
 pub take-requires : goal.take-requires
 take-requires g c =
     let it = c.self.inside in
@@ -28,7 +29,8 @@ take-requires g c =
           c.self.invariant from to;
     }
 
--- After the call to `take_last`, the slots `start..end - 1` hold all items except the last one.
+-- After the call to `take`, the slots `start..end - 1` hold all remaining items except the last
+-- one.
 facts : (g : _) (c : goal.After-take g)
     → let it = c.self.inside in
     let most = take (it.end - 1 - it.start) (items_in it.block.slots) in
