@@ -6,18 +6,19 @@ use Rattle.std.specs.Coded.{Coded, code_by, coded×, coded_ℕ, coded_list, code
 use Rattle.thin_block.specs.Cost.{Cost, cost_code, moving}
 use Rattle.thin_block.specs.Slots.{empty, full}
 
--- An open block (the block of a list during an edit) as it appears in contracts.
+-- A value of the type `Open` describes an open block in contracts. An open block is the block of a
+-- list during an edit.
 pub record Open (T A : Type 0) : Type 0 where
   -- The front items: the items before the edited range, and the items that have been kept or
   -- inserted so far.
   pub front : List T
-  -- The number of empty slots between the first part of the block (the front) and the second part
-  -- (the middle run).
+  -- The number of empty slots between the front (the first part of the block) and the middle run
+  -- (the second part).
   pub gap : ℕ
   -- The middle items: the items of the edited range that have not been yielded or tested yet.
   pub rest : List T
-  -- The number of empty slots between the second part of the block (the middle run) and the third
-  -- part (the tail).
+  -- The number of empty slots between the middle run (the second part of the block) and the tail
+  -- (the third part).
   pub gap_after : ℕ
   -- The tail items: the items after the edited range.
   pub tail : List T
@@ -28,7 +29,7 @@ pub record Open (T A : Type 0) : Type 0 where
   -- The recorded cost of the block so far (requests for memory, copied items and moves).
   pub cost : Cost
 
--- A value of type `Open` is encoded as the tuple of its eight fields.
+-- `open_code` encodes a value of the type `Open` as the tuple of its eight fields.
 abbrev pub open_code : {T A : Type 0} → Coded T → Coded A → Coded (Open T A)
 open_code {T} {A} t a =
     code_by (List T × (ℕ × (List T × (ℕ × (List T × (ℕ × (Option A × Cost)))))))
@@ -50,11 +51,12 @@ open_code {T} {A} t a =
     (λ _. refl)
 
 module _ {T A : Type 0} where
-  -- `tail_start v` is the index of the first slot of the tail, the last part of the open block `v`.
+  -- `tail_start v` is the index of the first slot of the tail, which is the last part of the open
+  -- block `v`.
   abbrev pub tail_start : Open T A → ℕ
   tail_start v = length v.front + v.gap + length v.rest + v.gap_after
 
-  -- `reach v` is the index directly after the tail, the last part of the open block `v`.
+  -- `reach v` is the index directly after the tail, which is the last part of the open block `v`.
   abbrev pub reach : Open T A → ℕ
   reach v = tail_start v + length v.tail
 
@@ -67,25 +69,25 @@ module _ {T A : Type 0} where
   abbrev pub range_len : Open T A → ℕ
   range_len v = v.gap + length v.rest + v.gap_after
 
-  -- All slots of an open block, in order: the filled slots of its three parts, and the empty slots
-  -- after each part.
+  -- `row_of v` contains all slots of the open block `v`, in order. Each of the three parts of `v`
+  -- consists of filled slots, and may be followed by empty slots.
   abbrev pub row_of : Open T A → List (Option T)
   row_of v = full v.front
       ++ (empty v.gap
       ++ (full v.rest ++ (empty v.gap_after ++ (full v.tail ++ empty (v.capacity - reach v)))))
 
-  -- All items of an open block, in order.
+  -- `items_of v` contains all items of the open block `v`, in order.
   abbrev pub items_of : Open T A → List T
   items_of v = v.front ++ (v.rest ++ v.tail)
 
   -- `cost_closed v` is the recorded cost of the open block `v` after the gap between its front and
   -- its middle run has been closed. If this gap has at least one slot, each item of the middle run
-  -- and of the tail is moved once.
+  -- and of the tail counts as one move.
   abbrev pub cost_closed : Open T A → Cost
   cost_closed v = if v.gap == 0 then v.cost else moving (length v.rest + length v.tail) v.cost
 
   -- `cost_drained v` is the recorded cost of the open block `v` after its middle items have been
   -- removed and its tail items have been moved down to the front. If there is at least one slot
-  -- between the front and the tail, each tail item is moved once.
+  -- between the front and the tail, each tail item counts as one move.
   abbrev pub cost_drained : Open T A → Cost
   cost_drained v = if range_len v == 0 then v.cost else moving (length v.tail) v.cost

@@ -1,5 +1,6 @@
--- The layout of the slots of an open block, which is the block of a list during an edit. In
--- contracts, an open block is a value of type `Open`.
+-- An open block is the block of a list during an edit. In contracts, it is a value of the type
+-- `Open`. The definitions in this file state which slots of an open block contain items and which
+-- are empty.
 pub mod Dedup
 pub mod Sift
 use Rattle.std.specs.Prelude.{◌≡◌, ◌+◌, ◌-◌, ◌≤◌, drop, length, slice_range, take}
@@ -22,9 +23,9 @@ module _ {T A : Type 0} where
         cost = h.block.cost;
       }
 
-  -- `Shows h v` states that the open block `h` has the layout that `v` describes: the slots of `h`
-  -- hold the parts of `v` in order, and the indices in `h` say where each part begins and ends. The
-  -- last part must end within the slots.
+  -- `Shows h v` states that the open block `h` has the layout that `v` describes. The slots of `h`
+  -- contain the parts of `v` in order, and the indices that are stored in `h` say where each part
+  -- begins and ends. The number of slots is at least the index at which the last part ends.
   pub record Shows (h : Inside T A) (v : Open T A) : Type 0 where
     pub row : h.block.slots ≡ row_of v
     pub front : length v.front ≡ h.front_end
@@ -34,8 +35,8 @@ module _ {T A : Type 0} where
     pub tail : h.tail_start + length v.tail ≡ h.len
     pub room : h.len ≤ v.capacity
 
-  -- `IsOpen h` is the invariant of the type `OpenBlock`. It states that all slots in the front, the
-  -- middle run and the tail of the open block `h` hold items, and that all its other slots are
-  -- empty.
+  -- `IsOpen h` is the invariant of the type `OpenBlock`. It states that each slot in the front, the
+  -- middle run and the tail of the open block `h` contains an item, and that all other slots of `h`
+  -- are empty.
   abbrev pub IsOpen : Inside T A → Type 0
   IsOpen h = Shows h (open_of h)

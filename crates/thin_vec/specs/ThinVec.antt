@@ -1,5 +1,6 @@
--- In contracts, a `ThinVec` consists of a list of items, a capacity, an allocator and a cost. (std:
--- `Vec`, "Guarantees")
+-- In contracts, a `ThinVec` is a value of the record type `Thin`, which consists of a list of
+-- items, a capacity, an allocator and a cost. This file defines `Thin` and the basic statements
+-- about lists. (See the section "Guarantees" of the documentation of std's `Vec`.)
 use Rattle.std.specs.Prelude.{◌≡◌, ℕ, ◌+◌, ◌^◌, ◌<◌, ◌≤◌, ◌==◌, List, [], Option, if◌then◌else◌, length, refl}
 use Rattle.std.specs.declared.option.Option.TheVariants.{None}
 use Rattle.thin_block.specs.declared.errors.ThinVecError.{ThinVecError}
@@ -13,15 +14,16 @@ use Rattle.thin_block.specs.Growth.{Rule, exact_capacity, ruled_capacity}
 use Rattle.thin_block.specs.Slots.{IsPacked, items_in}
 use Rattle.thin_block.specs.declared.block.Block.{Block}
 
--- A `ThinVec` as it appears in contracts: the items in order, the capacity, the allocator, and the
--- cost so far. The cost counts the requests for memory, the copied items and the moved items.
+-- In contracts, a `ThinVec` is a value of the type `Thin`. It consists of the items in order, the
+-- capacity, the allocator, and the recorded cost so far. The cost counts requests for memory,
+-- copied items and moved items.
 pub record Thin (T A : Type 0) : Type 0 where
   pub items : List T
   pub capacity : ℕ
   pub alloc : A
   pub cost : Cost
 
--- A value of type `Thin` is encoded as the tuple of its four fields.
+-- `thin_code` encodes a value of the type `Thin` as the tuple of its four fields.
 abbrev pub thin_code : {T A : Type 0} → Coded T → Coded A → Coded (Thin T A)
 thin_code {T} {A} t a =
     code_by (List T × (ℕ × (A × Cost)))
@@ -30,14 +32,14 @@ thin_code {T} {A} t a =
     (λ p. record { items = p.0; capacity = p.1.0; alloc = p.1.1.0; cost = p.1.1.1 }) (λ _. refl)
 
 module _ {T A : Type 0} where
-  -- `IsThin b a` states that `b` is the block of a list with the allocator `a`: the items fill the
-  -- first slots, all other slots are empty, the stored length is the number of items, and the
-  -- memory came from `a`.
+  -- `IsThin b a` states that `b` is the block of a list with the allocator `a`. The items of `b`
+  -- fill its first slots, all other slots are empty, and the stored length is the number of items.
+  -- If `b` has memory, the memory came from `a`.
   pub record IsThin (b : Block T A) (a : A) : Type 0 where
     pub packed : IsPacked b.slots b.len
     pub from : IsFrom b.alloc a
 
-  -- `thin_of b a` is the list with the block `b` and the allocator `a`, as it appears in contracts.
+  -- `thin_of b a` describes, in contracts, the list with the block `b` and the allocator `a`.
   abbrev pub thin_of : Block T A → A → Thin T A
   thin_of b a = record {
     items = items_in b.slots;
@@ -68,14 +70,15 @@ module _ {T A : Type 0} where
 
   -- `capacity_for rule R v k` is the capacity of the list `v` after room for `k` more items of the
   -- type `R` has been reserved. If `v` already has enough room, this is the old capacity.
-  -- Otherwise, it is the capacity that the growth rule chooses, or `None` if that capacity would be
+  -- Otherwise, it is the capacity that the growth rule chooses, or `None` if this capacity would be
   -- too large.
   abbrev pub capacity_for : Rule → RattleType → Thin T A → ℕ → Option ℕ
   capacity_for rule R v k = ruled_capacity rule R v.capacity (length v.items + k)
 
   -- `exact_for R v k` is the capacity of the list `v` after room for exactly `k` more items of the
-  -- type `R` has been reserved. It is `None` if a block of this capacity is too large to be
-  -- allocated.
+  -- type `R` has been reserved. If `v` already has enough room, this is the old capacity.
+  -- Otherwise, it is the length plus `k`, or `None` if a block of this capacity would be too large
+  -- to be allocated.
   abbrev pub exact_for : RattleType → Thin T A → ℕ → Option ℕ
   exact_for R v k = exact_capacity R v.capacity (length v.items + k)
 
@@ -84,24 +87,26 @@ module _ {T A : Type 0} where
   abbrev pub cost_at : Thin T A → ℕ → Cost
   cost_at v c = if c == v.capacity then v.cost else growing (length v.items) v.cost
 
-  -- `cost_shrunk_to v c` is the recorded cost of the list `v` after a call to shrink its capacity
-  -- to `c`. If the capacity does not change, the cost does not change. Otherwise, if `c` is 0, the
-  -- block is freed, and the cost becomes 0. In all other cases, the cost includes one more
-  -- reallocation, which copies all items.
+  -- `cost_shrunk_to v c` is the recorded cost of the list `v` after a call that shrinks its
+  -- capacity to `c`. If the capacity does not change, the cost does not change. Otherwise, if `c`
+  -- is 0, the call frees the block, and the cost is 0. In all other cases, the cost includes one
+  -- more reallocation, which copies all items.
   abbrev pub cost_shrunk_to : Thin T A → ℕ → Cost
   cost_shrunk_to v c = if c == v.capacity then v.cost else
       (if c == 0 then no_cost else growing (length v.items) v.cost)
 
-  -- `cost_shrunk v` is the recorded cost of the list `v` after a call to shrink its capacity to its
-  -- length.
+  -- `cost_shrunk v` is the recorded cost of the list `v` after a call that shrinks its capacity to
+  -- its length.
   abbrev pub cost_shrunk : Thin T A → Cost
   cost_shrunk v = cost_shrunk_to v (length v.items)
 
--- `IsCause named cause` states that the error `cause` is `CapacityOverflow` only if `named` is
--- `None`. `named` is the capacity that a call needs, or `None` if this capacity is too large.
+-- `IsCause named cause` relates the error `cause` of a call to `named`, the capacity that the call
+-- needs. If this capacity is too large, `named` is `None`. The statement is: if the error is
+-- `CapacityOverflow`, then `named` is `None`.
 abbrev pub IsCause : Option ℕ → ThinVecError → Type 0
 IsCause named cause = cause ≡ CapacityOverflow → named ≡ None
 
--- `cost_new c` is the recorded cost of an empty list that was made with the capacity `c`.
+-- `cost_new c` is the recorded cost of a new list that has been made with the capacity `c` and has
+-- no items.
 abbrev pub cost_new : ℕ → Cost
 cost_new c = if c == 0 then no_cost else growing 0 no_cost

@@ -1,4 +1,4 @@
-//! The errors of calls that take an argument by value. Each error returns to the caller the parts
+//! The errors of calls that take an argument by value. Each error returns to the caller those parts
 //! of the argument that the call did not use.
 ghost use Rattle.std.specs.Prelude.{◌≡◌};
 ghost use Rattle.std.specs.IoError.{error_kind};
@@ -27,10 +27,10 @@ pub struct ExtendRefused<T, I> {
     /// The reason why the call failed.
     pub cause: ThinVecError,
     /// The last item that was taken from the iterator. The list had no room for this item. If the
-    /// call could not reserve room for as many items as the size hint promises, no item was taken,
+    /// call could not even reserve room for the lower bound of the size hint, no item was taken,
     /// and `in_hand` is `None`.
     pub in_hand: Option<T>,
-    /// The rest of the iterator: it yields the items that have not been taken yet.
+    /// The rest of the iterator, which yields the items that have not been taken yet.
     pub rest: I,
 }
 
@@ -43,10 +43,10 @@ pub struct CollectRefused<T, I, A: Allocator = Global> {
     /// The reason why the call failed.
     pub cause: ThinVecError,
     /// The last item that was taken from the iterator. The list had no room for this item. If the
-    /// call could not reserve room for as many items as the size hint promises, no item was taken,
+    /// call could not even make a block for the lower bound of the size hint, no item was taken,
     /// and `in_hand` is `None`.
     pub in_hand: Option<T>,
-    /// The rest of the iterator: it yields the items that have not been taken yet.
+    /// The rest of the iterator, which yields the items that have not been taken yet.
     pub rest: I,
 }
 
@@ -59,11 +59,11 @@ pub struct SpliceRefused<T, I, A: Allocator = Global> {
     /// vector uses the allocator that was passed to `finish`.
     pub held: Vec<T, A>,
     /// The last item that was taken from the iterator, after the items in `held`. There was no room
-    /// for this item. `in_hand` is `None` if the call could not reserve room for as many items as
-    /// the size hint promises, or for the items in `held`.
+    /// for this item. If the call failed because it could not reserve room in the list, either for
+    /// the lower bound of the size hint or for the items in `held`, `in_hand` is `None`.
     pub in_hand: Option<T>,
-    /// The rest of the iterator: it yields the items that have not been taken yet. If `held` is not
-    /// empty and `in_hand` is `None`, the iterator has returned `None`, and `next` must not be
+    /// The rest of the iterator, which yields the items that have not been taken yet. If `held` is
+    /// not empty and `in_hand` is `None`, the iterator has returned `None`, and `next` must not be
     /// called on it again. In all other cases, `next` may be called.
     pub rest: I,
 }
@@ -145,8 +145,8 @@ impl<S: Drop> From<Rejected<S>> for io::Error {
 impl<T: Drop, I: Drop> From<ExtendRefused<T, I>> for io::Error {
     ghost from_gives = { λ _ error. error_kind error ≡ Kind.OutOfMemory };
 
-    // Drops all fields of the old error. The kind of the new error is `OutOfMemory`, whatever the
-    // cause was.
+    // Drops all fields of the old error. The kind of the new error is always `OutOfMemory`, even if
+    // the cause was `CapacityOverflow`.
     fn from(_refused: ExtendRefused<T, I>) -> io::Error {
         io::Error::from(ErrorKind::OutOfMemory)
     }
@@ -155,8 +155,8 @@ impl<T: Drop, I: Drop> From<ExtendRefused<T, I>> for io::Error {
 impl<T: Drop, I: Drop, A: Allocator> From<CollectRefused<T, I, A>> for io::Error {
     ghost from_gives = { λ _ error. error_kind error ≡ Kind.OutOfMemory };
 
-    // Drops all fields of the old error. The kind of the new error is `OutOfMemory`, whatever the
-    // cause was.
+    // Drops all fields of the old error. The kind of the new error is always `OutOfMemory`, even if
+    // the cause was `CapacityOverflow`.
     fn from(_refused: CollectRefused<T, I, A>) -> io::Error {
         io::Error::from(ErrorKind::OutOfMemory)
     }
@@ -165,8 +165,8 @@ impl<T: Drop, I: Drop, A: Allocator> From<CollectRefused<T, I, A>> for io::Error
 impl<T: Drop, I: Drop, A: Allocator> From<SpliceRefused<T, I, A>> for io::Error {
     ghost from_gives = { λ _ error. error_kind error ≡ Kind.OutOfMemory };
 
-    // Drops all fields of the old error. The kind of the new error is `OutOfMemory`, whatever the
-    // cause was.
+    // Drops all fields of the old error. The kind of the new error is always `OutOfMemory`, even if
+    // the cause was `CapacityOverflow`.
     fn from(_refused: SpliceRefused<T, I, A>) -> io::Error {
         io::Error::from(ErrorKind::OutOfMemory)
     }

@@ -1,5 +1,5 @@
-//! The type `ThinVec`, its model in contracts, and its most common methods. The other methods are
-//! in the folders `list`, `convert` and `edits`.
+//! This file declares the type `ThinVec`, says how contracts describe a list, and contains the most
+//! common methods. The other methods are in the folders `list`, `convert` and `edits`.
 ghost use Rattle.std.specs.Prelude.{◌≡◌, ◌↔◌, ◌+◌, ◌-◌, ◌<◌, ◌==◌, [], ◌∷◌, ◌++◌, IfErr, IsOk, IsSome, IsTrue, None, OnErr, OnOk, Some, length, slice_index_or, take};
 ghost use Rattle.std.specs.Option.{option_to_list};
 ghost use Rattle.thin_block.specs.Block.{IsFrom};
@@ -140,7 +140,8 @@ impl<T, A: Allocator, G: Growth> ThinVec<T, A, G> {
 
     /// Appends `value`, which the list then owns. If there is no spare capacity, the list first
     /// grows to the capacity that the growth rule chooses. A push takes amortized constant time,
-    /// because each growth at least doubles the capacity, even after `reserve_exact`.
+    /// because the growth rule at least doubles the capacity. This is also true after calls to
+    /// `reserve_exact`.
     ///
     /// # Errors
     ///

@@ -23,12 +23,12 @@ use thin_block::ThinVecError;
 /// Instead of `alloc =>`, you can write `in alloc;`, as in `thin_vec![in alloc; x, y]`. The first
 /// form is then `thin_vec![in alloc]`. A trailing comma is allowed after items, but not after `k`.
 ///
-/// The macro evaluates to a `Result<ThinVec<T, A>, ThinVecError>`. It can be used in any function,
-/// whatever type the function returns.
+/// The macro evaluates to a `Result<ThinVec<T, A>, ThinVecError>`. You can use the macro in any
+/// function, whatever the return type of this function is.
 ///
-/// The macro evaluates `alloc` once, before everything else. In the second form, it then requests
-/// the memory. If the memory is granted, it evaluates each item once, in order. In the third form,
-/// it evaluates `x` and then `k`, and then requests the memory.
+/// The macro evaluates `alloc` first, and only once. In the second form, it then requests the
+/// memory. If the allocator grants the memory, the macro evaluates each item once, in order. In the
+/// third form, the macro evaluates `x` and then `k`, and then requests the memory.
 ///
 /// # Errors
 ///

@@ -1,5 +1,6 @@
-//! The type `OpenBlock`: the block of a list during an edit of a range, for example during a call
-//! of `retain`. There may be empty slots between the items of the block.
+//! The type `OpenBlock`, which contains the block of a list while a range of the list is edited.
+//! For example, `retain` uses an `OpenBlock`. There may be empty slots between the items of the
+//! block.
 ghost use Rattle.std.specs.Prelude.{◌≡◌, ◌↔◌, ◌+◌, ◌-◌, ◌==◌, ◌<◌, ◌≤◌, ◌∷◌, ◌++◌, [], IsTrue, drop, if◌then◌else◌, length, slice_range, take};
 ghost use Rattle.std.specs.Iterator.{YieldsFirst, YieldsLast};
 ghost use Rattle.thin_block.specs.Cost.{moving, no_cost};
@@ -18,8 +19,8 @@ use std::marker::Model;
 use std::mem;
 use thin_block::{Block, Growth};
 
-/// The block of a list during an edit of a range of the list, for example during a call to
-/// `retain`. There may be empty slots between the items.
+/// Contains the block of a list while a range of the list is edited, for example during a call to
+/// `retain`. There may be empty slots between the items of the block.
 ///
 /// The slots have six parts, each of which may be empty. The fields of this struct say in which
 /// slot each part begins. `capacity` is the number of slots.
@@ -80,8 +81,9 @@ impl<T, A: Allocator> Model for OpenBlock<T, A> {
 }
 
 impl<T, A: Allocator, G: Growth> ThinVec<T, A, G> {
-    // Takes the block out of the list. The items `start..end` are the range that is edited. They
-    // become the middle run of the open block. After the call, the list is empty and has no block.
+    // Takes the block out of the list, so that the items `start..end` can be edited. These items
+    // become the middle run of the open block. After the call, the list has no items, and its
+    // capacity is 0.
     pub(crate) fn open(&mut self, start: usize, end: usize) -> OpenBlock<T, A>
         requires start_le_end { start ≤ end }
         requires in_bounds { end ≤ length self.old.items }
@@ -113,7 +115,7 @@ impl<T, A: Allocator, G: Growth> ThinVec<T, A, G> {
 
     // Takes the block out of the list, and makes a gap of `count` empty slots before the item at
     // index `at`. To make this gap, the items from index `at` onward are moved up. After the call,
-    // the list is empty and has no block.
+    // the list has no items, and its capacity is 0.
     pub(crate) fn open_wide(&mut self, at: usize, count: usize) -> OpenBlock<T, A>
         requires in_bounds { at ≤ length self.old.items }
         requires room { HasRoomFor self.old count }
@@ -141,9 +143,9 @@ impl<T, A: Allocator, G: Growth> ThinVec<T, A, G> {
         block
     }
 
-    // Puts the block back into the list. If there is a gap, the items after the gap are first moved
-    // down. The code for a gap of one or two slots is inlined. If the list has another block at
-    // this time, that other block is freed.
+    // Moves the items after the gap down, so that no gap remains, and puts the block back into the
+    // list. If the list has another allocation at the time of the call, that allocation is freed.
+    // The code for a gap of one or two slots is inlined.
     #[inline(always)]
     pub(crate) fn close(&mut self, block: OpenBlock<T, A>)
         requires empty { self.old.items ≡ [] }
@@ -232,8 +234,8 @@ impl<T, A: Allocator> OpenBlock<T, A> {
         self.rest_end = self.tail_start;
     }
 
-    // Moves the items after the gap down to the start of the gap. Stores the number of items as the
-    // length of the block, and returns the block.
+    // Closes the gap: moves the items after the gap down to the start of the gap. Then stores the
+    // number of items as the length of the block, and returns the block.
     #[inline(always)]
     fn into_closed(self) -> Block<T, A>
         requires gap_after { self.gap_after ≡ 0 }

@@ -13,9 +13,9 @@ use std::alloc::Allocator;
 use std::iter::Iterator;
 use thin_block::Block;
 
-/// The result of moving items of an iterator into empty slots, in order.
+/// The result of a function that moves items of an iterator into empty slots, in order.
 pub(crate) struct Filled<I> {
-    /// The rest of the iterator: it yields the items that have not been taken yet.
+    /// The iterator after the call. It yields the items that have not been taken yet.
     pub(crate) rest: I,
     /// The index of the slot directly after the last item that was placed. If no item was placed,
     /// this is the index of the first of the empty slots.
@@ -146,8 +146,8 @@ pub(crate) fn put_results<T, A: Allocator, F: FnMut() -> T>(
 }
 
 // Moves items of `iter` into the empty slots `start..end`, until the slots are full or `iter`
-// returns `None`. The block is passed by value and returned. So its pointer stays in a register,
-// and LLVM vectorizes the loop.
+// returns `None`. The block is passed by value and is returned. For this reason, its pointer stays
+// in a register, and LLVM vectorizes the loop.
 pub(crate) fn put_iter<T, A: Allocator, I: Iterator<Item = T>>(
     block: Block<T, A>,
     start: usize,

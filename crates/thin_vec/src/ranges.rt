@@ -10,10 +10,9 @@ use std::ops::Bound;
 /// after its end, or if it ends after the end of the list.
 ///
 /// The two indices satisfy the preconditions of `drain`, `extract_if` and `splice`. Rust's
-/// `slice::range` returns the same indices, and panics in all cases in which this function returns
-/// `None`.
+/// `slice::range` returns the same indices. If this function returns `None`, `slice::range` panics.
 ///
-/// This function is our own: the Rust crate thin-vec has no such function.
+/// The Rust crate thin-vec has no such function.
 pub fn bounds(start: Bound<usize>, end: Bound<usize>, len: usize) -> Option<(usize, usize)>
     ensures value { result ≡ range_between start end len }
     ensures start_le_end { IfSome result (λ range. range.0 ≤ range.1) }

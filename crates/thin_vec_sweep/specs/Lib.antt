@@ -1,1 +1,2 @@
--- This crate has no definitions of its own.
+-- This crate contains only tests. It has no definitions of its own for contracts and proofs, so
+-- this file is otherwise empty.

@@ -33,7 +33,8 @@ pub fn assert_same<T: PartialEq + Debug + Drop, R: Abort>(
     assert_eq!(rt; value, wanted, "{what}, {at:?}");
 }
 
-/// Asserts that `item` is the item that is made from `number`, or that both are `None`.
+/// Asserts that `item` is the item that `T::nth` makes from `number`, or that `item` and `number`
+/// are both `None`.
 pub fn assert_same_item<T: Sample, R: Abort>(
     rt: &R,
     at: &At,
@@ -51,7 +52,8 @@ pub fn assert_same_item<T: Sample, R: Abort>(
     assert_same(rt, at, "item", found, expected);
 }
 
-/// Returns `true` if `item` is the item that is made from `number`, or if both are `None`.
+/// Returns `true` if `item` is the item that `T::nth` makes from `number`, or if `item` and
+/// `number` are both `None`. Otherwise, returns `false`.
 pub fn is_item<T: Sample>(item: Option<T>, number: Option<u64>) -> bool {
     match (item, number) {
         (Some(item), Some(number)) => item.kept_number() == T::expected_number(number),
@@ -60,16 +62,18 @@ pub fn is_item<T: Sample>(item: Option<T>, number: Option<u64>) -> bool {
     }
 }
 
-/// Asserts that `items` consists of the items that are made from `numbers`, in the same order.
+/// Asserts that `items` consists of the items that `T::nth` makes from `numbers`, in the same
+/// order.
 pub fn assert_same_items<T: Sample, R: Abort>(rt: &R, at: &At, items: &[T], numbers: &[u64]) {
     assert_same(rt, at, "length", items.len(), numbers.len());
     let difference = first_difference(items, numbers);
     assert_same(rt, at, "first item that differs", difference, None);
 }
 
-/// Asserts that exactly `items` items have not been dropped yet, provided that the ledger counts
-/// items of type `T`. Also asserts the number of allocated blocks: one for each item if items own
-/// blocks, plus one for the list if `capacity` is not 0.
+/// Asserts that exactly `items` items of type `T` have not been dropped yet. If the ledger does not
+/// count items of type `T`, asserts instead that the ledger counts no items at all. Also asserts
+/// the number of allocated blocks: one for each item if items own blocks, plus one for the list if
+/// `capacity` is not 0.
 pub fn assert_live<T: Sample, R: Abort>(
     rt: &R,
     at: &At,
@@ -87,7 +91,7 @@ pub fn assert_live<T: Sample, R: Abort>(
     assert_same(rt, at, "blocks that are not freed", out, blocks);
 }
 
-// Returns the first index at which `items[index]` is not the item that is made from
+// Returns the first index at which `items[index]` is not the item that `T::nth` makes from
 // `numbers[index]`. Returns `None` if there is no such index.
 fn first_difference<T: Sample>(items: &[T], numbers: &[u64]) -> Option<usize> {
     let mut index: usize = 0;

@@ -1,5 +1,5 @@
-//! Groups of sweeps. A sweep tests one call on many lists. Some groups accept every item type, and
-//! others only types that implement certain traits.
+//! Groups of sweeps. A sweep tests one call on many lists. Some groups can be used with every item
+//! type. Other groups can be used only with types that implement certain traits.
 pub mod arrays;
 pub mod clones;
 pub mod compared;
@@ -69,7 +69,7 @@ pub fn every_growth<T: Sample, G: Ruled, R: Abort>(rt: &R, scope: &Scope) {
 }
 
 /// Tests calls that edit a list without growing it, such as `pop` and `split_off`, and calls that
-/// consume the list.
+/// consume a list. `scope` says on which lists the calls are tested.
 pub fn every_edit<T: Sample, G: Ruled, R: Abort>(rt: &R, scope: &Scope) {
     sweep::<PushReserved, T, G, R>(rt, scope);
     sweep::<InsertReserved, T, G, R>(rt, scope);
@@ -86,8 +86,8 @@ pub fn every_edit<T: Sample, G: Ruled, R: Abort>(rt: &R, scope: &Scope) {
     sweep::<TryTake, T, G, R>(rt, scope);
 }
 
-/// Tests calls that replace a range, and calls that append items without growing the list, on the
-/// lists in `scope`.
+/// Tests calls that replace a range, and calls that append items without growing the list. `scope`
+/// says on which lists the calls are tested.
 pub fn every_replacing<T: Sample, G: Ruled, R: Abort>(rt: &R, scope: &Scope) {
     sweep::<ReplaceRange, T, G, R>(rt, scope);
     sweep::<ReplaceRangeFromList, T, G, R>(rt, scope);

@@ -20,7 +20,8 @@ pub enum Verdict {
     /// The call fails because the capacity would overflow, and not because the allocator refuses a
     /// request.
     Overflow,
-    /// The call fails because the allocator refuses a request for a block of items.
+    /// The call fails because the allocator refuses a request for a block. A block is the memory in
+    /// which a list or a `Vec` stores its items.
     NoRoom,
     /// The call fails because cloning an item fails. The clones that were already made are dropped.
     NoClone,
@@ -76,7 +77,7 @@ impl<T: Sample, G: Ruled> Case<T, G> {
         }
     }
 
-    /// Returns an item that is made from `number`.
+    /// Returns the item that `T::nth` makes from `number`.
     pub fn item<R: Abort>(&self, rt: &R, number: u64) -> T {
         T::nth(rt, self.ledger, number)
     }
@@ -106,18 +107,19 @@ impl<T: Sample, G: Ruled> Case<T, G> {
         fitting::<T>(want.max(self.capacity))
     }
 
-    /// Determines whether the call must be skipped because a list of this capacity would take too
-    /// much memory. Stores the result in `is_left_out`, and returns it. A call whose first request
-    /// is refused takes no memory, so it is not skipped.
+    /// Determines whether the call must be skipped because a list of capacity `capacity` would take
+    /// too much memory. Stores the result in `is_left_out`, and returns it. The call is not skipped
+    /// if its first request is refused, or if an item has a size of 0 bytes, because such a call
+    /// takes no memory.
     pub fn is_too_much(&mut self, capacity: Option<usize>) -> bool {
         let is_great = capacity.is_some_and(|capacity| capacity > 1_000_000);
         self.is_left_out = is_great && self.at.refused != 1 && T::LIMIT < isize::MAX as usize;
         self.is_left_out
     }
 
-    /// Returns how many requests of the call are refused in turn, each in its own test case. If the
-    /// call was skipped, this number is 1: the test case that refuses the first request takes no
-    /// memory, so it can still be run.
+    /// Returns how many requests of the call can be refused. Each of them is refused in a test case
+    /// of its own. If the call was skipped, returns 1: if the first request is refused, the call
+    /// takes no memory, so this test case can still be run.
     pub fn requests_in_turn(&self) -> u64 {
         if self.is_left_out { 1 } else { self.requests }
     }
@@ -137,9 +139,10 @@ impl<T: Sample, G: Ruled> Case<T, G> {
         verdict
     }
 
-    /// Records one growth of the list to `capacity`: one expected allocation request and, if this
-    /// request is granted, the new capacity. Returns whether the growth must succeed. `capacity` is
-    /// `None` if the capacity overflows.
+    /// Records that the call must grow the list to `capacity`. Adds one to the expected number of
+    /// allocation requests and, if the allocator grants this request, updates the expected
+    /// capacity. Returns whether the growth must succeed. `capacity` is `None` if the capacity
+    /// overflows. In this case, nothing is recorded.
     pub fn grows(&mut self, capacity: Option<usize>) -> bool {
         let Some(capacity) = capacity else {
             return false;
@@ -158,9 +161,10 @@ impl<T: Sample, G: Ruled> Case<T, G> {
         self.requests != self.at.refused
     }
 
-    /// Returns the expected outcome of a single growth to `capacity`, for a call that may grow the
-    /// list several times. Also updates the expected capacity and the expected number of requests.
-    /// If `capacity` is already the expected capacity, no further request is expected.
+    /// Returns the expected outcome of one growth of the list to `capacity`, during a call that may
+    /// grow the list several times. Also updates the expected capacity and the expected number of
+    /// requests. If `capacity` is already the expected capacity, no request is expected for this
+    /// growth.
     pub fn further_growth(&mut self, capacity: Option<usize>) -> Verdict {
         let Some(wanted) = capacity else {
             return Verdict::Overflow;
@@ -237,7 +241,7 @@ impl<T: Sample, G: Ruled> Case<T, G> {
         }
     }
 
-    /// Asserts that `item` is the item that is made from `number`.
+    /// Asserts that `item` is the item that `T::nth` makes from `number`.
     pub fn assert_item<R: Abort>(&self, rt: &R, item: &T, number: u64) {
         assert_same(
             rt,
@@ -248,7 +252,8 @@ impl<T: Sample, G: Ruled> Case<T, G> {
         );
     }
 
-    /// Asserts that `item` is the item that is made from `number`, or that both are `None`.
+    /// Asserts that `item` is the item that `T::nth` makes from `number`, or that `item` and
+    /// `number` are both `None`.
     pub fn assert_item_or_none<R: Abort>(&self, rt: &R, item: Option<T>, number: Option<u64>) {
         assert_same_item(rt, &self.at, item, number);
     }
@@ -262,13 +267,14 @@ impl<T: Sample, G: Ruled> Case<T, G> {
         }
     }
 
-    /// Asserts that `items` consists of the items that are made from `numbers`, in the same order.
+    /// Asserts that `items` consists of the items that `T::nth` makes from `numbers`, in the same
+    /// order.
     pub fn assert_items<R: Abort>(&self, rt: &R, items: &[T], numbers: &[u64]) {
         assert_same_items(rt, &self.at, items, numbers);
     }
 
-    /// Asserts that `list` contains the items that are made from `numbers`, and that its capacity
-    /// is `capacity`.
+    /// Asserts that `list` consists of the items that `T::nth` makes from `numbers`, in the same
+    /// order, and that the capacity of `list` is `capacity`.
     pub fn assert_list<H: Growth, R: Abort>(
         &self,
         rt: &R,
@@ -287,9 +293,9 @@ impl<T: Sample, G: Ruled> Case<T, G> {
     }
 
     /// Checks a list after a call that moves all its items to another list. On success, the list
-    /// must be empty and keep its capacity. On failure, it must be unchanged. Before the call, the
-    /// list had the shape `shape`, and its items were made from consecutive numbers, beginning with
-    /// `first`.
+    /// must be empty, and its capacity must be unchanged. On failure, the whole list must be
+    /// unchanged. Before the call, the list had the shape `shape`, and its items were made from
+    /// consecutive numbers, beginning with `first`.
     pub fn assert_moved_from<R: Abort>(
         &self,
         rt: &R,
@@ -308,7 +314,8 @@ impl<T: Sample, G: Ruled> Case<T, G> {
     }
 
     /// Checks the result of a call that makes a second list. On success, the second list must
-    /// contain the items that are made from `numbers`, and its capacity must be `capacity`.
+    /// consist of the items that `T::nth` makes from `numbers`, and its capacity must be
+    /// `capacity`.
     pub fn assert_second_list<H: Growth, R: Abort>(
         &self,
         rt: &R,
@@ -326,8 +333,8 @@ impl<T: Sample, G: Ruled> Case<T, G> {
         }
     }
 
-    /// Moves the list and its expected items out of the test case. Leaves an empty list of capacity
-    /// 0 in the test case.
+    /// Moves the list and its expected items out of the test case. After the call, the test case
+    /// contains an empty list of capacity 0.
     pub fn take(&mut self) -> (List<T, G>, Vec<u64, Global>) {
         self.capacity = 0;
         let list = mem::replace(&mut self.list, ThinVec::ruled(&self.ledger.alloc));
@@ -343,7 +350,8 @@ impl<T: Sample, G: Ruled> Case<T, G> {
     }
 
     /// Checks the state after the call: the items and the capacity of the list, and the numbers of
-    /// requests and clones. Also asserts that no other items and no other blocks exist.
+    /// requests and clones. Also asserts that no items exist except the items of the list, and that
+    /// no blocks are allocated except the blocks of the list and of its items.
     pub fn check<R: Abort>(&self, rt: &R) {
         let requests = self.ledger.alloc.requests();
         assert_same(rt, &self.at, "requests", requests, self.requests);

@@ -140,8 +140,8 @@ fn two_items<R: Abort>(rt: &R, alloc: Global) -> Case<Counted, Doubling> {
     Case::new(rt, ledger, at)
 }
 
-// Returns an empty list that owns a block. The test case does not expect this block, so a check of
-// the test case must fail.
+// Returns an empty list that owns a block. The test case `case` does not expect this block. So a
+// check of `case` must fail as long as the block is not freed.
 fn block<R: Abort>(rt: &R, case: &Case<Counted, Doubling>) -> List<Counted, Doubling> {
     let shape = Shape {
         length: 0,

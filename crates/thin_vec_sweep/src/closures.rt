@@ -12,8 +12,8 @@ use std::process::Abort;
 pub const PATTERNS: Cases = [1, 2, 4, 8, 16, 32, 64];
 
 /// Returns whether the pattern with the number `pattern` keeps the item at `index`, out of `count`
-/// items. If `count` is at most 6, the item is removed if and only if bit `index` of `pattern` is
-/// 1.
+/// items. If `count` is at most 6, the item is kept if bit `index` of `pattern` is 0, and removed
+/// if this bit is 1.
 pub fn stays(count: usize, pattern: usize, index: usize) -> bool {
     if count < PATTERNS.len() {
         return pattern >> (index % 64) & 1 == 0;
@@ -60,7 +60,8 @@ impl ClosureCalls {
         number
     }
 
-    /// Counts a call with a wrong item if `item` differs from the item that is made from `number`.
+    /// Compares `item` with the item that `T::nth` makes from `number`. If the two items differ,
+    /// counts a call with a wrong item.
     pub fn check_item<T: Sample>(&self, item: &T, number: u64) {
         if item.kept_number() != T::expected_number(number) {
             count(&self.wrong);

@@ -24,11 +24,12 @@ pub struct Ledger {
     pub global: Global,
     /// The number of items of type `Counted` that have been made but have not been dropped yet.
     pub standing: Cell<u64>,
-    /// The number of clones of `Counted` items since the last call to `begin`.
+    /// The number of clones of `Counted` items since the last call to `Ledger::begin`.
     pub clones: Cell<u64>,
-    /// The number of calls to `next` on a `Claims` iterator since the last call to `begin`.
+    /// The number of calls to `next` on a `Claims` iterator since the last call to `Ledger::begin`.
     pub asked: Cell<u64>,
-    /// The number of calls to `size_hint` on a `Claims` iterator since the last call to `begin`.
+    /// The number of calls to `size_hint` on a `Claims` iterator since the last call to
+    /// `Ledger::begin`.
     pub hinted: Cell<u64>,
     /// The numbers of test cases, of refused requests, and of comparisons since the test began.
     pub counts: Counts,
@@ -54,8 +55,8 @@ impl Ledger {
         Box::leak(Box::new(alloc, ledger).ok().expect(rt, "memory"))
     }
 
-    /// Resets the counts of requests, of clones, and of calls to `next` and `size_hint`. From now
-    /// on, the allocator `alloc` refuses the request with the number `refused`, or no request if
+    /// Resets the counts of requests, of clones, and of calls to `next` and `size_hint`. After the
+    /// call, the allocator `alloc` refuses the request with the number `refused`, or no request if
     /// `refused` is 0.
     pub fn begin(&self, refused: u64) {
         self.alloc.refuse(refused);

@@ -23,16 +23,19 @@ pub trait Sample: Clone + Drop + PartialEq {
     /// The size of an item in bytes.
     const SIZE: usize;
 
-    /// The greatest possible capacity of a list of such items, computed by hand. A block consists
-    /// of a header of 16 bytes and the items. Its size, rounded up to its alignment, must be at
-    /// most `isize::MAX`. The alignment of a block is the alignment of an item, but at least 8.
+    /// The greatest possible capacity of a list of such items, computed by hand. If an item has a
+    /// size of 0 bytes, this is `isize::MAX`. Otherwise, the limit follows from the size of a
+    /// block. A block consists of a header of 16 bytes and the items. Its size, rounded up to its
+    /// alignment, must be at most `isize::MAX`. The alignment of a block is the alignment of an
+    /// item, but at least 8.
     const LIMIT: usize;
 
     /// Makes an item from `number`.
     fn nth<R: Abort>(rt: &R, ledger: &'static Ledger, number: u64) -> Self;
 
     /// Returns the number from which the item was made. If the type has too few values for all
-    /// numbers, returns only the part of this number that the item preserves.
+    /// numbers, returns what can be recovered of this number. For example, an item of type `u8`
+    /// preserves only the remainder of the number modulo 251.
     fn kept_number(&self) -> u64;
 
     /// Returns what `kept_number` must return for the item that is made from `number`.
@@ -90,7 +93,8 @@ impl Sample for i32 {
 
     const LIMIT: usize = 2_305_843_009_213_693_946;
 
-    // Negates the number if it is odd, so that the test items have both signs.
+    // Returns the remainder of `number` modulo `2^31 - 1`, and negates it if `number` is odd. So
+    // the test items have both signs.
     fn nth<R: Abort>(_rt: &R, _ledger: &'static Ledger, number: u64) -> i32 {
         let magnitude = (number % 2_147_483_647) as i32;
         if number % 2 == 0 {

@@ -23,8 +23,9 @@ pub const LONGEST: usize = SHAPES;
 /// a length and a number of empty slots.
 pub const ALL: usize = LONGEST + 2;
 
-// The numbers of items that a test adds to a list: `FEW` for lists of at most 4 items, `SOME` for
-// lists of 5 to 40 items, `MANY` for lists of 41 to 10,000 items, and `MOST` for longer lists.
+// The next four arrays say how many items a test adds to a list. A test tries each number in one of
+// the arrays: in `FEW` for lists of at most 4 items, in `SOME` for lists of 5 to 40 items, in
+// `MANY` for lists of 41 to 10,000 items, and in `MOST` for longer lists.
 const FEW: [usize; 12] = [0, 1, 2, 3, 4, 5, 6, 7, 8, 9, 17, 100];
 
 const SOME: [usize; 4] = [0, 1, 9, 50];
@@ -146,8 +147,9 @@ impl Shape {
         self.alone(if self.is_long() { 2 } else { 20 })
     }
 
-    /// Returns the total number of test cases of a call that acts on a range, over all ranges that
-    /// are tried. If the list has at most 6 items, all cases are tried on all ranges.
+    /// Returns the total number of test cases of a call that acts on a range of the list. If the
+    /// list has at most 6 items, every range is tried, and for a range of `k` items, `cases[k]`
+    /// test cases are run. On a longer list, only four ranges are tried.
     pub fn ranged_cases(self, cases: &Cases) -> usize {
         if self.length >= cases.len() {
             return self.some().saturating_mul(RANGES);
@@ -186,9 +188,9 @@ impl Shape {
         self.some_range(0, number)
     }
 
-    // Returns one of the four ranges that are tried on a list of more than 6 items. `range` selects
-    // the range. The returned `Ranged` also contains `number`, the number of a test case on this
-    // range.
+    // Returns one of the four ranges that are tried on a list of more than 6 items. `range` is a
+    // number from 0 to 3, which selects the range. `number` is the number of a test case on this
+    // range, and is stored in the returned `Ranged`.
     fn some_range(self, range: usize, number: usize) -> Ranged {
         let length = self.length;
         let (start, end) = match range {
@@ -206,7 +208,7 @@ impl Shape {
         if self.spare == 0 { arguments } else { 0 }
     }
 
-    /// Returns how many different numbers of new items a test tries.
+    /// Returns how many different values a test tries for the number of new items.
     pub fn counts(self) -> usize {
         if self.is_small() {
             12
@@ -217,8 +219,8 @@ impl Shape {
         }
     }
 
-    /// Returns the number of new items in a test case. A test tries several such numbers, and
-    /// `number` selects one of them.
+    /// Returns the number of new items in a test case. A test tries several values for this number,
+    /// and `number` selects one of them.
     pub fn count(self, number: usize) -> usize {
         let count = if self.is_small() {
             FEW.get(number)

@@ -6,8 +6,9 @@ use crate::shapes::Cases;
 /// a sequence of steps, each of which takes an item from the front or from the back.
 pub const WALKS: Cases = [3, 7, 15, 31, 63, 127, 255];
 
-// Four sequences of steps over more than 6 items. Each bit stands for one step: 1 is a step from
-// the back, and 0 is a step from the front.
+// Four sequences of steps over more than 6 items. Each of the four numbers represents one sequence.
+// The bits of a number represent the steps: 1 is a step from the back, and 0 is a step from the
+// front.
 const ENDS: [u64; 4] = [0x5555_5555_5555_5555, u64::MAX, 0, 0xcccc_cccc_cccc_cccc];
 
 /// A sequence of steps. Each step takes an item from the front or from the back of an iterator.
@@ -15,17 +16,20 @@ const ENDS: [u64; 4] = [0x5555_5555_5555_5555, u64::MAX, 0, 0xcccc_cccc_cccc_ccc
 pub struct Walk {
     /// The number of steps.
     pub steps: usize,
-    // The direction of each step, as one bit: 1 is a step from the back, and 0 is a step from the
-    // front.
+    // The directions of the steps, with one bit for each step: 1 is a step from the back, and 0 is
+    // a step from the front.
     ends: u64,
 }
 
 impl Walk {
-    /// Returns one of the walks over `count` items. `number` selects the walk. If `count` is at
-    /// most 6, the steps are the binary digits of `number + 1`, beginning with the last digit and
-    /// without the leading 1. The digit 1 is a step from the back, and 0 is a step from the front.
+    /// Returns one of the walks over `count` items. `number` selects the walk.
+    ///
+    /// If `count` is at most 6, the binary digits of `number + 1` describe the steps, beginning
+    /// with the last digit and without the leading 1. The digit 1 is a step from the back, and 0 is
+    /// a step from the front.
+    ///
     /// If `count` is greater than 6, `number / 4` selects the number of steps, and `number % 4`
-    /// selects an entry of `ENDS`.
+    /// selects the directions of the steps, which are an entry of `ENDS`.
     pub fn nth(count: usize, number: usize) -> Walk {
         if count >= WALKS.len() {
             return Walk {
@@ -70,8 +74,8 @@ pub fn some_steps(count: usize, number: usize) -> usize {
     }
 }
 
-/// The items that remain after some steps from the front and from the back, represented by the
-/// range of their indices.
+/// The items that remain after some steps over an iterator, represented by the range of their
+/// indices. Each step takes an item from the front or from the back.
 #[derive(Drop)]
 pub struct Remaining {
     start: usize,
@@ -89,7 +93,8 @@ impl Remaining {
 
     /// Removes the index of the item that the next step must yield, and returns the number from
     /// which this item was made. Returns `None` if no item remains. The step is from the back if
-    /// `is_back` is true. `numbers` contains the numbers from which all items were made.
+    /// `is_back` is true, and from the front otherwise. `numbers` contains the numbers from which
+    /// all items were made.
     pub fn take(&mut self, is_back: bool, numbers: &[u64]) -> Option<u64> {
         if self.start >= self.end {
             return None;

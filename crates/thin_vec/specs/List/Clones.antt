@@ -1,5 +1,6 @@
--- Definitions for calls that clone items. `clones x y` says that `y` may be the result of cloning
--- `x`. `infallible x` says that cloning `x` cannot fail. (std: `Clone`)
+-- The definitions in this file describe calls that clone items. In this file, `clones x y` states
+-- that cloning `x` may result in `y`, and `infallible x` states that cloning `x` cannot fail. (See
+-- std's trait `Clone`.)
 use Rattle.std.specs.Prelude.{◌≡◌, ℕ, ◌^◌, ◌<◌, ◌≤◌, List, [], ◌∷◌, ◌++◌, All, HoldsAt, Option, length, take}
 use Rattle.std.specs.List.{AllZip}
 use Rattle.thin_block.specs.Cost.{Cost, moving}
@@ -8,24 +9,26 @@ use Rattle.thin_vec.specs.Cheap.{IsCheap}
 use Rattle.thin_vec.specs.ThinVec.{Thin, cost_at, cost_new}
 
 module _ {T : Type 0} (clones : T → T → Type 0) where
-  -- `CloneEquals x` states that every clone of `x` equals `x`.
+  -- `CloneEquals x` states that every clone of the item `x` equals `x`.
   abbrev pub CloneEquals : T → Type 0
   CloneEquals x = (y : T) → clones x y → y ≡ x
 
-  -- `ClonesEqual` states that every clone of an item equals the item.
+  -- `ClonesEqual` states that, for every item of the type `T`, each clone of the item equals the
+  -- item.
   abbrev pub ClonesEqual : Type 0
   ClonesEqual = (x : T) → CloneEquals x
 
-  -- `LaysClones sources n i s s'` states that writing clones of the first `n` items of `sources`
-  -- into the slots `s` from index `i` onward results in the slots `s'`.
+  -- `LaysClones sources n i s s'` compares the slots of a block before a call (`s`) and after it
+  -- (`s'`). It states that the call wrote clones of the first `n` items of `sources` into the slots
+  -- from index `i` onward, and changed no other slot.
   pub record LaysClones (sources : List T) (n i : ℕ) (s s' : List (Option T)) : Type 0 where
     pub copies : List T
     pub cloned : AllZip clones (take n sources) copies
     pub slots : s' ≡ laid i (full copies) s
 
   -- `IsClonedList v w` states what std's `Clone` guarantees about a clone `w` of the list `v`. The
-  -- list `w` contains a clone of each item of `v`, has the same allocator, and has exactly one slot
-  -- for each item.
+  -- list `w` contains a clone of each item of `v`, has the same allocator as `v`, and has exactly
+  -- one slot for each item.
   abbrev pub IsClonedList : {A : Type 0} → Thin T A → Thin T A → Type 0
   IsClonedList v w =
       AllZip clones v.items w.items × (length w.items ≡ length v.items)
@@ -33,8 +36,8 @@ module _ {T : Type 0} (clones : T → T → Type 0) where
       × (w.cost ≡ moving (length v.items) (cost_new (length v.items))) × IsCheap w
       × (w.capacity < 2 ^ 63)
 
--- `AppendsRepeats clones x n xs ys` states that `ys` is the list `xs`, followed by `n` clones of
--- `x`.
+-- `AppendsRepeats clones x n xs ys` states that the list `ys` consists of the items of `xs`,
+-- followed by `n` clones of `x`. The parameter `clones` says which items are clones of `x`.
 pub record AppendsRepeats {T : Type 0} (clones : T → T → Type 0) (x : T) (n : ℕ)
     (xs ys : List T) : Type 0 where
   pub copies : List T
@@ -42,9 +45,10 @@ pub record AppendsRepeats {T : Type 0} (clones : T → T → Type 0) (x : T) (n 
   pub count : length copies ≡ n
   pub items : ys ≡ xs ++ copies
 
--- `IsResized clones xs n x ys` states that resizing the list `xs` to length `n` results in `ys`. If
--- `xs` has at least `n` items, `ys` contains the first `n` of them. Otherwise, `ys` contains all
--- items of `xs`, then clones of `x`, and finally `x` itself.
+-- `IsResized clones xs n x ys` states that the list `ys` is a possible result of resizing the list
+-- `xs` to the length `n`. If `xs` has at least `n` items, `ys` contains the first `n` items of
+-- `xs`. Otherwise, `ys` contains all items of `xs`, then clones of `x`, and finally `x` itself. The
+-- parameter `clones` says which items are clones of `x`.
 pub record IsResized {T : Type 0} (clones : T → T → Type 0) (xs : List T) (n : ℕ) (x : T)
     (ys : List T) : Type 0 where
   pub shorter : n ≤ length xs → ys ≡ take n xs
@@ -52,9 +56,11 @@ pub record IsResized {T : Type 0} (clones : T → T → Type 0) (xs : List T) (n
       × (ys ≡ xs ++ (copies ++ x ∷ []))
   pub len : length ys ≡ n
 
--- `StopsAtClone infallible sources before after` states that cloning the item at some index `at` of
--- `sources` failed. So `infallible` does not hold for this item. The items before it were cloned at
--- the cost of one move each: the cost `after` is the cost `before` plus `at` moves.
+-- `StopsAtClone infallible sources before after` describes a call that clones the items of
+-- `sources` in order, and stops because cloning one item fails. This item has the index `at` in
+-- `sources`, and does not satisfy `infallible`. (`infallible x` states that cloning `x` cannot
+-- fail.) Each clone that was made before counts as one move: the cost `after` is the cost `before`
+-- plus `at` moves.
 pub record StopsAtClone {T : Type 0} (infallible : T → Type 0) (sources : List T)
     (before after : Cost) : Type 0 where
   pub at : ℕ
@@ -62,9 +68,10 @@ pub record StopsAtClone {T : Type 0} (infallible : T → Type 0) (sources : List
   pub fallible : HoldsAt (λ x. ¬ (infallible x)) sources at
   pub cost : after ≡ moving at before
 
--- `CostsUpToClone infallible sources v w` states that the list `v` became `w` when cloning one of
--- the items `sources` failed. The recorded cost increased by one move for each item that was cloned
--- before the failure, and by one reallocation if the capacity changed.
+-- `CostsUpToClone infallible sources v w` describes the cost of a call that cloned items of
+-- `sources` into a list, but failed because cloning one item failed. The call changed the list from
+-- `v` to `w`. The cost of the call is one move for each clone that was made before the failure, and
+-- one reallocation if the capacity changed.
 abbrev pub CostsUpToClone : {T A : Type 0} → (T → Type 0) → List T → Thin T A → Thin T A → Type 0
 CostsUpToClone infallible sources v w =
     StopsAtClone infallible sources (cost_at v w.capacity) w.cost

@@ -1,6 +1,6 @@
--- Definitions for the removal of duplicates from an open block, which is the block of a list during
--- an edit. A test decides for each item whether the item duplicates the last item that was kept.
--- (std: `Vec::dedup_by`)
+-- The definitions in this file describe how duplicates are removed from an open block, which is the
+-- block of a list during an edit. A test decides for each item whether the item duplicates the last
+-- item that was kept. (See std's `Vec::dedup_by`.)
 use Rattle.std.specs.Prelude.{◌≡◌, ◌⊎◌, ℕ, suc, ◌<◌, List, [], ◌∷◌, ◌++◌, Bool, true, false, Option, Some, length, replicate, slice_set}
 use Rattle.thin_block.specs.Cost.{moving}
 use Rattle.thin_block.specs.Slots.{slot}
@@ -8,13 +8,14 @@ use Rattle.thin_vec.specs.Edits.Retain.{moved_down, trues}
 use Rattle.thin_vec.specs.Edits.Dedup.{AskedLast, AskedPairs}
 use Rattle.thin_vec.specs.Open.{Open}
 
--- `R s x k b t y l` describes one call of a test. The call compares the item `x` with the last kept
--- item `k`, and `b` is true if `x` is to be removed. The call changes the state of the test from
--- `s` to `t`, the item from `x` to `y`, and the kept item from `k` to `l`.
+-- `R s x k b t y l` describes one call of a test, which compares the item `x` with the last kept
+-- item `k`. The result `b` is true if `x` is to be removed. The call changes the state of the test
+-- from `s` to `t`, the item from `x` to `y`, and the kept item from `k` to `l`.
 module _ {S T : Type 0} (R : S → T → T → Bool → S → T → T → Type 0) where
-  -- `IsPairAskedAt k s xs b t ys` states that the item of `xs` at index `k` was tested against the
-  -- item before it, and that `ys` is `xs` with both items as the test left them. The test changed
-  -- its state from `s` to `t`, and `b` says whether the item at index `k` is removed.
+  -- `IsPairAskedAt k s xs b t ys` states that the item at index `k` of the list `xs` was tested
+  -- against the item before it. The flag `b` is true if the tested item is to be removed. The test
+  -- changed its own state from `s` to `t`. It may also have changed the two items, and `ys` is the
+  -- list after these changes.
   pub record IsPairAskedAt (k : ℕ) (s : S) (xs : List T) (b : Bool) (t : S)
       (ys : List T) : Type 0 where
     pub before : List T
@@ -28,9 +29,10 @@ module _ {S T : Type 0} (R : S → T → T → Bool → S → T → T → Type 0
     pub asked : R s later kept b t later_left kept_left
     pub now : ys ≡ before ++ kept_left ∷ later_left ∷ after
 
-  -- `IsLastAsked s x xs b t y ys` states that the item `x` was tested against the last item of
-  -- `xs`. The test changed its state from `s` to `t`, and `b` says whether `x` is removed. The test
-  -- left `x` as `y`, and `ys` is `xs` with its last item as the test left it.
+  -- `IsLastAsked s x xs b t y ys` states that the item `x` was tested against the last item of the
+  -- list `xs`. The flag `b` is true if `x` is to be removed. The test changed its own state from
+  -- `s` to `t`, and the item from `x` to `y`. It may also have changed the last item of `xs`, and
+  -- `ys` is the list after this change.
   pub record IsLastAsked (s : S) (x : T) (xs : List T) (b : Bool) (t : S) (y : T)
       (ys : List T) : Type 0 where
     pub before : List T
@@ -40,9 +42,10 @@ module _ {S T : Type 0} (R : S → T → T → Bool → S → T → T → Type 0
     pub asked : R s x kept b t y kept_left
     pub now : ys ≡ before ++ kept_left ∷ []
 
-  -- `IsNextAsked s k xs b t l ys` states that the first item of `xs` was tested against the kept
-  -- item `k`. The test changed its state from `s` to `t`, and `b` says whether the first item is
-  -- removed. The test left `k` as `l`, and `ys` is `xs` with its first item as the test left it.
+  -- `IsNextAsked s k xs b t l ys` states that the first item of the list `xs` was tested against
+  -- the kept item `k`. The flag `b` is true if the first item is to be removed. The test changed
+  -- its own state from `s` to `t`, and the kept item from `k` to `l`. It may also have changed the
+  -- first item of `xs`, and `ys` is the list after this change.
   pub record IsNextAsked (s : S) (k : T) (xs : List T) (b : Bool) (t : S) (l : T)
       (ys : List T) : Type 0 where
     pub later : T
@@ -53,8 +56,9 @@ module _ {S T : Type 0} (R : S → T → T → Bool → S → T → T → Type 0
     pub now : ys ≡ later_left ∷ after
 
   -- `AreAskedIn s i slots b t slots'` states that the item in slot `i + 1` was tested against the
-  -- item in slot `i`. The test changed its state from `s` to `t`, and `b` says whether the item in
-  -- slot `i + 1` is removed. `slots'` is `slots` with both items as the test left them.
+  -- item in slot `i`. The flag `b` is true if the item in slot `i + 1` is to be removed. The test
+  -- changed its own state from `s` to `t`. It may also have changed the two items, and `slots'` are
+  -- the slots after these changes.
   pub record AreAskedIn (s : S) (i : ℕ) (slots : List (Option T)) (b : Bool) (t : S)
       (slots' : List (Option T)) : Type 0 where
     pub kept : T
@@ -66,11 +70,12 @@ module _ {S T : Type 0} (R : S → T → T → Bool → S → T → T → Type 0
     pub asked : R s later kept b t later_left kept_left
     pub now : slots' ≡ slice_set (slice_set slots i (Some kept_left)) (suc i) (Some later_left)
 
-  -- `PairsAskedUpTo m s xs t ys` states that the items of `xs` after the first were tested in
-  -- order, each against the item before it. The tests stopped after the first item that is to be
-  -- removed, or at the end of `xs` if there is no such item. The first `m` items are kept. The list
-  -- `over` contains the item to remove, or is empty if there is none. The test changed its state
-  -- from `s` to `t`, and `ys` is `xs` with the tested items as the test left them.
+  -- `PairsAskedUpTo m s xs t ys` describes a search for the first item of `xs` that is to be
+  -- removed. From the second item of `xs` on, each item was tested against the item before it. The
+  -- search stopped at the first item that is to be removed, and `m` is the index of this item. If
+  -- there is no such item, the search stopped at the end of `xs`, and `m` is the length of `xs`.
+  -- The test changed its own state from `s` to `t`. It may also have changed the items, and `ys` is
+  -- the list after these changes.
   pub record PairsAskedUpTo (m : ℕ) (s : S) (xs : List T) (t : S) (ys : List T) : Type 0 where
     pub first : T
     pub done : List T
@@ -87,10 +92,11 @@ module _ {S T : Type 0} (R : S → T → T → Bool → S → T → T → Type 0
     pub stops : ((length over ≡ 1) × (stays ≡ replicate more true ++ false ∷ []))
         ⊎ ((over ≡ []) × ((after ≡ []) × (stays ≡ replicate more true)))
 
-  -- `Dedups s v t w` states that the open block `v` became `w` when some of its untested items (its
-  -- middle items) were tested in order, each against the last item kept before it. The kept items
-  -- were moved to the end of the front, at the cost of one move each, and the other tested items
-  -- were removed. The test changed its state from `s` to `t`.
+  -- `Dedups s v t w` describes one stage of the removal of duplicates. This stage changed an open
+  -- block from `v` to `w`. Some of the untested items (the middle items of `v`) were tested in
+  -- order, each against the last item that was kept before it. The kept items were moved to the end
+  -- of the front, at the cost of one move each. The other tested items were removed. The test
+  -- changed its state from `s` to `t`.
   pub record Dedups {A : Type 0} (s : S) (v : Open T A) (t : S) (w : Open T A) : Type 0 where
     pub before : List T
     pub first : T
@@ -108,11 +114,11 @@ module _ {S T : Type 0} (R : S → T → T → Bool → S → T → T → Type 0
       cost = moving (trues stays) v.cost;
     }
 
-  -- `IsDeduped s v t w` states that all untested items (middle items) of the open block `v` except
-  -- the first were tested, each against the last item kept before it. The first middle item and the
-  -- kept items became the front of the open block `w`, whose middle run is empty. Each kept item
-  -- that follows the first removed item counts as one move. The test changed its state from `s` to
-  -- `t`.
+  -- `IsDeduped s v t w` states that the removal of all duplicates changed an open block from `v` to
+  -- `w`. All middle items of `v` except the first were tested, each against the last item that was
+  -- kept before it. The front of `w` consists of the first middle item and the kept items, and the
+  -- middle run of `w` is empty. Each kept item that follows the first removed item counts as one
+  -- move. The test changed its state from `s` to `t`.
   pub record IsDeduped {A : Type 0} (s : S) (v : Open T A) (t : S) (w : Open T A) : Type 0 where
     pub stays : List Bool
     pub asked : AskedPairs R s v.rest stays w.front t

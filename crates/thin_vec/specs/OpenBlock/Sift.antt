@@ -1,17 +1,17 @@
--- Definitions for the removal of items from an open block, which is the block of a list during an
--- edit. A test decides for each item whether the item is kept. (std: `Vec::retain_mut`,
--- `Vec::extract_if`)
+-- The definitions in this file describe how items are removed from an open block, which is the
+-- block of a list during an edit. A test decides for each item whether the item is kept. (See std's
+-- `Vec::retain_mut` and `Vec::extract_if`.)
 use Rattle.std.specs.Prelude.{◌≡◌, ℕ, ◌+◌, ◌<◌, ◌==◌, List, [], ◌∷◌, ◌++◌, Bool, true, false, drop, if◌then◌else◌, length, take}
 use Rattle.thin_block.specs.Cost.{moving}
 use Rattle.thin_vec.specs.Edits.Retain.{Verdicts, Asked, flags_of, left_at, moved_down, stay, trues}
 use Rattle.thin_vec.specs.Open.{Open}
 
--- `R s x b t y` describes one call of a test, where `b` is true if the item `x` is to be kept. The
--- call changes the state of the test from `s` to `t`, and the item from `x` to `y`.
+-- `R s x b t y` describes one call of a test on the item `x`. The result `b` is true if `x` is to
+-- be kept. The call changes the state of the test from `s` to `t`, and the item from `x` to `y`.
 module _ {S T : Type 0} (R : S → T → Bool → S → T → Type 0) where
-  -- `IsAskedAt k s xs b t ys` states that the item of `xs` at index `k` was tested, and that `ys`
-  -- is `xs` with this item as the test left it. The test changed its state from `s` to `t`, and `b`
-  -- says whether the item is kept.
+  -- `IsAskedAt k s xs b t ys` states that the item at index `k` of the list `xs` was tested. The
+  -- flag `b` is true if the item is to be kept. The test changed its own state from `s` to `t`. It
+  -- may also have changed the item, and `ys` is the list after this change.
   pub record IsAskedAt (k : ℕ) (s : S) (xs : List T) (b : Bool) (t : S) (ys : List T) : Type 0 where
     pub before : List T
     pub item : T
@@ -22,16 +22,19 @@ module _ {S T : Type 0} (R : S → T → Bool → S → T → Type 0) where
     pub asked : R s item b t left
     pub now : ys ≡ before ++ left ∷ after
 
-  -- `Stops s xs t ys` states that the list `xs` is empty, or that the test decided to remove its
-  -- first item. The test changed its state from `s` to `t`, and `ys` is `xs` with the tested item
-  -- as the test left it.
+  -- `Stops s xs t ys` describes two cases. If the list `xs` is empty, no test takes place, so `ys`
+  -- is empty and `t` is `s`. Otherwise, the test decided to remove the first item of `xs`. The test
+  -- changed its own state from `s` to `t`. It may also have changed the item, and `ys` is the list
+  -- after this change.
   abbrev pub Stops : S → List T → S → List T → Type 0
   Stops s [] t ys = (ys ≡ []) × (t ≡ s)
   Stops s (x ∷ xs) t ys = (y : T) × R s x false t y × (ys ≡ y ∷ xs)
 
-  -- `AskedUpTo k m s xs t ys` states that the test decided to keep the items `k..m` of `xs`, and to
-  -- remove the item at index `m`, if there is such an item. The test changed its state from `s` to
-  -- `t`, and `ys` is `xs` with the tested items as the test left them.
+  -- `AskedUpTo k m s xs t ys` states that the items of `xs` were tested from index `k` onward, up
+  -- to the first item that is to be removed. This item has the index `m`. If there is no such item,
+  -- all items up to the end of `xs` were tested, and `m` is the length of `xs`. The test changed
+  -- its own state from `s` to `t`. It may also have changed the tested items, and `ys` is the list
+  -- after these changes.
   pub record AskedUpTo (k m : ℕ) (s : S) (xs : List T) (t : S) (ys : List T) : Type 0 where
     pub before : List T
     pub run : List T
@@ -46,11 +49,13 @@ module _ {S T : Type 0} (R : S → T → Bool → S → T → Type 0) where
     pub stops : Stops between after t end
     pub now : ys ≡ before ++ (left ++ end)
 
-  -- `Advances s v t w` states that the untested items (middle items) of the open block `v` were
-  -- tested in order, until the test decided to remove an item, or no untested item was left. In the
-  -- open block `w`, the kept items are the last front items. An item that the test decided to
-  -- remove is the first middle item. Each kept item counts as one move if `v` has empty slots
-  -- between its front and its middle items. The test changed its state from `s` to `t`.
+  -- `Advances s v t w` describes a search for the next item to remove, which changed an open block
+  -- from `v` to `w`. The untested items (the middle items of `v`) were tested in order, up to the
+  -- first item that is to be removed. The items that were tested before this item are kept, and are
+  -- now at the end of the front. If `v` has empty slots between its front and its middle items,
+  -- each of these items counts as one move. The item to remove is the first middle item of `w`. If
+  -- there is no such item, the middle run of `w` is empty. The test changed its state from `s` to
+  -- `t`.
   pub record Advances {A : Type 0} (s : S) (v : Open T A) (t : S) (w : Open T A) : Type 0 where
     pub count : ℕ
     pub left : List T
@@ -61,10 +66,10 @@ module _ {S T : Type 0} (R : S → T → Bool → S → T → Type 0) where
       cost = if v.gap == 0 then v.cost else moving count v.cost;
     }
 
-  -- `Sifts s v t w` states that the open block `v` became `w` when some of its untested items (its
-  -- middle items) were tested in order. The kept items were moved to the end of the front, at the
-  -- cost of one move each, and the other tested items were removed. The test changed its state from
-  -- `s` to `t`.
+  -- `Sifts s v t w` describes one stage of the removal of items. This stage changed an open block
+  -- from `v` to `w`. Some of the untested items (the middle items of `v`) were tested in order. The
+  -- kept items were moved to the end of the front, at the cost of one move each. The other tested
+  -- items were removed. The test changed its state from `s` to `t`.
   pub record Sifts {A : Type 0} (s : S) (v : Open T A) (t : S) (w : Open T A) : Type 0 where
     pub done : List T
     pub verdicts : Verdicts T
@@ -78,10 +83,10 @@ module _ {S T : Type 0} (R : S → T → Bool → S → T → Type 0) where
       cost = moving (trues (flags_of verdicts)) v.cost;
     }
 
-  -- `IsSifted s v t w` states that all untested items (middle items) of the open block `v` were
-  -- tested in order. The kept items became the last front items of the open block `w`, whose middle
-  -- run is empty. Each kept item that follows the first removed item counts as one move. The test
-  -- changed its state from `s` to `t`.
+  -- `IsSifted s v t w` states that all middle items of the open block `v` were tested in order, and
+  -- that this changed the block to `w`. The kept items were added to the end of the front, and the
+  -- other tested items were removed. So the middle run of `w` is empty. Each kept item that follows
+  -- the first removed item counts as one move. The test changed its state from `s` to `t`.
   pub record IsSifted {A : Type 0} (s : S) (v : Open T A) (t : S) (w : Open T A) : Type 0 where
     pub verdicts : Verdicts T
     pub asked : Asked R s v.rest verdicts t

@@ -121,7 +121,7 @@ impl<A: Allocator, G: Growth> Write for ThinVec<u8, A, G> {
         ensures succeeds { IsOk result }
         ensures unchanged { self.new ≡ self.old }
     {
-        // Every byte that was written is already in the list, so there is nothing to flush.
+        // There is nothing to flush, because every byte that was written is already in the list.
         Ok(())
     }
 }

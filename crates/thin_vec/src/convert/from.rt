@@ -235,8 +235,8 @@ impl<T: Clone, A: Allocator> ThinVec<T, A> {
     }
 }
 
-// Returns the number of items of an array. The contract of this function tells the prover that the
-// number is `N`.
+// Returns the number of items in the array `items`. The prover needs this function because its
+// contract states that this number is `N`.
 fn count<T, const N: usize>(items: &[T; N]) -> usize
     ensures value { result ≡ N }
     ensures length { result ≡ length items.now }

@@ -21,8 +21,8 @@ use thin_block::{Block, Doubling, Growth, ThinVecError};
 /// In contracts, an `IntoIter` has the same fields as a list. Its field `items` contains the items
 /// that have not been yielded yet.
 pub struct IntoIter<T, A: Allocator = Global, G: Growth = Doubling> {
-    // The items that have not been yielded yet are in the slots `start..end` of the block. The
-    // length that is stored in the block is no longer used.
+    // The items that have not been yielded yet are in the slots `start..end` of the block. An
+    // `IntoIter` does not use the length that is stored in the block.
     block: Block<T, A>,
     alloc: A,
     start: usize,
@@ -89,8 +89,8 @@ impl<T, A: Allocator, G: Growth> IntoIter<T, A, G> {
         self.end - self.start
     }
 
-    /// Returns the number of items that have not been yielded yet, as both the lower and the upper
-    /// bound.
+    /// Returns a size hint whose lower bound and upper bound are both the number of items that have
+    /// not been yielded yet.
     pub fn size_hint(&self) -> (usize, Option<usize>)
         ensures value { result ≡ (length self.now.items, Some (length self.now.items)) }
     {

@@ -1,5 +1,5 @@
 //! The methods `dedup`, `dedup_by` and `dedup_by_key`. They compare each item with the last item
-//! that was kept before it, and remove the item if the two items are the same.
+//! that was kept before it, and remove the item if it is a duplicate of that item.
 ghost use Rattle.std.specs.Prelude.{◌≡◌, ◌+◌, ◌<◌, ◌≤◌, length};
 ghost use Rattle.std.specs.Fn.{CalledAtPairMut, ComparesKeys};
 ghost use Rattle.std.specs.List.{dedup};

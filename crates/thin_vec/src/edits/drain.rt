@@ -75,14 +75,14 @@ impl<T: Drop, A: Allocator, G: Growth> ThinVec<T, A, G> {
         requires start_le_end { start ≤ end }
         requires in_bounds { end ≤ length self.old.items }
 
-        // The `Drain` yields the items of the range. `next` yields them in order, and `next_back`
-        // in reverse order.
+        // The `Drain` yields the items of the range: `next` yields them in order, and `next_back`
+        // yields them in reverse order.
         ensures rest { drain_rest result ≡ slice_range self.old.items start end }
         ensures runs { DrainsInOrder result }
         ensures runs_back { DrainsInReverse result }
 
-        // After the `Drain` is dropped, the list has the following items, capacity, allocator and
-        // recorded cost.
+        // The following clauses state which items, capacity, allocator and recorded cost the list
+        // has after the `Drain` is dropped.
         ensures kept { drain_kept result ≡ remove_range self.old.items start end }
         ensures capacity { drain_capacity result ≡ self.old.capacity }
         ensures alloc { drain_alloc result ≡ self.old.alloc }
@@ -112,8 +112,8 @@ impl<'a, T, A: Allocator, G: Growth> Drain<'a, T, A, G> {
         self.holder.value.rest_len()
     }
 
-    /// Returns the number of items that have not been yielded yet, as both the lower and the upper
-    /// bound.
+    /// Returns a size hint whose lower bound and upper bound are both the number of items that have
+    /// not been yielded yet.
     pub fn size_hint(&self) -> (usize, Option<usize>)
         ensures value { result
             ≡ (length (drain_rest self.now), Some (length (drain_rest self.now))) }

@@ -18,10 +18,10 @@ use crate::open_block::sift::Test;
 use std::alloc::{Allocator, Global};
 use thin_block::{Doubling, Growth};
 
-/// An iterator that tests the items of a range with a closure. It removes and yields, in order,
-/// each item for which the closure returns true. The closure may change an item, whether or not the
-/// item is yielded. An item that is yielded includes these changes. The method `extract_if` returns
-/// this iterator.
+/// An iterator that tests the items of a range of a list with a closure. It removes each item for
+/// which the closure returns true, and yields the removed items in order. The closure may change
+/// each item that it tests. Both the yielded items and the kept items include these changes. The
+/// method `extract_if` returns this iterator.
 ///
 /// Until the `ExtractIf` is dropped, it owns the allocation of the list, and the list is empty and
 /// has capacity 0. After the drop, the list holds every item that was not yielded. Items that were
@@ -37,12 +37,12 @@ pub struct ExtractIf<
 > {
     list: &'a mut ThinVec<T, A, G>,
     holder: H,
-    // The block was allocated by the allocator of the list.
+    // If the block has memory, the allocator of the list allocated this memory.
     ghost from: { IsFrom (H.inner holder).block.alloc list.now.alloc },
 }
 
-/// The block and the closure that an `ExtractIf` owns. The middle run of the block consists of the
-/// items that have not been tested yet.
+/// The block and the closure that an `ExtractIf` owns. The middle run, which is the second of the
+/// three parts of the block, consists of the items that have not been tested yet.
 pub struct Extracting<T, F, A: Allocator> {
     block: OpenBlock<T, A>,
     picks: Picks<F>,

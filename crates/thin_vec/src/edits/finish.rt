@@ -1,6 +1,6 @@
 //! The steps of `Splice::finish`, which puts the items of an iterator in place of a removed range.
-//! First, `fill_gap` fills the empty slots of the range. Then `insert_hinted` reserves room for as
-//! many items as the lower bound of the iterator's size hint, and fills this room. Last,
+//! First, `fill_gap` fills the empty slots of the range. Then `insert_hinted` reserves room for `n`
+//! more items, where `n` is the lower bound of the iterator's size hint, and fills this room. Last,
 //! `insert_held` collects the remaining items in a vector, and moves them into the list.
 //!
 //! The steps are inlined into `finish`. So the list and the iterator need not be passed through
@@ -47,8 +47,8 @@ impl<T, A: Allocator, G: Growth> ThinVec<T, A, G> {
     }
 
     // Makes a gap of empty slots before the item at index `at`, and moves items of `iter` into the
-    // gap. The number of slots is the lower bound of the size hint of `iter`. If the room for this
-    // gap cannot be reserved, the list is unchanged, and the error holds `iter`.
+    // gap. The gap has `n` slots, where `n` is the lower bound of the size hint of `iter`. If the
+    // room for this gap cannot be reserved, the list is unchanged, and the error holds `iter`.
     #[inline(always)]
     fn insert_hinted<I: Iterator<Item = T>>(
         &mut self,
@@ -183,8 +183,9 @@ impl<T: Drop, A: Allocator, G: Growth> ThinVec<T, A, G> {
         iter: I,
         alloc: A,
     ) -> Result<(), SpliceRefused<T, I, A>>
-        // `block` was taken out of this list. It contains items that follow the removed range
-        // (`tail`), but no item of the range itself (`rest`).
+        // `block` must have been taken out of this list. It must contain at least one item that
+        // follows the removed range (the field `tail`), and no item of the range itself (the field
+        // `rest`).
         requires some { 0 < length block.tail }
         requires empty { self.old.items ≡ [] }
         requires none { block.rest ≡ [] }
@@ -231,8 +232,8 @@ impl<T: Drop, A: Allocator, G: Growth> ThinVec<T, A, G> {
         iter: I,
         alloc: A,
     ) -> Result<(), SpliceRefused<T, I, A>>
-        // `block` was taken out of this list. It contains no item that follows the removed range
-        // (`tail`), and no item of the range itself (`rest`).
+        // `block` must have been taken out of this list. It must contain no item that follows the
+        // removed range (the field `tail`), and no item of the range itself (the field `rest`).
         requires no_tail { block.tail ≡ [] }
         requires within { reach block ≤ block.capacity }
         requires empty { self.old.items ≡ [] }
@@ -276,7 +277,7 @@ struct Drawn<T, I, A: Allocator> {
     /// The item that the iterator yielded directly after the items in `held`. The vector has no
     /// room for this item. If the iterator has ended, `in_hand` is `None`.
     in_hand: Option<T>,
-    /// The rest of the iterator: it yields the items that have not been taken yet.
+    /// The rest of the iterator, which yields the items that have not been taken yet.
     rest: I,
 }
 

@@ -1,22 +1,24 @@
 //! The trait `Holds`, through which `Drain`, `ExtractIf` and `Splice` own the block of a list.
 //!
-//! Each of these structs has one field for a `&mut` to the list, and one field for the block of the
-//! list. The block contains a raw pointer. If a struct declares one field with a raw pointer and
-//! another field with a `&mut`, the contract of its `drop` cannot describe the value behind the
-//! `&mut` after the call. So the type of the field for the block is a type parameter with the bound
-//! `Holds`, which hides the raw pointer.
+//! Each of these structs has two fields that matter here: a `&mut` reference to the list, and the
+//! block of the list. The block contains a raw pointer. If a struct declares one field with a raw
+//! pointer and another field with a `&mut` reference, the contract of its `drop` cannot describe
+//! the value behind the `&mut` after the call. So the type of the field for the block is a type
+//! parameter with the bound `Holds`, which hides the raw pointer.
 ghost use Rattle.std.specs.Prelude.{◌≡◌};
 
-/// A type whose values each hold one inner value. A value of such a type can be converted into its
-/// inner value.
+/// A trait for types whose values contain exactly one inner value. Such a value can be converted
+/// into its inner value.
 pub trait Holds {
     /// The type of the inner value.
     type Inner;
 
-    /// Maps a holder to its inner value.
+    /// Maps a value of the implementing type, which is called a holder, to the inner value that it
+    /// contains.
     ghost inner: { Self → Self.Inner };
 
-    /// Returns the inner value of the holder. The caller then owns this value.
+    /// Converts the holder into its inner value, and returns the inner value. The caller then owns
+    /// the inner value.
     fn into_inner(self) -> Self::Inner
         ensures value { result ≡ inner self };
 }

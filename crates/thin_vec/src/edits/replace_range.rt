@@ -23,11 +23,12 @@ impl<T: Clone, A: Allocator, G: Growth> ThinVec<T, A, G> {
     /// That is why the call needs a capacity of at least `self.len() + items.len()`, even if the
     /// range is longer than `items`.
     ///
-    /// The clones that will fill the slots of the range are made directly after the last item of
-    /// the list. If `items` is longer than the range, the other clones are made in a gap directly
-    /// after the range. On success, each item after the range moves at most once, and each clone
-    /// after the last item moves into the range. On failure, each item after the range moves at
-    /// most three times: once when the gap is made, and twice while the gap is closed.
+    /// The clones that will replace the old items of the range are made directly after the last
+    /// item of the list. If `items` is longer than the range, the surplus clones are made in a gap
+    /// directly after the range. On success, each item after the range moves at most once, and the
+    /// clones that were made at the end of the list move into the range. On failure, each item
+    /// after the range moves at most three times: once when the gap is made, and twice while the
+    /// gap is closed.
     ///
     /// # Errors
     ///
@@ -73,10 +74,10 @@ impl<T: Clone, A: Allocator, G: Growth> ThinVec<T, A, G> {
         self.replace_reserved_by_clones(start, end, items)
     }
 
-    // Does the same as `replace_range`, in a list that has room for all clones in addition to its
-    // items. If there are more clones than items in the range, the surplus clones are made first,
-    // in a gap directly after the range. Then the other clones are made at the end of the list, and
-    // finally moved into the range.
+    // Does the same as `replace_range`, in a list that already has room for `items.len()` more
+    // items. If `items` is longer than the range, the surplus clones are made first, in a gap
+    // directly after the range. Then the other clones are made at the end of the list, and are
+    // moved into the range.
     fn replace_reserved_by_clones(
         &mut self,
         start: usize,

@@ -168,9 +168,10 @@ impl<T: Drop, A: Allocator, G: Growth> ThinVec<T, A, G> {
         self.close(block);
     }
 
-    // Takes the block out of the list, and drops the items `start..end`. Their slots become a gap
-    // of empty slots. If this gap has fewer than `count` slots, it is widened to `count` slots, by
-    // moving up the items after it. After the call, the list is empty and has no block.
+    // Takes the block out of the list, and drops the items `start..end`. The slots of these items
+    // then form a gap of empty slots. If the gap has fewer than `count` slots, the items after it
+    // are moved up, so that the gap has `count` slots. After the call, the list is empty and has no
+    // block.
     fn open_range(&mut self, start: usize, end: usize, count: usize) -> OpenBlock<T, A>
         requires start_le_end { start ≤ end }
         requires in_bounds { end ≤ length self.old.items }

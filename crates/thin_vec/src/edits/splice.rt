@@ -15,9 +15,9 @@ use std::alloc::{Allocator, Global};
 use std::iter::Iterator;
 use thin_block::{Doubling, Growth, ThinVecError};
 
-/// The replacement of a range of a list with the items of an iterator. A `Splice` yields the old
-/// items of the range from either end. Its method `finish` puts the items of the iterator in their
-/// place.
+/// A `Splice` replaces the items of a range of a list with the items of an iterator. It yields the
+/// old items of the range from either end. Its method `finish` puts the items of the iterator in
+/// their place.
 ///
 /// Every `Splice` must be ended with a call to `finish`: a program that drops a `Splice` does not
 /// compile. Until this call, the `Splice` owns the allocation of the list, and the list is empty
@@ -90,8 +90,8 @@ impl<'a, T, I, A: Allocator, G: Growth> Splice<'a, I, T, A, G> {
         self.holder.value.rest_len()
     }
 
-    /// Returns the number of items of the range that have not been yielded yet, as both the lower
-    /// and the upper bound.
+    /// Returns a size hint whose lower bound and upper bound are both the number of items of the
+    /// range that have not been yielded yet.
     pub fn size_hint(&self) -> (usize, Option<usize>)
         ensures value { result
             ≡ (length (splice_rest self.now), Some (length (splice_rest self.now))) }
@@ -137,9 +137,9 @@ impl<
     ///
     /// 1. It moves items of the iterator into the slots of the range. If the iterator ends before
     ///    these slots are filled, the items after the range are moved down to close the gap.
-    /// 2. It calls `size_hint` on the iterator once, and makes room for as many items as the lower
-    ///    bound, directly before the items after the range. Then it fills this room with items of
-    ///    the iterator.
+    /// 2. It calls `size_hint` on the iterator once, and makes room for the number of items that
+    ///    the lower bound states, directly before the items after the range. Then it fills this
+    ///    room with items of the iterator.
     /// 3. It collects the remaining items in a vector that uses `alloc`, reserves room for them in
     ///    the list, and moves them into this room.
     ///
@@ -186,8 +186,10 @@ impl<
         requires can_next { I.can_next (splice_iter self) }
         requires finite { IsFinite (I.remaining (splice_iter self)) }
 
-        // On success. The first field of the `Splice`, `self.exit.0`, is the reference to the list.
-        // So `self.exit.0.now` is the list after the call.
+        // On success, the list contains the items before the range, then the items `xs` of the
+        // iterator, and then the items after the range (`splice_replaced`). The first field of the
+        // `Splice`, `self.exit.0`, is the reference to the list. So `self.exit.0.now` is the list
+        // after the call.
         ensures items { OnOk result ((xs : List T) × Drains I.next_gives (splice_iter self.entry) xs
             × (self.exit.0.now.items ≡ splice_replaced self.entry xs)) }
         ensures runs { OnOk result (WholeRun I.next_gives (splice_iter self.entry)
@@ -198,8 +200,9 @@ impl<
             → IsOk result }
 
         // On failure, every item that the iterator yielded is in the list or in the error. If items
-        // follow the range, all slots of the range are filled (`before_tail`). If no item follows
-        // the range, either no item was placed, or the list is full (`without_tail`).
+        // follow the range, the clause `before_tail` says that all slots of the range are filled.
+        // If no item follows the range, the clause `without_tail` says that the call placed no
+        // item, or that the list is full.
         ensures placed { IfErr result (λ error. (xs : List T)
             × (self.exit.0.now.items ≡ splice_replaced self.entry xs)
             × Stopped I.next_gives I.can_next I.remaining (splice_iter self.entry) xs error) }

@@ -1,5 +1,5 @@
-//! The methods that reserve room in a list. Every growth of a list goes through `grow_to`, and
-//! every call of the growth rule through `capacity_for`.
+//! The methods that reserve room in a list. The function `grow_to` is the only function that grows
+//! a list. The function `capacity_for` is the only function that calls the growth rule.
 ghost use Rattle.std.specs.Prelude.{◌≡◌, ◌+◌, ◌<◌, ◌≤◌, [], IfErr, IfOk, IfSome, IsErrOf, IsFalse, IsOk, IsTrue, None, OnErr, OnOk, Some, length};
 ghost use Rattle.thin_block.specs.Capacity.{Fits};
 ghost use Rattle.thin_block.specs.Cost.{growing};
@@ -54,11 +54,11 @@ impl<T, A: Allocator, G: Growth> ThinVec<T, A, G> {
         self.grow_for(additional)
     }
 
-    /// Reserves room for exactly `additional` more items. If there is not enough room, the capacity
-    /// becomes the length plus `additional`. Otherwise, nothing changes.
+    /// Reserves room for exactly `additional` more items. If there is not enough room, the list
+    /// grows, and the new capacity is the length plus `additional`. Otherwise, nothing changes.
     ///
-    /// If a list grows only through this method, each call may copy all its items. `reserve` avoids
-    /// this: whenever it grows the list, it at least doubles the capacity.
+    /// If a list grows only through this method, each call may copy all items of the list. The
+    /// method `reserve` avoids this: whenever it grows the list, it at least doubles the capacity.
     ///
     /// # Errors
     ///
@@ -105,7 +105,7 @@ impl<T, A: Allocator, G: Growth> ThinVec<T, A, G> {
         requires within { IsWithin T.row self.old }
 
         // The call succeeds if `capacity` is 0, and fails with `CapacityOverflow` if `capacity` is
-        // too large. The cause of every other failure is `OutOfMemory`.
+        // too large. Every other failure has the cause `OutOfMemory`.
         ensures succeeds_empty { capacity ≡ 0 → IsOk result }
         ensures overflow { exact_capacity T.row 0 capacity ≡ None
             → IsErrOf result ThinVecError.CapacityOverflow }
@@ -135,8 +135,8 @@ impl<T, A: Allocator, G: Growth> ThinVec<T, A, G> {
 
     // Reserves room for at least `additional` more items, with the same contract as `reserve`. This
     // function is meant for calls that add several items. If `additional` is known at compile time,
-    // for example as the length of a literal, the test for room is a single comparison. (In
-    // `reserve`, the test is a single comparison only if `additional` is 1.)
+    // for example as the length of a literal, the compiled test for room is a single comparison.
+    // (In `reserve`, the compiled test is a single comparison only if `additional` is 1.)
     #[tactic(auto, using(thin_block::proofs::CapacityLemmas::ruled))]
     pub(crate) fn reserve_run(&mut self, additional: usize) -> Result<(), ThinVecError>
         // On success.
@@ -176,9 +176,9 @@ impl<T, A: Allocator, G: Growth> ThinVec<T, A, G> {
         len + additional <= cap
     }
 
-    // Grows the list to make room for `additional` more items. The list must have too little room
-    // for these items. This part of `reserve` is a separate function, which is marked as cold,
-    // because most calls to `reserve` find enough room.
+    // Grows the list to make room for `additional` more items. The list must not have room for
+    // these items yet. This function is a part of `reserve`. It is a separate function, which is
+    // marked as cold, because most calls to `reserve` find enough room.
     #[cold]
     fn grow_for(&mut self, additional: usize) -> Result<(), ThinVecError>
         requires more { self.old.capacity < length self.old.items + additional }
@@ -208,8 +208,8 @@ impl<T, A: Allocator, G: Growth> ThinVec<T, A, G> {
     }
 
     // Returns the capacity that the growth rule chooses for `additional` more items, or `None` if
-    // the rule chooses none. The list must have too little room for these items. Every call of the
-    // growth rule goes through this function.
+    // the rule chooses no capacity. The list must not have room for these items yet. No other
+    // function calls the growth rule.
     #[tactic(auto, using(thin_block::proofs::CapacityLemmas::ruled))]
     fn capacity_for(&self, additional: usize) -> Option<usize>
         requires more { self.now.capacity < length self.now.items + additional }
@@ -224,9 +224,9 @@ impl<T, A: Allocator, G: Growth> ThinVec<T, A, G> {
         }
     }
 
-    // Grows the list to the capacity `cap`. Every growth of a list goes through this function. Both
-    // this function and `Block::grow` are inlined, so growing a new list needs no test for an old
-    // block at run time.
+    // Grows the list to the capacity `cap`. No other function grows a list. Both this function and
+    // `Block::grow` are inlined, so that a call that grows a new list does not test at run time
+    // whether the list already has a block.
     #[inline(always)]
     pub(crate) fn grow_to(&mut self, cap: usize) -> Result<(), ThinVecError>
         requires larger { self.old.capacity < cap }
@@ -255,8 +255,8 @@ impl<T, A: Allocator, G: Growth> ThinVec<T, A, G> {
 
     // Makes an empty list whose capacity is exactly `capacity`. The function `fits` must return
     // true for `capacity`, which means that a block of this capacity is not too large. If
-    // `capacity` is 0, the list has no block. Every method that makes a list with an exact capacity
-    // calls this function. The only exception is `from_iter`, which calls `reserve_first`.
+    // `capacity` is 0, the list has no block. All methods that make a list with an exact capacity
+    // use this function, except `from_iter`, which uses `reserve_first`.
     pub(crate) fn with_fitting_capacity(
         alloc: A,
         capacity: usize,

@@ -47,7 +47,8 @@ impl<T: Clone, A: Allocator, G: Growth> ThinVec<T, A, G> {
             ⊎ CostsUpToClone T.is_infallible items.now self.old self.new) }
 
         // In every case, the call changes the capacity exactly as `reserve(items.len())` would. It
-        // fails with `CapacityOverflow` if and only if `reserve(items.len())` would.
+        // fails with `CapacityOverflow` if and only if `reserve(items.len())` would fail with
+        // `CapacityOverflow`.
         ensures reserves { Reserves G.rule T.row (length items.now) self.old self.new result }
         ensures keeps { Keeps T.row self.old self.new }
     {
@@ -55,9 +56,10 @@ impl<T: Clone, A: Allocator, G: Growth> ThinVec<T, A, G> {
         self.extend_from_slice_reserved(items)
     }
 
-    /// Makes a list of clones of the items, in order. The new list uses the allocator `alloc` and
-    /// the same growth rule, and its capacity is exactly the number of items. If there are no
-    /// items, nothing is allocated. For items that are `Copy`, `clone_copies` is faster.
+    /// Makes a list of clones of all items of this list, in order. The new list uses the allocator
+    /// `alloc` and the same growth rule as this list, and its capacity is exactly the number of
+    /// items. If there are no items, nothing is allocated. For items that are `Copy`,
+    /// `clone_copies` is faster.
     ///
     /// # Errors
     ///
@@ -214,7 +216,8 @@ impl<T: Clone, A: Allocator, G: Growth> ThinVec<T, A, G> {
             self.old self.new) }
 
         // In every case, the call changes the capacity exactly as `reserve(end - start)` would. It
-        // fails with `CapacityOverflow` if and only if `reserve(end - start)` would.
+        // fails with `CapacityOverflow` if and only if `reserve(end - start)` would fail with
+        // `CapacityOverflow`.
         ensures reserves { Reserves G.rule T.row (end - start) self.old self.new result }
         ensures keeps { Keeps T.row self.old self.new }
     {
@@ -271,7 +274,8 @@ impl<T: Clone, A: Allocator, G: Growth> ThinVec<T, A, G> {
         requires room { HasRoomFor self.old (end - start) }
         requires within { IsWithin T.row self.old }
 
-        // The call appends clones of the first `result` items of the range.
+        // The call appends clones of the first `result` items of the range. The range contains `end
+        // - start` items, so `result` is not greater than this number.
         ensures in_bounds { result ≤ end - start }
         ensures items { AppendsClones T.is_clone self.old.items self.new.items
             (take result (slice_range self.old.items start end)) }
@@ -281,8 +285,9 @@ impl<T: Clone, A: Allocator, G: Growth> ThinVec<T, A, G> {
           cost = moving result self.old.cost;
         } }
 
-        // If `result` is less than the length of the range, then cloning the item at index `result`
-        // of the range can fail.
+        // If `result` is less than the length of the range, the call stopped because a clone
+        // failed. In this case, the item at index `result` of the range is an item whose cloning
+        // can fail.
         ensures refused { result < end - start → HoldsAt (λ x. ¬ (T.is_infallible x))
             (slice_range self.old.items start end) result }
 

@@ -1,7 +1,6 @@
 //! Implementations of traits that compare, hash and print lists. A list is compared, hashed and
-//! printed like the slice of its items: its capacity and its recorded cost have no effect.
-//! This file also implements two traits of Rattle's std, `Emptied` and `MadeWith`, which make empty
-//! lists.
+//! printed like the slice of its items, so its capacity and its recorded cost have no effect. This
+//! file also implements `Emptied` and `MadeWith`, two traits of Rattle's std that make empty lists.
 ghost use Rattle.std.specs.Cmp.{on_equiv, on_per, on_po, on_total};
 ghost use Rattle.std.specs.Cmp.Lexicographic.{lists_agrees, lists_equiv, lists_per, lists_po, lists_ties, lists_total, pointwise, slice_cmp, slice_partial_cmp};
 ghost use Rattle.std.specs.Hash as fed;

@@ -47,10 +47,10 @@ impl<T: Copy, A: Allocator, G: Growth> ThinVec<T, A, G> {
         Ok(())
     }
 
-    /// Makes a list of copies of the items, in order. The new list uses the allocator `alloc` and
-    /// the same growth rule, and its capacity is exactly the number of items. If there are no
-    /// items, nothing is allocated. The items are copied byte for byte, which is faster than
-    /// `clone`.
+    /// Makes a list of copies of all items of this list, in order. The new list uses the allocator
+    /// `alloc` and the same growth rule as this list, and its capacity is exactly the number of
+    /// items. If there are no items, nothing is allocated. The items are copied byte for byte,
+    /// which is faster than `clone`.
     ///
     /// This method is our own: neither Rust's `Vec` nor the Rust crate thin-vec has it.
     ///

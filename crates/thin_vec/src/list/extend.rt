@@ -23,9 +23,10 @@ impl<T, A: Allocator, G: Growth> ThinVec<T, A, G> {
     /// Appends the items that `iter` yields before its first `None`. After this `None`, `next` is
     /// not called again.
     ///
-    /// First, the call asks `iter` for its size hint, once, and reserves room for as many items as
-    /// the lower bound. Then it moves items into the spare capacity, and pushes each further item.
-    /// So the call cannot fail if there is room for all items that the iterator may yield.
+    /// First, the call asks `iter` for its size hint, once, and reserves room for the number of
+    /// items that the lower bound states. Then it moves items into the spare capacity, and pushes
+    /// each further item. So the call cannot fail if there is room for all items that the iterator
+    /// may yield.
     ///
     /// # Errors
     ///
@@ -143,7 +144,8 @@ impl<T, A: Allocator, G: Growth> ThinVec<T, A, G> {
         requires can_next { I.can_next iter }
         requires finite { IsFinite (I.remaining iter) }
 
-        // The call appends items of the iterator, and each appended item counts as one move.
+        // The call appends the items `xs`, which it takes from the iterator. Each of these items
+        // counts as one move.
         ensures items { (xs : List T) × (self.new.items ≡ self.old.items ++ xs)
             × YieldsThen I.next_gives iter xs result.1 result.0 }
         ensures changes { self.new ≡ record self.old {
@@ -152,8 +154,8 @@ impl<T, A: Allocator, G: Growth> ThinVec<T, A, G> {
         } }
 
         // If the call returns an item, the list is full, and `next` may be called on the returned
-        // iterator. The upper bound on the number of items that the iterator may still yield has
-        // then decreased by more than the number of appended items.
+        // iterator. In this case, the upper bound on the number of items that the iterator may
+        // still yield has decreased by more than the number of appended items.
         ensures full { OnSome result.1 (length self.new.items ≡ self.new.capacity) }
         ensures rest { OnSome result.1 (I.can_next result.0 × IsFinite (I.remaining result.0)) }
         ensures nearer { OnSome result.1
@@ -209,7 +211,7 @@ impl<T, A: Allocator> ThinVec<T, A> {
     ///
     /// First, the call asks `iter` for its size hint, once, and makes a block whose capacity is
     /// exactly the lower bound. Then it moves items into the block until it is full, and pushes
-    /// each further item. So the call cannot fail if the iterator can yield no item.
+    /// each further item. So the call cannot fail if the iterator cannot yield any item.
     ///
     /// # Errors
     ///
@@ -287,8 +289,9 @@ impl<T, A: Allocator> ThinVec<T, A> {
 impl<T: Drop, A: Allocator, G: Growth> Extend<T> for ThinVec<T, A, G> {
     ghost extend_gives = { Extends G.rule T.row };
 
-    // On failure, drops the item that could not be appended, and the iterator. The items that were
-    // appended before stay in the list.
+    // Appends the items of `iter`, like the method `ThinVec::extend`. On failure, drops the item
+    // that could not be appended, and the iterator. The items that were appended before the failure
+    // stay in the list.
     fn extend<U: IntoIterator<Item = T>>(&mut self, iter: U) -> Result<(), AllocError> {
         match ThinVec::extend(self, iter.into_iter()) {
             Ok(()) => Ok(()),
@@ -302,7 +305,8 @@ impl<T: Drop, A: Allocator> FromIterator<T> for ThinVec<T, A> {
 
     ghost from_iter_gives = { IsMadeOf T.row };
 
-    // On failure, drops all items that were taken from the iterator, and the iterator itself.
+    // Makes a list of the items of `iter`, like the method `ThinVec::from_iter`. On failure, drops
+    // all items that were taken from the iterator, and the iterator itself.
     fn from_iter<U: IntoIterator<Item = T>>(
         alloc: A,
         iter: U,

@@ -1,5 +1,5 @@
-//! Implementations of std's traits for access to a list: as a slice, by index, or by iteration over
-//! a borrowed list.
+//! Implementations of std's traits that let a program use a list as a slice, access its items by
+//! index, or iterate over a borrowed list.
 ghost use Rattle.std.specs.Prelude.{◌≡◌, ◌^◌, ◌<◌, ◌↔◌, IfSome, IsSome, Some, length, slice_get, slice_index_or};
 ghost use Rattle.std.specs.Iterator.Runs.{EveryRun, ItemsMapTo};
 ghost use Rattle.std.specs.Slice.Iter.{iter_mut_rest, iter_mut_steps, iter_rest, iter_steps};

@@ -85,8 +85,9 @@ impl<T, A: Allocator, G: Growth> ThinVec<T, A, G> {
     /// - `CapacityOverflow`: the new capacity would be too large.
     /// - `OutOfMemory`: the allocator failed.
     pub fn push_mut(&mut self, value: T) -> Result<&mut T, Rejected<T>>
-        // On success, `value` is appended. The clause `writes_back` also says that the list is
-        // unchanged on failure.
+        // On success, `value` is appended, and the returned reference borrows `value` in the list.
+        // On failure, the list is unchanged. The clause `writes_back` states both, and it describes
+        // the list after the borrow has ended.
         ensures* writes_back { sem 𝓛
             (LendsAdded T.row A.row G.row A.Allocator G.Growth self.entry
             (λ x. self.old.items ++ x ∷ []) 1 result) }
@@ -125,8 +126,9 @@ impl<T, A: Allocator, G: Growth> ThinVec<T, A, G> {
     pub fn insert_mut(&mut self, index: usize, value: T) -> Result<&mut T, Rejected<T>>
         requires in_bounds { index ≤ length self.old.items }
 
-        // On success, `value` is inserted. The clause `writes_back` also says that the list is
-        // unchanged on failure.
+        // On success, `value` is inserted, and the returned reference borrows `value` in the list.
+        // On failure, the list is unchanged. The clause `writes_back` states both, and it describes
+        // the list after the borrow has ended.
         ensures* writes_back { sem 𝓛
             (LendsAdded T.row A.row G.row A.Allocator G.Growth self.entry
             (insert self.old.items index) (length self.old.items - index + 1) result) }

@@ -50,8 +50,8 @@ impl<T: Clone, A: Allocator, G: Growth> ThinVec<T, A, G> {
             (replicate (len - length self.old.items - 1) value) self.old self.new) }
 
         // Let `n` be the number of new items. In every case, the call changes the capacity exactly
-        // as `reserve(n)` would. It fails with `CapacityOverflow` if and only if `reserve(n)`
-        // would.
+        // as `reserve(n)` would. It fails with `CapacityOverflow` if and only if `reserve(n)` would
+        // fail with `CapacityOverflow`.
         ensures reserves { Reserves G.rule T.row (len - length self.old.items) self.old self.new
             result }
         ensures keeps { Keeps T.row self.old self.new }
@@ -72,8 +72,8 @@ impl<T: Clone, A: Allocator, G: Growth> ThinVec<T, A, G> {
         requires some { 0 < count }
         requires room { HasRoomFor self.old count }
 
-        // The call succeeds if no clone can fail, or if no clone is made. On success, the items are
-        // appended.
+        // The call succeeds if cloning `value` cannot fail, or if `count` is 1, because no clone is
+        // made in this case. On success, the items are appended.
         ensures succeeds { T.is_infallible value → IsOk result }
         ensures succeeds_by_one { count ≡ 1 → IsOk result }
         ensures items { OnOk result

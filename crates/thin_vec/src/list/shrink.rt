@@ -11,15 +11,17 @@ impl<T, A: Allocator, G: Growth> ThinVec<T, A, G> {
     ghost use Rattle.thin_vec.specs.ThinVec.{IsWithin, cost_shrunk, cost_shrunk_to};
 
     /// Shrinks the capacity to `min_capacity`, or to the length if the length is greater. If this
-    /// would not reduce the capacity, nothing changes. If the capacity is reduced to 0, the block
-    /// is freed. In contracts, the recorded cost of the list (its field `cost`) is then 0.
+    /// would not reduce the capacity, nothing changes. If the capacity is reduced to 0, the
+    /// allocation is freed. In contracts, the recorded cost of the list (its field `cost`) is then
+    /// 0.
     ///
     /// Rust's `Vec` has a method of this name, but the Rust crate thin-vec does not.
     ///
     /// # Errors
     ///
     /// Fails with `OutOfMemory` if the allocator fails. On failure, the list is unchanged. If an
-    /// empty list is shrunk to capacity 0, the call cannot fail, because it only frees the block.
+    /// empty list is shrunk to capacity 0, the call cannot fail, because it only frees the
+    /// allocation.
     pub fn shrink_to(&mut self, min_capacity: usize) -> Result<(), ThinVecError>
         // On success.
         ensures capacity { OnOk result (self.new.capacity
@@ -52,13 +54,13 @@ impl<T, A: Allocator, G: Growth> ThinVec<T, A, G> {
     }
 
     /// Shrinks the capacity to the length. If the list is full, nothing changes. If the list is
-    /// empty, its block is freed. In contracts, the recorded cost of the list (its field `cost`) is
-    /// then 0.
+    /// empty but has an allocation, the allocation is freed. In contracts, the recorded cost of the
+    /// list (its field `cost`) is then 0.
     ///
     /// # Errors
     ///
     /// Fails with `OutOfMemory` if the allocator fails. On failure, the list is unchanged. If the
-    /// list is empty, the call cannot fail, because it only frees the block.
+    /// list is empty, the call cannot fail, because it only frees the allocation.
     pub fn shrink_to_fit(&mut self) -> Result<(), ThinVecError>
         // On success.
         ensures capacity { OnOk result (self.new.capacity ≡ length self.old.items) }
@@ -109,7 +111,9 @@ impl<T, A: Allocator, G: Growth> ThinVec<T, A, G> {
         Ok(())
     }
 
-    // Frees the block of an empty list. The capacity and the cost of the list are then 0.
+    // Frees the allocation of an empty list. After the call, the capacity of the list is 0. In
+    // contracts, the field `cost` of the list, which counts allocations and moves of items, is then
+    // 0, too.
     fn give_block_back(&mut self)
         requires empty { self.old.items ≡ [] }
         ensures changes { self.new ≡ record self.old { items = []; capacity = 0; cost = no_cost } }

@@ -1,5 +1,5 @@
-//! The steps of the `dedup` methods. They test each item against the last item that was kept before
-//! it, and drop the items that the test removes.
+//! The functions that the `dedup` methods call. These functions test each item against the last
+//! item that was kept before it, and drop the items that the test removes.
 //!
 //! The front of the block contains the items that have been kept so far. After the front, there is
 //! a gap of empty slots. After the gap, the middle run contains the remaining items.
@@ -15,13 +15,14 @@ use thin_block::Block;
 
 /// A test of two items. It decides whether the later item is removed, and may write to both items.
 pub(crate) trait PairTest<T> {
-    /// Describes a call of the test. The arguments are, in this order: the state of the test before
-    /// the call, the later item, the last item that was kept before it, whether the later item is
-    /// removed, the state after the call, and both items after the call.
+    /// States what one call to the test does. The arguments are, in this order: the state of the
+    /// test before the call, the later item, the last item that was kept before it, whether the
+    /// later item is removed, the state of the test after the call, and the two items after the
+    /// call.
     ghost tests: { Self → T → T → Bool → Self → T → T → Type 0 };
 
-    /// Holds for a state in which the test can be called with any two items. The state after such a
-    /// call has the same property.
+    /// `ready s` holds if the test can be called in the state `s`, with any two items. After such a
+    /// call, `ready` holds again for the new state of the test.
     ghost ready: { Self → Type 0 };
 
     /// Returns whether the item `later` is removed. `kept` is the last item that was kept before
@@ -135,7 +136,8 @@ impl<T: Drop, A: Allocator> OpenBlock<T, A> {
         }
     }
 
-    // Continues `dedup_rest` after the first removal. The removed item has left an empty slot.
+    // Continues `dedup_rest` after the first removal. The removed item has left an empty slot after
+    // the kept items.
     fn dedup_past_gap<J: PairTest<T>>(&mut self, test: &mut J)
         requires some { 0 < length self.old.front }
         requires gap { 0 < self.old.gap }
@@ -151,9 +153,12 @@ impl<T: Drop, A: Allocator> OpenBlock<T, A> {
 
     // Tests the remaining items, in order, up to the first item that is removed. Drops that item,
     // and appends the items before it to the kept items. At least two items must remain before the
-    // call. The first remaining item is taken out of the block before its test. The block cannot
-    // lend this item and the last kept item at the same time, because there are empty slots between
-    // the two.
+    // call.
+    //
+    // The first remaining item is taken out of the block before it is tested. The test needs
+    // mutable references to this item and to the last kept item at the same time. The block can
+    // provide two such references only for adjacent items, but there are empty slots between these
+    // two items.
     fn dedup_two<J: PairTest<T>>(&mut self, test: &mut J)
         requires some { 0 < length self.old.front }
         requires two { 1 < length self.old.rest }
@@ -161,7 +166,9 @@ impl<T: Drop, A: Allocator> OpenBlock<T, A> {
         requires ready { J.ready test.old }
         ensures dedups { Dedups J.tests test.old self.old test.new self.new }
 
-        // The loop of `dedup_past_gap` needs these clauses.
+        // The function `dedup_past_gap` calls this function in a loop. The proof of this loop uses
+        // this clause and the next two clauses: the front is not empty after the call, fewer items
+        // remain than before, and the test can be called again.
         ensures some { 0 < length self.new.front }
         ensures less { length self.new.rest < length self.old.rest }
         ensures ready { J.ready test.new }

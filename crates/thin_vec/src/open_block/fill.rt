@@ -16,7 +16,8 @@ use thin_block::{Block, Growth};
 
 impl<T, A: Allocator> OpenBlock<T, A> {
     // Moves items of `iter` into the gap of empty slots, until the gap is full or `iter` returns
-    // `None`. The field `end` of the result is the new number of items before the gap.
+    // `None`. The field `end` of the returned `Filled` is the number of items that are before the
+    // gap after the call.
     pub(crate) fn fill<I: Iterator<Item = T>>(&mut self, iter: I) -> Filled<I>
         requires can_next { I.can_next iter }
         requires finite { IsFinite (I.remaining iter) }
@@ -52,7 +53,7 @@ impl<T, A: Allocator> OpenBlock<T, A> {
     }
 
     // Moves the items of the list `other` into the gap of empty slots, in order. After the call,
-    // `other` is empty, and keeps its block.
+    // `other` is empty, but its capacity is unchanged.
     pub(crate) fn fill_from_list<G: Growth>(&mut self, other: &mut ThinVec<T, A, G>)
         requires room { length other.old.items ≤ self.old.gap }
         ensures changes { self.new ≡ record self.old {

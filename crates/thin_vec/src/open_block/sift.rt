@@ -1,5 +1,5 @@
-//! The steps of `retain`, `retain_mut` and `extract_if`. They test the items of a range in place,
-//! and then move the kept items down.
+//! The functions that `retain`, `retain_mut` and `extract_if` call. These functions test the items
+//! of a range in place, and then move the kept items down.
 //!
 //! The front of the block contains the items that have been kept so far. After the front, there may
 //! be a gap of empty slots. After the gap, the middle run contains the remaining items.
@@ -16,13 +16,13 @@ const MANY: usize = 8;
 
 /// A test of one item. It decides whether the item is kept, and may write to the item.
 pub(crate) trait Test<T> {
-    /// Describes a call of the test. The arguments are, in this order: the state of the test before
-    /// the call, the item, whether the item is kept, the state after the call, and the item after
-    /// the call.
+    /// States what one call to the test does. The arguments are, in this order: the state of the
+    /// test before the call, the item, whether the item is kept, the state of the test after the
+    /// call, and the item after the call.
     ghost tests: { Self → T → Bool → Self → T → Type 0 };
 
-    /// Holds for a state in which the test can be called with any item. The state after such a call
-    /// has the same property.
+    /// `ready s` holds if the test can be called in the state `s`, with any item. After such a
+    /// call, `ready` holds again for the new state of the test.
     ghost ready: { Self → Type 0 };
 
     /// Returns whether `item` is kept.
@@ -78,8 +78,8 @@ impl<T, A: Allocator> OpenBlock<T, A> {
     }
 
     // Moves the first `k` of the remaining items down, so that they directly follow the kept items.
-    // If `k` is at least `MANY`, the items are moved together, and otherwise one by one. If `k` is
-    // 2, no loop is used.
+    // If `k` is at least `MANY`, all `k` items are moved together. Otherwise, they are moved one by
+    // one. If `k` is 2, this is done without a loop.
     #[inline(always)]
     pub(crate) fn move_down(&mut self, k: usize)
         requires in_bounds { k ≤ length self.old.rest }
@@ -105,8 +105,8 @@ impl<T, A: Allocator> OpenBlock<T, A> {
     }
 
     // Moves the first `k` of the remaining items down, all together, so that they directly follow
-    // the kept items. The block is passed by value, so that the other fields of the open block can
-    // stay in registers.
+    // the kept items. The method `close_gap` takes the block by value, so that the other fields of
+    // the open block can stay in registers.
     #[inline(always)]
     fn move_run_down(&mut self, k: usize)
         requires in_bounds { k ≤ length self.old.rest }
@@ -120,15 +120,16 @@ impl<T, A: Allocator> OpenBlock<T, A> {
         let block = mem::replace(&mut self.block, Block::none());
         let closed = block.close_gap(self.front_end, self.rest_start - self.front_end, k);
         let none = mem::replace(&mut self.block, closed);
-        // `none` was only a placeholder for the block. It has no allocation.
+        // `none` is the empty block that was in the field `block` during the call to `close_gap`.
+        // It has no allocation, so there is nothing to free.
         none.forget_none();
         self.front_end += k;
         self.rest_start += k;
     }
 
-    // Returns whether at least two items remain. There must be a gap, so `rest_end` is not 0, and
-    // `rest_end - 1` cannot overflow. The code compares with `rest_end - 1` because this number can
-    // stay in a register during a loop.
+    // Returns whether at least two items remain. There must be a gap before the remaining items. So
+    // `rest_end` is not 0, and `rest_end - 1` cannot overflow. The code compares `rest_start` with
+    // `rest_end - 1` because `rest_end - 1` can stay in a register during a loop.
     pub(crate) fn has_two(&self) -> bool
         requires gap { 0 < self.now.gap }
         ensures value { IsTrue result ↔ (1 < length self.now.rest) }
@@ -136,9 +137,10 @@ impl<T, A: Allocator> OpenBlock<T, A> {
         self.rest_start < self.rest_end - 1
     }
 
-    // Tests the remaining items from index `k` onward. Stops at the first item that is to be
-    // removed, and returns its index. If there is no such item, returns the number of all remaining
-    // items, including the items before index `k`. No item is moved.
+    // Tests the remaining items from index `k` onward, and stops at the first item that is to be
+    // removed. Returns the index of this item among the remaining items. If there is no such item,
+    // returns the number of all remaining items, including the items before index `k`. No item is
+    // moved.
     pub(crate) fn test_run<J: Test<T>>(&mut self, k: usize, test: &mut J) -> usize
         requires in_bounds { k ≤ length self.old.rest }
         requires ready { J.ready test.old }
@@ -161,8 +163,9 @@ impl<T, A: Allocator> OpenBlock<T, A> {
     ghost use Rattle.thin_vec.specs.OpenBlock.Sift.{Advances};
 
     // Tests the remaining items, in order, up to the first item that is to be removed, and returns
-    // whether there is such an item. The items before it are added to the kept items, and moved
-    // down if there is a gap. The item itself becomes the first of the remaining items.
+    // whether there is such an item. The items before it become kept items. If there is a gap
+    // before the remaining items, these kept items are moved down. The item that is to be removed
+    // is then the first of the remaining items.
     pub(crate) fn advance<J: Test<T>>(&mut self, test: &mut J) -> bool
         requires ready { J.ready test.old }
         ensures advances { Advances J.tests test.old self.old test.new self.new }
@@ -193,8 +196,8 @@ impl<T, A: Allocator> OpenBlock<T, A> {
     }
 
     // Does the same as `advance`, for a block with empty slots after the kept items and at least
-    // two remaining items. The first two items are tested before the loop. So no loop counter is
-    // needed if fewer than two items are kept before a removal.
+    // two remaining items. The first two items are tested before the loop. If one of these two
+    // items is to be removed, the function returns without a loop, and needs no loop counter.
     fn advance_two<J: Test<T>>(&mut self, test: &mut J) -> bool
         requires two { 1 < length self.old.rest }
         requires gap { 0 < self.old.gap }
@@ -255,7 +258,8 @@ impl<T: Drop, A: Allocator> OpenBlock<T, A> {
         }
     }
 
-    // Continues `sift` after the first removal. The removed item has left an empty slot.
+    // Continues `sift` after the first removal. The removed item has left an empty slot after the
+    // kept items.
     fn sift_past_gap<J: Test<T>>(&mut self, test: &mut J)
         requires gap { 0 < self.old.gap }
         requires ready { J.ready test.old }

@@ -38,9 +38,9 @@ impl<T: Sample, G: Ruled> Call<T, G> for Resize {
     }
 }
 
-// Returns two numbers for the test case `argument`: the new length of the list, and the number of
-// items that are added. In the first few test cases, the new length is at most the old length, so
-// no item is added.
+// Returns two numbers for the test case with the number `argument`: the new length of the list, and
+// the number of items to add. In the first few test cases, the new length is at most the old
+// length, so the second number is 0.
 fn length(shape: Shape, argument: usize) -> (usize, usize) {
     match argument.checked_sub(shape.indices()) {
         None => (shape.index(argument), 0),
@@ -95,16 +95,16 @@ fn resize_with<T: Sample, G: Ruled, R: Abort>(
     })
 }
 
-// Appends `more` consecutive numbers to `case.items`, in descending order. The last of them is
-// `FRESH`.
+// Appends `more` consecutive numbers to `case.items`, in descending order from `FRESH + more - 1`
+// to `FRESH`.
 fn add_from_last<T: Sample, G: Ruled, R: Abort>(rt: &R, case: &mut Case<T, G>, more: usize) {
     let mut new = numbers(rt, case.ledger, FRESH, more);
     new.reverse();
     case.items.append(&mut new).expect(rt, "memory");
 }
 
-// The number of test cases on a range, for each length of the range from 0 to 6. Each range is
-// tried once.
+// For each `k` from 0 to 6, the number of test cases on a range of `k` items. Each range is tried
+// once.
 const EACH_RANGE: Cases = [1; 7];
 
 /// A test that calls `extend_from_within` with each range of a list of at most 6 items, and with

@@ -1,5 +1,5 @@
-//! Tests of comparing, hashing and printing lists. Each result must be the same as for a slice of
-//! the same items.
+//! Tests that compare, hash and print lists. Each result must be the same as for a slice of the
+//! same items.
 use crate::assertions::{At, assert_same};
 use crate::case::{Case, List, filled};
 use crate::samples::Sample;
@@ -12,8 +12,9 @@ use std::hash::{DefaultHasher, Hash, Hasher};
 use std::process::Abort;
 use thin_testing::Ruled;
 
-/// A test that compares a list with a second list, and hashes the first list. The second list has
-/// the same items, a different last item, one item fewer, or one item more.
+/// A test that compares a list with a second list, and hashes the first list. There are four test
+/// cases: the second list is equal to the first list, has another last item, is shorter by one
+/// item, or is longer by one item.
 pub struct Compare {}
 
 impl<T: Sample + Ord + Hash + Debug, G: Ruled> Call<T, G> for Compare {
@@ -76,7 +77,8 @@ fn hash<H: Hash>(value: &H) -> u64 {
     hasher.finish()
 }
 
-/// A test that formats a list, and the iterator that `into_iter` returns, with `{:?}` and `{:#?}`.
+/// A test that formats two values with `{:?}` and with `{:#?}`: a list, and the iterator that
+/// `into_iter` returns.
 pub struct Print {}
 
 impl<T: Sample + Debug, G: Ruled> Call<T, G> for Print {

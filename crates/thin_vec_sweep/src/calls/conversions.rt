@@ -13,7 +13,7 @@ use thin_vec::{Doubling, Rejected, ThinVec, ThinVecError, thin_vec};
 // Each test item is made from a number. In the test `Repeated`, all items are made from `FRESH`.
 const FRESH: u64 = 70_000;
 
-// The allocator of the lists under test. It can refuse one request.
+// The allocator of the lists under test. It can refuse one allocation request.
 type Lender = &'static Refusing<Global>;
 
 /// A test that calls `into_vec` or `into_boxed_slice`.
@@ -60,8 +60,8 @@ fn into_other<T: Sample, G: Ruled>(
     }
 }
 
-/// A test that calls `mem::try_take`. The call must leave an empty list of capacity 0, and must
-/// make no allocation request.
+/// A test that calls `mem::try_take`. The call must return the list, and must leave an empty list
+/// of capacity 0 in its place. The call must make no allocation request.
 pub struct TryTake {}
 
 impl<T: Sample, G: Ruled> Call<T, G> for TryTake {
@@ -80,7 +80,7 @@ impl<T: Sample, G: Ruled> Call<T, G> for TryTake {
 }
 
 // Converts the list under test to a `Vec`, and reserves room for `spare` more items in the `Vec`.
-// Leaves an empty list in `case`.
+// After the call, `case` contains an empty list of capacity 0.
 fn vec_of<T: Sample, R: Abort>(
     rt: &R,
     case: &mut Case<T, Doubling>,

@@ -47,8 +47,8 @@ pub struct Ending {
     /// The number of items that are taken from the iterator and then stored in a temporary vector
     /// instead of the list.
     pub held: usize,
-    /// The number of items in hand: 0 or 1. An item is in hand if it is taken from the iterator,
-    /// but no room is found for it.
+    /// The number of items in hand: 0 or 1. An item in hand is an item that the call takes from the
+    /// iterator, but for which it finds no room.
     pub in_hand: usize,
     /// The number of times the iterator returns `None`: 0 or 1.
     pub ends: usize,
@@ -58,7 +58,8 @@ pub struct Ending {
 
 impl Ending {
     /// Returns the expected outcome of a call that fails after it has moved `placed` items into the
-    /// list. `in_hand` is 1 if the call has taken one more item from the iterator, and 0 otherwise.
+    /// list. `in_hand` is 1 if the call then takes one more item from the iterator and finds no
+    /// room for it. Otherwise, `in_hand` is 0.
     pub fn refused(verdict: Verdict, placed: usize, in_hand: usize) -> Ending {
         Ending {
             verdict,
@@ -92,8 +93,9 @@ impl Ending {
 }
 
 /// Returns the expected outcome of a call that appends `count` items from an iterator. Also appends
-/// the expected items to `case.items`. The call first makes the capacity of the list equal to
-/// `hinted`, because of the size hint. After this, it grows the list whenever the list is full.
+/// the expected items to `case.items`. `hinted` is the capacity that the call computes from the
+/// size hint. The call first grows the list to this capacity. After this, it grows the list
+/// whenever the list is full.
 pub fn fill<T: Sample, G: Ruled, R: Abort>(
     rt: &R,
     case: &mut Case<T, G>,
@@ -151,9 +153,9 @@ pub fn assert_iterator_calls<T: Sample, G: Ruled, R: Abort>(
     );
 }
 
-/// Asserts that a failed call returned the iterator with all its remaining items. If the call had
-/// taken an item and found no room for it, the call must have returned this item, too. The iterator
-/// had `count` items before the call.
+/// Asserts that a failed call returned the iterator with all items that the call had not taken. The
+/// iterator had `count` items before the call. If the call had taken an item for which it found no
+/// room, it must have returned this item, too.
 pub fn back<T: Sample, G: Ruled, R: Abort>(
     rt: &R,
     case: &Case<T, G>,
@@ -235,8 +237,8 @@ impl<T: Sample, G: Ruled> Call<T, G> for ExtendAsTrait {
     }
 }
 
-// Asserts that the call succeeded if and only if `ending` expects it to succeed. `is_done` says
-// whether the call succeeded.
+// Asserts that the call succeeded if and only if it was expected to succeed. `ending` is the
+// expected outcome, and `is_done` says whether the call really succeeded.
 fn done<T: Sample, G: Ruled, R: Abort>(rt: &R, case: &Case<T, G>, ending: &Ending, is_done: bool) {
     assert_same(
         rt,

@@ -173,7 +173,8 @@ impl<T: Sample, G: Ruled> Call<T, G> for DedupBy {
 
 // Returns the items that remain after the test `DedupBy` on a list of `count` items. Each item is
 // represented by the number from which it was made. The closure swaps each item with the last item
-// that was kept. Then `pattern` determines whether the item at the later index is removed.
+// that was kept. After each swap, `pattern` determines whether the item that is now at the later
+// index is removed.
 fn exchanged<R: Abort>(rt: &R, global: Global, count: usize, pattern: usize) -> Vec<u64, Global> {
     let mut left = Vec::new(global);
     let mut last = number_at(0);

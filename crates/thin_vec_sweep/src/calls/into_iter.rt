@@ -62,8 +62,9 @@ impl<T: Sample, G: Ruled> Call<T, G> for IntoIter {
     }
 }
 
-// Asserts that `rest` still contains the items that are made from `numbers`, and that `len` and
-// `size_hint` return the number of these items.
+// Asserts that the iterator `rest` still contains the items that are made from `numbers`, in the
+// same order. Also asserts that the methods `len` and `size_hint` of `rest` return the number of
+// these items.
 fn remains<T: Sample, A: Allocator, G: Growth, R: Abort>(
     rt: &R,
     at: &At,
@@ -76,9 +77,9 @@ fn remains<T: Sample, A: Allocator, G: Growth, R: Abort>(
     assert_same_items(rt, at, rest.as_slice(), numbers);
 }
 
-// Calls `next` and `next_back` of `rest` in the order that `walk` specifies, and checks each item
-// that is yielded. Returns the remaining items, each represented by the number from which it was
-// made.
+// Calls `next` and `next_back` of the iterator `items`, in the order that `walk` specifies. Checks
+// each item that is yielded. Returns the remaining items, each represented by the number from which
+// it was made.
 fn step_through<'a, T: Sample, A: Allocator, G: Growth, R: Abort>(
     rt: &R,
     at: &At,

@@ -65,8 +65,9 @@ fn drain<T: Sample, A: Allocator, G: Growth, R: Abort>(
     remains(rt, at, &drain, numbers);
 }
 
-// Asserts that `drain` still contains the items that are made from `numbers`, and that `len` and
-// `size_hint` return the number of these items.
+// Asserts that the iterator `drain` still contains the items that are made from `numbers`, in the
+// same order. Also asserts that the methods `len` and `size_hint` of `drain` return the number of
+// these items.
 fn remains<T: Sample, A: Allocator, G: Growth, R: Abort>(
     rt: &R,
     at: &At,
@@ -79,9 +80,9 @@ fn remains<T: Sample, A: Allocator, G: Growth, R: Abort>(
     assert_same_items(rt, at, drain.as_slice(), numbers);
 }
 
-// Calls `next` and `next_back` of `drain` in the order that `walk` specifies, and checks each item
-// that is yielded. Returns the remaining items, each represented by the number from which it was
-// made.
+// Calls `next` and `next_back` of the iterator `drain`, in the order that `walk` specifies. Checks
+// each item that is yielded. Returns the remaining items, each represented by the number from which
+// it was made.
 fn step_through<'a, T: Sample, A: Allocator, G: Growth, R: Abort>(
     rt: &R,
     at: &At,
@@ -102,13 +103,13 @@ fn step_through<'a, T: Sample, A: Allocator, G: Growth, R: Abort>(
     remaining.of(numbers)
 }
 
-// The number of test cases of `extract_if` on a range, for each length `k` of the range from 0 to
-// 6. The test calls `next` up to `k + 1` times, and tries all `2^k` combinations of the closure's
-// results.
+// For each `k` from 0 to 6, the number of test cases of `extract_if` on a range of `k` items. The
+// test calls `next` from 0 to `k + 1` times, and tries all `2^k` combinations of the closure's
+// results. So there are `(k + 2) * 2^k` test cases.
 const EXTRACTIONS: Cases = [2, 6, 16, 40, 96, 224, 512];
 
-/// A test that calls `extract_if` on several ranges, with several closures. The test calls `next` a
-/// certain number of times, and then drops the `ExtractIf`.
+/// A test that calls `extract_if` on several ranges, with several closures. Each test case calls
+/// `next` a fixed number of times, and then drops the `ExtractIf`.
 pub struct Extracted {}
 
 impl<T: Sample, G: Ruled> Call<T, G> for Extracted {
@@ -146,8 +147,8 @@ struct Extraction {
 }
 
 impl Extraction {
-    // Returns the test case with the number `range.number`, for a range of a list of `length`
-    // items.
+    // Returns one test case of `extract_if` on a list of `length` items. `range` contains the start
+    // and the end of the range, and the number of the test case.
     fn new<R: Abort>(rt: &R, global: Global, length: usize, range: Ranged) -> Extraction {
         let width = range.width();
         let (calls, pattern) = calls_and_pattern(width, range.number);
@@ -191,7 +192,8 @@ fn calls_and_pattern(width: usize, number: usize) -> (usize, usize) {
 }
 
 // Calls `extract_if`, and then calls `next` the number of times that `wanted` specifies. Checks
-// each item that is yielded. The closure never removes an item that is passed to it out of order.
+// each item that is yielded. If the closure is called with an item other than the expected one, it
+// returns `false`, so that this item is not removed.
 fn extract<T: Sample, A: Allocator, G: Growth, R: Abort>(
     rt: &R,
     at: &At,
@@ -267,7 +269,7 @@ fn bound(number: usize, length: usize) -> Bound<usize> {
 }
 
 // Returns the expected result of `bounds` for the bounds `start` and `end` and a list of `length`
-// items. The additions saturate instead of overflowing, which is correct because no list has
+// items. The additions saturate instead of overflowing. This is correct because no list has
 // `usize::MAX` items.
 fn between(start: Bound<usize>, end: Bound<usize>, length: usize) -> Option<(usize, usize)> {
     let first = match start {

@@ -12,14 +12,15 @@ use thin_testing::Ruled;
 // made from the next higher number.
 const FRESH: u64 = 80_000;
 
-// The number of test cases on each range. They differ in the number of new items.
+// The number of test cases on each range. These test cases differ in the number of new items.
 const COUNTS: usize = 7;
 
-// The number of test cases on a range, for each length of the range from 0 to 6.
+// For each `k` from 0 to 6, the number of test cases on a range of `k` items.
 const EACH_COUNT: Cases = [COUNTS; 7];
 
-// Returns the number of new items in the test case `range.number`. On a list of more than 40 items,
-// only the cases 0 and 1 are run. In these two cases, the list becomes longer.
+// Returns the number of new items in a test case. `range` contains the replaced range and the
+// number of the test case. On a list of more than 40 items, only the test cases 0 and 1 are run. In
+// both of them, the list becomes longer.
 fn count_for(range: Ranged) -> usize {
     let width = range.width();
     match range.number % COUNTS {

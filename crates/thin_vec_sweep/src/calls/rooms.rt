@@ -99,9 +99,9 @@ impl<T: Sample, G: Ruled> Call<T, G> for ShrinkToFit {
 // The number of test cases in which the number of additional items is very large.
 const GREAT: usize = 6;
 
-// Returns the number of additional items to reserve. The `GREAT` highest values of `argument`
-// select very large numbers. The first of these numbers leads to the greatest possible capacity.
-// The second leads to a capacity that is too great by one.
+// Returns the number of additional items to reserve in the test case `argument`. In the last
+// `GREAT` test cases, this number is very large. In the first of these test cases, it leads to the
+// greatest possible capacity. In the second, it leads to a capacity that is too great by one.
 fn additional<T: Sample>(shape: Shape, argument: usize) -> usize {
     let most = T::LIMIT.saturating_sub(shape.length);
     match argument.checked_sub(shape.counts()) {

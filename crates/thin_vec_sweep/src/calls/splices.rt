@@ -30,20 +30,21 @@ const FILLS: usize = 30;
 // Each of these sequences is tried with each size hint and each number of new items.
 const SHORT_WALKS: usize = 3;
 
-// The number of test cases on a range, for each length of the range from 0 to 6. Each sequence of
-// at most one call to `next` or `next_back` is combined with each size hint and each number of new
-// items. Each longer sequence is tried once. The empty range is an exception: only three of its
-// test cases call `next`, and none of them calls `next_back`.
+// For each `k` from 0 to 6, the number of test cases on a range of `k` items. If `k > 0`, 90 test
+// cases make at most one call to `next` or `next_back`: each of the 3 possible sequences of calls
+// is combined with each of the 30 combinations of a size hint and a number of new items. In
+// addition, each longer sequence of calls is tried once. If `k = 0`, 30 test cases make no call,
+// and 3 test cases call `next` once.
 const AFTER_STEPS: Cases = [33, 94, 102, 118, 150, 214, 342];
 
-// The number of test cases that take no item from the `Splice` before `finish`, for each length of
-// a range from 0 to 6. There is one case for each combination of a size hint and a number of new
-// items.
+// For each `k` from 0 to 6, the number of test cases that replace a range of `k` items and call
+// `finish` without calling `next` or `next_back` first. There is one test case for each combination
+// of a size hint and a number of new items.
 const AT_ONCE: Cases = [FILLS; 7];
 
-// Returns the number of test cases for each length of a range. Spare capacity affects only
-// `finish`. So if the list has spare capacity, the test cases call `finish` without taking an item
-// first.
+// Returns the number of test cases on a range, for each length of the range from 0 to 6. Spare
+// capacity affects only `finish`. So if the list has spare capacity, the test cases call `finish`
+// without taking an item first.
 fn cases(shape: Shape) -> Cases {
     if shape.spare == 0 {
         AFTER_STEPS
@@ -68,9 +69,9 @@ struct Plan {
 }
 
 impl Plan {
-    // Returns the test case with the number `argument`. When `finish` reads the size hint, it may
-    // already have moved new items into the range. One of the size hints is chosen so that it is
-    // exact at that moment.
+    // Returns the test case with the number `argument`. Before `finish` reads the size hint, it may
+    // already have moved new items into the range, so that fewer items remain in the iterator. One
+    // of the tried size hints is exact at the moment when `finish` reads it.
     fn new<T: Sample, G: Ruled, R: Abort>(rt: &R, case: &Case<T, G>, argument: usize) -> Plan {
         let shape = case.at.shape;
         let range = shape.ranged_case(&cases(shape), argument);
@@ -118,7 +119,8 @@ fn many(width: usize, number: usize) -> usize {
 }
 
 // Returns a lower bound for the size hint of an iterator over `all` items. `number` selects one of
-// several bounds. When `finish` reads the size hint, `left` items remain in the iterator.
+// five bounds. One of these bounds is `left`, the number of items that remain in the iterator when
+// `finish` reads the size hint.
 fn hint(number: usize, left: usize, all: usize) -> usize {
     match number {
         0 => 0,
@@ -182,9 +184,10 @@ fn fill_between<T: Sample, G: Ruled>(case: &mut Case<T, G>, width: usize, plan: 
     ending
 }
 
-// Returns how many of `count` items can be pushed to a new `Vec` before an allocation request of
-// the `Vec` is refused. The first request is for 4 items, or for 8 if an item takes at most one
-// byte. Each further request doubles the capacity.
+// Returns how many of `count` items can be pushed to a new `Vec` before the allocator refuses a
+// request. Also adds the requests of the `Vec` to the expected requests of `case`. The first
+// request is for 4 items, or for 8 items if an item takes at most one byte. Each further request
+// doubles the capacity.
 fn hold<T: Sample, G: Ruled>(case: &mut Case<T, G>, count: usize) -> usize {
     let first = if T::SIZE <= 1 { 8 } else { 4 };
     let mut room: usize = 0;
@@ -253,8 +256,8 @@ impl Walked {
     }
 }
 
-// Calls `splice` on the range of `plan`, then calls `next` and `next_back` in the order that `plan`
-// specifies, and finally calls `finish`.
+// Executes the test case `plan`. Calls `splice` on the range of `plan`, then calls `next` and
+// `next_back` in the order that `plan` specifies, and finally calls `finish`.
 fn splice<T: Sample, A: Allocator, G: Growth, I: Iterator<Item = T>>(
     list: &mut ThinVec<T, A, G>,
     plan: &Plan,
@@ -271,8 +274,9 @@ fn splice<T: Sample, A: Allocator, G: Growth, I: Iterator<Item = T>>(
     (walked, splice.finish(alloc))
 }
 
-// Calls `next` and `next_back` in the order that `plan` specifies. Returns two values: the index of
-// the first call that yielded a wrong item, and the number of remaining items.
+// Calls `next` and `next_back` of a `Splice` in the order that the test case `plan` specifies.
+// Returns two values: the index of the first call that yielded a wrong item, and the number of
+// remaining items.
 fn walk<T: Sample, A: Allocator, G: Growth, I>(
     splice: &mut Splice<'_, I, T, A, G>,
     plan: &Plan,

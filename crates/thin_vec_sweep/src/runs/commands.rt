@@ -14,8 +14,8 @@ use thin_runner::judge::Judge;
 use thin_testing::{Refusing, Ruled};
 use thin_vec::{Doubling, Growth, PowerBytes, ThinVec, ThinVecError};
 
-// All possible replies to the commands. Each line names a command, the variant of its reply, and
-// the cause of the failure, if any.
+// All possible replies to the commands. Each line consists of the name of a command, the variant of
+// its reply, and the cause of the failure. If the command did not fail, the cause is `None`.
 const REPLIES: &str = "\
     Push Done None\n\
     Push Returned Some(OutOfMemory)\n\
@@ -188,7 +188,8 @@ const WORKED_POWERS: [(&[u32], usize); 9] = [
     (&[1, 7, 8, 9, 6], 20),
 ];
 
-// Returns whether the list has the items and the capacity in `worked`.
+// Returns whether the list has the expected items and the expected capacity. `worked` contains
+// these two expected values.
 fn is_worked<T: Eq, A: Allocator, G: Growth>(
     list: &ThinVec<T, A, G>,
     worked: &(&[T], usize),
@@ -239,8 +240,9 @@ fn run_under_power_bytes_reaches_states_computed_by_hand(rt: HostRuntime) {
     );
 }
 
-// Executes a command of the kind `kind` on an empty list and on `model`. Returns the variant of the
-// reply, or `Never` if the two replies differ, or if the list and `model` differ after the command.
+// Executes a command of the kind `kind` on an empty list, and the same command on `model`. If the
+// two replies are equal and the list and `model` agree after the command, returns the variant of
+// the reply. Otherwise, returns `Never`.
 fn form_against_model<'a, R: Abort>(
     rt: &R,
     alloc: Lender<'a>,

@@ -29,8 +29,8 @@ fn has_its_blocks<'a, T: Numbered<Lender<'a>>, G: Ruled>(
 }
 
 // Lets the runner execute a command on a `ThinVec`. The allocator refuses the request with the
-// number `nth`, or no request if `nth` is 0. Returns two values: the reply, divided into its parts,
-// and whether a request was refused.
+// number `nth`, or no request if `nth` is 0. Returns two values: the parts of the reply, and
+// whether a request was refused.
 fn shown_by_runner<'a, T: Numbered<Lender<'a>>, G: Ruled, J: Judge<T>>(
     alloc: Lender<'a>,
     list: &mut ThinVec<T, Lender<'a>, G>,

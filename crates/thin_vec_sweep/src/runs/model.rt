@@ -85,8 +85,9 @@ fn shown_out<T: Drop, A: Allocator + Copy>(
     }
 }
 
-// Returns the reply to a command that may need more capacity. The reply is `Done` if `made` is
-// true. Otherwise, it reports a capacity overflow.
+// Returns the reply to a command that may need more capacity. `made` says whether the command
+// obtained this capacity. If so, the reply is `Done`. Otherwise, the reply reports a capacity
+// overflow.
 fn shown_room<T: Drop, A: Allocator + Copy>(alloc: A, made: bool) -> Shown<T, A> {
     if made {
         Shown::plain(alloc, Form::Done, None)
@@ -243,9 +244,9 @@ impl<T: Numbered<A>, A: Allocator + Copy, G: Ruled> Model<T, A, G> {
         Ok(Shown::with_items(Form::List, None, alloc, copy, capacity))
     }
 
-    // If `asked` is `None`, appends the item to the list. Otherwise, `asked` is the kind of the
-    // command, and the judge, which replaces a closure, decides whether the item is kept. If the
-    // item is kept, appends it to the list. Otherwise, appends it to `answers`.
+    // Appends `item` to the list if it is kept, and to `answers` otherwise. If `asked` is `None`,
+    // the item is kept. Otherwise, `asked` is the kind of the command, and the judge, which
+    // replaces a closure, decides whether the item is kept.
     fn sift_one<J: Judge<T>>(
         &mut self,
         asked: Option<Kind>,
@@ -263,9 +264,9 @@ impl<T: Numbered<A>, A: Allocator + Copy, G: Ruled> Model<T, A, G> {
         }
     }
 
-    // Asks the judge about the items in order, and removes the items that the judge does not keep.
-    // The command `ExtractIf` asks only about the items of its range, and stops after it has
-    // removed `order.count` items.
+    // Asks the judge, which replaces a closure, about each item in order, and removes the items
+    // that the judge does not keep. For an `ExtractIf`, asks only about the items of the range, and
+    // only until `order.count` items have been removed.
     fn sift<J: Judge<T>>(
         &mut self,
         alloc: A,
@@ -285,8 +286,8 @@ impl<T: Numbered<A>, A: Allocator + Copy, G: Ruled> Model<T, A, G> {
         shown_sifted(alloc, order, answers)
     }
 
-    // Appends `item` to the list, unless the command considers it a duplicate of the last item of
-    // the list.
+    // Appends `item` to the list, unless it is a duplicate of the last item of the list. The kind
+    // of the command determines which items are duplicates.
     fn put_other<J: Judge<T>>(
         &mut self,
         kind: Kind,
@@ -355,10 +356,10 @@ impl<T: Numbered<A>, A: Allocator + Copy, G: Ruled> Model<T, A, G> {
         }
     }
 
-    /// Executes a command on the model, and compares the reply with `given`, the reply of the
-    /// runner. If `given` says that a request was refused, `nth` is the number of this request.
-    /// Returns two values: the variant of the reply (or `Never` if the two replies differ), and the
-    /// cause of the failure, if any.
+    /// Executes a command on the model, and compares the reply of the model with `given`, the reply
+    /// of the runner. If a request was refused while the runner executed the command, `nth` is the
+    /// number of this request. Returns two values: the variant of the reply (or `Never` if the two
+    /// replies differ), and the cause of the failure, if any.
     pub fn follow<J: Judge<T>>(
         &mut self,
         alloc: A,

@@ -73,16 +73,18 @@ pub struct Order {
     pub at: usize,
     /// The end of the range on which the command acts.
     pub to: usize,
-    /// The number of new items, or the number of calls to `next`.
+    /// For an `ExtractIf`, the number of calls to `next`. For a command that takes any number of
+    /// new items, such as `Extend`, the number of these items.
     pub count: usize,
-    /// The lower bound of a size hint, the number of items for which room is reserved, or the new
-    /// length for `resize`.
+    /// For `Extend` and `Splice`, the lower bound of the size hint. For `Reserve` and
+    /// `ReserveExact`, the number of items for which room is reserved. For `Resize`, the new
+    /// length.
     pub lower: usize,
     /// The number of steps. Each step takes an item from the front or from the back of the range.
     pub steps: usize,
-    /// The number from which the first new item is made. Its binary digits, beginning with the last
-    /// digit, also determine the steps over the range: 1 is a step from the front, and 0 is a step
-    /// from the back.
+    /// The number from which the first new item is made. The binary digits of this number,
+    /// beginning with the last digit, also determine the steps over the range: 1 is a step from the
+    /// front, and 0 is a step from the back.
     pub number: u64,
 }
 
@@ -129,8 +131,8 @@ fn with_item<T: Drop, A: Allocator, G: Growth>(order: Order, item: T) -> Command
     }
 }
 
-// Returns the command that `order` describes, with the vector `items`, and with `steps` if the
-// command takes steps. The command must be one that takes a vector of items.
+// Returns the command that `order` describes, with the vector `items`. If the command is a
+// `Splice`, it also contains `steps`. The command must be one that takes a vector of items.
 fn with_items<T: Drop, A: Allocator, G: Growth>(
     order: Order,
     steps: Vec<Step, A>,

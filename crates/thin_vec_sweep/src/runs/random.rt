@@ -56,7 +56,8 @@ impl Dice {
         }
     }
 
-    // Returns a random number whose binary digits are the decisions of a judge.
+    // Returns a random number whose binary digits are the decisions of a judge. A judge replaces
+    // the closure of a call such as `retain`.
     fn digits(&mut self) -> u64 {
         if self.below(4) == 0 {
             EACH_SECOND.digits
@@ -151,9 +152,9 @@ pub fn assert_alike<'a, T: Numbered<Lender<'a>>, G: Ruled, J: Judge<T> + From<u6
 // there are 100,000 runs in total.
 const RUNS: u64 = 5_000;
 
-// Three counts: the executed commands, the commands in which a request was to be refused, and the
-// commands in which a request was actually refused. The last two counts differ, because some
-// commands did not make the request that was to be refused.
+// Three counts: the commands that were executed, the commands in which a request was to be refused,
+// and the commands in which a request really was refused. The last two counts differ, because some
+// commands end without making the request that was to be refused.
 #[derive(Debug, Drop)]
 struct Tally {
     commands: u64,
@@ -200,9 +201,9 @@ fn assert_all_from<'a, T: Numbered<Lender<'a>>, G: Ruled, R: Abort>(
     tally
 }
 
-// Asserts that the number of executed commands is `commands`, and that a request was to be refused
-// in `named` of them. Another program computed these two numbers. Also asserts that a request
-// really was refused for more than 2 percent of the commands.
+// Asserts that `commands` commands were executed. Asserts that in `named` of these commands, a
+// request was to be refused. Another program computed these two numbers. Also asserts that in more
+// than 2 percent of the commands, a request really was refused.
 fn assert_tally<R: Abort>(rt: &R, tally: &Tally, commands: u64, named: u64) {
     assert_eq!(rt; (tally.commands, tally.named), (commands, named));
     assert!(rt; tally.refused > commands / 50, "{tally:?}");
@@ -221,8 +222,8 @@ fn assert_all_alike<'a, T: Numbered<Lender<'a>>, R: Abort>(
     assert_tally(rt, &tally, 74_928, 64_471);
 }
 
-// Asserts that `ThinVec` and the model agree on all random runs with two growth rules that exist
-// only for tests.
+// Asserts that `ThinVec` and the model agree on all random runs with two growth rules that are used
+// only in tests.
 fn assert_alike_by_other_rules<'a, T: Numbered<Lender<'a>>, R: Abort>(
     rt: &R,
     alloc: Lender<'a>,

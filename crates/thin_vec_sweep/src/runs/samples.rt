@@ -2,7 +2,7 @@
 use std::alloc::{AllocError, Allocator, Global};
 use thin_testing::Refusing;
 
-/// The allocator that a test uses. It can refuse one request.
+/// The allocator that a test uses. It can refuse one allocation request.
 pub type Lender<'a> = &'a Refusing<Global>;
 
 /// A type whose values are made from numbers.

@@ -19,19 +19,21 @@ pub enum Form {
     Refused,
     Stopped,
     OutOfRange,
-    /// Stands for a reply that the model does not allow.
+    /// Marks a reply that the model does not allow. No `Reply` has this variant.
     Never,
 }
 
-/// The index or the range on which a command acts, and the steps over the range, which are calls to
-/// `next` or `next_back`. If the command has only an index, all fields except `start` are 0.
+/// Says where a command acts: at an index, or on a range. Also contains the steps over the range,
+/// each of which is a call to `next` or `next_back`. If the command has only an index, all fields
+/// except `start` are 0.
 #[derive(Clone, Copy, PartialEq, Eq)]
 pub struct Place {
     /// The index at which the command acts, or the start of the range on which it acts.
     pub start: usize,
     /// The end of the range on which the command acts.
     pub end: usize,
-    /// The lower bound of the size hint, or the number of calls to `next`.
+    /// For a `Splice`, the lower bound of the size hint. For an `ExtractIf`, the number of calls to
+    /// `next`. For other commands, 0.
     pub claim: usize,
     /// The steps over the range, as binary digits after a leading 1. The digit 1 is a step from the
     /// front, and 0 is a step from the back.
@@ -49,8 +51,9 @@ impl Place {
         }
     }
 
-    /// Returns the `Place` of a command that acts on a range. `claim` is the lower bound of a size
-    /// hint, or a number of calls to `next`, and `steps` contains the steps over the range.
+    /// Returns the `Place` of a command that acts on a range. `steps` contains the steps over the
+    /// range. For a `Splice`, `claim` is the lower bound of the size hint. For an `ExtractIf`, it
+    /// is the number of calls to `next`.
     pub fn range(start: usize, end: usize, claim: usize, steps: &[Step]) -> Place {
         let mut walk: u64 = 1;
         for step in steps {
@@ -73,17 +76,17 @@ pub struct Shown<T, A: Allocator> {
     /// The cause of the failure, if the command failed.
     pub cause: Option<ThinVecError>,
     /// For a command that makes an iterator, the results of the calls to `next` and `next_back`.
-    /// For a command that removes or replaces one item, only this item, or `None` if there was no
-    /// such item.
+    /// For a command that removes or replaces one item, this vector contains only the old item, or
+    /// `None` if there was no such item.
     pub answers: Vec<Option<T>, A>,
-    /// The items of the list in the reply, the items that a failed command returned, or the new
-    /// items of a command that is out of range.
+    /// If the reply contains a list, the items of this list. If the command failed, the items that
+    /// it returned. If the index or the range is out of bounds, the new items of the command.
     pub items: Vec<T, A>,
     /// The capacity of the list in the reply, or the number of items that a failed splice had
     /// stored in a temporary vector.
     pub number: usize,
-    /// Whether the failed command had taken an item from the iterator and found no room for it. In
-    /// `items`, this item follows the items that had been stored in a temporary vector.
+    /// Whether the failed command had taken an item from the iterator and found no room for it. If
+    /// so, `items` contains this item after the items that had been stored in a temporary vector.
     pub in_hand: bool,
     /// If the reply is `OutOfRange`, the index or the range that is out of bounds.
     pub place: Place,

@@ -1,7 +1,8 @@
--- The type former of `ThinVec` tells the prover that a type may contain lists of itself. This is
--- sound because a list is determined by its items and by values that contain no items. The items of
--- a list must also be in its first slots. This condition does not depend on the items themselves,
--- but only on which slots are filled, as `specs/Shapes.antt` proves.
+-- This file defines the type former of `ThinVec`, which states which values a list contains. With
+-- it, the prover accepts a type that contains lists of itself. This is sound because a list is
+-- determined by its items and by other parts that contain no items. In each list, the items are in
+-- the first slots. This condition depends only on which slots are filled, and not on the items
+-- themselves, as `specs/Shapes.antt` proves.
 use Rattle.std.specs.Prelude.{◌≡◌, ℕ, ◌-◌, List, [], ◌∷◌, Option, length, map}
 use Rattle.std.specs.declared.option.Option.TheVariants.{Some, None}
 use mathlib.Core.Path.{refl, sym, ap, ◌∙◌}
@@ -41,7 +42,9 @@ the_former g Z Q =
     (λ X p. record { items = p.0; capacity = p.1.0; alloc = p.1.1.0; cost = p.1.1.1 })
     (λ X v. refl) (λ X p. refl)
 
--- The nesting depth of a list is the nesting depth of its deepest item.
+-- `the_weighed` combines the type former of lists with a function that computes how deeply the
+-- values in a list are nested. The depth of a list is the depth of its deepest item, or 0 if the
+-- list is empty.
 abbrev pub the_weighed : {g : Former {0}} → Weighed g → (Z Q : Type 0) → Weighed (the_former g Z Q)
 the_weighed w Z Q =
     record {
@@ -49,52 +52,58 @@ the_weighed w Z Q =
       puts = λ X μ v. List-puts w X μ v.items;
     }
 
--- The list that has no items and no block.
+-- `the_empty Z Q z q` is a list without items, with the capacity 0 and the allocator `z`. Its item
+-- type `⊥` has no values.
 pub the_empty : (Z Q : Type 0) → Z → Q → Thin ⊥ Z
 the_empty Z Q z q = record { items = []; capacity = 0; alloc = z; cost = no_cost }
 
--- The items of a list, in order.
+-- `the_items Z Q X v` contains the items of the list `v`, in order.
 abbrev pub the_items : (Z Q X : Type 0) → Thin X Z → List X
 the_items Z Q X v = v.items
 
--- The type former of `ThinVec` states which values a list contains. These values are exactly the
--- items of the list.
+-- According to the type former of `ThinVec`, the values that the list `v` contains are exactly its
+-- items, in order.
 pub the_items_listed : (Z Q X : Type 0) (v : Thin X Z)
     → listed _ (children (the_former this Z Q) X v) ≡ the_items Z Q X v
 the_items_listed Z Q X v = list-listed X v.items
 
--- The former of the two fields of a list: the block and the allocator.
+-- `fields Z Q` is the type former of the two fields of a list that matter here, the block and the
+-- allocator. It states that these fields contain exactly the values in the block.
 abbrev fields : Type 0 → Type 0 → Former {0}
 fields Z Q =
     via (pair (block.the_former this Z) (const Z)) (λ X. Inside X Z Q) (λ X a. (a.block, a.alloc))
     (λ X v. record { block = v.0; alloc = v.1; growth = record {} }) (λ X a. refl) (λ X v. refl)
 
--- In this module, the function `h` is applied to each item of a row of slots.
+-- The lemmas in this module are about a function `h` that is applied to each item in a row of
+-- slots. Empty slots stay empty.
 module _ {X Y : Type 0} (h : X → Y) where
-  -- Applying `h` in the slots and then collecting the items is the same as collecting the items and
-  -- then applying `h` to them.
+  -- Suppose that the function `h` is applied to each item in a row of slots `s`. Then the items of
+  -- the new row are the results of applying `h` to the items of `s`, in the same order.
   items_in-map : (s : List (Option X)) → items_in (map (on_slot h) s) ≡ map h (items_in s)
   items_in-map [] = refl
   items_in-map (None ∷ s) = items_in-map s
   items_in-map (Some x ∷ s) = ap (λ l. h x ∷ l) (items_in-map s)
 
-  -- Applying `h` to each item of a row of slots does not change which slots are filled.
+  -- Applying the function `h` to each item in a row of slots `s` does not change which slots are
+  -- filled.
   is_some-map : (s : List (Option X)) → map is_some (map (on_slot h) s) ≡ map is_some s
   is_some-map [] = refl
   is_some-map (None ∷ s) = ap (λ l. is_some {T = X} None ∷ l) (is_some-map s)
   is_some-map (Some x ∷ s) = ap (λ l. is_some (Some x) ∷ l) (is_some-map s)
 
-  -- Applying `h` to each item of a row of slots does not change the number of items.
+  -- Applying the function `h` to each item in a row of slots `s` does not change the number of
+  -- items.
   count-map : (s : List (Option X)) → length (items_in (map (on_slot h) s)) ≡ length (items_in s)
   count-map s = ap length (items_in-map s) ∙ length-map (items_in s) h
 
-  -- Applying `h` to each item of a row of slots does not change the number of empty slots.
+  -- Applying the function `h` to each item in a row of slots `s` does not change the number of
+  -- empty slots.
   left-map : (s : List (Option X)) → length (map (on_slot h) s) - length
       (items_in (map (on_slot h) s)) ≡ length s - length (items_in s)
   left-map s = λ i. length-map s (on_slot h) i - count-map s i
 
-  -- If exactly the first `n` slots of a row are filled, this is still true after `h` is applied to
-  -- each item.
+  -- If exactly the first `n` slots of the row `s` are filled, then exactly the first `n` slots are
+  -- also filled after the function `h` has been applied to each item of the row.
   packed_to : (s : List (Option X)) (n : ℕ) → IsPacked s n → IsPacked (map (on_slot h) s) n
   packed_to s n p = record {
     row = from_shape (map (on_slot h) s) _
@@ -102,8 +111,8 @@ module _ {X Y : Type 0} (h : X → Y) where
     len = p.len ∙ sym (count-map s);
   }
 
-  -- If exactly the first `n` slots of a row are filled after `h` is applied to each item, then
-  -- exactly these slots were filled before.
+  -- If exactly the first `n` slots of the row `s` are filled after the function `h` has been
+  -- applied to each item of the row, then exactly the first `n` slots were also filled before.
   packed_from : (s : List (Option X)) (n : ℕ) → IsPacked (map (on_slot h) s) n → IsPacked s n
   packed_from s n p = record {
     row = from_shape s _
@@ -113,25 +122,28 @@ module _ {X Y : Type 0} (h : X → Y) where
   }
 
   module _ {Z : Type 0} (b : Block X Z) (a : Z) where
-    -- If `b` is the block of a list with the allocator `a`, this is still true after `h` is applied
-    -- to the items of `b`.
+    -- Let `block.mapped h b` be the block `b` after the function `h` has been applied to each of
+    -- its items. If `b` is the block of a list with the allocator `a`, then so is `block.mapped h
+    -- b`.
     thin_to : IsThin b a → IsThin (block.mapped h b) a
     thin_to t = record { packed = packed_to b.slots b.len t.packed; from = t.from }
 
-    -- If applying `h` to the items of the block `b` results in the block of a list with the
-    -- allocator `a`, then `b` itself is the block of such a list.
+    -- Let `block.mapped h b` be the block `b` after the function `h` has been applied to each of
+    -- its items. If `block.mapped h b` is the block of a list with the allocator `a`, then so is
+    -- `b`.
     thin_from : IsThin (block.mapped h b) a → IsThin b a
     thin_from t = record { packed = packed_from b.slots b.len t.packed; from = t.from }
 
--- The list of the items in a row of slots contains the same values as the row itself.
+-- A row of slots `s` and the list of the items in `s` contain the same values in the same order,
+-- according to the type formers of rows and of lists.
 items_in-held : (X : Type 0) (s : List (Option X))
     → held (list this) X (items_in s) ≡ held (list (slot this)) X s
 items_in-held X [] = refl
 items_in-held X (None ∷ s) = items_in-held X s
 items_in-held X (Some x ∷ s) = λ i. (one_more (items_in-held X s i).0, (x, (items_in-held X s i).1))
 
--- If the codes `a` and `b` are equal, then `gcons a c` and `gcons b c` are equal, where `gcons`
--- makes the code of a pair from two codes.
+-- `gcons a c` is the encoding of a pair whose parts have the encodings `a` and `c`. If the
+-- encodings `a` and `b` are equal, then so are `gcons a c` and `gcons b c`.
 first : {a b c : Gv} → a ≡ b → gcons a c ≡ gcons b c
 first {c = c} e = λ i. gcons (e i) c
 
@@ -148,8 +160,10 @@ module _ (Z Q : RattleType) (G : AllocatorGhosts Z.Denot) (K : GrowthGhosts Q.De
   }
 
   module _ (R S : RattleType) (h : R.Denot → S.Denot) where
-    -- If each item has the same representation in memory as its image under `h`, then a list and
-    -- the list of the images of its items also have the same representation in memory.
+    -- Suppose that applying the function `h` to an item changes neither the memory layout of the
+    -- item nor the memory that the item owns and lends. Then the same is true of applying `h` to
+    -- each item of a list: the layout of the list and the memory that the list owns and lends do
+    -- not change.
     pub the_places : Alike R S h → Alike (C.the_row R Z Q G K) (C.the_row S Z Q G K)
         ((the_former this Z.Denot Q.Denot).map R.Denot S.Denot h)
     the_places a = view_places (fields Z.Denot Q.Denot) (the_former this Z.Denot Q.Denot)
@@ -173,8 +187,8 @@ module _ (Z Q : RattleType) (G : AllocatorGhosts Z.Denot) (K : GrowthGhosts Q.De
           ((refl, (λ n. refl, λ n. refl)), ((refl, (λ n. refl, λ n. refl)), tt)),
         ))
 
-    -- If each item has the same code as its image under `h`, then a list and the list of the images
-    -- of its items also have the same code.
+    -- If the function `h` does not change the encoding of any item, then applying `h` to each item
+    -- of a list does not change the encoding of the list.
     pub the_codes_placed : Recodes R S h → Recodes (C.the_row R Z Q G K) (C.the_row S Z Q G K)
         ((the_former this Z.Denot Q.Denot).map R.Denot S.Denot h)
     the_codes_placed e d = first (block.codes_of R.coded.code S.coded.code h e d.items)

@@ -10,8 +10,9 @@ use thin_testing::Ruled;
 use thin_vec::ThinVecError;
 
 impl<T: Numbered<A>, A: Allocator + Copy, G: Ruled> Model<T, A, G> {
-    // If `order` is an `Extend`, returns it with an empty range at the end of the list, and without
-    // steps (calls to `next` and `next_back`). Otherwise, returns `order` unchanged.
+    // If `order` describes an `Extend`, returns it with two changes: its range is empty and lies at
+    // the end of the list, and it has no steps (calls to `next` and `next_back`). Otherwise,
+    // returns `order` unchanged.
     pub(crate) fn placed(&self, order: Order) -> Order {
         let len = self.items.len();
         if order.kind == Kind::Extend {
@@ -26,10 +27,13 @@ impl<T: Numbered<A>, A: Allocator + Copy, G: Ruled> Model<T, A, G> {
         }
     }
 
-    // Increases the capacity as a splice does, and returns whether this succeeded. If there are no
-    // items after the range, the list makes room as the size hint requires, and then for each new
-    // item separately. If there are items after the range, the list makes room only if there are
-    // enough new items to fill the range: first as the size hint requires, and then for all new
+    // Increases the capacity as a splice does, and returns whether this succeeded.
+    //
+    // If there are no items after the range, the list first makes room according to the size hint.
+    // Then it makes room for each new item separately.
+    //
+    // If there are items after the range, the list makes room only if the new items fill the whole
+    // range. In this case, it first makes room according to the size hint, and then for all new
     // items at once.
     fn make_rooms(&mut self, order: Order) -> bool {
         let len = self.items.len();
@@ -87,17 +91,16 @@ impl<T: Numbered<A>, A: Allocator + Copy, G: Ruled> Model<T, A, G> {
     }
 
     // Returns whether `given` is a possible reply to a command whose allocation request was
-    // refused. The reply contains the new items that were not moved into the list. An item is in
-    // hand if it was taken from the iterator, but no room was found for it. An item is held back if
-    // it was stored in a temporary vector.
+    // refused. The reply contains the new items that were not moved into the list. There are two
+    // special kinds of such items. An item is in hand if the command took it from the iterator, but
+    // found no room for it. An item is held back if the command stored it in a temporary vector.
     //
-    // If there are no items after the range, then no item may be held back. Moreover, if an item is
-    // in hand, the list must be full. If no item is in hand, no new item may have been moved into
-    // the list.
+    // If there are no items after the range, then no item may be held back. If an item is in hand,
+    // the list must be full. If no item is in hand, no new item may have been moved into the list.
     //
-    // If there are items after the range, then the new items must have filled the range. Moreover,
-    // one of three conditions must hold: an item is in hand, no item is held back, or the iterator
-    // has yielded all its items.
+    // If there are items after the range, then the new items must have filled the range. In
+    // addition, one of three conditions must hold: an item is in hand, no item is held back, or the
+    // iterator has yielded all its items.
     fn may_stop(&self, order: Order, given: &Shown<T, A>) -> bool {
         let placed = order.count.saturating_sub(given.items.len());
         if order.to == self.items.len() {
@@ -109,9 +112,10 @@ impl<T: Numbered<A>, A: Allocator + Copy, G: Ruled> Model<T, A, G> {
             && (given.in_hand || given.number == 0 || has_ended)
     }
 
-    // Increases the capacity as the command did before its request was refused. If the reply says
-    // that the command had taken items for which it found no room, the list makes room as the size
-    // hint and the first `placed` new items require. Otherwise, the capacity is unchanged.
+    // Increases the capacity of the model to the capacity that the list had when the request was
+    // refused. If `given`, the reply of the runner, contains an item that the command had taken but
+    // not moved into the list, the capacity grows according to the size hint and for the first
+    // `placed` new items. Otherwise, the capacity is unchanged.
     fn make_first_rooms(&mut self, order: Order, placed: usize, given: &Shown<T, A>) {
         if given.number > 0 || given.in_hand {
             let first = Order {
@@ -122,8 +126,9 @@ impl<T: Numbered<A>, A: Allocator + Copy, G: Ruled> Model<T, A, G> {
         }
     }
 
-    // Executes a `Splice` or an `Extend` with a refused allocation request. The number of items in
-    // the reply `given` determines how many items were moved into the list before the refusal.
+    // Executes a `Splice` or an `Extend` with a refused allocation request. `given` is the reply of
+    // the runner. It contains the new items that were not moved into the list. The other new items
+    // had been moved into the list before the refusal.
     pub(crate) fn stop(
         &mut self,
         alloc: A,

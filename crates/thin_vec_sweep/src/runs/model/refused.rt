@@ -1,6 +1,6 @@
-//! The model is a program that specifies the commands. This file specifies what a command does if
-//! one of its allocation requests is refused: the items and the capacity of the list after the
-//! command, and the reply.
+//! The part of the model for commands with a refused allocation request. The model is a program
+//! that specifies the commands. This file specifies the items and the capacity of the list after
+//! such a command, and the reply.
 use super::Model;
 use crate::runs::orders::{Kind, Order};
 use crate::runs::samples::{Numbered, samples};
@@ -22,8 +22,8 @@ fn form_of(order: Order) -> Form {
 }
 
 impl<T: Numbered<A>, A: Allocator + Copy, G: Ruled> Model<T, A, G> {
-    // Returns the capacity that the command needs before it clones items into the list. Returns 0
-    // if the command clones no items into the list.
+    // Returns the capacity that the list must have before the command clones items into it. Returns
+    // 0 if the command clones no items into the list.
     fn room_of_clones(&self, order: Order) -> usize {
         match order.kind {
             Kind::Resize => order.lower,
