@@ -67,8 +67,8 @@ module _ (t : Table ℕ) (i j : ℕ) where
       (λ k l other. ap (λ o. unwrap_or o 0) (columns_unchanged t i j k l v other))
       (λ k l other. ap (λ o. unwrap_or o 0) (rows_unchanged t i j k l v other))
 
-  -- If the entry at row `i` and column `j` of the table `t` is removed, then the number there
-  -- becomes 0, and all other numbers are unchanged. The lemma writes `v` for this 0.
+  -- Suppose that `v` is 0. If the entry at row `i` and column `j` of the table `t` is removed, then
+  -- the number at this place is `v`, and all other numbers are unchanged.
   pub number-without_value : (v : ℕ) → v ≡ 0 → (k l : ℕ)
       → number_at (without_value t i j) k l ≡ (if k == i && l == j then v else number_at t k l)
   number-without_value v zero =

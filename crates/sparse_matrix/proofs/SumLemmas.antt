@@ -97,9 +97,9 @@ module _ (f : ℕ → ℕ) where
           ∙ (let nothing : term entries e.0 ≡ 0 * f e.0 = ap (λ o. unwrap_or o 0 * f e.0) none in
           omega (arith, nothing))
 
--- Suppose that all entries of `row` are in columns less than `n`, and that the number in each
--- column `j` is multiplied by `f j`. Then summing the products over the columns that have an entry
--- yields the same result as summing them over all columns less than `n`.
+-- Suppose that all entries of `row` are in columns less than `n`. If the number in each column `j`
+-- is multiplied by `f j`, then the sum of the products for the columns that have an entry equals
+-- the sum of the products for all columns less than `n`.
 pub row_sum : (f : ℕ → ℕ) (row : Columns ℕ) (n : ℕ) (entries : List (ℕ × ℕ))
     → entries ≡ columns.entries row
     → ((k : ℕ) → k < length entries → (slice_index_or entries k (0, 0)).0 < n)

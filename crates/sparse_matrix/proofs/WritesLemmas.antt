@@ -52,8 +52,10 @@ module _ (write : ℕ → ℕ → ℕ) (row : Columns ℕ) (old : ℕ → ℕ) w
         ∙ h.left j (λ k less. none k (omega (arith, less)));
   }
 
-  -- This lemma is `one_more` for a list `entries` that equals the list of the entries of `row`. It
-  -- shows that `IsWritten (n + 1) next` holds after the entry at index `n` has been written.
+  -- Suppose that `entries` is the list of the entries of `row`, and that `IsWritten n now` holds.
+  -- If writing the entry at index `n` turns `now` into `next` and changes only the number at the
+  -- column of this entry, then `IsWritten (n + 1) next` holds. The lemma `one_more` states the same
+  -- without the variable `entries`.
   pub next_written : (entries : List (ℕ × ℕ)) → entries ≡ columns.entries row → (n : ℕ)
       (now next : ℕ → ℕ) → n < length entries → IsWritten n now
       → next (slice_index_or entries n (0, 0)).0
@@ -62,9 +64,9 @@ module _ (write : ℕ → ℕ → ℕ) (row : Columns ℕ) (old : ℕ → ℕ) w
       → IsWritten (n + 1) next
   next_written entries is = rw is one_more
 
-  -- Suppose that all entries of the row have been written, and that writing 0 over the number
-  -- `old j` does not change it. Then the number at column `j` is `write (old j) v`, where `v` is
-  -- the number of the row at column `j`, or 0 if the row has no entry there.
+  -- Suppose that all entries of the row have been written, and that `write (old j) 0` is `old j`.
+  -- Let `v` be the number of the row at column `j`, or 0 if the row has no entry there. Then the
+  -- number at column `j` of the matrix is now `write (old j) v`.
   pub all_written : (n : ℕ) (now : ℕ → ℕ) → n ≡ length (columns.entries row) → IsWritten n now
       → (j : ℕ) → write (old j) 0 ≡ old j
       → now j ≡ write (old j) (unwrap_or (columns.get row j) 0)
@@ -81,8 +83,8 @@ module _ (write : ℕ → ℕ → ℕ) (row : Columns ℕ) (old : ℕ → ℕ) w
             ∙ listed row k (0, 0) (omega (arith, less, all))))) ∙ sym zero
       ] refl
 
--- If the table `t` has no value at any column that is at least `n`, then the columns of the entries
--- in each row of `t` are less than `n`.
+-- Suppose that the table `t` has no value in column `n` or in any later column. Then all entries in
+-- each row of `t` are in columns less than `n`.
 pub columns_below : (t : Table ℕ) (n : ℕ) → ((i j : ℕ) → n ≤ j → value_at t i j ≡ None) → (i : ℕ)
     (entries : List (ℕ × ℕ)) → entries ≡ columns.entries (row_of t i) → (k : ℕ)
     → k < length entries → (slice_index_or entries k (0, 0)).0 < n

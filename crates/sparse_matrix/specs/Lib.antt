@@ -1,2 +1,2 @@
--- The definitions that the contracts of `Matrix` use.
+-- The contracts of `Matrix` use the definitions in the module `Numbers`.
 pub mod Numbers

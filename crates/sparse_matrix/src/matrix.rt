@@ -9,8 +9,8 @@ use std::fmt;
 use thin_rows::{Rows, ThinVecError};
 use thin_vec::ThinVec;
 
-/// A matrix of numbers. Only the numbers that are not 0 take memory. A sum or a product that is
-/// greater than `u64::MAX` becomes `u64::MAX`.
+/// A matrix of numbers. Only the numbers that are not 0 take memory. Sums and products saturate at
+/// `u64::MAX`.
 #[derive(Drop)]
 pub struct Matrix<A: Allocator = Global> {
     numbers: Rows<u64, A>,
@@ -20,7 +20,7 @@ pub struct Matrix<A: Allocator = Global> {
 }
 
 impl<A: Allocator + Copy> Matrix<A> {
-    /// Makes a matrix of zeros.
+    /// Makes a matrix with `rows` rows and `columns` columns. All its numbers are 0.
     ///
     /// # Errors
     ///
@@ -94,7 +94,7 @@ impl<A: Allocator + Copy> Matrix<A> {
 }
 
 impl<A: Allocator> Matrix<A> {
-    /// Returns the number at row `row` and column `column`.
+    /// Returns the number at row `row` and column `column`, or 0 if no number is stored there.
     pub fn get(&self, row: usize, column: usize) -> u64
         requires row_in_bounds { row < length self.now.numbers }
         ensures value { result ≡ number_at self.now.numbers row column }

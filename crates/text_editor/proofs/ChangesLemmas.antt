@@ -1,5 +1,6 @@
--- These lemmas are about changes to a text. They show how to undo a change, and which texts result
--- if a list of changes is applied to a text, one change after another.
+-- These lemmas are about changes to a text. Some of them state that a change can be undone. The
+-- others are about the texts that result if a list of changes is applied to a text, one change
+-- after another.
 use Rattle.std.proofs.Common.{◌≡◌, ℕ, zero, suc, ◌+◌, ◌-◌, ◌≤◌, List, [], ◌∷◌, ◌++◌, length, take, drop, reverse, slice_range, refl, sym, ap, subst, ◌∙◌, arith, length-append, append_assoc}
 use Rattle.std.proofs.lemmas.List.{drop-drop, drop_at, length-drop, length-reverse, length-take-le, reverse-append, take-append-drop, take_at}
 use Rattle.std.specs.List.{replace_range}
@@ -16,8 +17,8 @@ module _ (change : Change) (n : ℕ) (text new : List ℕ) (fits : Fits change t
   short : length (take change.start text) ≡ change.start
   short = length-take-le change.start text (omega (arith, fits.start_le_end, fits.in_bounds))
 
-  -- The `n` inserted characters begin at index `change.start` of the text `new`, and their range is
-  -- within `new`.
+  -- The change inserts `n` characters, which begin at index `change.start` of the text `new`. The
+  -- range of these characters is within `new`.
   pub comes_in : change.start + n ≤ length new
   comes_in =
       let front : List ℕ = take change.start text in
@@ -80,21 +81,24 @@ nothing : (changes : List Change) → length changes ≡ 0 → changes ≡ []
 nothing [] e = refl
 nothing (change ∷ changes) e = absurd (omega arith)
 
--- `texts_along changes text` contains one text for each change.
+-- `texts_along changes text` is the list of the texts that result if `changes` are applied to
+-- `text` one after another. This list contains one text for each change.
 length-texts_along : (changes : List Change) (text : List ℕ)
     → length (texts_along changes text) ≡ length changes
 length-texts_along [] text = refl
 length-texts_along (change ∷ changes) text =
     ap (λ (n : ℕ). suc n) (length-texts_along changes (changed change text))
 
--- `texts_of changes text` contains one text for each change.
+-- `texts_of changes text` is the list of the texts that result if `changes` are applied to `text`
+-- one after another, from the last change to the first. This list contains one text for each
+-- change.
 pub length-texts_of : (changes : List Change) (text : List ℕ)
     → length (texts_of changes text) ≡ length changes
 length-texts_of changes text =
     length-texts_along (reverse changes) text ∙ length-reverse changes
 
--- Applying only the first `k` changes of a list to a text produces the first `k` of the texts that
--- all changes of the list produce.
+-- If only the first `k` changes of a list are applied to a text, then the resulting texts are the
+-- first `k` of the texts that result from all changes of the list.
 texts_along-take : (k : ℕ) (changes : List Change) (text : List ℕ)
     → texts_along (take k changes) text ≡ take k (texts_along changes text)
 texts_along-take zero changes text = refl
@@ -141,7 +145,8 @@ module _ (m : ℕ) (changes : List Change) (text : List ℕ) where
       subst (λ (cs : List Change). FitAlong cs text) (sym (reverse-drop m changes))
       (FitAlong-take (length changes - m) (reverse changes) text all)
 
--- If a list of changes produces no text, then the list is empty.
+-- If the list `texts_of changes text` is empty, then the list `changes` is empty, because each
+-- change results in one text.
 pub no_text : (changes : List Change) (text : List ℕ) → texts_of changes text ≡ []
     → changes ≡ []
 no_text changes text none =

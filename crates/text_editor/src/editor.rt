@@ -1,5 +1,5 @@
-//! The type `Editor`. An editor owns a text, the changes that undo edits of the text, and the
-//! changes that redo undone edits.
+//! The type `Editor`. An editor owns a text and two lists of changes. The changes in one list undo
+//! edits, and the changes in the other list redo edits that have been undone.
 ghost use Rattle.std.specs.Prelude.{◌≡◌, ◌↔◌, ◌⊎◌, ◌<◌, [], ◌∷◌, IsErrOf, OnErr, OnOk, length, take};
 ghost use Rattle.std.specs.List.{replace_range};
 ghost use Rattle.text_editor.specs.Changes.{AllFit, texts_of};

@@ -1,12 +1,13 @@
 -- These lemmas are for proofs about function bodies. Some of them symbolically execute code that
 -- computes the address of a slot. The others separate the memory of one or two slots from the
 -- memory of the other slots. All of them assume the laws of the separation logic (`Logic`).
---     `its_ptr` reads the pointer of the block.
---     `slot_found` executes the statements that compute `(p.add(HEADER_WORDS) as *mut T).add(i)`.
---     `moves_on` executes the statements that compute `p.add(i)`.
---     `takes_slot` separates one slot from the other slots.
---     `takes_item` separates one filled slot from the other slots.
---     `takes_two` separates two filled slots from the other slots.
+--
+-- - `its_ptr` reads the pointer of the block.
+-- - `slot_found` executes the statements that compute `(p.add(HEADER_WORDS) as *mut T).add(i)`.
+-- - `moves_on` executes the statements that compute `p.add(i)`.
+-- - `takes_slot` separates one slot from the other slots.
+-- - `takes_item` separates one filled slot from the other slots.
+-- - `takes_two` separates two filled slots from the other slots.
 use Rattle.std.proofs.Common.{◌≡◌, ℕ, zero, Some, None, ◌+◌, ◌*◌, ◌^◌, ◌<◌, ◌≤◌, List, [], ◌∷◌, length, true, refl, sym, ap, subst, arith, w64}
 use lib.Dec.{T}
 use lib.ListN.{get_or}
@@ -39,7 +40,8 @@ near E xs i fits le = let low = reach (R E) i (length xs) fits le in omega arith
 
 module _ (E : El) (Y : Al) {M : Type 1} {𝓤 : Ura M} {𝓛 : Logic 𝓤} {K : Type 0}
     {Γ : List (Item 𝓤)} {h s : Item 𝓤} where
-  -- Evaluates the operand that reads the pointer of a block through a reference to the block.
+  -- Evaluates an operand that reads the pointer of a block. The operand accesses the block through
+  -- a reference.
   pub its_ptr : K → {Ev : Env 𝓤 𝓛.H} {p b o rb ro : ℕ} {q : Share}
       → at 𝓛 p (h ∷ s ∷ ‵
       (cell_at full_share (Br E Y).mir (block_val (block_ptr b o) ∷ []) rb ro) ∷ Γ)
@@ -52,13 +54,13 @@ module _ (E : El) (Y : Al) {M : Type 1} {𝓤 : Ura M} {𝓛 : Logic 𝓤} {K : 
 module _ {M : Type 1} {𝓤 : Ura M} (𝓛 : Logic 𝓤) (Ev : Env 𝓤 𝓛.H) where
   open 𝓛 use {H}
 
-  -- `holds p v` is the entry of the proof context which says that the local variable `p` holds the
+  -- `holds p v` is an entry of the proof context. It states that the local variable `p` holds the
   -- value `v`.
   abbrev holds : ℕ → Val → Item 𝓤
   holds p v = ‵ (fat full_share (spot_of 𝓤 H Ev p).0 (spot_of 𝓤 H Ev p).1 zero v)
 
-  -- `free p Γ` is the entry of the proof context `Γ` which says that the local variable `p` may be
-  -- assigned. The variable may currently hold any value of its type, or no value.
+  -- `free p Γ` is an entry of the proof context `Γ`. It states that the code may assign a value to
+  -- the local variable `p`. Before the assignment, `p` may hold any value of its type, or no value.
   abbrev free : ℕ → List (Item 𝓤) → Item 𝓤
   free p Γ = nth 𝓛 0 (free_needs 𝓛 (((spot_of 𝓤 H Ev p).0, (spot_of 𝓤 H Ev p).1) ∷ [])
       (at 𝓛 p Γ ∷ ‵ ftrue ∷ []))
@@ -68,49 +70,53 @@ module _ {M : Type 1} {𝓤 : Ura M} (𝓛 : Logic 𝓤) (Ev : Env 𝓤 𝓛.H) 
   Takes p v = T (has_ty (spot_of 𝓤 H Ev p).0 v)
 
   module _ (Γ : List (Item 𝓤)) (E : El) (b o i p₃ p₄ : ℕ) where
-    -- The proof context that results from `Γ` if the product of `i` and the item size is stored in
+    -- `far` is the proof context `Γ` after the product of `i` and the item size has been stored in
     -- the local variable `p₃`.
     abbrev far : List (Item 𝓤)
     far = set 𝓛 p₃ (holds p₃ (vint w64 (i * sz E))) Γ
 
-    -- The proof context that results from `Γ` if `p.add(i)` is computed. The local variable `p₃`
+    -- `gone` is the proof context `Γ` after `p.add(i)` has been computed. The local variable `p₃`
     -- then holds the product of `i` and the item size, and `p₄` holds the address of item `i`.
     abbrev pub gone : List (Item 𝓤)
     gone = set 𝓛 p₄ (holds p₄ (vptr b (i * sz E + o))) far
 
-    -- `goes_by p pᵢ` lists the entries of the proof context that the computation of `p.add(i)`
-    -- uses. The local variable `p` holds the address of the first item, and `pᵢ` holds the index
-    -- `i`.
+    -- The computation of `p.add(i)` reads and assigns several local variables. `goes_by p pᵢ` lists
+    -- the entries of the proof context for these variables, in the order in which the computation
+    -- uses them. The local variable `p` holds the address of the first item, and `pᵢ` holds the
+    -- index `i`.
     abbrev pub goes_by : ℕ → ℕ → List (Item 𝓤)
     goes_by p pᵢ = at 𝓛 pᵢ Γ ∷ at 𝓛 p₃ Γ ∷ at 𝓛 p far ∷ at 𝓛 p₃ far ∷ at 𝓛 p₄ far ∷ []
 
-    -- `goes_with p pᵢ` is the list that `goes_by p pᵢ` must equal when `p.add(i)` is computed. It
-    -- says which values the local variables hold, and which variables may be assigned.
+    -- `goes_with p pᵢ` lists the entries of the proof context that the computation of `p.add(i)`
+    -- needs. They state which values the local variables hold, and to which variables the code may
+    -- assign a value. The lemma `moves_on` requires that `goes_by p pᵢ` equals this list.
     abbrev pub goes_with : ℕ → ℕ → List (Item 𝓤)
     goes_with p pᵢ = holds pᵢ (vint w64 i) ∷ free p₃ Γ ∷ holds p (vptr b o)
         ∷ holds p₃ (vint w64 (i * sz E)) ∷ free p₄ far ∷ []
 
   module _ (Γ : List (Item 𝓤)) (E : El) (b o i p₁ p₂ : ℕ) where
-    -- The proof context that results from `Γ` if the address of the first slot is stored in the
+    -- `first` is the proof context `Γ` after the address of the first slot has been stored in the
     -- local variable `p₁`.
     abbrev first : List (Item 𝓤)
     first = set 𝓛 p₁ (holds p₁ (vptr b (o + 16))) Γ
 
-    -- The proof context that results from `Γ` if the address of the first slot is stored in the
+    -- `turned` is the proof context `Γ` after the address of the first slot has been stored in the
     -- local variables `p₁` and `p₂`.
     abbrev pub turned : List (Item 𝓤)
     turned = set 𝓛 p₂ (holds p₂ (vptr b (o + 16))) first
 
-    -- `meets p₃ p₄ p pᵢ` lists the entries of the proof context that the four statements in the
-    -- lemma `slot_found` use. The local variable `p` holds the pointer of the block, and `pᵢ` holds
-    -- the index of the slot. The statements assign `p₃` and `p₄`.
+    -- Four statements compute the address of a slot. `meets p₃ p₄ p pᵢ` lists the entries of the
+    -- proof context for the local variables that these statements use. The local variable `p` holds
+    -- the pointer of the block, and `pᵢ` holds the index of the slot. The statements assign values
+    -- to `p₁`, `p₂`, `p₃` and `p₄`.
     abbrev pub meets : ℕ → ℕ → ℕ → ℕ → List (Item 𝓤)
     meets p₃ p₄ p pᵢ = at 𝓛 p Γ ∷ at 𝓛 p₁ Γ ∷ at 𝓛 p₁ first ∷ at 𝓛 p₂ first
         ∷ goes_by turned E b (o + 16) i p₃ p₄ p₂ pᵢ
 
-    -- `needs p₃ p₄ p pᵢ` is the list that `meets p₃ p₄ p pᵢ` must equal when the four statements in
-    -- the lemma `slot_found` are executed. It says which values the local variables hold, and which
-    -- variables may be assigned.
+    -- Four statements compute the address of a slot. `needs p₃ p₄ p pᵢ` lists the entries of the
+    -- proof context that these statements need. The entries state which values the local variables
+    -- hold, and to which variables the code may assign a value. The lemma `slot_found` requires
+    -- that `meets p₃ p₄ p pᵢ` equals this list.
     abbrev pub needs : ℕ → ℕ → ℕ → ℕ → List (Item 𝓤)
     needs p₃ p₄ p pᵢ = holds p (vptr b o) ∷ free p₁ Γ ∷ holds p₁ (vptr b (o + 16)) ∷ free p₂ first
         ∷ goes_with turned E b (o + 16) i p₃ p₄ p₂ pᵢ
@@ -165,8 +171,9 @@ module _ (E : El) {M : Type 1} {𝓤 : Ura M} {𝓛 : Logic 𝓤} {K : Type 0} {
 
 module _ (E : El) {M : Type 1} {𝓤 : Ura M} {𝓛 : Logic 𝓤} {K : Type 0} {Γ : List (Item 𝓤)}
     {G : Goal 𝓤 𝓛.H} {h : Item 𝓤} where
-  -- Separates the memory of slot `i` from the memory of the other slots. The proof context [the
-  -- header; all slots] becomes [slot `i`; the other slots; the header].
+  -- Separates the memory of slot `i` from the memory of the other slots. Before this step, the
+  -- proof context begins with the header and all slots. After this step, it begins with slot `i`,
+  -- the other slots and the header, in this order.
   pub takes_slot : K → {x : Slot E} (b o : ℕ) (xs : List (Slot E)) (i : ℕ) → i < length xs
       → get_or xs i None ≡ x
       → Step K 𝓛 (‵ (slot_place (R E) x b (i * sz E + o)) ∷ ‵ (besides E 𝓛 b o xs i) ∷ h ∷ Γ) G
@@ -183,15 +190,15 @@ module _ (E : El) {M : Type 1} (𝓤 : Ura M) where
   abbrev Bits : ℕ → ℕ → Val → Item 𝓤
   Bits b o v = ‵ (fat full_share (elτ E) b o v)
 
-  -- `Owned x v` states what the item `x` owns if its machine value is `v`.
+  -- `Owned x v` states which resources the item `x` owns if its machine value is `v`.
   abbrev Owned : el_x E → Val → Item 𝓤
   Owned x v = ‵ (E.row.own_val x (v ∷ []))
 
 module _ (E : El) {M : Type 1} {𝓤 : Ura M} {𝓛 : Logic 𝓤} {K : Type 0} {Γ : List (Item 𝓤)}
     {G : Goal 𝓤 𝓛.H} {h : Item 𝓤} where
-  -- Separates the filled slot `i` from the other slots, so that its item can be read. After this
-  -- step the proof context holds, in this order: [the bytes of the item; what the item owns; the
-  -- other slots; the header].
+  -- Separates the filled slot `i` from the other slots, so that a proof can read the item in slot
+  -- `i`. After this step, the proof context begins with these entries, in this order: the bytes of
+  -- the item; the resources that the item owns; the other slots; the header.
   pub takes_item : K → {x : el_x E} (b o : ℕ) (xs : List (Slot E)) (i : ℕ) → i < length xs
       → get_or xs i None ≡ Some x
       → ((v : Val) → Good E v → Seq K 𝓛 (Bits E 𝓤 b (i * sz E + o) v ∷ Owned E 𝓤 x v
@@ -202,9 +209,10 @@ module _ (E : El) {M : Type 1} {𝓤 : Ura M} {𝓛 : Logic 𝓤} {K : Type 0} {
       use1 𝓛 (some (λ (v : Val). given (Good E v) (Bits E 𝓤 b (i * sz E + o) v ⊛ Owned E 𝓤 x v)))
       (el_out E 𝓛 b x (i * sz E + o)) $ pick k (λ v. learn k (λ good. split k $ next v good))
 
-  -- Separates the filled slots `i` and `j` from the other slots. After this step the proof context
-  -- holds, in this order: [the bytes of the item in slot `j`; what this item owns; the bytes of the
-  -- item in slot `i`; what this item owns; the other slots; the header].
+  -- Separates the filled slots `i` and `j` from the other slots. After this step, the proof context
+  -- begins with these entries, in this order: the bytes of the item in slot `j`; the resources that
+  -- this item owns; the bytes of the item in slot `i`; the resources that this item owns; the other
+  -- slots; the header.
   pub takes_two : K → {x y : el_x E} (b o : ℕ) (xs : List (Slot E)) (i j : ℕ)
       (p : Two E 𝓛 b o xs i j) → (get_or xs i None ≡ Some x) × (get_or xs j None ≡ Some y)
       → ((v w : Val) → Good E v → Good E w → Seq K 𝓛 (Bits E 𝓤 b (j * sz E + o) w ∷ Owned E 𝓤 y w

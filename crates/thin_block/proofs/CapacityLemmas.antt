@@ -44,8 +44,9 @@ pub record Grown (R : RattleType) (c w n : ℕ) : Type 0 where
 none_some : {A B : Type 0} (x : A) → None ≡ Some x → B
 none_some x e = cc
 
--- Suppose that the growth rule `rule` satisfies `KeepsLaw`, and that `c < w`. If
--- `ruled_capacity rule R c w` is `Some n`, then `Grown R c w n` holds.
+-- Suppose that `rule` satisfies the law of growth rules (`KeepsLaw`), and that `c < w`. If
+-- `ruled_capacity rule R c w` is `Some n`, then `Grown R c w n` holds: `n` is at least `w` and at
+-- least `2 * c`, and a block of capacity `n` is small enough to be allocated.
 pub ruled-grows : (rule : Rule) (R : RattleType) (c w n : ℕ) → KeepsLaw rule → c < w
     → ruled_capacity rule R c w ≡ Some n → Grown R c w n
 ruled-grows rule R c w n law more e = elim (dec_lt w (2 ^ 64)) [
@@ -78,12 +79,12 @@ fits-less R c d e less =
 pub fits-none : (R : RattleType) → Fits R 0
 fits-none R = closed R 0 (fits_none R)
 
--- Section: blocks that are far below every size limit. The lemmas in this section are about fewer
--- than `2 ^ 31` items, and each item takes fewer than `2 ^ 31` bytes. Proofs about a known item
--- type use these lemmas.
+-- The next lemmas are about fewer than `2 ^ 31` items, each of which takes fewer than `2 ^ 31`
+-- bytes. A block for these items is far below every size limit. Proofs about a known item type use
+-- these lemmas.
 
--- Fewer than `2 ^ 31` items of fewer than `2 ^ 31` bytes each take fewer than `2 ^ 62` bytes in
--- total.
+-- If there are fewer than `2 ^ 31` items, and each item takes fewer than `2 ^ 31` bytes, then all
+-- items together take fewer than `2 ^ 62` bytes.
 pub few_bytes : (c s : ℕ) → c < 2 ^ 31 → s < 2 ^ 31 → c * s < 2 ^ 62
 few_bytes c s few small =
     let wide : c * s ≤ c * (2 ^ 31) =
@@ -98,8 +99,9 @@ small_fits R c few small =
     let about = rounded R 0 in
     closed R c (fits_yes R c (omega arith) (omega (arith, about.most)))
 
--- If the old capacity is 0 and room is needed for 1 to 4 items of less than `2 ^ 31` bytes each,
--- then the rule `doubling` chooses the capacity 4.
+-- Suppose that the old capacity is 0, and that a block needs room for at least 1 and at most 4
+-- items. If each item takes less than `2 ^ 31` bytes, then the rule `doubling` chooses the capacity
+-- 4.
 pub doubling_first : (R : RattleType) (c w : ℕ) → c ≡ 0 → 0 < w → w ≤ 4 → type_size R < 2 ^ 31
     → ruled_capacity doubling R c w ≡ Some 4
 unfolding doubling fitting first
@@ -139,8 +141,8 @@ no_answer : (b : Bool) (n : ℕ) → (IsTrue b → ⊥) → (if b then Some n el
 no_answer true n never = absurd (never refl)
 no_answer false n never = refl
 
--- If a block of capacity `n` is too large to be allocated, then the function `fitting` returns
--- `None` for `n`.
+-- If a block of capacity `n` is too large to be allocated, then `fitting` returns `None` for the
+-- capacity `n`.
 pub fitting_none : (R : RattleType) (n : ℕ) → (Fits R n → ⊥)
     → fitting (type_size R) (type_align R) n ≡ None
 unfolding fitting

@@ -1,9 +1,10 @@
--- These lemmas say what holds after a `&mut` to items of a block has ended: the block is complete
--- again, with the changed items in their slots. The lemmas assume the laws of the separation logic
--- (`Logic`).
---     `Waiting` consists of the parts of a block that are not lent while its slots are lent.
---     `item_back` is for a `&mut` to the item in one slot.
---     `items_back` is for a `&mut` to the items in adjacent slots.
+-- A method may lend the items of a block to its caller as a `&mut`. These lemmas say what holds
+-- after the `&mut` has ended: the block owns all its parts again, and its slots hold the items with
+-- their new values. The lemmas assume the laws of the separation logic (`Logic`).
+--
+-- - `Waiting` consists of the parts of a block that are never lent: all parts except the slots.
+-- - `item_back` is for a `&mut` to the item in one slot.
+-- - `items_back` is for a `&mut` to the items in adjacent slots.
 use Rattle.std.proofs.Common.{◌≡◌, ℕ, ◌+◌, ◌*◌, ◌<◌, ◌≤◌, List, ◌∷◌, [], length, Some, refl, sym, ◌∙◌, arith}
 use Rattle.std.proofs.lemmas.List.{length-map, length-set}
 use seplogic.Ra.Ura.{Ura}
@@ -31,15 +32,15 @@ module _ (E : El) (Y : Al) {M : Type 1} {𝓤 : Ura M} (𝓛 : Logic 𝓤) (x : 
   abbrev B : Type 0
   B = (Br E Y).Denot
 
-  -- The parts of a block that are not lent while its slots are lent: the header, and the memory
-  -- that holds the block's pointer.
+  -- `Waiting` consists of two parts of a block: the header, and the memory that holds the block's
+  -- pointer. The block keeps these parts while its slots are lent.
   abbrev pub Waiting : Fml
   Waiting = fsep (Header E Y x b o)
       (cell_at full_share (Br E Y).mir (block_val (block_ptr b o) ∷ []) rb ro)
 
-  -- Suppose that the list `s` is as long as the block's list of slots. If the memory of the slots
-  -- `s` is combined with the other parts of the block (`Waiting`), the result is the block with the
-  -- slots `s`.
+  -- Suppose that the list `s` is as long as the block's list of slots. Then the memory of the slots
+  -- `s` and the other parts of the block (`Waiting`) can be joined. The result is the block with
+  -- the slots `s`.
   pub slots_back : (s : List (Slot E)) (same : length s ≡ length x.slots)
       → ent 𝓤 (sep 𝓤 (sem 𝓛 (places (R E) s b (o + 16))) (sem 𝓛 Waiting))
       (sem 𝓛 ((mem (Br E Y)).own_at (with_slots x s same) rb ro))
@@ -54,7 +55,7 @@ module _ (E : El) (Y : Al) {M : Type 1} {𝓤 : Ura M} (𝓛 : Logic 𝓤) (x : 
       ((Br E Y).own_val (with_slots x s same) us)) (block_val (block_ptr b o) ∷ []) $ done !
 
   -- Suppose that a `&mut` to the item in slot `i` has ended, and that the item now has the value
-  -- `w`. Then the block is complete again, and slot `i` holds `w`.
+  -- `w`. Then the parts of the block can be joined into a whole block in which slot `i` holds `w`.
   pub item_back : (i : ℕ) → i < length x.slots → (w : el_x E)
       → ent 𝓤 (sep 𝓤 (sem 𝓛 ((mem (R E)).own_at w b (i * sz E + (o + 16))))
       (sem 𝓛 (fsep (besides E 𝓛 b (o + 16) x.slots i) Waiting)))
@@ -69,7 +70,8 @@ module _ (E : El) (Y : Al) {M : Type 1} {𝓤 : Ura M} (𝓛 : Logic 𝓤) (x : 
       by ! (slots_back y.slots (length-set x.slots i (Some w)))
 
   -- Suppose that a `&mut` to the `k` items in the slots `i..i + k` has ended, and that the items
-  -- now have the values `ws`. Then the block is complete again, and these slots hold `ws`.
+  -- now have the values `ws`. Then the parts of the block can be joined into a whole block in which
+  -- these slots hold `ws`.
   pub items_back : (i k : ℕ) → i + k ≤ length x.slots
       → ((n : ℕ) → i ≤ n → n < i + k → IsSome (slot x.slots n))
       → (ws : List (el_x E)) → length ws ≡ k

@@ -1,17 +1,19 @@
 -- These lemmas begin and end the proof of a method that takes `&mut self` or `&self`. The lemmas
--- assume the laws of the separation logic (`Logic`).
---     `dropped` is the choice that returns no argument to the caller. `all_go` allows this choice.
---     `heard_all` splits a `requires` clause that consists of several facts.
---     `block_stays` is the choice that returns only the `&mut`. `goes` allows this choice.
---     `arrives` begins the proof of any function.
---     `starts`, `begins` and `begins_with` begin the proof of a method that takes `&mut self`.
---     `token_out` separates the first lifetime token from the other lifetime tokens.
---     `enters` begins the proof about a function body, and gives the arguments explicitly.
---     `opens_self` splits the block behind the `&mut`.
---     `closes_over` puts the block back together, with changed slots.
---     `continues` continues the proof after the first statements of a body.
---     `seen` begins the proof of a method that takes `&self`.
---     `leaves`, `leaves_with` and `leaves_unit` end a proof.
+-- assume the laws of the separation logic (`Logic`). At the end of such a proof, the proof chooses
+-- which arguments the method gives back to the caller.
+--
+-- - `dropped` is the choice to give back no argument. The lemma `all_go` allows this choice.
+-- - `heard_all` splits a `requires` clause that consists of several facts.
+-- - `block_stays` is the choice to give back only the `&mut`. The lemma `goes` allows this choice.
+-- - `arrives` begins the proof of any function.
+-- - `starts`, `begins` and `begins_with` begin the proof of a method that takes `&mut self`.
+-- - `token_out` separates the first lifetime token from the other lifetime tokens.
+-- - `enters` begins the proof about a function body, and writes out each argument.
+-- - `opens_self` splits the block behind the `&mut` into its parts.
+-- - `closes_over` puts the parts of the block back together. The slots may have changed.
+-- - `continues` continues the proof after the first statements of a body.
+-- - `seen` begins the proof of a method that takes `&self`.
+-- - `leaves`, `leaves_with` and `leaves_unit` end a proof.
 use Rattle.std.proofs.Common.{◌≡◌, true, ℕ, zero, suc, ◌+◌, ◌^◌, ◌<◌, List, [], ◌∷◌, length, refl, sym, w64}
 use lib.Dec.{T}
 use seplogic.Ra.Ura.{Ura}
@@ -49,15 +51,16 @@ use Rattle.thin_block.specs.Ownership.{fits_block, places}
 use Rattle.thin_block.proofs.Walks.{Facts, Shown, after}
 use Rattle.thin_block.proofs.HeaderMemory.{Br, Header, Slots, header, t, block_val, block_opens, block_closes}
 
--- `others ss` is the list `ss` of parameters without its first parameter.
+-- `others ss` is the list of all parameters in `ss` except the first.
 abbrev pub others : {n : ℕ} → List (Slot n) → List (Slot n)
 others [] = []
 others (s ∷ ss) = ss
 
 module _ {n : ℕ} where
-  -- `dropped ss ks` is the choice that returns no argument to the caller: every argument for the
-  -- parameters `ss` is consumed. For each parameter, `ks` says for which lifetimes in its type the
-  -- contract mentions the final values of references.
+  -- A proof about a function chooses which arguments the function gives back to its caller on
+  -- return. `dropped ss ks` is the choice to give back no argument for the parameters `ss`. For
+  -- each lifetime in the type of a parameter, `ks` says whether the contract mentions the final
+  -- values of the references with this lifetime.
   abbrev pub dropped : (ss : List (Slot n)) (ks : Kepts ss) → Stays ss ks
   dropped [] ks = tt
   dropped (s ∷ ss) ks = (stay_dropped s ks.0, dropped ss ks.1)
@@ -70,7 +73,7 @@ module _ {M : Type 1} {𝓤 : Ura M} (𝓛 : Logic 𝓤) {n : ℕ} where
   AllSilent (s ∷ ss) ks = Silent 𝓛 n s ks.0 × AllSilent ss ks.1
 
   -- If the contract does not say which values the arguments have after the call, then the function
-  -- need not give the arguments back to the caller.
+  -- need not give the arguments back to its caller.
   pub all_go : (ss : List (Slot n)) (ks : Kepts ss) → AllSilent ss ks
       → AllGo 𝓛 n ss ks (dropped ss ks)
   all_go [] ks silent = tt
@@ -89,7 +92,7 @@ module _ {M : Type 1} {𝓤 : Ura M} {𝓛 : Logic 𝓤} {K : Type 0} {Γ : List
       use1 𝓛 (raw (fact 𝓤 φ) ⊛ raw (Facts 𝓤 (ψ ∷ φs))) (id⊢ 𝓤 _) $ split k $
       heard k φ (λ x. heard_all k (ψ ∷ φs) (λ xs. next (x, xs)))
 
--- The address that a reference holds, as a machine value.
+-- `ptr_of r` is the machine value of the address that the reference `r` holds.
 abbrev pub ptr_of : {X : Type 0} → MutBor X → Val
 ptr_of r = vptr r.ref_ptr.0 r.ref_ptr.1
 
@@ -98,8 +101,8 @@ abbrev pub word : {n : ℕ} → n < 2 ^ 64 → T (has_ty (ty_int w64) (vint w64 
 word fits = (tt, record { fits = fits })
 
 module _ {M : Type 1} {𝓤 : Ura M} {𝓛 : Logic 𝓤} {K : Type 0} {Γ : List (Item 𝓤)} where
-  -- Begins the proof about the body of the function `f`. The argument list `us` is replaced with
-  -- the equal list `vs`, in which each value is given explicitly.
+  -- Begins the proof about the body of the function `f`. This step replaces the argument list `us`
+  -- with the equal list `vs`, in which each argument is written out.
   pub enters : K → {C : Calls 𝓤 𝓛.H} {Λ : Loops 𝓤 𝓛.H} (f : Fn) {us : List Val}
       {P : Val → SProp 𝓤} (vs : List Val) → us ≡ vs
       → Step K 𝓛 Γ (allocs f.locals (λ E. params' E vs (runs C Λ E f.body (at_ret E P))))
@@ -113,29 +116,31 @@ module _ {M : Type 1} {𝓤 : Ura M} {𝓛 : Logic 𝓤} {K : Type 0} {Γ : List
 abbrev pub item : {T : RattleType} → Laws T → El
 item {T} L = record { row = T; laws = L }
 
--- Combines the allocator type `A`, its laws and its ghost members into one record. The lemmas about
--- blocks take this record as an argument.
+-- Combines the allocator type `A`, its laws and its ghost members (such as `dealloc_token`) into
+-- one record. The lemmas about blocks take this record as an argument.
 abbrev pub source : {A : RattleType} → Laws A → Ghosts A.Denot → Dict → Dict → Al
 source {A} L g d drops = record { row = A; laws = L; g = g; d = d; drops = drops }
 
--- The generic arguments of a function: the item type, the allocator type and one const argument.
+-- `args_at E Y N` contains the generic arguments of a function: the item type `E`, the allocator
+-- type `Y`, and the const argument `N`.
 abbrev pub args_at : El → Al → ℕ → Args
 args_at E Y N = bounded (a_type ∷ a_type ∷ a_number ∷ []) (E.row, (Y.row, (number N, tt)))
     (dcons Y.d (dcons Y.drops dnil))
 
 module _ (E : El) (Y : Al) {n : ℕ} (ss : List (Slot (suc n))) where
-  -- The parameters of a method that takes `&mut self`: first the `&mut Block`, and then the
-  -- parameters `ss`.
+  -- `on_block` lists the parameters of a method that takes `&mut self`: first the `&mut Block`, and
+  -- then the parameters `ss`.
   abbrev pub on_block : List (Slot (suc n))
   on_block = mut_ref_to (0 ∷ []) tt (plain (λ _. Br E Y)) ∷ ss
 
-  -- `block_stays ks` is the choice that returns only the `&mut Block` to the caller at the end of
-  -- the method.
+  -- A proof about a method chooses which arguments the method gives back to its caller on return.
+  -- `block_stays ks` is the choice to give back only the `&mut Block`.
   abbrev pub block_stays : (ks : Kepts ss) → Stays on_block (yes, ks)
   block_stays ks = (stay_ref (0 ∷ []) tt (plain (λ _. Br E Y)), dropped ss ks)
 
-  -- If the contract does not say which values the arguments other than `self` have after the call,
-  -- then the method need not give these arguments back to the caller.
+  -- Suppose that the contract of a method says nothing about the values that the arguments other
+  -- than `self` have after the call. Then the method need not give these arguments back to its
+  -- caller.
   pub goes : {M : Type 1} {𝓤 : Ura M} (𝓛 : Logic 𝓤) (ks : Kepts ss) → AllSilent 𝓛 ss ks
       → AllGo 𝓛 (suc n) on_block (yes, ks) (block_stays ks)
   goes 𝓛 ks silent =
@@ -153,21 +158,22 @@ module _ {M : Type 1} {𝓤 : Ura M} {𝓛 : Logic 𝓤} {K : Type 0} {Γ : List
       (env f.locals l) (after k f.body) (at_ret (env f.locals l) P)
 
 module _ {n : ℕ} (s : Slot (suc n)) (ss : List (Slot (suc n))) where
-  -- The type of everything that is passed to a function: lifetimes, shares of lifetime tokens,
-  -- bounds on the lifetimes, and the arguments with their machine values.
+  -- `Passed Bd` is the type of everything that is passed to a function: lifetimes, shares of
+  -- lifetime tokens, bounds on the lifetimes, and the arguments with their machine values.
   abbrev Passed : (Lfts (suc n) → Type 0) → Type 0
   Passed Bd = (κs : Lfts (suc n)) × Shares (suc n) × Bd κs × Denots (types_at (s ∷ ss) κs)
       × Valss (types_at (s ∷ ss) κs)
 
-  -- `Entry 𝓛 x` states what a function owns on entry if `x` is passed to the function. The
-  -- `requires` clauses are not included.
+  -- `Entry 𝓛 x` states what a function owns at the start of a call: lifetime tokens, and what its
+  -- arguments own. Here, `x` is everything that the caller passes to the function. `Entry 𝓛 x` does
+  -- not include the `requires` clauses.
   abbrev Entry : {M : Type 1} {𝓤 : Ura M} (𝓛 : Logic 𝓤) {Bd : Lfts (suc n) → Type 0} → Passed Bd
       → SProp 𝓤
   Entry {𝓤 = 𝓤} 𝓛 x = sep 𝓤 (toks 𝓛 (suc n) x.0 x.1) (sem 𝓛 (owns (types_at (s ∷ ss) x.0) x.3 x.4))
 
-  -- Begins the proof of a function. After this step the proof context holds, in this order: [what
-  -- the first argument owns; the first lifetime token; the other lifetime tokens; what the other
-  -- arguments own; the `requires` clauses].
+  -- Begins the proof of a function. After this step, the proof context holds these entries, in this
+  -- order: what the first argument owns; the first lifetime token; the other lifetime tokens; what
+  -- the other arguments own; the `requires` clauses.
   pub arrives : {M : Type 1} {𝓤 : Ura M} (𝓛 : Logic 𝓤) {Bd : Lfts (suc n) → Type 0} {P : SProp 𝓤}
       (x : Passed Bd) (Q : SProp 𝓤)
       → Sq 𝓛 (‵ ((s.row x.0).own_val x.3.0 x.4.0) ∷ ‵ (flft x.0.0 x.1.0)
@@ -179,25 +185,27 @@ module _ {n : ℕ} (s : Slot (suc n)) (ss : List (Slot (suc n))) where
 
 module _ (E : El) (Y : Al) {M : Type 1} {𝓤 : Ura M} (𝓛 : Logic 𝓤) {n : ℕ}
     (ss : List (Slot (suc n))) where
-  -- A parameter of type `&mut Block`.
+  -- `lent` is a parameter of type `&mut Block`.
   abbrev lent : Slot (suc n)
   lent = mut_ref_to (0 ∷ []) tt (plain (λ _. Br E Y))
 
-  -- A parameter of type `&Block`.
+  -- `shared` is a parameter of type `&Block`.
   abbrev shared : Slot (suc n)
   shared = shr_ref_to (0 ∷ []) tt (plain (λ _. Br E Y))
 
-  -- The proof context on entry to a method that takes `&mut self`. It holds, in this order: [the
-  -- current value of the `&mut`; the borrow of the block; the lifetime token of this `&mut`; the
-  -- other lifetime tokens; what the other arguments own; the entries in the list `Γ`].
+  -- `Entered x Γ` is the proof context at the start of a method that takes `&mut self`. It holds
+  -- these entries, in this order: the current value of the `&mut`; the borrow of the block; the
+  -- lifetime token of this `&mut`; the other lifetime tokens; what the other arguments own; the
+  -- entries in the list `Γ`.
   abbrev Entered : {Bd : Lfts (suc n) → Type 0} → Passed lent ss Bd → List (Item 𝓤) → List (Item 𝓤)
   Entered x Γ = ‵ (fobs x.3.0.ghost_name ((Br E Y).coded.code x.3.0.now)) ∷ ‵
       (fbor x.0.0 (Body (mem (Br E Y)) x.3.0.ref_ptr.0 x.3.0.ref_ptr.1 x.3.0.ghost_name))
       ∷ ‵ (flft x.0.0 x.1.0) ∷ raw (toks 𝓛 n x.0.1 x.1.1) ∷ ‵
       (owns (types_at ss x.0) x.3.1 x.4.1) ∷ Γ
 
-  -- Begins the proof of a method that takes `&mut self`. After this step, the `requires` clauses
-  -- are the last entry of the proof context.
+  -- Begins the proof of a method that takes `&mut self`. After this step, the proof context holds
+  -- everything that the method owns at the start of a call (`Entered`), and then the `requires`
+  -- clauses.
   pub starts : {Bd : Lfts (suc n) → Type 0} {P : SProp 𝓤} (x : Passed lent ss Bd) (Q : SProp 𝓤)
       → Sq 𝓛 (Entered x (raw Q ∷ [])) (prop P) → ent 𝓤 (sep 𝓤 (Entry lent ss 𝓛 x) Q) P
   starts x Q next = arrives lent ss 𝓛 x Q (fsplit3 ! $ drop ! $ next)
@@ -211,8 +219,9 @@ module _ (E : El) (Y : Al) {M : Type 1} {𝓤 : Ura M} (𝓛 : Logic 𝓤) {n : 
       (move ! (5 ∷ []) $ heard_all ! φs (λ said. next said))
 
   -- Begins the proof of a method that takes `&mut self`, and discards the resources of the other
-  -- arguments. After this step the proof context holds, in this order: [the current value of the
-  -- `&mut`; the borrow of the block; the lifetime token of this `&mut`; the other lifetime tokens].
+  -- arguments. After this step, the proof context holds these entries, in this order: the current
+  -- value of the `&mut`; the borrow of the block; the lifetime token of this `&mut`; the other
+  -- lifetime tokens.
   pub begins : {Bd : Lfts (suc n) → Type 0} {P : SProp 𝓤} (x : Passed lent ss Bd)
       (φs : List (Type 0))
       → (Shown φs → Sq 𝓛 (‵ (fobs x.3.0.ghost_name ((Br E Y).coded.code x.3.0.now)) ∷ ‵
@@ -221,9 +230,9 @@ module _ (E : El) (Y : Al) {M : Type 1} {𝓤 : Ura M} (𝓛 : Logic 𝓤) {n : 
       → ent 𝓤 (sep 𝓤 (Entry lent ss 𝓛 x) (Facts 𝓤 φs)) P
   begins x φs next = begins_with x φs (λ said. keep ! (0 ∷ 1 ∷ 2 ∷ 3 ∷ []) $ next said)
 
-  -- Begins the proof of a method that takes `&self`. After this step the proof context holds, in
-  -- this order: [what the `&` gives access to; the lifetime token of this `&`; the other lifetime
-  -- tokens; what the other arguments own; the `requires` clauses].
+  -- Begins the proof of a method that takes `&self`. After this step, the proof context holds these
+  -- entries, in this order: the resources behind the `&`; the lifetime token of this `&`; the other
+  -- lifetime tokens; what the other arguments own; the `requires` clauses.
   pub seen : {Bd : Lfts (suc n) → Type 0} {P : SProp 𝓤} (x : Passed shared ss Bd) (Q : SProp 𝓤)
       → Sq 𝓛 (‵ (hidden_shr (Br E Y) x.0.0 x.3.0.now x.3.0.ref_ptr.0 x.3.0.ref_ptr.1)
       ∷ ‵ (flft x.0.0 x.1.0) ∷ raw (toks 𝓛 n x.0.1 x.1.1) ∷ ‵
@@ -240,9 +249,9 @@ module _ {M : Type 1} {𝓤 : Ura M} {𝓛 : Logic 𝓤} {K : Type 0} {Γ : List
   token_out k n κs qs = step (λ s.
       use1 𝓛 (‵ (flft κs.0 qs.0) ⊛ raw (toks 𝓛 n κs.1 qs.1)) (id⊢ 𝓤 _) $ split k $ s)
 
--- Suppose that a function does not give `m` of its arguments back to the caller. Then `blanks m` is
--- what must be proved about these arguments at the end of the function. It consists of one
--- trivially true formula for each argument.
+-- `blanks m` is what must be proved at the end of a function about `m` arguments that the function
+-- does not give back to its caller. It consists of one trivially true formula for each of these
+-- arguments.
 abbrev pub blanks : ℕ → Fml
 blanks zero = ftrue
 blanks (suc m) = fsep ftrue (blanks m)
@@ -256,10 +265,10 @@ module _ {M : Type 1} {𝓤 : Ura M} {𝓛 : Logic 𝓤} {K : Type 0} {Γ : List
   blank k (suc m) = step (λ s. blank k m $ nothing k $ fjoin k $ s)
 
 module _ {M : Type 1} {𝓤 : Ura M} {𝓛 : Logic 𝓤} {K : Type 0} {G : Goal 𝓤 𝓛.H} where
-  -- Ends the proof of a function that gives none of its `m` arguments back to the caller. Before
-  -- this step the proof context holds, in this order: [a lifetime token; the result; the other
-  -- lifetime tokens]. The step combines these entries into what the function must own when it
-  -- returns.
+  -- Ends the proof of a function that gives none of its `m` arguments back to its caller. Before
+  -- this step, the proof context holds these entries, in this order: a lifetime token; the result;
+  -- the other lifetime tokens. This step combines these entries into what the function must own
+  -- when it returns.
   pub leaves : K → {Q F : Fml} {T : Item 𝓤} (m : ℕ)
       → Step K 𝓛 (((‵ Q ⊛ T) ⊛ ‵ (blanks m) ⊛ ‵ F) ∷ []) G (‵ Q ∷ ‵ F ∷ T ∷ []) G
   leaves k m = step (λ s. move k (0 ∷ 2 ∷ []) $ join k $ blank k m $ move k (0 ∷ 2 ∷ []) $ join k $
@@ -267,7 +276,10 @@ module _ {M : Type 1} {𝓤 : Ura M} {𝓛 : Logic 𝓤} {K : Type 0} {G : Goal 
 
 module _ (E : El) (Y : Al) {M : Type 1} {𝓤 : Ura M} {𝓛 : Logic 𝓤} {K : Type 0}
     {G : Goal 𝓤 𝓛.H} where
-  -- Splits the block behind the reference `r` into its parts, as the lemma `block_opens` does.
+  -- Splits the block behind the `&mut` reference `r` into its parts. After this step, the proof
+  -- context begins with these entries, in this order: the header; the slots; the memory that holds
+  -- the block's pointer; three entries for the open borrow of the block. The last three entries
+  -- include the lifetime token of the borrow.
   pub opens_self : K → Soaks G → {Γ : List (Item 𝓤)} {κ : Lft} {q : Share}
       (r : MutBor (Br E Y).Denot)
       → ((b o : ℕ) → r.now.at ≡ block_ptr b o → fits_block (R E) (length r.now.slots) ≡ true
@@ -280,10 +292,10 @@ module _ (E : El) (Y : Al) {M : Type 1} {𝓤 : Ura M} {𝓛 : Logic 𝓤} {K : 
       (fbor κ (Body (mem (Br E Y)) r.ref_ptr.0 r.ref_ptr.1 r.ghost_name)) ∷ ‵ (flft κ q) ∷ Γ) G
   opens_self k z r next = block_opens E Y k z r.now r.ref_ptr.0 r.ref_ptr.1 next
 
-  -- Puts the parts of the block behind a `&mut` back together. Before this step the proof context
-  -- holds, in this order: [the slots, which may have changed; the header; the memory that holds the
-  -- block's pointer; three entries for the open borrow of the block, which include the lifetime
-  -- token of the borrow].
+  -- Puts the parts of the block behind a `&mut` back together. Before this step, the proof context
+  -- begins with these entries, in this order: the slots, which may have changed; the header; the
+  -- memory that holds the block's pointer; three entries for the open borrow of the block. The last
+  -- three entries include the lifetime token of the borrow.
   pub closes_over : K → Soaks G → {Γ : List (Item 𝓤)} {κ : Lft} {q : Share} {u v : Gv} {c : ℕ}
       (r : MutBor (Br E Y).Denot) (y : (Br E Y).Denot) (b o : ℕ) → y.at ≡ block_ptr b o
       → length y.slots ≡ c
@@ -297,10 +309,10 @@ module _ (E : El) (Y : Al) {M : Type 1} {𝓤 : Ura M} {𝓛 : Logic 𝓤} {K : 
       rewrite k 1 (λ (c : ℕ). ‵ (header (t E Y) (R E) y.len c y.alloc b o)) (sym long) refl $
       move k (1 ∷ 0 ∷ []) $ block_closes E Y k z y b o r.ref_ptr.0 r.ref_ptr.1 at $ s)
 
-  -- Ends the proof of a method that takes `&mut self` and `m` further parameters. Before this step
-  -- the proof context holds, in this order: [the current value of the `&mut`; the borrow of the
-  -- block; the lifetime token of this `&mut`; the result; the other lifetime tokens]. The step
-  -- combines these entries into what the method must own when it returns.
+  -- Ends the proof of a method that takes `&mut self` and `m` further parameters. Before this step,
+  -- the proof context holds these entries, in this order: the current value of the `&mut`; the
+  -- borrow of the block; the lifetime token of this `&mut`; the result; the other lifetime tokens.
+  -- This step combines these entries into what the method must own when it returns.
   pub leaves_with : K → {κ : Lft} {q : Share} {us : List Val} {F : Fml} {T : Item 𝓤}
       (r : MutBor (Br E Y).Denot) (y : (Br E Y).Denot) (m : ℕ) → us ≡ mut_vals r
       → Step K 𝓛 (((‵ (flft κ q) ⊛ T) ⊛ ‵
@@ -313,9 +325,9 @@ module _ (E : El) (Y : Al) {M : Type 1} {𝓤 : Ura M} {𝓛 : Logic 𝓤} {K : 
       move k (0 ∷ 2 ∷ []) $ join k $ move k (1 ∷ 2 ∷ []) $ join k $ join k $ s)
 
   -- Ends the proof of a method that takes `&mut self` and `m` further parameters, and returns `()`.
-  -- Before this step the proof context holds, in this order: [the current value of the `&mut`; the
-  -- borrow of the block; the lifetime token of this `&mut`; the other lifetime tokens]. The step
-  -- combines these entries into what the method must own when it returns.
+  -- Before this step, the proof context holds these entries, in this order: the current value of
+  -- the `&mut`; the borrow of the block; the lifetime token of this `&mut`; the other lifetime
+  -- tokens. This step combines these entries into what the method must own when it returns.
   pub leaves_unit : K → {κ : Lft} {q : Share} {us : List Val} {T : Item 𝓤}
       (r : MutBor (Br E Y).Denot) (y : (Br E Y).Denot) (m : ℕ) → us ≡ mut_vals r
       → Step K 𝓛 (((‵ (flft κ q) ⊛ T) ⊛ ‵

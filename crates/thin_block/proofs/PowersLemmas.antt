@@ -16,7 +16,8 @@ use Rattle.thin_block.specs.PowerLaws.{least_power_is, powers_filled, powers_of_
 use Rattle.thin_block.proofs.CapacityLemmas.{fitting_none}
 use Rattle.thin_block.proofs.SizesLemmas.{fits_tells, opened, rounded}
 
--- The code caps the item size `s` at `usize::MAX`. If the capped size is 0, then `s` is 0.
+-- `size` is the item size that the code of the growth rule `PowerBytes` uses: `s`, or `usize::MAX`
+-- if `s` is greater. If `size` is 0, then `s` is 0.
 pub takes_none : (s size : ℕ) → size ≡ capped s → size ≡ 0 → s ≡ 0
 takes_none s size is none =
     let low : s < 2 ^ 63 = capped_small s (omega (arith, is, none)) in
@@ -47,8 +48,9 @@ module _ (R : RattleType) (c w size : ℕ) (is : size ≡ capped (type_size R))
   abbrev a : ℕ
   a = type_align R
 
-  -- `items` is the number that the code computes as the greater of `w` and `2 * c`. If `2 * c`
-  -- exceeds `usize::MAX`, the code uses `usize::MAX` instead of `2 * c`.
+  -- `items` is the greater of the required capacity `w` and twice the old capacity `c`, as the code
+  -- of `PowerBytes` computes it. If `2 * c` exceeds `usize::MAX`, the code uses `usize::MAX`
+  -- instead of `2 * c`.
   abbrev items : ℕ
   items = max w (min (c * 2) (2 ^ 64 - 1))
 

@@ -1,6 +1,6 @@
--- These lemmas verify a call of the function `resized`, which grows or shrinks a block. They say
--- what the call requires, and what the caller owns after the call. The lemmas assume the laws of
--- the separation logic (`Logic`).
+-- These lemmas verify a call of the function `resized`, which grows or shrinks a block. They state
+-- what the caller must own before the call, and what the caller owns after the call. The lemmas
+-- assume the laws of the separation logic (`Logic`).
 use Rattle.std.proofs.Common.{ℕ, ◌≤◌, List, [], ◌∷◌, refl, w64, ◌^◌, ◌<◌}
 use seplogic.Ra.Ura.{Ura}
 use mir.Val.{Val, vint, vptr}
@@ -23,8 +23,9 @@ use Rattle.core.proofs.mem.Param.{El, R, el_x}
 use Rattle.thin_block.specs.contracts.in_place.resized as F
 
 -- `Sized E len held wanted` is a condition that the allocator's methods `grow` and `shrink`
--- require. It states that `len` items fit into the old memory block of `held` items and into the
--- new memory block of `wanted` items, and that neither memory block is too large to be allocated.
+-- require. It states that `len` items fit into the old memory block, which has room for `held`
+-- items, and into the new memory block, which has room for `wanted` items. It also states that
+-- neither memory block is too large to be allocated.
 abbrev pub Sized : El → Sizes
 Sized E len held wanted = (len ≤ held) × ((len ≤ wanted)
     × (FitsBlock (R E) held × FitsBlock (R E) wanted))
@@ -39,7 +40,9 @@ module _ (E : El) (Y : Al) {M : Type 1} {𝓤 : Ura M} (𝓛 : Logic 𝓤) (at_m
 
   module _ (κ κT κA : Lft) (q qT qA : Share) (out : κ ⊑ κA) (p : ℕ × ℕ) (a : Y.row.Denot)
       (b o len held wanted : ℕ) (xs : List (el_x E)) where
-    -- The ghost arguments of a call of the function `resized`.
+    -- `at_resizing` contains the ghost arguments of a call of the function `resized`. These are
+    -- lifetimes, shares of lifetime tokens, the arguments of the call with their machine values,
+    -- and the items `xs`.
     abbrev pub at_resizing : Resizing.Ghost
     at_resizing = (
       (
@@ -85,9 +88,10 @@ module _ (E : El) (Y : Al) {M : Type 1} {𝓤 : Ura M} (𝓛 : Logic 𝓤) (at_m
         feq_i ! (List Val) (vint w64 len ∷ []) (vint w64 len ∷ []) refl $ fjoin ! $ fjoin ! $
         feq_i ! (List Val) (vptr b o ∷ []) (vptr b o ∷ []) refl $ fjoin ! $ move ! (2 ∷ []) $
         feq_i ! (List Val) (vptr p.0 p.1 ∷ []) (vptr p.0 p.1 ∷ []) refl $ fjoin ! $ fjoin ! $
-        -- The arguments have been joined into one entry. The proof context holds, in this order:
-        -- [the arguments; one entry for the required facts and the memory of the block; the
-        -- lifetime tokens of the shared reference to the allocator, of `T` and of `A`].
+        -- The previous steps have joined the arguments of the call into one entry of the proof
+        -- context. The proof context now holds these entries, in this order: the arguments; one
+        -- entry for the required facts and the memory of the block; the lifetime tokens of the
+        -- shared reference to the allocator, of `T` and of `A`.
         nothing ! $ move ! (5 ∷ 0 ∷ []) $ join ! $ move ! (4 ∷ 0 ∷ []) $ join ! $
         move ! (3 ∷ 0 ∷ []) $ join ! $ join ! $ join ! $ done !
 

@@ -1,6 +1,7 @@
 -- These lemmas say when a block may be sent to another thread (`block_send`), and when a block may
 -- be shared between threads (`block_sync`). `Keyless` says that a resource does not depend on the
--- thread that owns it. `Common` says the same about the resources that a `&` gives access to.
+-- thread that owns the resource. `Common` says that the resources behind a `&` do not depend on the
+-- thread that uses the `&`.
 use Rattle.std.specs.Prelude.{ℕ, zero, suc, ◌+◌, List, [], ◌∷◌, length, Option}
 use Rattle.std.specs.declared.option.Option.TheVariants.{Some, None}
 use Rattle.std.specs.Int.{div_ceil}
@@ -28,13 +29,13 @@ number_sync : IsSync usize
 number_sync = search sendable
 
 -- The right to convert memory for items into memory for words does not depend on the thread that
--- owns it. A word is a struct of 8 or 16 bytes that consists of whole items.
+-- owns this right. A word is a struct of 8 or 16 bytes that consists of whole items.
 ways_Keyless : (τ : Ty) (m w b o : ℕ) → Keyless (ways τ m w b o)
 ways_Keyless τ m zero b o = tt
 ways_Keyless τ m (suc w) b o = ((tt, tt), ways_Keyless τ m w b (o + size (word_of τ m)))
 
 -- The right to convert the parts of a block back into its whole allocation does not depend on the
--- thread that owns it.
+-- thread that owns this right.
 way_back_Keyless : (w : Option (ℕ × ℕ)) (τ : Ty) (c b o : ℕ) → Keyless (way_back w τ c b o)
 way_back_Keyless None τ c b o = ((tt, (tt, tt)), tt)
 way_back_Keyless (Some w) τ c b o =
@@ -42,13 +43,13 @@ way_back_Keyless (Some w) τ c b o =
 
 module _ (R : RattleType) where
   -- If items may be sent to another thread, then the memory of one slot does not depend on the
-  -- thread that owns it.
+  -- thread that owns this memory.
   place_Keyless : IsSend R → (x : Option R.Denot) (b o : ℕ) → Keyless (place R x b o)
   place_Keyless s (Some x) b o = lies R s (block_ptr b o) x
   place_Keyless s None b o = tt
 
   -- If items may be sent to another thread, then the memory of several slots does not depend on the
-  -- thread that owns it.
+  -- thread that owns this memory.
   places_Keyless : IsSend R → (xs : List (Option R.Denot)) (b o : ℕ) → Keyless (places R xs b o)
   places_Keyless s [] b o = tt
   places_Keyless s (x ∷ xs) b o =
@@ -70,8 +71,8 @@ module _ (R : RattleType) where
 
   module _ (Z : RattleType) (g : Ghosts Z.Denot) where
     -- Suppose that items may be sent to another thread, and that the right to free memory does not
-    -- depend on the thread that owns it. Then the resources of a block do not depend on the thread
-    -- that owns the block.
+    -- depend on the thread that owns this right. Then the resources of a block do not depend on the
+    -- thread that owns the block.
     block_Keyless : IsSend R → Frees g g.dealloc_token → (p : Ptr) (n : ℕ)
         (xs : List (Option R.Denot)) (a : Option Z.Denot)
         → Keyless (block_owns g.dealloc_token R p n xs a)

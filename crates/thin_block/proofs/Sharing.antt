@@ -59,7 +59,7 @@ module _ (R : RattleType) {D : Type 0} {M : Type 1} {𝓤 : Ura M} (𝓛 : Logic
   words_lent n (x ∷ xs) None b o is le = absurd (clash is)
 
 module _ (E : El) (Y : Al) {M : Type 1} {𝓤 : Ura M} (𝓛 : Logic 𝓤) (κ : Lft) where
-  -- The struct type with the fields of a block that exist at run time.
+  -- `Words` is a struct type. Its fields are those fields of a block that exist at run time.
   abbrev Words : RattleType
   Words = Struct (shape (block.the_type (R E) (param 1 Y.row) Y.g))
 
@@ -81,8 +81,9 @@ module _ (E : El) (Y : Al) {M : Type 1} {𝓤 : Ura M} (𝓛 : Logic 𝓤) (κ :
 
 module _ (E : El) (Y : Al) {M : Type 1} {𝓤 : Ura M} {𝓛 : Logic 𝓤} {K : Type 0}
     {Γ : List (Item 𝓤)} {G : Goal 𝓤 𝓛.H} where
-  -- Splits a `&` to a block into its parts. After this step the proof context holds, in this order:
-  -- [the `&` to the pointer; the `&` to the capacity; the `&` to the length; the `&` to the slots].
+  -- Splits a `&` to a block into its parts. After this step, the proof context begins with these
+  -- entries, in this order: the `&` to the block's pointer; the `&` to the capacity; the `&` to the
+  -- length; the `&` to the slots.
   pub block_seen : K → {κ : Lft} (x : (Br E Y).Denot) (rb ro : ℕ)
       → ((b o : ℕ) → x.at ≡ block_ptr b o → fits_block (R E) (length x.slots) ≡ true
       → Seq K 𝓛 (‵ (hidden_shr RawPtr κ x.at rb (ro + 0)) ∷ ‵

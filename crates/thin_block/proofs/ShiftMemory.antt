@@ -1,9 +1,11 @@
--- A run consists of the items in adjacent slots. These lemmas separate the old and the new slots of
--- a run from the other slots of a block, and put all slots back together after the run has been
--- moved. The lemmas assume the laws of the separation logic (`Logic`).
---     `Moves` says that the slots can be separated before the move, and put back together later.
---     `apart` proves `Moves` if the old and the new slots of the run do not overlap.
---     `slides` proves `Moves` if the run is moved through empty slots.
+-- These lemmas are about moving a run, which consists of the items in adjacent slots. They separate
+-- the memory of the old and the new slots of a run from the memory of the other slots of a block.
+-- After the run has been moved, they put the memory of all slots back together. The lemmas assume
+-- the laws of the separation logic (`Logic`).
+--
+-- - `Moves` says that the memory can be separated before the move, and put back together later.
+-- - `apart` proves `Moves` if the old and the new slots of the run do not overlap.
+-- - `slides` proves `Moves` if the run is moved through empty slots.
 use Rattle.std.proofs.Common.{◌≡◌, ◌⊎◌, Bool, true, false, ℕ, Some, None, ◌+◌, ◌-◌, ◌*◌, ◌<◌, ◌≤◌, List, [], ◌∷◌, ◌++◌, length, refl, sym, ap, ◌∙◌, arith, append_assoc}
 use Rattle.std.proofs.lemmas.List.{length-map, length-replicate, length-append, length-take}
 use mathlib.Core.Logic.{inl, inr, ⊎_elim}
@@ -62,9 +64,9 @@ module _ (E : El) {M : Type 1} {𝓤 : Ura M} (𝓛 : Logic 𝓤) (b o : ℕ) (s
   abbrev Room : ℕ → ℕ → Fml
   Room n at = froom (ty_array (elτ E) n) b at
 
-  -- A move turns the memory `Was` of some slots into the memory `Is`. `Moves Was Is` states that
-  -- `Was` can be separated from the memory of all other slots before the move, and that `Is` can be
-  -- joined with the memory of these other slots after the move.
+  -- `Moves Was Is` is about a move that turns the memory `Was` of some slots into the memory `Is`.
+  -- It states that, before the move, `Was` can be separated from the memory of the other slots. It
+  -- also states that, after the move, `Is` can be joined with the memory of the other slots.
   pub record Moves (Was Is : Fml) : Type 1 where
     pub Rest : Fml
     pub out : ent 𝓤 (sem 𝓛 (Row o slots)) (sep 𝓤 (sem 𝓛 Was) (sem 𝓛 Rest))
@@ -76,9 +78,9 @@ module _ (E : El) {M : Type 1} {𝓤 : Ura M} (𝓛 : Logic 𝓤) (b o : ℕ) (s
   empty-long : (n : ℕ) → length (empty {T = el_x E} n) ≡ n
   empty-long n = length-replicate n None
 
-  -- If the `d` slots directly before a run of adjacent items are empty, then the memory of the
-  -- items and of these slots can be split off from the memory of the other slots. After the items
-  -- have been moved down by `d` slots, the memory of all slots can be put back together.
+  -- Suppose that the `d` slots directly before a run of adjacent items are empty. Then the memory
+  -- of the items and of the `d` slots can be separated from the memory of the other slots. After
+  -- the items have been moved down by `d` slots, the memory of all slots can be put back together.
   pub slides_down : (d : ℕ) → from ≡ to + d → from + k ≤ length slots → run to d slots ≡ empty d
       → Moves (memory_before_copy (R E) false d k (block_ptr b src) (block_ptr b dst) xs)
       (memory_after_copy (R E) false d k (block_ptr b src) (block_ptr b dst) xs)
@@ -128,9 +130,9 @@ module _ (E : El) {M : Type 1} {𝓤 : Ura M} (𝓛 : Logic 𝓤) (b o : ℕ) (s
             rewrite ! 0 (λ (l : S). ‵ (Row o l)) result refl $ done !;
       }
 
-  -- If the `d` slots directly after a run of adjacent items are empty, then the memory of the items
-  -- and of these slots can be split off from the memory of the other slots. After the items have
-  -- been moved up by `d` slots, the memory of all slots can be put back together.
+  -- Suppose that the `d` slots directly after a run of adjacent items are empty. Then the memory of
+  -- the items and of the `d` slots can be separated from the memory of the other slots. After the
+  -- items have been moved up by `d` slots, the memory of all slots can be put back together.
   pub slides_up : (d : ℕ) → to ≡ from + d → to + k ≤ length slots → run (from + k) d slots ≡ empty d
       → Moves (memory_before_copy (R E) true d k (block_ptr b src) (block_ptr b dst) xs)
       (memory_after_copy (R E) true d k (block_ptr b src) (block_ptr b dst) xs)
@@ -179,7 +181,8 @@ module _ (E : El) {M : Type 1} {𝓤 : Ura M} (𝓛 : Logic 𝓤) (b o : ℕ) (s
       }
 
   -- Splits the memory of the slots `ys ++ (mid ++ zs)` into the memory of `ys`, the memory of `zs`
-  -- and the memory of `mid`. The list `ys` consists of `k` slots.
+  -- and the memory of `mid`. The list `ys` consists of `k` slots. The memory of `ys` begins at the
+  -- offset `lo`, and the memory of `zs` begins at the offset `hi`.
   cut3 : (ys mid zs : S) (lo hi : ℕ) → length ys ≡ k → hi ≡ length mid * s + (k * s + lo)
       → ent 𝓤 (sem 𝓛 (Row lo (ys ++ (mid ++ zs))))
       (sep 𝓤 (sem 𝓛 (Row lo ys)) (sep 𝓤 (sem 𝓛 (Row hi zs)) (sem 𝓛 (Row (k * s + lo) mid))))
@@ -200,11 +203,13 @@ module _ (E : El) {M : Type 1} {𝓤 : Ura M} (𝓛 : Logic 𝓤) (b o : ℕ) (s
       $ move ! (1 ∷ 0 ∷ []) $
       by ! (glue E 𝓛 b ys (mid ++ zs) lo (k * s + lo) (ap (λ (n : ℕ). n * s + lo) (sym count)))
 
-  -- The memory before the move: the items at their old address, and empty slots at the new address.
+  -- `Was` is the memory before the move: the items at their old address, and empty slots at the new
+  -- address.
   abbrev pub Was : Fml
   Was = fsep (Items src) (Room k dst)
 
-  -- The memory after the move: the items at their new address, and empty slots at the old address.
+  -- `Is` is the memory after the move: the items at their new address, and empty slots at the old
+  -- address.
   abbrev pub Is : Fml
   Is = fsep (Items dst) (Room k src)
 
@@ -217,9 +222,10 @@ module _ (E : El) {M : Type 1} {𝓤 : Ura M} (𝓛 : Logic 𝓤) (b o : ℕ) (s
       let same : length mid * s ≡ m * s = ap (λ (n : ℕ). n * s) count in
       omega arith
 
-  -- If `k` adjacent slots somewhere above a run of `k` items are empty, then the memory of the
-  -- items and of these slots can be split off from the memory of the other slots. After the items
-  -- have been moved up into these slots, the memory of all slots can be put back together.
+  -- Suppose that `k` adjacent slots somewhere above a run of `k` items are empty. Then the memory
+  -- of the items and of the empty slots can be separated from the memory of the other slots. After
+  -- the items have been moved up into the empty slots, the memory of all slots can be put back
+  -- together.
   goes_over : (m : ℕ) → to ≡ from + k + m → to + k ≤ length slots
       → run to k slots ≡ empty k → Moves Was Is
   goes_over m apart within gap =
@@ -277,9 +283,10 @@ module _ (E : El) {M : Type 1} {𝓤 : Ura M} (𝓛 : Logic 𝓤) (b o : ℕ) (s
             rewrite ! 0 (λ (l : S). ‵ (Row o l)) result refl $ done !;
       }
 
-  -- If `k` adjacent slots somewhere below a run of `k` items are empty, then the memory of the
-  -- items and of these slots can be split off from the memory of the other slots. After the items
-  -- have been moved down into these slots, the memory of all slots can be put back together.
+  -- Suppose that `k` adjacent slots somewhere below a run of `k` items are empty. Then the memory
+  -- of the items and of the empty slots can be separated from the memory of the other slots. After
+  -- the items have been moved down into the empty slots, the memory of all slots can be put back
+  -- together.
   goes_back : (m : ℕ) → from ≡ to + k + m → from + k ≤ length slots
       → run to k slots ≡ empty k → Moves Was Is
   goes_back m apart within gap =
@@ -337,14 +344,15 @@ module _ (E : El) {M : Type 1} {𝓤 : Ura M} (𝓛 : Logic 𝓤) (b o : ℕ) (s
             rewrite ! 0 (λ (l : S). ‵ (Row o l)) result refl $ done !;
       }
 
-  -- `Bare` is the precondition `empty` of `move_run`. It states that each slot to which an item is
-  -- moved is empty or is one of the slots from which the items are moved.
+  -- `Bare` is the precondition `empty` of the function `move_run`. It states that each slot to
+  -- which an item is moved is empty, or is one of the slots from which the items are moved.
   abbrev pub Bare : Type 0
   Bare = (i : ℕ) → to ≤ i → i < to + k → (i < from) ⊎ (from + k ≤ i) → slot slots i ≡ None
 
-  -- Suppose that adjacent items are to be moved to empty slots, and that their old and new slots do
-  -- not overlap. Then the memory of the old and new slots can be split off from the memory of the
-  -- other slots. After the move, the memory of all slots can be put back together.
+  -- Suppose that adjacent items are to be moved to empty slots, and that the old and the new slots
+  -- of the items do not overlap. Then the memory of the old and the new slots can be separated from
+  -- the memory of the other slots. After the move, the memory of all slots can be put back
+  -- together.
   pub apart : from + k ≤ length slots → to + k ≤ length slots → Bare → (from + k ≤ to)
       ⊎ (to + k ≤ from) → Moves Was Is
   apart source target bare far =
@@ -365,21 +373,22 @@ module _ (E : El) {M : Type 1} {𝓤 : Ura M} (𝓛 : Logic 𝓤) (b o : ℕ) (s
   Way up = Moves (memory_before_copy (R E) up (distance up) k (block_ptr b src) (block_ptr b dst)
       xs) (memory_after_copy (R E) up (distance up) k (block_ptr b src) (block_ptr b dst) xs)
 
-  -- If `up` is true, the items are moved up. In this case, `GapAbove up` states that the slots
-  -- between the end of their old slots and the end of their new slots are empty. If `up` is false,
-  -- `GapAbove up` states nothing.
+  -- If `up` is true, the items are moved up from the slots `from..from + k` to the slots `to..to +
+  -- k`. In this case, `GapAbove up` states that `from ≤ to`, and that the slots `from + k..to + k`
+  -- are empty. If `up` is false, `GapAbove up` states nothing.
   abbrev pub GapAbove : Bool → Type 0
   GapAbove up = up ≡ true → (from ≤ to) × AreEmpty slots (from + k) (to - from)
 
-  -- If `up` is false, the items are moved down. In this case, `GapBelow up` states that the slots
-  -- between the start of their new slots and the start of their old slots are empty. If `up` is
-  -- true, `GapBelow up` states nothing.
+  -- If `up` is false, the items are moved down from the slots `from..from + k` to the slots `to..to
+  -- + k`. In this case, `GapBelow up` states that `to ≤ from`, and that the slots `to..from` are
+  -- empty. If `up` is true, `GapBelow up` states nothing.
   abbrev pub GapBelow : Bool → Type 0
   GapBelow up = up ≡ false → (to ≤ from) × AreEmpty slots to (from - to)
 
-  -- Suppose that adjacent items are to be moved only through empty slots. Then the memory of the
-  -- items and of these empty slots can be split off from the memory of the other slots. After the
-  -- move, the memory of all slots can be put back together.
+  -- Suppose that adjacent items are to be moved up or down, and that all slots through which they
+  -- are moved are empty. Then the memory of the items and of these empty slots can be separated
+  -- from the memory of the other slots. After the move, the memory of all slots can be put back
+  -- together.
   pub slides : from + k ≤ length slots → to + k ≤ length slots → (up : Bool) → GapAbove up
       → GapBelow up → Way up
   slides source target true above below =
@@ -393,8 +402,9 @@ module _ (E : El) {M : Type 1} {𝓤 : Ura M} (𝓛 : Logic 𝓤) (b o : ℕ) (s
       slides_down (from - to) (omega arith) source
       (empty-run slots to (from - to) within gap.1)
 
-  -- The old and the new address of the items satisfy `IsShifted`. The new address is `distance up`
-  -- slots above the old address if `up` is true, and `distance up` slots below it otherwise.
+  -- `IsShifted` holds for the old and the new address of the items. If `up` is true, the new
+  -- address is `distance up` slots above the old address. Otherwise, the new address is `distance
+  -- up` slots below the old address.
   pub shifted : (up : Bool) → GapAbove up → GapBelow up → IsShifted (R E) up (distance up)
       (block_ptr b src) (block_ptr b dst)
   shifted true above below = let le : from ≤ to = (above refl).0 in

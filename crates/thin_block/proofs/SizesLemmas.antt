@@ -91,7 +91,8 @@ rounded_at a x is = subst (λ (k : ℕ). Rounded k x) (sym is.1) (rounded_to is.
 pub rounded : (R : RattleType) (x : ℕ) → Rounded (type_align R) x
 rounded R x = rounded_at (type_align R) x (align_known R)
 
--- Section: sizes that exceed `usize::MAX`. The code replaces each such size with `usize::MAX`.
+-- The next lemmas are about sizes that exceed `usize::MAX`. The code replaces each such size with
+-- `usize::MAX`.
 
 -- If `c * capped s < 2 ^ 63`, then `c * s` is `c * capped s`. Here `capped s` is the lesser of `s`
 -- and `usize::MAX`.
@@ -131,15 +132,15 @@ positive (suc n) never = omega arith
 lt_of_not : (a b : ℕ) → (a ≤ b → ⊥) → b < a
 lt_of_not a b never = omega arith
 
--- Section: blocks that are small enough to be allocated.
+-- The next lemmas are about blocks that are small enough to be allocated.
 
 -- `Small s a c` holds if the header, `c` items of `s` bytes, and `block_align a` bytes for padding
 -- take at most `2 ^ 63` bytes in total.
 abbrev pub Small : ℕ → ℕ → ℕ → Type 0
 Small s a c = c * s + 16 + block_align a ≤ 2 ^ 63
 
--- `Told s a c` collects the facts that hold if a block for `c` items is small enough to be
--- allocated. Each item has the size `s` and the alignment `a`.
+-- `Told s a c` collects facts about a block for `c` items that is small enough to be allocated.
+-- Each item has the size `s` and the alignment `a`.
 pub record Told (s a c : ℕ) : Type 0 where
   pub few : c < 2 ^ 63
   pub room : Small s a c
@@ -154,8 +155,8 @@ module _ (s a c : ℕ) (is : IsAlign a) where
       both_true (ltb c (2 ^ 63)) (ltb (block_bytes s a c) (2 ^ 63)) (lt-ltb c (2 ^ 63) few)
       (lt-ltb (block_bytes s a c) (2 ^ 63) whole)
 
-  -- If `is_small s a c` is true, then `c < 2 ^ 63`, `Small s a c` holds, and the block takes less
-  -- than `2 ^ 63` bytes.
+  -- Suppose that `a` is an alignment. If `is_small s a c` is true, then `c < 2 ^ 63`, `Small s a c`
+  -- holds, and the block takes less than `2 ^ 63` bytes.
   pub small_tells : is_small s a c ≡ true → Told s a c
   small_tells e =
       let few : c < 2 ^ 63 =
@@ -189,8 +190,9 @@ module _ (R : RattleType) (c : ℕ) where
   unfolding fits
   closed e = e
 
-  -- If the capacity `c` is at most the quotient that the code of `fits` computes, then `Small`
-  -- holds for `c` items of type `R`.
+  -- The code of `fits` divides the number of bytes that a block may use for items by the item size.
+  -- If the capacity `c` is at most this quotient, then `Small` holds for `c` items of type `R`: a
+  -- block for these items is small enough to be allocated.
   pub divided : (size : ℕ) → size ≡ capped (type_size R) → 0 < size
       → c ≤ (2 ^ 63 - block_align (type_align R) - 16) / size → Small (type_size R) (type_align R) c
   divided size is some few =
@@ -204,8 +206,8 @@ module _ (R : RattleType) (c : ℕ) where
       ∙ ap (λ (k : ℕ). c * k) (sym is) in
       omega arith
 
-  -- If `Small` holds for `c` items of type `R`, then `c` is at most the quotient that the code of
-  -- `fits` computes.
+  -- The code of `fits` divides the number of bytes that a block may use for items by the item size.
+  -- If `Small` holds for `c` items of type `R`, then the capacity `c` is at most this quotient.
   pub dividing : (size : ℕ) → size ≡ capped (type_size R) → 0 < size
       → Small (type_size R) (type_align R) c → c ≤ (2 ^ 63 - block_align (type_align R) - 16) / size
   dividing size is some room =
@@ -215,7 +217,7 @@ module _ (R : RattleType) (c : ℕ) where
       let same' : c * size ≡ c * type_size R = ap (λ (k : ℕ). c * k) is ∙ same in
       le-div c (2 ^ 63 - block_align (type_align R) - 16) size some (omega arith)
 
--- `is_small` is true for the capacity 0.
+-- `is_small` is true for the capacity 0 and every item type `R`: an empty block is never too large.
 pub fits_none : (R : RattleType) → is_small (type_size R) (type_align R) 0 ≡ true
 fits_none R =
     let about = rounded R 0 in
@@ -224,7 +226,8 @@ fits_none R =
 
 -- Section: the first capacity
 
--- If the item size `s`, capped at `usize::MAX`, exceeds `2 ^ 61 - 1`, then `first s` is 1.
+-- `first s` is the first capacity that the rule `doubling` chooses for items of size `s`. If `s`,
+-- capped at `usize::MAX`, exceeds `2 ^ 61 - 1`, then `first s` is 1.
 pub first_one : (s : ℕ) → 2 ^ 61 - 1 < capped s → 1 ≡ first s
 unfolding first
 first_one s large =
@@ -233,7 +236,8 @@ first_one s large =
     absurd (omega arith)) in
     rw (lt-ltb (2 ^ 61 - 1) s above) refl
 
--- If the item size `s`, capped at `usize::MAX`, is at most `2 ^ 61 - 1`, then `first s` is 4.
+-- `first s` is the first capacity that the rule `doubling` chooses for items of size `s`. If `s`,
+-- capped at `usize::MAX`, is at most `2 ^ 61 - 1`, then `first s` is 4.
 pub first_many : (s : ℕ) → capped s ≤ 2 ^ 61 - 1 → 4 ≡ first s
 unfolding first
 first_many s small =
@@ -266,14 +270,15 @@ tried_first s c w d none is = grind (arith, nat_tests)
 pub tried_twice : (s c w d : ℕ) → (c ≡ 0 → ⊥) → d ≡ 2 * c → max w d ≡ tried s c w
 tried_twice s c w d some is = grind (arith, nat_tests)
 
--- A block with a capacity of `2 ^ 63` or more is too large to be allocated.
+-- A block with a capacity of `2 ^ 63` or more is too large to be allocated, so `fitting` returns
+-- `None` for such a capacity.
 pub fitting_past : (s a n : ℕ) → 2 ^ 63 ≤ n → fitting s a n ≡ None
 unfolding fitting
 fitting_past s a n many = λ i. if fits_no s a n many i then Some n else None
 
--- The code that doubles the capacity chooses the same capacity as the rule `doubling`. The code
--- replaces each number that exceeds `usize::MAX` with `usize::MAX`, but this does not change the
--- choice.
+-- The code of the growth rule `Doubling` chooses the same capacity as the function `doubling`. The
+-- code replaces each number that exceeds `usize::MAX` with `usize::MAX`, but this does not change
+-- the capacity that the code chooses.
 pub doubling_is : (s a c w d : ℕ) → c < w → (c ≡ 0 → d ≡ first s)
     → ((c ≡ 0 → ⊥) → d ≡ min (c * 2) (2 ^ 64 - 1)) → fitting s a (max w d) ≡ doubling s a c w
 unfolding doubling

@@ -1,14 +1,16 @@
 -- These lemmas separate the memory of some slots of a block from the memory of the other slots, and
--- put all slots back together. They also convert the memory of slots into other kinds of memory.
--- The lemmas assume the laws of the separation logic (`Logic`).
---     `slot_out` separates one slot from the other slots, and `slot_in` puts it back.
---     `run_out` separates the slots `i..i + k` from the other slots, and `run_in` puts them back.
---     `two_slots` says that two different slots can be separated from the other slots and put back.
---     `to_items` converts slots that hold items into an array, and `of_items` is the inverse.
---     `to_cells` converts slots that hold items into slice elements, and `of_cells` is the inverse.
---     `to_room` converts empty slots into uninitialized memory for an array, and `of_room` is the
---     inverse. `to_raw` and `of_raw` do the same for an array type with all field names erased.
---     `reach` says that the slots of a block take less than `2 ^ 63` bytes.
+-- put the memory of all slots back together. They also convert the memory of slots into other kinds
+-- of memory. The lemmas assume the laws of the separation logic (`Logic`).
+--
+-- - `slot_out` separates one slot from the other slots, and `slot_in` puts it back.
+-- - `run_out` separates the slots `i..i + k` from the other slots, and `run_in` puts them back.
+-- - `two_slots` says that two different slots can be separated from the other slots and put back.
+-- - `to_items` converts slots that hold items into an array, and `of_items` is the inverse.
+-- - `to_cells` converts slots that hold items into slice elements, and `of_cells` is the inverse.
+-- - `to_room` converts empty slots into uninitialized memory for an array, and `of_room` is the
+--   inverse.
+-- - `to_raw` and `of_raw` do the same for an array type with all field names erased.
+-- - `reach` says that the slots of a block take less than `2 ^ 63` bytes.
 use Rattle.std.proofs.Common.{◌≡◌, true, ℕ, zero, suc, None, ◌+◌, ◌*◌, ◌^◌, ◌<◌, ◌≤◌, List, [], ◌∷◌, ◌++◌, length, refl, sym, ap, ◌∙◌, arith}
 use native.Mathlib.Nat.{zero-mul, suc-mul}
 use lib.ListN.{take, drop, set, get_or, take-append-drop, length-take, length-drop, length-set}
@@ -64,7 +66,8 @@ module _ (E : El) {M : Type 1} {𝓤 : Ura M} (𝓛 : Logic 𝓤) (b : ℕ) wher
   abbrev Row : ℕ → List (Slot E) → Fml
   Row o xs = places (R E) xs b o
 
-  -- Splits the memory of the slots `xs ++ ys` into the memory of `xs` and the memory of `ys`.
+  -- Splits the memory of the slots `xs ++ ys` into the memory of `xs`, which begins at the offset
+  -- `o`, and the memory of `ys`, which begins at the offset `at`.
   pub cut : (xs ys : List (Slot E)) (o at : ℕ) → at ≡ length xs * s + o
       → ent 𝓤 (sem 𝓛 (Row o (xs ++ ys))) (sep 𝓤 (sem 𝓛 (Row o xs)) (sem 𝓛 (Row at ys)))
   cut [] ys o at e = qed 𝓛 (‵ (Row o ys) ∷ []) ∵ rewrite ! 0 (λ (k : ℕ). ‵ (Row k ys)) {x = at}
@@ -76,8 +79,9 @@ module _ (E : El) {M : Type 1} {𝓤 : Ura M} (𝓛 : Logic 𝓤) (b : ℕ) wher
       (cut xs ys (o + s) at (omega (arith, suc-mul (length xs) s))) $ split ! $
       move ! (2 ∷ 0 ∷ []) $ fjoin ! $ done !
 
-  -- Joins the memory of the slots `xs` and the memory of the slots `ys` into the memory of
-  -- `xs ++ ys`. The memory of `ys` must begin directly after the memory of `xs`.
+  -- Joins the memory of the slots `xs` and the memory of the slots `ys` into the memory of the
+  -- slots `xs ++ ys`. The memory of `xs` begins at the offset `o`. The memory of `ys` must begin
+  -- directly after the memory of `xs`, at the offset `at`.
   pub glue : (xs ys : List (Slot E)) (o at : ℕ) → at ≡ length xs * s + o
       → ent 𝓤 (sep 𝓤 (sem 𝓛 (Row o xs)) (sem 𝓛 (Row at ys))) (sem 𝓛 (Row o (xs ++ ys)))
   glue [] ys o at e = qed 𝓛 (‵ ftrue ∷ ‵ (Row at ys) ∷ []) ∵ skip ! $
@@ -94,7 +98,7 @@ module _ (E : El) {M : Type 1} {𝓤 : Ura M} (𝓛 : Logic 𝓤) (b : ℕ) wher
     before le = let long : i ≡ length (take i xs) = omega (arith, length-take i xs) in
         ap (λ k. k * s + o) long
 
-    -- The memory of all slots except slot `i`.
+    -- `besides` is the memory of all slots except slot `i`.
     abbrev pub besides : Fml
     besides = fsep (Row o (take i xs)) (Row (i * s + o + s) (drop (suc i) xs))
 
@@ -120,7 +124,7 @@ module _ (E : El) {M : Type 1} {𝓤 : Ura M} (𝓛 : Logic 𝓤) (b : ℕ) wher
         rewrite ! 0 (λ (l : List (Slot E)). ‵ (Row o l)) (sym (set_split xs i x lt)) refl $ done !
 
     module _ (k : ℕ) where
-      -- The memory of all slots except the slots `i..i + k`.
+      -- `around` is the memory of all slots except the slots `i..i + k`.
       abbrev pub around : Fml
       around = fsep (Row o (take i xs)) (Row (k * s + (i * s + o)) (drop (i + k) xs))
 
@@ -234,8 +238,8 @@ module _ (E : El) {M : Type 1} {𝓤 : Ura M} (𝓛 : Logic 𝓤) (b : ℕ) wher
   to_raw k o = via 𝓤 (H.room (ty_array (elτ E) k) b o) (to_room k o)
       (𝓛.laws.room-raw (ty_array (elτ E) k) b o)
 
-  -- Suppose that `i < j`. Then `Others o xs i j` is the memory of all slots in the list `xs` except
-  -- the slots `i` and `j`. The first slot is at the offset `o`.
+  -- If `i < j`, then `Others o xs i j` is the memory of all slots in the list `xs` except the slots
+  -- `i` and `j`. The memory of the first slot in `xs` begins at the offset `o`.
   abbrev Others : ℕ → List (Slot E) → ℕ → ℕ → Fml
   Others o xs i j = fsep (besides o (take j xs) i) (Row (j * s + o + s) (drop (suc j) xs))
 
@@ -275,8 +279,8 @@ module _ (E : El) {M : Type 1} {𝓤 : Ura M} (𝓛 : Logic 𝓤) (b : ℕ) wher
       by ! (slot_in o (set xs i x) j low' y)
 
   -- `Two o xs i j` states that the slots `i` and `j` can be separated from the other slots in the
-  -- list `xs`, and that all slots can later be put back together. The contents of the two slots may
-  -- change in between. The first slot is at the offset `o`.
+  -- list `xs`, and that all slots can later be put back together. In between, the contents of the
+  -- slots `i` and `j` may change. The memory of the first slot in `xs` begins at the offset `o`.
   pub record Two (o : ℕ) (xs : List (Slot E)) (i j : ℕ) : Type 1 where
     pub Rest : Fml
     pub out : ent 𝓤 (sem 𝓛 (Row o xs))
@@ -312,8 +316,8 @@ module _ (E : El) {M : Type 1} {𝓤 : Ura M} (𝓛 : Logic 𝓤) (b : ℕ) wher
       }
 
   -- If `i` and `j` are different, then the slots `i` and `j` can be separated from the other slots
-  -- in the list `xs`, and all slots can later be put back together. The contents of the two slots
-  -- may change in between.
+  -- in the list `xs`, and all slots can later be put back together. In between, the contents of the
+  -- slots `i` and `j` may change.
   pub two_slots : (o : ℕ) (xs : List (Slot E)) (i j : ℕ) → (i ≡ j → ⊥) → i < length xs
       → j < length xs → Two o xs i j
   two_slots o xs i j apart low low' = ⊎_elim (λ (p : i < j). in_order o xs i j p low')

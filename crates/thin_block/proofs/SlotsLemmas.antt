@@ -1,6 +1,6 @@
--- Lemmas about the definitions in specs/Slots.antt: adjacent slots (`run`), replaced slots
--- (`laid`), moved items (`moved`), and packed slots (`IsPacked`). Slots are packed if every filled
--- slot precedes every empty slot.
+-- Lemmas about the definitions in specs/Slots.antt. `run` selects adjacent slots, `laid` replaces
+-- slots, and `moved` moves items to other slots. `IsPacked s n` states that the first `n` slots of
+-- the list `s` are filled, and that all other slots of `s` are empty.
 use Rattle.std.proofs.Common.{◌⊎◌, ◌≡◌, ℕ, zero, suc, ◌+◌, ◌-◌, ◌<◌, ◌≤◌, List, [], ◌∷◌, ◌++◌, length, Some, None, refl, sym, ap, subst, ◌∙◌, arith, append_assoc}
 use Rattle.std.proofs.lemmas.List.{take-append-drop, drop-drop, set_at, get_or-append_right, get_or-drop, length-replicate, length-map, length-append, length-take, length-drop, take_at, drop_at, drop-replicate, replicate-append-replicate}
 use mathlib.Core.Logic.{inl, inr, ⊎_elim}
@@ -20,8 +20,9 @@ same_or_not i j =
     (λ (q : i ≤ j). inl (let e : i ≡ j = omega arith in e)) (order j i)) (order i j)
 
 module _ {T : Type 0} where
-  -- If `i ≡ j`, then swapping the contents of the slots `i` and `j` has the same result as writing
-  -- the contents of slot `i` back to slot `i`.
+  -- If `i` and `j` are the same index, then swapping the contents of the slots `i` and `j` yields
+  -- `set s i (slot s i)`. This is the list `s` in which slot `i` has been overwritten with its own
+  -- contents.
   pub set-same : (s : List (Option T)) (i j : ℕ) → i ≡ j
       → set s i (slot s i) ≡ set (set s i (slot s j)) j (slot s i)
   set-same s i j same =
@@ -86,7 +87,7 @@ module _ {T : Type 0} where
       )
 
   -- If the slots `i..i + length ws` are filled, then `over s i ws` is `laid i (full ws) s`. Both
-  -- functions replace the items in these slots with the items `ws`.
+  -- are the list `s` in which the items in these slots have been replaced with the items `ws`.
   pub over-laid : (s : List (Option T)) (i : ℕ) (ws : List T) → i + length ws ≤ length s
       → ((j : ℕ) → i ≤ j → j < i + length ws → IsSome (slot s j)) → over s i ws ≡ laid i (full ws) s
   over-laid [] zero [] le held = refl
@@ -134,7 +135,8 @@ module _ {T : Type 0} where
       (sym (append_assoc ys (y ∷ []) (drop (suc k) s)))
       ∙ ap (λ (n : ℕ). take i s ++ ((ys ++ y ∷ []) ++ drop n s)) long))))
 
-  -- If the slots `i..i + length ys` are replaced with `ys`, then no later slot changes.
+  -- If the slots `i..i + length ys` are replaced with `ys`, then no slot at index `i + length ys`
+  -- or later changes.
   pub slot-laid : (i : ℕ) (ys s : List (Option T)) (k : ℕ) → i ≤ length s → i + length ys ≤ k
       → slot (laid i ys s) k ≡ slot s k
   slot-laid i ys s k low past =
@@ -177,8 +179,8 @@ module _ {T : Type 0} where
       (drop_at pre (ys ++ post) i (sym e)) ∙ take_at ys post k (sym n)
 
   module _ (from to k : ℕ) where
-    -- This lemma computes `moved` in three steps. If `run from k s ≡ ys`, `emptied from k s ≡ bare`
-    -- and `laid to ys bare ≡ result`, then `moved from to k s ≡ result`.
+    -- `moved from to k s` can be computed in three steps. If `run from k s ≡ ys`, `emptied from k s
+    -- ≡ bare` and `laid to ys bare ≡ result`, then `moved from to k s ≡ result`.
     moved-by : (s ys bare result : List (Option T)) → run from k s ≡ ys → emptied from k s ≡ bare
         → laid to ys bare ≡ result → moved from to k s ≡ result
     unfolding moved

@@ -1,14 +1,15 @@
 -- These lemmas convert a block into one array of words, which an allocator can grow or shrink, and
 -- convert this array back into a block. A word is a struct of 8 or 16 bytes that consists of whole
 -- items. The lemmas assume the laws of the separation logic (`Logic`).
---     `asked_size` and `asked_align` are about the size and the alignment of an allocation.
---     `carve_asked` splits the memory of a block into its parts, and `gather` is the inverse.
---     `turn_out` separates the last `k` words from the words before them, and `turn_back` is the
---     inverse.
---     `turn_up` forms the array that an allocator can grow, and `turn_down` is the inverse.
---     `units_out` converts memory for `k` words into memory for the capacity and the length.
---     `header_apart` splits the header into memory for words and the rights that belong to a block,
---     and `header_whole` is the inverse.
+--
+-- - `asked_size` and `asked_align` are about the size and the alignment of an allocation.
+-- - `carve_asked` splits the memory of a block into its parts, and `gather` is the inverse.
+-- - `turn_out` separates the last `k` words from the words before them, and `turn_back` is the
+--   inverse.
+-- - `turn_up` forms the array that an allocator can grow, and `turn_down` is the inverse.
+-- - `units_out` converts memory for `k` words into memory for the capacity and the length.
+-- - `header_apart` splits the header into memory for words and the rights that belong to a block,
+--   and `header_whole` is the inverse.
 use Rattle.std.proofs.Common.{◌≡◌, true, ℕ, Some, None, ◌+◌, ◌-◌, ◌*◌, List, [], ◌∷◌, ◌++◌, length, refl, sym, ap, ◌∙◌, arith, w64, append_assoc}
 use Rattle.std.proofs.lemmas.List.{length-map, length-append, length-replicate, map-append, replicate-append-replicate}
 use Rattle.std.specs.Prelude.{Bool}
@@ -47,11 +48,12 @@ use Rattle.thin_block.proofs.SlotMemory.{cut, glue, to_items, of_items, to_raw, 
 use Rattle.thin_block.proofs.WordsLemmas.{InWords, word_align, word_size, words_told, nameless}
 use Rattle.thin_block.proofs.WordsMemory.{word_el, header_out, header_in, block_out, block_in}
 
--- The type of one half of the header. Both the capacity and the length have this type.
+-- `half` is the type of one half of the header. Both the capacity and the length have this type.
 abbrev half : Ty
 half = ty_int w64
 
--- Section: the size and the alignment with which a block is allocated.
+-- The next lemmas are about the size and the alignment of the allocation for a block with `c`
+-- slots. The item type is `Rw`.
 module _ (Rw : RattleType) (c : ℕ) where
   abbrev s₀ : ℕ
   s₀ = type_size Rw
@@ -62,8 +64,8 @@ module _ (Rw : RattleType) (c : ℕ) where
   abbrev τ₀ : Ty
   τ₀ = lone Rw.mir
 
-  -- The number of items in a word depends only on the size of the item type. The names of the
-  -- fields do not matter.
+  -- The number of items in a word depends only on the size of the item type, and not on the names
+  -- of the fields of this type.
   pub same_words : words_of Rw ≡ in_words s₀
   same_words = ap in_words (size-raw τ₀)
 
@@ -90,24 +92,27 @@ module _ (Rw : RattleType) (c : ℕ) where
   pub asked_align : align (asked Rw c) ≡ block_align a₀
   asked_align = align_for (words_of Rw) (sym same_words)
 
--- Section: splitting the memory of a block into its parts.
+-- The next lemmas split the memory of a block with `c` slots into its parts, and put the parts back
+-- together. The block begins at the offset `o` of the allocation `b`.
 module _ {M : Type 1} {𝓤 : Ura M} (𝓛 : Logic 𝓤) (E : El) (b c o : ℕ) where
   open 𝓛 use {H}
 
-  -- The parts of a block's memory: the two halves of the header, the slots, and the right to put
-  -- these parts back together.
+  -- `Parts w` consists of the parts of a block's memory: the two halves of the header, the slots,
+  -- and the right to put these parts back together.
   abbrev Parts : Option (ℕ × ℕ) → SProp 𝓤
   Parts w = sep 𝓤 (H.room half b o) (sep 𝓤 (H.room half b (o + 8))
       (sep 𝓤 (H.room (array_of (R E) c) b (o + 16)) (sem 𝓛 (way_back w (bare (R E)) c b o))))
 
-  -- If `in_words` returns the pair `w` for the size of the item type, then `InWords` holds for this
-  -- pair and for the item type with all field names erased.
+  -- Suppose that `in_words` returns the pair `w` for the size of the item type. Then `InWords`
+  -- holds for the two numbers in `w` and for the bare item type: the item type with all field names
+  -- erased.
   known : (w : ℕ × ℕ) → in_words (type_size (R E)) ≡ Some w
       → InWords (size (bare (R E))) (align (bare (R E))) w.0 w.1
   known w e = nameless (elτ E) w.0 w.1 (words_told (R E) w.0 w.1 e)
 
-  -- Splits the memory of a block into its parts, whether or not its items can be grouped into
-  -- words. A word is a struct of 8 or 16 bytes that consists of whole items.
+  -- Splits the memory of a block into its parts, for each result `w` of `in_words`. If `w` is
+  -- `None`, the items cannot be grouped into words. A word is a struct of 8 or 16 bytes that
+  -- consists of whole items.
   carve_for : (w : Option (ℕ × ℕ)) → in_words (type_size (R E)) ≡ w
       → ent 𝓤 (H.room (asked_for w (bare (R E)) c) b o) (Parts w)
   carve_for None e = carve 𝓛 (R E) c b o
@@ -145,14 +150,15 @@ module _ {M : Type 1} {𝓤 : Ura M} (𝓛 : Logic 𝓤) (E : El) (b c o : ℕ) 
       (uint_out 𝓛 full_share w64 n b (o + 8)) $
       use1 𝓛 (‵ (froom half b (o + 8))) (𝓛.laws.at_room half b (o + 8) (vint w64 n)) $
       move ! (1 ∷ []) $ fsplit ! $ drop ! $ fsplit ! $
-      -- The block has been split. The proof context holds, in this order: [the right to put the
-      -- parts of the block back together; the right to free the block; memory for the length;
-      -- memory for the capacity; memory for the slots].
+      -- The previous steps have split the block into its parts. The proof context now holds these
+      -- entries, in this order: the right to put the parts of the block back together; the right to
+      -- free the block; memory for the length; memory for the capacity; memory for the slots.
       move ! (3 ∷ 2 ∷ 4 ∷ 0 ∷ []) $ group ! 4 $
       use1 𝓛 (‵ (froom (asked (R E) c) b o))
       (gather_for (words_of (R E)) (sym (same_words (R E) c))) $ done !
 
--- Section: a block as one array of items that begins at the start of the block.
+-- The next lemmas are about a block whose header takes as many bytes as `k` items. The memory of
+-- such a block can be used as one array of items that begins at the start of the block.
 module _ {M : Type 1} {𝓤 : Ura M} (𝓛 : Logic 𝓤) (E : El) (b : ℕ) (k : ℕ)
     (hd : k * type_size (R E) ≡ 16) (o : ℕ) where
   open 𝓛 use {H}
@@ -163,8 +169,9 @@ module _ {M : Type 1} {𝓤 : Ura M} (𝓛 : Logic 𝓤) (E : El) (b : ℕ) (k :
   abbrev Slots' : ℕ → List (Option (el_x E)) → Fml
   Slots' at xs = places (R E) xs b at
 
-  -- These lemmas are about a block whose first slots hold the items `xs` and then the `k` items
-  -- `ys`. The `m` slots after them are empty. The items `ys` take as many bytes as the header.
+  -- In these lemmas, the first slots of a block hold the items `xs`, and the next `k` slots hold
+  -- the items `ys`. The `m` slots after the items `ys` are empty. The items `ys` take as many bytes
+  -- as the header.
   module _ (xs ys : List (el_x E)) (long : length ys ≡ k) (n m : ℕ)
       (count : n ≡ length xs + k) where
     abbrev there : ℕ
@@ -204,7 +211,7 @@ module _ {M : Type 1} {𝓤 : Ura M} (𝓛 : Logic 𝓤) (E : El) (b : ℕ) (k :
     Last at = part_at (Array (R E) k) full_share ys b at
 
     -- Splits the memory of the slots into three parts: the memory of the first items `xs`, the
-    -- memory of the last `k` items `ys`, and the memory of the empty slots.
+    -- memory of the last `k` items `ys`, and the memory of the `m` empty slots.
     pub turn_out : ent 𝓤 (sem 𝓛 (Slots' (o + 16) All))
         (sep 𝓤 (sem 𝓛 (Slots' (o + 16) (full xs)))
         (sep 𝓤 (sem 𝓛 (Last there)) (sem 𝓛 (Slots' past_all (empty m)))))
@@ -217,8 +224,9 @@ module _ {M : Type 1} {𝓤 : Ura M} (𝓛 : Logic 𝓤) (E : El) (b : ℕ) (k :
         (cut E 𝓛 b (full ys) (empty m) there past_all at_end) $ split ! $
         use1 𝓛 (‵ (Last there)) (to_items E 𝓛 b k ys there long) $ move ! (2 ∷ 0 ∷ 1 ∷ []) $ done !
 
-    -- Puts the memory of the first items `xs`, of the last `k` items `ys` and of the empty slots
-    -- back together. The items `ys` must be at their old address.
+    -- Joins the memory of the first items `xs`, the memory of the last `k` items `ys` and the
+    -- memory of the empty slots into the memory of all slots. The items `ys` must be directly after
+    -- the items `xs`.
     pub turn_back : ent 𝓤 (sep 𝓤 (sem 𝓛 (Slots' (o + 16) (full xs)))
         (sep 𝓤 (sem 𝓛 (Last there)) (sem 𝓛 (Slots' past_all (empty m)))))
         (sem 𝓛 (Slots' (o + 16) All))
@@ -259,8 +267,8 @@ module _ {M : Type 1} {𝓤 : Ura M} (𝓛 : Logic 𝓤) (E : El) (b : ℕ) (k :
       counted' : length (ys ++ xs) ≡ n
       counted' = let a = length-append ys xs in omega arith
 
-      -- If the last `k` items are stored in the memory of the header, then all items form one array
-      -- that begins at the start of the block.
+      -- If the last `k` items have been moved into the memory of the header, then all items form
+      -- one array that begins at the start of the block.
       pub turn_up : ent 𝓤 (sep 𝓤 (sem 𝓛 (Last o)) (sep 𝓤 (sem 𝓛 (Slots' (o + 16) (full xs)))
           (sep 𝓤 (H.room (ty_array τ' k) b there)
           (sep 𝓤 (sem 𝓛 (Slots' past_all (empty m))) (sem 𝓛 Token))))) (sem 𝓛 Whole)
@@ -282,10 +290,9 @@ module _ {M : Type 1} {𝓤 : Ura M} (𝓛 : Logic 𝓤) (E : El) (b : ℕ) (k :
           rewrite ! 0 (λ (j : ℕ). ‵ (froom (array_of (R E) spare) b j)) turned refl $
           move ! (1 ∷ 0 ∷ 2 ∷ []) $ fjoin3 ! $ done !
 
-      -- Splits the ownership of a block whose items form one array at the start of the block. The
-      -- parts are: the first `k` items of the array, which are in the memory of the header; the
-      -- remaining items; uninitialized memory for `k` items; `m` empty slots; and the right to free
-      -- the block.
+      -- Splits a block whose items form one array at the start of the block. The parts are: the
+      -- first `k` items of the array, which are in the memory of the header; the other items;
+      -- uninitialized memory for `k` items; `m` empty slots; and the right to free the block.
       pub turn_down : ent 𝓤 (sem 𝓛 Whole) (sep 𝓤 (sem 𝓛 (Last o))
           (sep 𝓤 (sem 𝓛 (Slots' (o + 16) (full xs))) (sep 𝓤 (H.room (ty_array τ' k) b there)
           (sep 𝓤 (sem 𝓛 (Slots' past_all (empty m))) (sem 𝓛 Token)))))
@@ -305,9 +312,9 @@ module _ {M : Type 1} {𝓤 : Ura M} (𝓛 : Logic 𝓤) (E : El) (b : ℕ) (k :
           use1 𝓛 (‵ (froom (ty_array τ' k) b there)) (to_room E 𝓛 b k there) $
           move ! (2 ∷ 3 ∷ 0 ∷ 1 ∷ 4 ∷ []) $ done !
 
--- Section: the header of a block whose items can be grouped into words. A word is a struct of 8 or
--- 16 bytes that consists of whole items. Here, `m` items make one word, and the header takes as
--- many bytes as `k` words.
+-- The next lemmas are about the header of a block whose items can be grouped into words. A word is
+-- a struct of 8 or 16 bytes that consists of whole items. Here, `m` items make one word, and the
+-- header takes as many bytes as `k` words.
 module _ {M : Type 1} {𝓤 : Ura M} (𝓛 : Logic 𝓤) (T : RattleType) (L : Laws T) (b m k : ℕ)
     (is : in_words (type_size (param 0 T)) ≡ Some (m, k)) (o : ℕ) where
   open 𝓛 use {H}
@@ -324,16 +331,17 @@ module _ {M : Type 1} {𝓤 : Ura M} (𝓛 : Logic 𝓤) (T : RattleType) (L : L
   hd : InWords (size (bare (R Item))) (align (bare (R Item))) m k
   hd = nameless (elτ Item) m k (words_told (R Item) m k is)
 
-  -- Splits uninitialized memory for `k` words into three parts: memory for the capacity, memory for
-  -- the length, and the right to put these two kinds of memory back together.
+  -- Splits uninitialized memory for `k` words into memory for the capacity, memory for the length,
+  -- and a right (`header_way`). With this right, the memory for the capacity and the length can be
+  -- converted back into memory for words.
   pub units_out : ent 𝓤 (H.room units b o)
       (sep 𝓤 (H.room half b o)
       (sep 𝓤 (H.room half b (o + 8)) (sem 𝓛 (header_way (bare (R Item)) m k b o))))
   units_out = via 𝓤 (H.room (array_of (R W) k) b o) (𝓛.laws.room-raw units b o)
       (header_out 𝓛 (bare (R Item)) m k b hd o)
 
-  -- With the right `header_way`, uninitialized memory for the capacity and the length can be
-  -- converted back into uninitialized memory for `k` words.
+  -- Converts uninitialized memory for the capacity and the length back into uninitialized memory
+  -- for `k` words. This conversion requires the right `header_way`.
   pub units_in : ent 𝓤 (sep 𝓤 (H.room half b o) (sep 𝓤 (H.room half b (o + 8))
       (sem 𝓛 (header_way (bare (R Item)) m k b o)))) (H.room units b o)
   units_in = via 𝓤 (H.room (array_of (R W) k) b o) (header_in 𝓛 (bare (R Item)) m k b hd o)
@@ -367,16 +375,17 @@ module _ {M : Type 1} {𝓤 : Ura M} (𝓛 : Logic 𝓤) (T : RattleType) (L : L
         rewrite ! 0 (λ (w : Option (ℕ × ℕ)). ‵ (backing_for t w (bare (R Item)) c b o)) asked_words
         refl $
         fsplit ! $ fsplit ! $
-        -- The block has been split. The proof context holds, in this order: [the right to convert
-        -- memory for the header into memory for words; the same right for the slots; the right to
-        -- free the block; memory for the length; memory for the capacity].
+        -- The previous steps have split the block into its parts. The proof context now holds these
+        -- entries, in this order: the right to convert memory for the header into memory for words;
+        -- the same right for the slots; the right to free the block; memory for the length; memory
+        -- for the capacity.
         move ! (4 ∷ 3 ∷ 0 ∷ []) $ use3 𝓛 (‵ (froom units b o)) units_in $ move ! (2 ∷ []) $
         rewrite ! 0 (λ (j : ℕ). ‵ (t (array_of (R W) j) (block_ptr b o))) (sym total) refl $
         move ! (1 ∷ 2 ∷ 0 ∷ []) $ done !
 
-    -- Forms a block, except for its slots, from the capacity, the length and three rights. Two of
-    -- these rights convert memory for the header and memory for the slots into memory for words.
-    -- The third right is the right to free the block.
+    -- Forms a block, except for its slots, from five parts: the capacity; the length; the right to
+    -- convert memory for the header into memory for words; the right to convert memory for the
+    -- slots into memory for words; the right to free the block.
     pub header_whole : fits_block (R Item) c ≡ true
         → ent 𝓤 (sep 𝓤 (sem 𝓛 (lies_at usize full_share (block_ptr b o) c))
         (sep 𝓤 (sem 𝓛 (lies_at usize full_share (block_ptr b (o + 8)) n))

@@ -1,6 +1,6 @@
--- Lemmas for proofs about function bodies. They are about the parts of a body, about the condition
--- that must hold after a part has been executed, and about the proof of the `ensures` clauses. The
--- lemmas assume the laws of the separation logic (`Logic`).
+-- Lemmas for proofs about function bodies. Some lemmas are about the parts of a body. Others are
+-- about the condition that must hold after a part has been executed, or about the proof of the
+-- `ensures` clauses. The lemmas assume the laws of the separation logic (`Logic`).
 pub use Rattle.core.proofs.alloc.Shapes.{after, head, inside, arm_body}
 use Rattle.std.proofs.Common.{◌≡◌, ℕ, zero, suc, List, [], ◌∷◌, refl, T}
 use seplogic.Ra.Ura.{Ura}
@@ -32,24 +32,26 @@ slot_at (suc k) (s ∷ ss) = slot_at k ss
 module _ {M : Type 1} {𝓤 : Ura M} (𝓛 : Logic 𝓤) where
   open 𝓛 use {H}
 
-  -- `then_runs C Λ E b q` is the condition under which `b`, the last part of a function body, can
-  -- be executed so that `q` holds afterwards. `C` and `Λ` are the tables of calls and loops, and
-  -- `E` is the environment of the local variables.
+  -- `then_runs C Λ E b q` is the condition that must hold before the last part `b` of a function
+  -- body is executed. If this condition holds, then `q` holds after `b` has been executed. `C` and
+  -- `Λ` are the tables of calls and loops, and `E` is the environment of the local variables.
   abbrev pub then_runs : Calls 𝓤 H → Loops 𝓤 H → Env 𝓤 H → Body → Post 𝓤 H → Post 𝓤 H
   then_runs C Λ E b q = any_q (after_seq 𝓤 H (Wp 𝓤 H C Λ E b (post 𝓤 H q)) (post 𝓤 H q))
 
-  -- `out_of_block q` is the condition that must hold at the end of an inner block of statements if
-  -- `q` must hold after this block.
+  -- `out_of_block q` is the condition that must hold at the end of an inner block of statements, so
+  -- that `q` holds after this block.
   abbrev pub out_of_block : Post 𝓤 H → Post 𝓤 H
   out_of_block q = any_q (after_block 𝓤 H (post 𝓤 H q))
 
--- The `requires` or `ensures` clauses of a function, as facts in the proof context.
+-- `Facts 𝓤 φs` states the facts `φs` as one entry of the proof context. The facts are the
+-- `requires` clauses or the `ensures` clauses of a function.
 abbrev pub Facts : {M : Type 1} (𝓤 : Ura M) → List (Type 0) → SProp 𝓤
 Facts 𝓤 [] = emp 𝓤
 Facts 𝓤 (φ ∷ []) = fact 𝓤 φ
 Facts 𝓤 (φ ∷ ψ ∷ φs) = sep 𝓤 (fact 𝓤 φ) (Facts 𝓤 (ψ ∷ φs))
 
--- The type of proofs of the `requires` or `ensures` clauses of a function.
+-- A value of type `Shown φs` is a proof of all facts in the list `φs`. The facts are the `requires`
+-- clauses or the `ensures` clauses of a function.
 abbrev pub Shown : List (Type 0) → Type 0
 Shown [] = Unit {0}
 Shown (φ ∷ []) = φ
@@ -89,8 +91,8 @@ alone τ [] t = absurd t
 alone τ (v ∷ []) t = (v, (refl, t.0))
 alone τ (v ∷ w ∷ vs) t = absurd t.1
 
--- A function that takes an array by value need not give any resource of the array back when it
--- returns.
+-- A function that takes an array by value need not give any resource of the array back to its
+-- caller.
 pub nothing_left : {M : Type 1} {𝓤 : Ura M} (𝓛 : Logic 𝓤) {X : Type 0} (xs : List X)
     (fs : Entries (λ _. Unit {0}) xs)
     → ent 𝓤 (sem 𝓛 ftrue) (sem 𝓛 (all_last (λ _. Unit {0}) (λ _ _. ftrue) xs fs))

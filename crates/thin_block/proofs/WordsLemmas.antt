@@ -1,9 +1,10 @@
 -- Arithmetic lemmas about words. A word is a struct of 8 or 16 bytes that consists of whole items.
 -- The lemmas say which item sizes allow words, and what the size and the alignment of a word are.
---     `InWords` collects the facts that hold if `m` items of `s` bytes make a word, and the header
---     takes as many bytes as `k` words.
---     `words_told` says that `InWords` holds for the pair that `in_words` returns, if any.
---     `nameless` says that `InWords` also holds for a type with all field names erased.
+--
+-- - `InWords` collects facts about words of `m` items of `s` bytes, if the header takes as many
+--   bytes as `k` words.
+-- - `words_told` says that `InWords` holds for the pair that `in_words` returns, if any.
+-- - `nameless` says that `InWords` also holds for a type with all field names erased.
 use Rattle.std.proofs.Common.{◌≡◌, true, false, ℕ, Some, None, ◌+◌, ◌*◌, ◌<◌, ◌≤◌, refl, sym, ap, subst, arith}
 use Rattle.std.proofs.lemmas.Bool.{eqb-true}
 use Rattle.std.specs.Prelude.{◌==◌, if◌then◌else◌, Bool, Option, max}
@@ -41,7 +42,8 @@ pub record Counts (m : ℕ) : Type 0 where
   pub least : (n : ℕ) → n ≤ n * m
   pub few : (c : ℕ) → div_ceil c m ≤ c
 
--- `Counts m` holds for each number of items that a word may hold: 1, 2, 4 and 8.
+-- A word holds 1, 2, 4 or 8 items. This lemma and the next three lemmas state that `Counts` holds
+-- for these four numbers of items.
 counts_1 : Counts 1
 counts_1 = record {
   some = omega arith;
@@ -82,16 +84,17 @@ counts_8 = record {
   few = λ c. omega arith;
 }
 
--- A word is a struct of 8 or 16 bytes that consists of whole items. `Laid s a m k` collects facts
--- about words of `m` items: the size and the alignment of a word, and the size of a block of words.
--- Each item has the size `s` and the alignment `a`, and the header is as large as `k` words.
+-- `Laid s a m k` collects facts about the size and the alignment of a word of `m` items, and about
+-- the size of a block of words. A word is a struct of 8 or 16 bytes that consists of whole items.
+-- Each item has the size `s` and the alignment `a`, and the header takes as many bytes as `k`
+-- words.
 abbrev Laid : ℕ → ℕ → ℕ → ℕ → Type 0
 Laid s a m k = (word_size s a m ≡ m * s) × ((word_align a ≡ block_align a)
     × (Dv 8 (word_align a) × (Dv a (word_align a)
     × ((c : ℕ) → (k + div_ceil c m) * (m * s) ≡ block_bytes s a c))))
 
--- If the alignment of an item divides its size, then `Laid` holds for items of 1, 2, 4, 8 and 16
--- bytes.
+-- This lemma and the next four lemmas are about items of 1, 2, 4, 8 and 16 bytes. They state that
+-- `Laid` holds if the alignment of an item, `bytes w`, divides the size of the item.
 laid_1 : (w : Width) → Dv (bytes w) 1 → Laid 1 (bytes w) 8 2
 laid_1 w8 d = (refl, (refl, (tt, (tt, λ c. omega arith))))
 laid_1 w16 d = absurd d
@@ -153,32 +156,33 @@ in_words_by s a m k c any room l = record {
   any = any;
 }
 
--- `AtAny s m k` says that `InWords` holds for items of size `s` with every alignment that divides
+-- `AtAny s m k` holds if `InWords s a m k` holds for every alignment `a` that divides the item size
 -- `s`.
 abbrev AtAny : ℕ → ℕ → ℕ → Type 0
 AtAny s m k = (w : Width) → Dv (bytes w) s → InWords s (bytes w) m k
 
--- The pair that an option contains, or `(0, 0)` if the option is `None`.
+-- `pair o` is the pair that the option `o` contains, or `(0, 0)` if `o` is `None`.
 abbrev pair : Option (ℕ × ℕ) → ℕ × ℕ
 pair None = (0, 0)
 pair (Some p) = p
 
--- If `s ≡ t` and the pairs `p` and `q` are equal, then `AtAny t p.0 p.1` implies `AtAny s q.0 q.1`.
+-- In `AtAny`, the item size and the two numbers may be replaced with equal ones: if `s ≡ t`, and
+-- the pairs `p` and `q` are equal, then `AtAny t p.0 p.1` implies `AtAny s q.0 q.1`.
 at_size : (s t : ℕ) (p q : ℕ × ℕ) → s ≡ t → ◌≡◌ {A = Option (ℕ × ℕ)} (Some p) (Some q)
     → AtAny t p.0 p.1 → AtAny s q.0 q.1
 at_size s t p q es e all =
     subst (λ (x : ℕ × (ℕ × ℕ)). AtAny x.0 x.1.0 x.1.1) (λ i. (sym es i, pair (e i))) all
 
--- Suppose that the booleans `x`, `y`, `z`, `u` and `v` say whether the item size is 1, 2, 4, 8 or
--- 16, in this order. Then `tested x y z u v` is the result of `in_words` for this size. If the
--- result is a pair, it contains the number of items that make a word, and the number of words that
--- take as many bytes as the header.
+-- `tested x y z u v` is the result of `in_words` for an item size. The booleans `x`, `y`, `z`, `u`
+-- and `v` say whether this size is 1, 2, 4, 8 or 16, in this order. If the result is a pair, it
+-- contains two numbers: the number of items that make a word, and the number of words that take as
+-- many bytes as the header.
 abbrev tested : Bool → Bool → Bool → Bool → Bool → Option (ℕ × ℕ)
 tested x y z u v = if x then Some (8, 2) else (if y then Some (4, 2) else
     (if z then Some (2, 2) else (if u then Some (1, 2) else (if v then Some (1, 1) else None))))
 
--- If the item size `s` is 1, 2, 4, 8 or 16, then `InWords` holds for the pair `q` that `tested`
--- returns, and for every alignment that divides `s`.
+-- Suppose that `tested` returns the pair `q` for the item size `s`. Then `InWords` holds for `s`,
+-- for the two numbers in `q`, and for every alignment that divides `s`.
 by_test : (x y z u v : Bool) (s : ℕ) (q : ℕ × ℕ) → (s == 1) ≡ x → (s == 2) ≡ y → (s == 4) ≡ z
     → (s == 8) ≡ u → (s == 16) ≡ v → tested x y z u v ≡ Some q → AtAny s q.0 q.1
 by_test true y z u v s q ex ey ez eu ev e =

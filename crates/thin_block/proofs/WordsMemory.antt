@@ -1,14 +1,16 @@
 -- These lemmas convert the memory of items into memory of words, and back. A word is a struct of
 -- `m` items. The lemmas assume the laws of the separation logic (`Logic`).
---     `ways_out` converts memory for words into memory for items, and `ways_in` is the inverse.
---     `header_out` converts memory for words into memory for the capacity and the length, and
---     `header_in` is the inverse.
---     `block_out` converts memory for a block of words into memory for its parts, and `block_in` is
---     the inverse.
---     `word_el` is the type of words, as the item type of a block.
---     `word_out` splits a word into its items and the right to convert their memory back.
---     `words_in` converts filled slots into items that can be made into words, and empty slots into
---     empty words. `words_back` is the inverse.
+--
+-- - `ways_out` converts memory for words into memory for items, and `ways_in` is the inverse.
+-- - `header_out` converts memory for words into memory for the capacity and the length, and
+--   `header_in` is the inverse.
+-- - `block_out` converts memory for a block of words into memory for its parts, and `block_in` is
+--   the inverse.
+-- - `word_el` is the type of words, as the item type of a block.
+-- - `word_out` splits a word into its items and the right to convert the memory of the items back
+--   into memory for the word.
+-- - `words_in` converts filled slots into items that are grouped by word, and empty slots into
+--   empty words. `words_back` converts words and empty words back into slots.
 use Rattle.std.proofs.Common.{◌≡◌, ℕ, zero, suc, Some, ◌+◌, ◌-◌, ◌*◌, ◌≤◌, List, [], ◌∷◌, ◌++◌, length, map, take, drop as rest, refl, sym, ap, subst, ◌∙◌, arith, zero-mul, suc-mul}
 use Rattle.std.proofs.lemmas.List.{take-append-drop, length-take, length-drop, length-map, map-append}
 use Rattle.std.specs.Prelude.{Option}
@@ -53,9 +55,8 @@ use Rattle.thin_block.proofs.SlotMemory.{cut, glue, to_items, of_items, to_raw, 
 use Rattle.thin_block.proofs.WordsLemmas.{InWords, nameless}
 use Rattle.thin_block.proofs.words.Words.TheLaws.{the_row_laws}
 
--- Section: uninitialized memory.
--- If an array of `n` values begins at the offset `o`, then it ends at `o` plus `n` times the size
--- of a value.
+-- The following lemmas are about uninitialized memory. The first lemma states: if an array of `n`
+-- values begins at the offset `o`, then it ends at `o` plus `n` times the size of a value.
 past-place : (τ : Ty) (n o : ℕ) → past τ n o ≡ place (size τ) o n
 past-place τ zero o = refl
 past-place τ (suc n) o = past-place τ n (o + size τ)
@@ -76,7 +77,7 @@ module _ {M : Type 1} {𝓤 : Ura M} (𝓛 : Logic 𝓤) (τ : Ty) (m k b : ℕ)
   abbrev run : Ty
   run = ty_array τ m
 
-  -- The type of one half of the header. Both the capacity and the length have this type.
+  -- `half` is the type of one half of the header. Both the capacity and the length have this type.
   abbrev half : Ty
   half = ty_int w64
 
@@ -94,8 +95,8 @@ module _ {M : Type 1} {𝓤 : Ura M} (𝓛 : Logic 𝓤) (τ : Ty) (m k b : ℕ)
   one_more : (w : ℕ) → m + w * m ≡ suc w * m
   one_more w = omega (arith, suc-mul w m)
 
-  -- Splits memory for `w` words into memory for their items and `ways`, the rights to convert the
-  -- memory for the items back into memory for words.
+  -- Splits memory for `w` words into memory for the items of these words, and rights (`ways`). With
+  -- these rights, the memory for the items can be converted back into memory for the words.
   pub ways_out : (w o : ℕ) → ent 𝓤 (H.room (ty_array ω w) b o)
       (sep 𝓤 (H.room (ty_array τ (w * m)) b o) (sem 𝓛 (ways τ m w b o)))
   ways_out zero o =
@@ -111,19 +112,18 @@ module _ {M : Type 1} {𝓤 : Ura M} (𝓛 : Logic 𝓤) (τ : Ty) (m k b : ℕ)
       split ! $ move ! (2 ∷ []) $
       use1 𝓛 (‵ (froom (ty_array τ (w * m)) b (o + u)) ⊛ ‵ (ways τ m w b (o + u)))
       (ways_out w (o + u)) $ split ! $
-      -- The memory of the words has been split into memory for their items and the rights to
-      -- convert it back. The proof context holds, in this order: [memory for the items of all words
-      -- except the first; the right to convert this memory into memory for these words; memory for
-      -- the items of the first word; the right to convert this memory into memory for the first
-      -- word].
+      -- The previous steps have split the memory for the words. The proof context now holds these
+      -- entries, in this order: memory for the items of all words except the first; the right to
+      -- convert this memory back into memory for these words; memory for the items of the first
+      -- word; the right to convert this memory back into memory for the first word.
       rewrite ! 0 (λ (n : ℕ). ‵ (froom (ty_array τ (w * m)) b n)) (sym (after_run o)) refl $
       move ! (2 ∷ 0 ∷ []) $ use2 𝓛 (‵ (froom (ty_array τ (m + w * m)) b o))
       (room_glue 𝓛 τ m (w * m) b o) $
       rewrite ! 0 (λ (n : ℕ). ‵ (froom (ty_array τ n) b o)) (one_more w) refl $
       move ! (2 ∷ 1 ∷ 0 ∷ []) $ fjoin ! $ move ! (1 ∷ 0 ∷ []) $ done !
 
-  -- With the rights `ways`, memory for the items of `w` words can be converted into memory for
-  -- these words.
+  -- Converts memory for the items of `w` words into memory for these words. This conversion
+  -- requires the rights `ways`.
   pub ways_in : (w o : ℕ) → ent 𝓤 (sep 𝓤 (H.room (ty_array τ (w * m)) b o) (sem 𝓛 (ways τ m w b o)))
       (H.room (ty_array ω w) b o)
   ways_in zero o = qed 𝓛 (‵ (froom (ty_array τ (0 * m)) b o) ∷ ‵ ftrue ∷ []) ∵ keep ! [] $
@@ -133,10 +133,11 @@ module _ {M : Type 1} {𝓤 : Ura M} (𝓛 : Logic 𝓤) (τ : Ty) (m k b : ℕ)
       rewrite ! 0 (λ (n : ℕ). ‵ (froom (ty_array τ n) b o)) (sym (one_more w)) refl $
       use1 𝓛 (‵ (froom run b o) ⊛ ‵ (froom (ty_array τ (w * m)) b (past τ m o)))
       (room_cut 𝓛 τ m (w * m) b o) $ split ! $ move ! (2 ∷ []) $ fsplit ! $
-      -- The memory for the items of the first word has been separated from the memory for the other
-      -- items. The proof context holds, in this order: [the right to convert memory for the items
-      -- of the first word into memory for a word; the same right for the other words; memory for
-      -- the items of the first word; memory for the items of the other words].
+      -- The previous steps have separated the memory for the items of the first word from the
+      -- memory for the other items. The proof context now holds these entries, in this order: the
+      -- right to convert memory for the items of the first word into memory for a word; the same
+      -- right for the other words; memory for the items of the first word; memory for the items of
+      -- the other words.
       move ! (2 ∷ 0 ∷ []) $ use2 𝓛 (‵ (froom ω b o)) (apply∗ 𝓤 (H.room run b o) (H.room ω b o)) $
       move ! (2 ∷ 1 ∷ []) $
       rewrite ! 0 (λ (n : ℕ). ‵ (froom (ty_array τ (w * m)) b n)) (after_run o) refl $
@@ -150,8 +151,9 @@ module _ {M : Type 1} {𝓤 : Ura M} (𝓛 : Logic 𝓤) (τ : Ty) (m k b : ℕ)
   after_header : (o : ℕ) → past ω k o ≡ o + 16
   after_header o = past_is ω k o ∙ ap (λ (n : ℕ). o + n) header_bytes
 
-  -- Splits memory for `k` words into three parts: memory for the capacity, memory for the length,
-  -- and `header_way`, the right to convert these two kinds of memory back into memory for words.
+  -- Splits memory for `k` words into memory for the capacity, memory for the length, and a right
+  -- (`header_way`). With this right, the memory for the capacity and the length can be converted
+  -- back into memory for words.
   pub header_out : (o : ℕ) → ent 𝓤 (H.room units b o)
       (sep 𝓤 (H.room half b o) (sep 𝓤 (H.room half b (o + 8)) (sem 𝓛 (header_way τ m k b o))))
   header_out o =
@@ -170,8 +172,8 @@ module _ {M : Type 1} {𝓤 : Ura M} (𝓛 : Logic 𝓤) (τ : Ty) (m k b : ℕ)
       move ! (1 ∷ 0 ∷ []) $ use2 𝓛 (‵ (froom two b o)) (𝓛.laws.room_cons half 1 b o) $
       by ! (apply∗ 𝓤 (H.room two b o) (H.room units b o))
 
-  -- With the right `header_way`, memory for the capacity and the length can be converted into
-  -- memory for `k` words.
+  -- Converts memory for the capacity and the length into memory for `k` words. This conversion
+  -- requires the right `header_way`.
   pub header_in : (o : ℕ) → ent 𝓤 (sep 𝓤 (H.room half b o) (sep 𝓤 (H.room half b (o + 8))
       (sem 𝓛 (header_way τ m k b o)))) (H.room units b o)
   header_in o =
@@ -179,8 +181,8 @@ module _ {M : Type 1} {𝓤 : Ura M} (𝓛 : Logic 𝓤) (τ : Ty) (m k b : ℕ)
       fjoin ! $ by ! (apply∗ 𝓤 (sem 𝓛 (header_room b o)) (H.room units b o))
 
   -- If `c` slots fit into `w` words, then memory for these words can be split into memory for the
-  -- slots and `slots_way`, the right to convert the memory for the slots back into memory for
-  -- words.
+  -- slots and a right (`slots_way`). With this right, the memory for the slots can be converted
+  -- back into memory for the words.
   slots_out : (w c o : ℕ) → c ≤ w * m → ent 𝓤 (H.room (ty_array ω w) b o)
       (sep 𝓤 (H.room (ty_array τ c) b o) (sem 𝓛 (slots_way τ m w c b o)))
   slots_out w c o le =
@@ -194,8 +196,8 @@ module _ {M : Type 1} {𝓤 : Ura M} (𝓛 : Logic 𝓤) (τ : Ty) (m k b : ℕ)
       rewrite ! 0 (λ (n : ℕ). ‵ (froom (ty_array τ pad) b n)) (past_is τ c o) refl $
       move ! (2 ∷ 0 ∷ []) $ fjoin ! $ move ! (1 ∷ 0 ∷ []) $ done !
 
-  -- If `c` slots fit into `w` words, then, with the right `slots_way`, memory for the slots can be
-  -- converted into memory for the words.
+  -- If `c` slots fit into `w` words, then memory for the slots can be converted into memory for the
+  -- words. This conversion requires the right `slots_way`.
   slots_in : (w c o : ℕ) → c ≤ w * m → ent 𝓤 (sep 𝓤 (H.room (ty_array τ c) b o)
       (sem 𝓛 (slots_way τ m w c b o))) (H.room (ty_array ω w) b o)
   slots_in w c o le =
@@ -212,9 +214,9 @@ module _ {M : Type 1} {𝓤 : Ura M} (𝓛 : Logic 𝓤) (τ : Ty) (m k b : ℕ)
     abbrev Back : Fml
     Back = fsep (header_way τ m k b o) (slots_way τ m w c b (o + 16))
 
-    -- Splits memory for a block of words into four parts: memory for the capacity, memory for the
-    -- length, memory for the slots, and `Back`, the right to convert these three kinds of memory
-    -- back into memory for words.
+    -- Splits memory for a block of words into memory for the capacity, memory for the length,
+    -- memory for the slots, and a right (`Back`). With this right, the three kinds of memory can be
+    -- converted back into memory for the block of words.
     pub block_out : ent 𝓤 (H.room (ty_array ω (k + w)) b o)
         (sep 𝓤 (H.room half b o) (sep 𝓤 (H.room half b (o + 8))
         (sep 𝓤 (H.room (ty_array τ c) b (o + 16)) (sem 𝓛 Back))))
@@ -229,8 +231,8 @@ module _ {M : Type 1} {𝓤 : Ura M} (𝓛 : Logic 𝓤) (τ : Ty) (m k b : ℕ)
         (slots_out w c (o + 16) le) $ split ! $ move ! (4 ∷ 1 ∷ []) $ fjoin ! $
         move ! (2 ∷ 3 ∷ 1 ∷ 0 ∷ []) $ done !
 
-    -- With the right `Back`, memory for the capacity, the length and the slots can be converted
-    -- into memory for a block of words.
+    -- Converts memory for the capacity, the length and the slots into memory for a block of words.
+    -- This conversion requires the right `Back`.
     pub block_in : ent 𝓤 (sep 𝓤 (H.room half b o) (sep 𝓤 (H.room half b (o + 8))
         (sep 𝓤 (H.room (ty_array τ c) b (o + 16)) (sem 𝓛 Back)))) (H.room (ty_array ω (k + w)) b o)
     block_in =
@@ -242,8 +244,9 @@ module _ {M : Type 1} {𝓤 : Ura M} (𝓛 : Logic 𝓤) (τ : Ty) (m k b : ℕ)
         move ! (2 ∷ 3 ∷ 1 ∷ []) $ use3 𝓛 (‵ (froom units b o)) (header_in o) $
         by ! (room_glue 𝓛 ω k w b o)
 
--- Section: words that hold items. `number_of_items m` is the number of items in a word, as the
--- const argument of the type `Words`.
+-- The type `Words` has a const argument: the number of items in a word. `number_of_items m` is this
+-- argument for words of `m` items. The following definitions and lemmas are about words that hold
+-- items.
 abbrev pub number_of_items : ℕ → RattleType
 number_of_items m = param 1 (number m)
 
@@ -251,8 +254,8 @@ number_of_items m = param 1 (number m)
 abbrev pub word_row : RattleType → ℕ → RattleType
 word_row T m = the_row (param 0 T) (number_of_items m)
 
--- `word_el T L m` combines the type of words and its laws into one record. The lemmas about blocks
--- take this record as an argument. A word consists of `m` items of type `T`.
+-- `word_el T L m` combines the type of words of `m` items with the laws of this type into one
+-- record. The lemmas about blocks take this record as an argument. The items have the type `T`.
 abbrev pub word_el : (T : RattleType) → Laws T → ℕ → El
 word_el T L m = record {
   row = word_row T m;
@@ -267,7 +270,8 @@ zero_at w32 = refl
 zero_at w64 = refl
 zero_at w128 = refl
 
--- The first field of a struct has the offset 0.
+-- Rounding 0 up to a multiple of the alignment of a type `τ` yields 0. So the first field of a
+-- struct has the offset 0.
 zero_up : (τ : Ty) → up (align τ) 0 ≡ 0
 zero_up τ = subst (λ (a : ℕ). up a 0 ≡ 0) (sym (align-bytes τ)) (zero_at (align_w τ))
 
@@ -276,12 +280,14 @@ zero_up τ = subst (λ (a : ℕ). up a 0 ≡ 0) (sym (align-bytes τ)) (zero_at 
 abbrev pub words_made : (T : RattleType) (m n : ℕ) → List T.Denot → List (word_row T m).Denot
 words_made T m n xs = map (word (param 0 T) (number_of_items m)) (first_chunks m n xs)
 
--- The list `first_chunks m n xs` consists of `n` chunks.
+-- `first_chunks m n xs` is the list of the first `n` chunks of `m` items in `xs`. The length of
+-- this list is `n`, even if `xs` contains fewer than `n * m` items.
 pub chunks_long : {X : Type 0} (m n : ℕ) (xs : List X) → length (first_chunks m n xs) ≡ n
 chunks_long m zero xs = refl
 chunks_long m (suc n) xs = ap suc (chunks_long m n (rest m xs))
 
--- The list `words_made T m n xs` consists of `n` words.
+-- `words_made T m n xs` is the list of the first `n` words that are made from the items `xs`. The
+-- length of this list is `n`, even if `xs` contains fewer than `n * m` items.
 pub words_long : (T : RattleType) (m n : ℕ) (xs : List T.Denot)
     → length (words_made T m n xs) ≡ n
 words_long T m n xs = length-map (first_chunks m n xs) (word (param 0 T) (number_of_items m))
@@ -318,7 +324,7 @@ module _ {M : Type 1} {𝓤 : Ura M} (𝓛 : Logic 𝓤) (T : RattleType) (L : L
   hd' : InWords (size τ') (align τ') m k
   hd' = nameless σ m k hd
 
-  -- If all field names in the type of a word are erased, the size of a word is still `m` times the
+  -- `u'` is the size of a word whose type has all field names erased. This size is `m` times the
   -- size of an item.
   wide : u' ≡ m * s
   wide = hd'.size ∙ ap (λ (n : ℕ). m * n) (size-raw σ)
@@ -354,8 +360,8 @@ module _ {M : Type 1} {𝓤 : Ura M} (𝓛 : Logic 𝓤) (T : RattleType) (L : L
     abbrev Rooms : SProp 𝓤
     Rooms = rooms_for 𝓤 H fields zero b o
 
-    -- If memory for the fields of a word can be converted into memory for the word, then memory for
-    -- the items of the word can also be converted into memory for the word.
+    -- Suppose that memory for the fields of a word can be converted into memory for the word. Then
+    -- memory for the items of the word can be converted into memory for the word, too.
     way_out : ent 𝓤 (RoomBack 𝓤 H (the_type (R E) N).name fields b o) (sem 𝓛 (way τ' m b o))
     way_out =
         qed 𝓛 (raw (RoomBack 𝓤 H (the_type (R E) N).name fields b o) ∷ []) ∵
@@ -367,8 +373,8 @@ module _ {M : Type 1} {𝓤 : Ura M} (𝓛 : Logic 𝓤) (T : RattleType) (L : L
         use2 𝓛 (‵ (froom (layout W.row) b o)) (apply∗ 𝓤 Rooms (H.room (layout W.row) b o)) $
         by ! (𝓛.laws.room-raw (layout W.row) b o)
 
-    -- Splits a word in memory into its items and `way`, the right to convert the memory of these
-    -- items back into memory for the word.
+    -- Splits a word in memory into its items and a right (`way`). With this right, the memory of
+    -- the items can be converted back into memory for the word.
     pub word_out : (xs : List X) → ent 𝓤 (sem 𝓛 (part_at (R W) full_share (word (R E) N xs) b o))
         (sep 𝓤 (sem 𝓛 (part_at (Array (R E) m) full_share xs b o)) (sem 𝓛 (way τ' m b o)))
     word_out xs =
@@ -413,9 +419,9 @@ module _ {M : Type 1} {𝓤 : Ura M} (𝓛 : Logic 𝓤) (T : RattleType) (L : L
         ap (λ (n : ℕ). n * s) (length-map (take m xs) Some ∙ first_long) in
         let e = wide in omega arith
 
-  -- Groups the slots that hold the items of `n` words into one group for each word. Each group gets
-  -- `way`, the right to convert the memory of the group into memory for a word. The rights for the
-  -- `j` words directly after the `n` words remain unused.
+  -- Groups the slots that hold the items of `n` words. The slots of each word form one group. Each
+  -- group is combined with the right (`way`) to convert the memory of the group into memory for a
+  -- word. The rights for the `j` words directly after the `n` words are not used.
   to_runs : (n w j : ℕ) (xs : List X) (o at : ℕ) → length xs ≡ n * m → w ≡ j + n → at ≡ n * u' + o
       → ent 𝓤 (sep 𝓤 (sem 𝓛 (places (R E) (full xs) b o)) (sem 𝓛 (ways τ' m w b o)))
       (sep 𝓤 (sem 𝓛 (runs_at (R E) N (chunks n xs) b o)) (sem 𝓛 (ways τ' m j b at)))
@@ -436,18 +442,18 @@ module _ {M : Type 1} {𝓤 : Ura M} (𝓛 : Logic 𝓤) (T : RattleType) (L : L
       (to_items E 𝓛 b m c o (first_long n xs o long)) $ move ! (2 ∷ []) $
       rewrite ! 0 (λ (n : ℕ). ‵ (ways τ' m n b o)) {x = suc (j + n)} (omega (arith, ew)) refl $
       fsplit ! $
-      -- The slots and the rights (`ways`) have been split. The proof context holds, in this order:
-      -- [the right to convert memory for the items of the first word into memory for this word; the
-      -- same rights for all later words; the items of the first word; the slots with the items of
-      -- the other words].
+      -- The previous steps have split the slots and the rights (`ways`). The proof context now
+      -- holds these entries, in this order: the right to convert memory for the items of the first
+      -- word into memory for this word; the same rights for all later words; the items of the first
+      -- word; the slots with the items of the other words.
       move ! (2 ∷ 0 ∷ []) $ fjoin ! $ move ! (2 ∷ 1 ∷ []) $
       use2 𝓛 (‵ (runs_at (R E) N (chunks n (rest m xs)) b far) ⊛ ‵ (ways τ' m j b at))
       (to_runs n (j + n) j (rest m xs) far at (rest_long n xs o long) refl
       (omega (arith, ea, suc-mul n u'))) $ split ! $ move ! (2 ∷ 0 ∷ []) $ fjoin ! $ done !
 
-  -- Turns `n` adjacent words into slots that hold their items, and into the rights (`ways`) to
-  -- convert these slots back into words. The lemma combines these rights with the rights for the
-  -- `j` words directly after the `n` words.
+  -- Converts `n` adjacent words into slots that hold the items of the words, and into rights
+  -- (`ways`) to convert these slots back into words. The result contains these rights together with
+  -- the given rights for the `j` words directly after the `n` words.
   of_runs : (n w j : ℕ) (xs : List X) (o at : ℕ) → length xs ≡ n * m → w ≡ j + n → at ≡ n * u' + o
       → ent 𝓤 (sep 𝓤 (sem 𝓛 (places (R W) (full (words n xs)) b o)) (sem 𝓛 (ways τ' m j b at)))
       (sep 𝓤 (sem 𝓛 (places (R E) (full xs) b o)) (sem 𝓛 (ways τ' m w b o)))
@@ -469,10 +475,10 @@ module _ {M : Type 1} {𝓤 : Ura M} (𝓛 : Logic 𝓤) (T : RattleType) (L : L
       use2 𝓛 (‵ (places (R E) (full (rest m xs)) b far) ⊛ ‵ (ways τ' m (j + n) b far))
       (of_runs n (j + n) j (rest m xs) far at (rest_long n xs o long) refl
       (omega (arith, ea, suc-mul n u'))) $ split ! $
-      -- All words have been turned into slots. The proof context holds, in this order: [the slots
-      -- with the items of all words except the first; for these words and the `j` words after them,
-      -- the rights (`ways`) to convert memory for items back into memory for words; the slots with
-      -- the items of the first word; the same right for the first word].
+      -- The previous steps have converted all words into slots. The proof context now holds these
+      -- entries, in this order: the slots with the items of all words except the first; the rights
+      -- (`ways`) to convert memory for items back into memory for these words and the `j` words
+      -- after them; the slots with the items of the first word; the same right for the first word.
       move ! (2 ∷ 0 ∷ []) $ use2 𝓛 (‵ (places (R E) (full c ++ full (rest m xs)) b o))
       (glue E 𝓛 b (full c) (full (rest m xs)) o far (next n xs o long)) $
       rewrite ! 0 (λ (l : List (Option X)). ‵ (places (R E) l b o)) (sym (parted xs)) refl $
@@ -488,8 +494,8 @@ module _ {M : Type 1} {𝓤 : Ura M} (𝓛 : Logic 𝓤) (T : RattleType) (L : L
     end_at : far ≡ past τ' j at
     end_at = end ∙ sym (past_is τ' j at)
 
-    -- Turns empty slots into empty words. The lemma also needs the rights (`ways`) to convert the
-    -- slots, and the memory at the end that belongs to no slot.
+    -- Converts empty slots into empty words. The conversion needs the rights (`ways`) to convert
+    -- the slots into words, and the memory after the last slot, which belongs to no slot.
     spare_words : ent 𝓤 (sep 𝓤 (sem 𝓛 (places (R E) (empty j) b at))
         (sep 𝓤 (sem 𝓛 (ways τ' m v b at)) (sem 𝓛 Spare)))
         (sem 𝓛 (places (R W) (empty v) b at))
@@ -503,8 +509,9 @@ module _ {M : Type 1} {𝓤 : Ura M} (𝓛 : Logic 𝓤) (T : RattleType) (L : L
         use2 𝓛 (‵ (froom (ty_array (word_of τ' m) v) b at)) (ways_in 𝓛 τ' m k b hd' v at) $
         by ! (of_raw W 𝓛 b v at)
 
-    -- Turns empty words into empty slots. The result also contains the rights (`ways`) to convert
-    -- the slots back, and the memory at the end that belongs to no slot.
+    -- Converts empty words into empty slots. The result also contains the rights (`ways`) to
+    -- convert the slots back into words, and the memory after the last slot, which belongs to no
+    -- slot.
     spare_slots : ent 𝓤 (sem 𝓛 (places (R W) (empty v) b at))
         (sep 𝓤 (sem 𝓛 (places (R E) (empty j) b at))
         (sep 𝓤 (sem 𝓛 (ways τ' m v b at)) (sem 𝓛 Spare)))
@@ -520,8 +527,8 @@ module _ {M : Type 1} {𝓤 : Ura M} (𝓛 : Logic 𝓤) (T : RattleType) (L : L
         rewrite ! 0 (λ (n : ℕ). ‵ (froom (ty_array τ' pad) b n)) (sym end_at) refl $
         move ! (1 ∷ 2 ∷ 0 ∷ []) $ done !
 
-  -- Section: all slots of a block. The `c` slots occupy `w` words, and `n` of these words hold
-  -- items.
+  -- The next lemmas are about all slots of a block. The `c` slots occupy `w` words, and the first
+  -- `n` of these words hold the items `xs`. The other `v` words and the other `j` slots are empty.
   module _ (xs : List X) (n j v w c o : ℕ) (long : length xs ≡ n * m) (all : c ≡ length xs + j)
       (total : w ≡ v + n) (le : c ≤ w * m) where
     abbrev after : ℕ
@@ -555,7 +562,8 @@ module _ {M : Type 1} {𝓤 : Ura M} (𝓛 : Logic 𝓤) (T : RattleType) (L : L
         ap (λ (x : ℕ). length xs * x) (size-raw σ) in
         let e = same_bytes in let a = at_after in omega arith
 
-    -- Turns filled slots into items that can be made into words, and empty slots into empty words.
+    -- Groups the filled slots by word, and converts the empty slots into empty words. The lemma
+    -- requires the right `slots_way` to convert slots into words.
     pub words_in : ent 𝓤 (sep 𝓤 (sem 𝓛 (places (R E) (full xs ++ empty j) b o))
         (sem 𝓛 (slots_way τ' m w c b o)))
         (sep 𝓤 (sem 𝓛 (runs_at (R E) N (chunks n xs) b o)) (sem 𝓛 (places (R W) (empty v) b after)))
@@ -563,10 +571,11 @@ module _ {M : Type 1} {𝓤 : Ura M} (𝓛 : Logic 𝓤) (T : RattleType) (L : L
         qed 𝓛 (‵ (places (R E) (full xs ++ empty j) b o) ∷ ‵ (slots_way τ' m w c b o) ∷ []) ∵
         use1 𝓛 (‵ (places (R E) (full xs) b o) ⊛ ‵ (places (R E) (empty j) b after))
         (cut E 𝓛 b (full xs) (empty j) o after last) $ split ! $ move ! (2 ∷ []) $ fsplit ! $
-        -- The filled slots have been separated from the empty slots, and `slots_way` has been split
-        -- into its two parts. The proof context holds, in this order: [for all words, the rights
-        -- (`ways`) to convert memory for items into memory for words; the memory at the end that
-        -- belongs to no slot; the filled slots; the empty slots].
+        -- The previous steps have separated the filled slots from the empty slots, and have split
+        -- `slots_way` into its two parts. The proof context now holds these entries, in this order:
+        -- the rights (`ways`) to convert memory for the items of all words into memory for the
+        -- words; the memory after the last slot, which belongs to no slot; the filled slots; the
+        -- empty slots.
         move ! (2 ∷ 0 ∷ []) $
         use2 𝓛 (‵ (runs_at (R E) N (chunks n xs) b o) ⊛ ‵ (ways τ' m v b after))
         (to_runs n w v xs o after long total at_after) $ split ! $ move ! (3 ∷ 1 ∷ 2 ∷ []) $
@@ -577,15 +586,15 @@ module _ {M : Type 1} {𝓤 : Ura M} (𝓛 : Logic 𝓤) (T : RattleType) (L : L
     last_word = ap (λ (x : ℕ). x * type_size (R W) + o)
         (sym (length-map (words n xs) Some ∙ words_long T m n xs))
 
-    -- Joins the memory of words that hold items with the memory of empty words. The empty words
-    -- must begin directly after the words that hold items.
+    -- Joins the memory of the `n` words that hold items with the memory of the `v` empty words. The
+    -- empty words must begin directly after the words that hold items.
     pub words_joined : ent 𝓤 (sep 𝓤 (sem 𝓛 (places (R W) (full (words n xs)) b o))
         (sem 𝓛 (places (R W) (empty v) b after)))
         (sem 𝓛 (places (R W) (full (words n xs) ++ empty v) b o))
     words_joined = glue W 𝓛 b (full (words n xs)) (empty v) o after last_word
 
-    -- Turns words into filled slots, and empty words into empty slots. The result also contains the
-    -- right (`slots_way`) to convert the slots back into words.
+    -- Converts the words that hold items into filled slots, and the empty words into empty slots.
+    -- The result also contains the right (`slots_way`) to convert the slots back into words.
     pub words_back : ent 𝓤 (sem 𝓛 (places (R W) (full (words n xs) ++ empty v) b o))
         (sep 𝓤 (sem 𝓛 (places (R E) (full xs ++ empty j) b o)) (sem 𝓛 (slots_way τ' m w c b o)))
     words_back =
@@ -595,9 +604,10 @@ module _ {M : Type 1} {𝓤 : Ura M} (𝓛 : Logic 𝓤) (T : RattleType) (L : L
         use1 𝓛 (‵ (places (R E) (empty j) b after) ⊛ ‵ (ways τ' m v b after) ⊛ ‵
         (froom (ty_array τ' pad') b (o + c * size τ')))
         (spare_slots j v pad' after (o + c * size τ') whole end) $ split3 ! $
-        -- The empty words have been turned into empty slots. The proof context holds, in this
-        -- order: [the empty slots; the rights (`ways`) to convert these slots back into words; the
-        -- memory at the end that belongs to no slot; the words that hold items].
+        -- The previous steps have converted the empty words into empty slots. The proof context now
+        -- holds these entries, in this order: the empty slots; the rights (`ways`) to convert these
+        -- slots back into words; the memory after the last slot, which belongs to no slot; the
+        -- words that hold items.
         move ! (3 ∷ 1 ∷ []) $
         use2 𝓛 (‵ (places (R E) (full xs) b o) ⊛ ‵ (ways τ' m w b o))
         (of_runs n w v xs o after long total at_after) $ split ! $ move ! (0 ∷ 2 ∷ []) $

@@ -1,6 +1,7 @@
--- A list is cheap (`IsCheap`) if growing it has cost little. A cheap list is still cheap after a
--- sequence of commands that contains neither `ReserveExact` nor `ShrinkToFit`. The number of items
--- that growth copies during these commands is at most the increase of the capacity.
+-- A list is cheap (`IsCheap`) if its growth has copied few items and requested memory rarely. These
+-- lemmas are about a sequence of commands that contains neither `ReserveExact` nor `ShrinkToFit`. A
+-- list that is cheap before these commands is also cheap after them. During these commands, growth
+-- copies at most as many items as the capacity increases.
 use Rattle.std.proofs.Common.{◌≡◌, ℕ, suc, ◌+◌, ◌-◌, ◌^◌, ◌<◌, ◌≤◌, List, [], ◌∷◌, ◌++◌, Some, None, length, arith, ap, sym, subst, ◌∙◌, refl, inl, inr}
 use Rattle.std.proofs.lemmas.Bool.{cases_lt}
 use Rattle.std.proofs.lemmas.List.{length-append, length-set, length_push, length-drop, length-take}
@@ -29,8 +30,9 @@ use Rattle.thin_runner.specs.declared.command.Command.TheVariants.{Push, Pop, In
 use Rattle.thin_runner.specs.declared.command.Reply.{Reply}
 use Rattle.thin_runner.specs.declared.command.Reply.TheVariants.{Answers, Done, Item, List as Made, Other, Returned, Refused, Stopped, OutOfRange}
 
--- If two costs count the same number of blocks and the same number of copied items, and the first
--- cost is within the bound `IsCheapAt` for the capacity `c`, then so is the second cost.
+-- `IsCheapAt c k` bounds the numbers of blocks and copied items in the cost `k` of a list of
+-- capacity `c`. If the cost `k'` has the same two numbers as `k`, and `IsCheapAt c k` holds, then
+-- `IsCheapAt c k'` also holds.
 cheap-same : (c : ℕ) (k k' : Cost) → k'.blocks ≡ k.blocks → k'.grown ≡ k.grown
     → IsCheapAt c k → IsCheapAt c k'
 cheap-same c k k' blocks grown h = record {
@@ -42,9 +44,9 @@ cheap-same c k k' blocks grown h = record {
       omega (arith, same, b);
 }
 
--- `IsPaid v w` states three facts about a change of the list `v` to `w`. First, if `v` satisfies
--- the bound `IsCheap` on the cost of growth, then so does `w`. Second, the number of items that
--- growth copied is at most the increase of the capacity. Third, the items of `w` fit into its
+-- `IsPaid v w` states three facts about a list that was `v` before some calls and is `w` after
+-- them. First, if `v` is cheap (`IsCheap`), then `w` is also cheap. Second, the number of items
+-- that growth copied is at most the increase of the capacity. Third, the items of `w` fit into its
 -- capacity.
 pub record IsPaid {T A : Type 0} (v w : Thin T A) : Type 0 where
   pub cheap : IsCheap v → IsCheap w
@@ -52,11 +54,14 @@ pub record IsPaid {T A : Type 0} (v w : Thin T A) : Type 0 where
   pub room : length w.items ≤ w.capacity
 
 module _ {T A : Type 0} where
-  -- If the items of `v` fit into its capacity, then `IsPaid v v` holds.
+  -- A list that does not change satisfies `IsPaid`. That is, if the items of `v` fit into its
+  -- capacity, then `IsPaid v v` holds.
   pub none-paid : (v : Thin T A) → length v.items ≤ v.capacity → IsPaid v v
   none-paid v room = record { cheap = λ c. c; copied = omega arith; room = room }
 
-  -- If `IsPaid v u` and `IsPaid u w` hold, then `IsPaid v w` holds.
+  -- `IsPaid v w` states that the change from the list `v` to the list `w` has cost little. If this
+  -- holds for two changes in a row, from `v` to `u` and from `u` to `w`, then it holds for both
+  -- together.
   pub join-paid : {v u w : Thin T A} → IsPaid v u → IsPaid u w → IsPaid v w
   join-paid p q = record {
     cheap = λ c. q.cheap (p.cheap c);
@@ -65,13 +70,15 @@ module _ {T A : Type 0} where
   }
 
 module _ {T A : Type 0} (v w : Thin T A) (room : length v.items ≤ v.capacity) where
-  -- If the items of `v` fit into its capacity, and `w` equals `v`, then `IsPaid v w` holds.
+  -- This lemma is about a call that does not change the list `v`, so that `w` equals `v`. If the
+  -- items of `v` fit into its capacity, then `IsPaid v w` holds.
   same-paid : w ≡ v → IsPaid v w
   same-paid e = subst (IsPaid v) (sym e) (none-paid v room)
 
-  -- Suppose that the items of `v` fit into its capacity, and that `w` equals a list `u` with the
-  -- capacity of `v` and at most `length v.items` items. If the costs of `u` and `v` count equally
-  -- many blocks and equally many copied items, then `IsPaid v w` holds.
+  -- This lemma is about a call that adds no items and does not change the capacity. Suppose that
+  -- the list `w` after the call equals `u`, and that `u` has the same capacity as `v` and no more
+  -- items than `v`. Suppose also that the costs of `u` and `v` contain the same numbers of blocks
+  -- and copied items. If the items of `v` fit into its capacity, then `IsPaid v w` holds.
   kept-paid : (u : Thin T A) → w ≡ u → u.capacity ≡ v.capacity
       → u.cost.blocks ≡ v.cost.blocks → u.cost.grown ≡ v.cost.grown
       → length u.items ≤ length v.items → IsPaid v w
@@ -86,10 +93,11 @@ module _ {T A : Type 0} (v w : Thin T A) (room : length v.items ≤ v.capacity) 
 
 module _ {T A J : Type 0} (here : Setting T A J) (law : KeepsLaw here.rule) (v w : Thin T A)
     (room : length v.items ≤ v.capacity) where
-  -- Suppose that the items of the list `v` fit into its capacity. Suppose also that the list `w`
-  -- has at most `n` more items than `v`, and the capacity that the growth rule requires for `n`
-  -- more items. If the cost of `w` counts exactly the blocks and copied items of `v`, plus the
-  -- blocks and copied items of this growth, then `IsPaid v w` holds.
+  -- This lemma is about a call that reserves room for `n` more items and adds at most `n` items.
+  -- Suppose that the list `w` after the call has the capacity that the growth rule requires.
+  -- Suppose also that the numbers of blocks and copied items in its cost are those of `cost_at v
+  -- w.capacity`, which is the cost of `v` after this growth. If the items of `v` fit into its
+  -- capacity, then `IsPaid v w` holds.
   ruled-paid : (u : Thin T A) (n : ℕ) → capacity_for here.rule here.R v n ≡ Some w.capacity
       → w ≡ u → u.cost.blocks ≡ (cost_at v w.capacity).blocks
       → u.cost.grown ≡ (cost_at v w.capacity).grown
@@ -112,9 +120,10 @@ module _ {T A J : Type 0} (here : Setting T A J) (law : KeepsLaw here.rule) (v w
         ];
       }
 
-  -- Suppose that the items of `v` fit into its capacity. If a call that clones items fails and
-  -- turns the list `v` into `w`, then `IsPaid v w` holds. Such a call fails if there is no room for
-  -- `n` more items, or if an item cannot be cloned.
+  -- Suppose that a call that clones items fails, and that the list is `v` before the call and `w`
+  -- after it. (The call fails if there is no room for `n` more items, or if one of the items
+  -- `sources` cannot be cloned.) If the items of `v` fit into its capacity, then `IsPaid v w`
+  -- holds.
   refused-paid : (n : ℕ) (sources : List T) (cause : ThinVecError)
       → RefusesClone here v n sources cause w → IsPaid v w
   refused-paid n sources cause r = stopped r.2
@@ -125,7 +134,9 @@ module _ {T A J : Type 0} (here : Setting T A J) (law : KeepsLaw here.rule) (v w
       stopped (inl e) = same-paid v w room e
       stopped (inr s) = ruled-paid _ n s.3.0 s.3.1 refl refl (omega arith)
 
--- The lemmas of this module bound the number of items after a change of a list.
+-- Each lemma of this module bounds the number of items after a change of a list. For example,
+-- `few-take` is about the first `k` items of a list, and `all-more` is about two lists that are
+-- joined.
 module _ {T : Type 0} where
   few-swap_remove : (xs : List T) (i : ℕ) (x : T) → length (swap_remove xs i x) ≤ length xs
   few-swap_remove xs i x =
@@ -169,8 +180,8 @@ module _ {T : Type 0} where
       omega (arith, ap length a.1, length-append xs a.0, count)
 
 module _ {T A G J : Type 0} (here : Setting T A J) (law : KeepsLaw here.rule) where
-  -- Suppose that a command other than `ReserveExact` and `ShrinkToFit` turns the list `v` into `w`.
-  -- If the items of `v` fit into its capacity, then `IsPaid v w` holds.
+  -- Suppose that a command turns the list `v` into `w`, and that the command is not `ReserveExact`
+  -- or `ShrinkToFit`. If the items of `v` fit into its capacity, then `IsPaid v w` holds.
   pub step-paid : (v w : Thin T A) (command : Command T A G) (reply : Reply T A G)
       → KeepsCheap command → length v.items ≤ v.capacity → Steps here v command reply w
       → IsPaid v w

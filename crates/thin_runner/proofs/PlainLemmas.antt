@@ -1,5 +1,6 @@
--- Suppose that no call of a run fails, and that each clone equals its source. Then `items_after`
--- computes the items after each command of the run, and `reply_to` computes the replies.
+-- Suppose that no call of a run fails, and that each clone equals its source. Then two functions on
+-- plain lists of items predict the run. For each command, `items_after` computes the resulting
+-- items, and `reply_to` computes the reply.
 use Rattle.std.proofs.Common.{◌≡◌, ℕ, ◌+◌, ◌-◌, ◌&&◌, ◌<◌, ◌≤◌, ◌↔◌, List, [], ◌∷◌, ◌++◌, All, Decides, IsSome, Option, Some, None, length, map, take, drop, true, arith, ap, nat_le, refl, slice_get, sym, take_all, ◌∙◌, inl, inr, append_assoc, length-append}
 use Rattle.std.proofs.lemmas.Bool.{and_from, and_parts, cases_lt, cond-false, cond-true, false_from_ne_true, false≢true, le-leb, leb-true, lt-ltb, ltb-true}
 use Rattle.std.proofs.lemmas.List.{append-nil, replicate-append-replicate}
@@ -27,8 +28,9 @@ use Rattle.thin_runner.proofs.JudgedLemmas.{dedup-pairs}
 use Rattle.thin_runner.proofs.WalkLemmas.{last-of}
 use Rattle.thin_runner.proofs.WeakerClonesLemmas.{zip-weaker}
 
--- `Some x ≡ None` is false, so it implies every statement `B`. The lemma is used for replies with a
--- cause of failure `x`: if no call failed, there is no such reply.
+-- `Some x ≡ None` is false, so it implies every statement `B`. The proofs use this lemma for the
+-- reply to a failed call, which contains a cause of failure `x`. If no call failed, there is no
+-- such reply.
 refused : {X B : Type 0} (x : X) → Some x ≡ None → B
 refused x e = cc
 
@@ -42,7 +44,8 @@ range-decides a b n = (
 )
 
 module _ {T A G : Type 0} where
-  -- `in_range` returns true if and only if `IsInRange` holds for the command and the items `xs`.
+  -- `in_range` is the Boolean function for the statement `IsInRange`. That is, `in_range xs
+  -- command` is true if and only if `IsInRange xs command` holds.
   in_range-decides : (xs : List T) (command : Command T A G)
       → Decides (in_range xs command) (IsInRange xs command)
   in_range-decides xs (Insert i v) = (leb-true i (length xs), le-leb i (length xs))
@@ -57,7 +60,8 @@ module _ {T A G : Type 0} where
 
 module _ {T : Type 0} where
   -- If a call to `pop` turns the list `xs` into `ys` and returns `o`, then `o` is the last item of
-  -- `xs`, and `ys` contains the items before it. (If `xs` is empty, `o` is `None`.)
+  -- `xs`, and `ys` contains the items before the last one. If `xs` is empty, then `o` is `None`,
+  -- and `ys` is empty, too.
   popped : (xs ys : List T) (o : Option T) → (IsSome o ↔ (0 < length xs))
       → xs ≡ ys ++ option_to_list o
       → (o ≡ slice_get xs (length xs - 1)) × (ys ≡ take (length xs - 1) xs)
@@ -114,8 +118,9 @@ module _ {T : Type 0} where
       ap (λ (t : List T). (t ++ ys) ++ drop (length xs) xs) (take-length xs)
       ∙ (ap (λ (t : List T). (xs ++ ys) ++ t) (drop-length xs) ∙ append-nil (xs ++ ys))
 
-  -- Suppose that only the items `a..b` of the list `xs` are tested. Then the kept items of this
-  -- range replace the range, and all other items of `xs` are unchanged.
+  -- The list `verdicts` contains the results of testing only the items `a..b` of the list `xs`. The
+  -- items that remain in `xs` after these tests are the items before the index `a`, the tested
+  -- items that are kept, and the items from the index `b` on.
   left-around : (xs : List T) (a b : ℕ) (verdicts : Verdicts T)
       → left_at true (around xs a b verdicts) ≡ replace_range xs a b (left_at true verdicts)
   left-around xs a b verdicts =
@@ -127,8 +132,9 @@ module _ {T : Type 0} where
       ∙ ((λ i. before ++ (kept ++ left_at-stay after i)) ∙ sym (append_assoc before kept after)))
 
 module _ {T A G J : Type 0} (here : Setting T A J) (equal : ClonesEqual here.clones) where
-  -- Suppose that each clone equals its source. Then, for each command that is in range and does not
-  -- fail, `granted` computes the reply and the resulting items.
+  -- Suppose that each clone equals its source. If a command is in range and does not fail, then the
+  -- function `granted` computes its reply and the resulting items. The list is `v` before the
+  -- command and `w` after it.
   does-granted : (v w : Thin T A) (command : Command T A G) (reply : Reply T A G)
       → IsGranted reply → Does here v command reply w
       → (seen reply, w.items) ≡ granted here v.items command
@@ -188,9 +194,9 @@ module _ {T A G J : Type 0} (here : Setting T A J) (equal : ClonesEqual here.clo
       λ j. (yields (d.0 j), d.1.items j)
   does-granted v w command reply ok d = absurd d
 
-  -- Suppose that each clone equals its source. Then `plain_step` computes the reply and the
-  -- resulting items for each command that does not fail. This includes a command that is out of
-  -- range: its reply is `OutOfRange`, which is not a failure.
+  -- Suppose that each clone equals its source. If a command does not fail, then the function
+  -- `plain_step` computes its reply and the resulting items. The list is `v` before the command and
+  -- `w` after it. A command that is out of range does not fail: its reply is `OutOfRange`.
   step-plain : (v w : Thin T A) (command : Command T A G) (reply : Reply T A G)
       → IsGranted reply → Steps here v command reply w
       → (seen reply, w.items) ≡ plain_step here v.items command
@@ -206,10 +212,11 @@ module _ {T A G J : Type 0} (here : Setting T A J) (equal : ClonesEqual here.clo
       ∙ sym (cond-true (in_range v.items command) (granted here v.items command)
       (says (OutOfRange command), v.items) inside)
 
-  -- Suppose that each clone equals its source, and that no call of the run fails. Then the final
-  -- items are the result of folding `items_after` over the commands. The replies, each reduced to
-  -- the part that `seen` extracts, are the result of scanning the commands with `items_after` and
-  -- `reply_to`.
+  -- Suppose that each clone equals its source, and that no call of the run fails. Then two
+  -- functions on plain lists of items predict the run. Applying `items_after` for each command, in
+  -- order, computes the final items. Applying `reply_to` to each command and to the items before it
+  -- computes the replies. (More exactly, `reply_to` computes the part of each reply that `seen`
+  -- extracts.)
   pub run-plain : (v w : Thin T A) (commands : List (Command T A G)) (replies : List (Reply T A G))
       → All IsGranted replies → Runs here v commands replies w
       → (w.items ≡ fold (items_after here) v.items commands)

@@ -1,6 +1,6 @@
--- Lemmas about runs, which are sequences of commands with their replies. A run can be extended by a
--- command, and two runs can be joined. A run preserves every property that each of its steps
--- preserves.
+-- These lemmas are about runs, which are sequences of commands with their replies. A run can be
+-- extended by a command, and two runs can be joined. If each command of a run preserves a property
+-- of the list, then the whole run preserves this property.
 use Rattle.std.proofs.Common.{◌≡◌, ℕ, ◌+◌, List, [], ◌∷◌, ◌++◌, append_assoc, ap, arith, refl, subst, sym, ◌∙◌}
 use Rattle.std.proofs.lemmas.List.{append-nil}
 use Rattle.std.proofs.lemmas.List.Elements.{All-head, All-tail}
@@ -13,16 +13,17 @@ use Rattle.thin_runner.specs.declared.command.Command.{Command}
 use Rattle.thin_runner.specs.declared.command.Reply.{Reply}
 
 module _ {T A G : Type 0} (count : Command T A G → Reply T A G → ℕ) where
-  -- `counted commands replies` is the sum of `count command reply` over the commands of a run and
-  -- their replies.
+  -- The function `count` assigns a number to each command and its reply. `counted commands replies`
+  -- is the sum of these numbers over all commands of a run.
   abbrev pub counted : List (Command T A G) → List (Reply T A G) → ℕ
   counted (command ∷ commands) (reply ∷ replies) = count command reply + counted commands replies
   counted commands replies = 0
 
 module _ {T A G J : Type 0} (here : Setting T A J) where
-  -- The list `left` contains the last commands of `commands`. `HasRun` states that all other
-  -- commands have run and have turned the list `old` into `new`. It also states that their replies
-  -- were appended to the list `before`, which became `after`.
+  -- `HasRun` describes the state in the middle of a run. The list `left` contains the commands that
+  -- have not run yet, which are the last ones of `commands`. The commands before them have turned
+  -- the list `old` into `new`. Their replies were appended to the list `before` of replies, which
+  -- became `after`.
   pub record HasRun (old : Thin T A) (commands left : List (Command T A G))
       (before after : List (Reply T A G)) (new : Thin T A) : Type 0 where
     pub done : List (Command T A G)
@@ -31,8 +32,8 @@ module _ {T A G J : Type 0} (here : Setting T A J) where
     pub appended : after ≡ before ++ replies
     pub ran : Runs here old done replies new
 
-  -- `HasRun` holds before the first command runs: all commands are left, the list `old` is
-  -- unchanged, and no reply has been appended.
+  -- `HasRun` holds at the start of a run. At this point, `left` contains all commands, the list is
+  -- still `old`, and `after` equals `before`, because there are no replies yet.
   pub HasRun-none : (old : Thin T A) (commands left : List (Command T A G))
       (before after : List (Reply T A G)) → left ≡ commands → after ≡ before
       → HasRun old commands left before after old
@@ -44,8 +45,8 @@ module _ {T A G J : Type 0} (here : Setting T A J) where
     ran = refl;
   }
 
-  -- If a second run begins with the list that results from a first run, then the two runs form one
-  -- longer run.
+  -- Suppose that a first run turns the list `old` into `mid`, and that a second run turns `mid`
+  -- into `new`. Then the two runs form one longer run, which turns `old` into `new`.
   pub runs-append : (old mid new : Thin T A) (commands more : List (Command T A G))
       (replies further : List (Reply T A G)) → Runs here old commands replies mid
       → Runs here mid more further new → Runs here old (commands ++ more) (replies ++ further) new
@@ -57,12 +58,13 @@ module _ {T A G J : Type 0} (here : Setting T A J) where
   )
   runs-append old mid new commands more replies further first second = absurd first
 
-  -- In this module, a command turns the list `mid` into `new`, and gets the reply `reply`.
+  -- In this module, `command` turns the list `mid` into `new`, and its reply is `reply`.
   module _ (mid new : Thin T A) (command : Command T A G) (reply : Reply T A G)
       (stepped : Steps here mid command reply new) where
-    -- Suppose that `HasRun` holds for the list `mid`, and that `command` is the first command that
-    -- is left. Then `HasRun` holds for the list `new` after `command` has run and its reply has
-    -- been appended.
+    -- Suppose that `HasRun` holds for the list `mid`, and that `command` is the next command of the
+    -- run. If `command` turns `mid` into `new`, then `HasRun` holds for the list `new`. The list of
+    -- the commands that are left then begins after `command`, and the reply to `command` has been
+    -- appended to the replies.
     pub HasRun-push : {old : Thin T A} {commands left left' : List (Command T A G)}
         {before after after' : List (Reply T A G)} → HasRun old commands left before after mid
         → left ≡ command ∷ left' → after' ≡ after ++ reply ∷ []
@@ -79,15 +81,18 @@ module _ {T A G J : Type 0} (here : Setting T A J) where
               (new, (stepped, refl));
         }
 
-  -- In this module, `Holds` is a property of a number and a list. Every command that satisfies
-  -- `Only` preserves this property, and increases the number by `count command reply`.
+  -- In this module, `Holds n v` is a statement about a number `n` and a list `v`, and `Only` is a
+  -- condition on commands. Suppose that `Holds n v` is true, and that a command that satisfies
+  -- `Only` turns `v` into `w` and gets the reply `reply`. Then `Holds (n + count command reply) w`
+  -- is true.
   module _ (Holds : ℕ → Thin T A → Type 0) (Only : Command T A G → Type 0)
       (count : Command T A G → Reply T A G → ℕ)
       (step : (n : ℕ) (v w : Thin T A) (command : Command T A G) (reply : Reply T A G)
       → Only command → Holds n v → Steps here v command reply w
       → Holds (n + count command reply) w) where
-    -- If all commands of a run satisfy `Only`, then the run preserves `Holds`, and increases the
-    -- number `n` by the sum of `count` over its commands.
+    -- Suppose that all commands of a run satisfy `Only`, and that the run turns the list `v` into
+    -- `w`. If `Holds n v` is true, then `Holds (n + m) w` is true, where `m` is the sum of `count
+    -- command reply` over all commands of the run.
     pub runs-keep : (n : ℕ) (v w : Thin T A) (commands : List (Command T A G))
         (replies : List (Reply T A G)) → All Only commands → Holds n v
         → Runs here v commands replies w → Holds (n + counted count commands replies) w

@@ -17,11 +17,11 @@ use Rattle.thin_runner.specs.declared.command.Command.TheVariants.{Push, Pop}
 use Rattle.thin_runner.specs.declared.command.Reply.{Reply}
 use Rattle.thin_runner.specs.declared.command.Reply.TheVariants.{Done, Item, Returned, OutOfRange}
 
--- Suppose that the capacity is `before` at the start of a run, `mid` after its first step, and
--- `after` at its end. Suppose also that the length is `len` at the start, `long` after the first
--- step, and at most `rest` from then on. Then the bound
--- `after <= max before (max 4 (2 * max len rest))` for the whole run follows from the similar
--- bounds for the first step and for the other steps.
+-- This lemma joins a bound on the capacity after the first step of a run with a bound on the
+-- capacity after the other steps. The capacity is `before` at the start of the run, `mid` after the
+-- first step, and `after` at the end. The length is `len` at the start, `long` after the first
+-- step, and at most `rest` from then on. The lemma proves that `after <= max before (max 4 (2 * max
+-- len rest))`.
 slack-join : (before mid after len long rest : ℕ) → mid ≤ max before (max 4 (2 * long))
     → after ≤ max mid (max 4 (2 * rest)) → long ≤ rest
     → after ≤ max before (max 4 (2 * max len rest))

@@ -1,5 +1,6 @@
--- These lemmas derive the predicates of `specs/commands/Splices` from the contracts of
--- `Splice::finish` and `ThinVec::extend`.
+-- These lemmas help to prove that `Splice::finish` and `ThinVec::extend` satisfy the predicates
+-- `Replaces` and `StopsBetween`. The predicates describe a splice that succeeds and a splice that
+-- fails.
 use Rattle.std.proofs.Common.{◌≡◌, ℕ, ◌-◌, ◌*◌, ◌<◌, List, [], ◌∷◌, ◌++◌, None, Option, Some, ap, append_assoc, arith, drop, inl, inr, length, refl, subst, sym, take, ◌∙◌}
 use Rattle.std.proofs.lemmas.Bool.{false≢true}
 use Rattle.std.proofs.Math.Seq.{drop-length, take-length}
@@ -26,13 +27,15 @@ use Rattle.thin_runner.proofs.HintedLemmas.{yields-claim, yields-items}
 some-none : {T : Type 0} {x : T} → Some x ≡ None → ⊥
 some-none e = cc
 
--- If the option `o` has a value, then `MatchOption o P (λ _. Q)` implies `Q`.
+-- `MatchOption o P (λ _. Q)` means `P` if the option `o` is `None`, and `Q` if `o` is `Some`. So if
+-- `o` is `Some`, this statement implies `Q`.
 pub at-some-in-hand : {X : Type 0} (P Q : Type 0) (o : Option X) → MatchOption o P (λ _. Q)
     → IsSome o → Q
 at-some-in-hand P Q (Some x) q some = q
 at-some-in-hand P Q None p some = absurd (false≢true some)
 
--- If the option `o` is `None`, then `MatchOption o P (λ _. Q)` implies `P`.
+-- `MatchOption o P (λ _. Q)` means `P` if the option `o` is `None`, and `Q` if `o` is `Some`. So if
+-- `o` is `None`, this statement implies `P`.
 pub at-no-in-hand : {X : Type 0} (P Q : Type 0) (o : Option X) → MatchOption o P (λ _. Q)
     → o ≡ None → P
 at-no-in-hand P Q (Some x) q none = absurd (some-none none)
@@ -45,15 +48,16 @@ no-items (x ∷ xs) none = absurd (omega (arith, none))
 
 module _ {T A : Type 0} (s : Hinted T A) (placed : List T)
     (error : SpliceRefused T (Hinted T A) A) where
-  -- `Broke` states that `finish` failed with `error` after it had moved the items `placed` from the
-  -- iterator `s` to the list.
+  -- `Broke` states that a call to `finish` failed with `error`. Before it failed, the call had
+  -- moved the items `placed` from the iterator `s` to the list.
   abbrev pub Broke : Type 0
   Broke = Stopped (HintedSteps {T = T} {A = A}) (can_next-default (Hinted T A) T) hinted_count s
       placed error
 
-  -- Suppose that `finish` failed with `error`. Then the items of the iterator `s` are, in this
-  -- order: the placed items, the items in `error.held`, the item in `error.in_hand` (if any), and
-  -- the items of `error.rest`.
+  -- Suppose that `finish` failed with `error`. Each item that the iterator `s` had before the call
+  -- is now in one of four places. The items are, in order: the items `placed`, which are in the
+  -- list; the items in `error.held`; the item in `error.in_hand`, if there is one; and the items
+  -- that are left in `error.rest`.
   pub stopped-items : Broke → hinted_items s ≡ placed
       ++ (error.held.items ++ (option_to_list error.in_hand ++ hinted_items error.rest))
   stopped-items (inl gave) =
@@ -70,8 +74,8 @@ module _ {T A : Type 0} (s : Hinted T A) (placed : List T)
       ∙ (ap (λ (l : List T). (placed ++ held) ++ l) (ended.2.2.0.0 ∙ sym left)
       ∙ append_assoc placed held (option_to_list in_hand ++ hinted_items rest))
 
-  -- If `finish` failed, then the lower bound of the size hint did not change: it is the same for
-  -- the remaining iterator `error.rest` as for the iterator `s` before the call.
+  -- If `finish` failed, then the iterator `error.rest` after the call and the iterator `s` before
+  -- the call have size hints with the same lower bound.
   pub stopped-claim : Broke → hinted_claim error.rest ≡ hinted_claim s
   stopped-claim (inl gave) =
       yields-claim s error.rest ((placed ++ error.held.items) ++ option_to_list error.in_hand)
@@ -79,17 +83,17 @@ module _ {T A : Type 0} (s : Hinted T A) (placed : List T)
   stopped-claim (inr ended) =
       ended.2.2.1 ∙ yields-claim s ended.2.0 (placed ++ error.held.items) ended.2.1
 
-  -- If `finish` failed with items in `held` and no item in `in_hand`, then the iterator has ended:
-  -- `rest` has no items left.
+  -- Suppose that `finish` failed, and that the error contains items in `held` but no item in
+  -- `in_hand`. Then the iterator has ended: `rest` has no items left.
   pub stopped-ended : Broke → error.in_hand ≡ None → 0 < length error.held.items
       → hinted_items error.rest ≡ []
   stopped-ended (inl gave) none some = absurd (omega (arith, ap length (gave.1 none), some))
   stopped-ended (inr ended) none some = ended.2.2.0.1
 
 module _ {T A : Type 0} (old : Thin T A) (a b : ℕ) where
-  -- `IsOpened block alloc` holds if `block` is the block of the list `old` during a splice that
-  -- replaces the items `a..b`, and `alloc` is the allocator of the list. Such an open block may
-  -- have a gap between its items.
+  -- An open block is a block that was taken out of its list, and that may have a gap between its
+  -- items. `IsOpened block alloc` holds if `block` is the open block of the list `old` during a
+  -- splice that replaces the items `a..b`, and if `alloc` is the allocator of `old`.
   pub record IsOpened (block : Open T A) (alloc : A) : Type 0 where
     pub front : block.front ≡ take a old.items
     pub tail : block.tail ≡ drop b old.items
@@ -98,8 +102,8 @@ module _ {T A : Type 0} (old : Thin T A) (a b : ℕ) where
     pub cost : block.cost ≡ old.cost
 
   module _ (block : Open T A) (alloc : A) (is : IsOpened block alloc) where
-    -- `left_of block alloc` is the list of the items before and after the gap of the open block. It
-    -- equals `cut old a b`, which is the list `old` without the items `a..b`.
+    -- `left_of block alloc` is the list of the items before and after the range that the splice
+    -- replaces. It equals `cut old a b`, which is the list `old` without the items `a..b`.
     pub left-is : left_of block alloc ≡ cut old a b
     left-is = λ i. record {
       items = is.front i ++ is.tail i;
@@ -123,9 +127,10 @@ module _ {T A : Type 0} (old : Thin T A) (a b : ℕ) where
         subst (λ (v : Thin T A). CostsAdding v new (2 * (length old.items - b))) left-is
         (subst (λ (n : ℕ). CostsAdding (left_of block alloc) new (2 * n)) tail-count cost)
 
-    -- Suppose that the limit `left` equals `at_most most`. If `IsExtended` holds for the list of
-    -- the open block and the limit `left`, then it also holds for the list `cut old a b` and the
-    -- limit `at_most most`.
+    -- `IsExtended` says which capacities a list may have after it was extended. The list `left_of
+    -- block alloc` equals `cut old a b`. So if the limit `left` equals `at_most most`, then
+    -- `IsExtended` for the list `left_of block alloc` and the limit `left` implies `IsExtended` for
+    -- the list `cut old a b` and the limit `at_most most`.
     pub ruled : (rule : Rule) (R : RattleType) (new : Thin T A) (most : ℕ) (left : Count)
         → left ≡ at_most most
         → IsExtended rule R (left_of block alloc) new.capacity (length new.items) left
@@ -136,25 +141,28 @@ module _ {T A : Type 0} (old : Thin T A) (a b : ℕ) where
         subst (λ (n : Count). of (cut old a b) n) count
         (subst (λ (v : Thin T A). of v left) left-is is_ruled)
 
-    -- If `size` equals `most`, and the list `cut old a b` has room for `most` more items, then the
-    -- list of the open block has room for `size` more items.
+    -- The list `left_of block alloc` equals `cut old a b`. So if `cut old a b` has room for `most`
+    -- more items, and `size` equals `most`, then `left_of block alloc` has room for `size` more
+    -- items.
     pub room-left : (most size : ℕ) → size ≡ most → HasRoomFor (cut old a b) most
         → HasRoomFor (left_of block alloc) size
     room-left most size count room =
         subst (λ (n : ℕ). HasRoomFor (left_of block alloc) n) (sym count)
         (subst (λ (v : Thin T A). HasRoomFor v most) (sym left-is) room)
 
--- The lemmas of this module show that if `Replaces` or `StopsBetween` holds for a list, then it
--- also holds for every list equal to it.
+-- The lemmas of this module show that `Replaces` and `StopsBetween` depend only on the value of the
+-- resulting list. If one of them holds for a list, then it also holds for every list that equals
+-- it.
 module _ {T A : Type 0} {rule : Rule} {R : RattleType} {old v w : Thin T A} {a b : ℕ} where
-  -- If `Replaces` holds for the list `v`, and `v` equals `w`, then `Replaces` holds for `w`.
+  -- `Replaces` states that a splice changed the list `old` to a given list. If this is true of the
+  -- list `v`, and `v` equals `w`, then it is also true of `w`.
   pub replaces-of : {placed : List T} {most : ℕ} → v ≡ w → Replaces rule R old a b placed most v
       → Replaces rule R old a b placed most w
   replaces-of {placed} {most} same =
       subst (λ (u : Thin T A). Replaces rule R old a b placed most u) same
 
-  -- If `StopsBetween` holds for the list `v`, and `v` equals `w`, then `StopsBetween` holds for
-  -- `w`.
+  -- `StopsBetween` states that a splice failed, and changed the list `old` to a given list. If this
+  -- is true of the list `v`, and `v` equals `w`, then it is also true of `w`.
   pub stops-of : {xs held : List T} {lower : ℕ} {cause : ThinVecError} {in_hand : Option T}
       {rest : Hinted T A} → v ≡ w
       → StopsBetween rule R old a b xs held lower cause in_hand rest v
@@ -162,21 +170,22 @@ module _ {T A : Type 0} {rule : Rule} {R : RattleType} {old v w : Thin T A} {a b
   stops-of {xs} {held} {lower} {cause} {in_hand} {rest} same =
       subst (λ (u : Thin T A). StopsBetween rule R old a b xs held lower cause in_hand rest u) same
 
--- This module is about the empty range at the end of the list `old`.
+-- The lemmas of this module are about the empty range at the end of the list `old`. The range
+-- begins and ends at the index `length old.items`.
 module _ {T A : Type 0} (old : Thin T A) where
-  -- Removing the empty range at the end does not change the list.
+  -- Removing the empty range at the end of the list `old` does not change the list.
   pub cut-end : cut old (length old.items) (length old.items) ≡ old
   cut-end = λ i. record old { items = take-append-drop (length old.items) old.items i }
 
-  -- If the list `old` without the empty range at its end has room for `most` more items, then `old`
-  -- has room for them, too.
+  -- The list `old` without the empty range at its end equals `old`. So if it has room for `most`
+  -- more items, then `old` also has room for `most` more items.
   room-end : (most : ℕ) → HasRoomFor (cut old (length old.items) (length old.items)) most
       → HasRoomFor old most
   room-end most = subst (λ (v : Thin T A). HasRoomFor v most) cut-end
 
-  -- If `HasPlacesFor` holds for `most` items and the empty range at the end of the list, then
-  -- `most` is 0, or the list has room for `most` more items. So a statement `P` holds if each of
-  -- these two cases implies it.
+  -- Suppose that `most` items can replace the empty range at the end of the list without new memory
+  -- (`HasPlacesFor`). Then `most` is 0, or the list has room for `most` more items. If each of
+  -- these two cases implies the statement `P`, then `P` holds.
   pub places-end : (P : Type 0) (most : ℕ) → (most ≡ 0 → P) → (HasRoomFor old most → P)
       → HasPlacesFor old (length old.items) (length old.items) most → P
   places-end P most none fits (inl few) = none (omega (arith, few))
@@ -185,9 +194,9 @@ module _ {T A : Type 0} (old : Thin T A) where
 -- The lemmas of this module show that appending items to a list is the same as replacing the empty
 -- range at its end.
 module _ {T A : Type 0} (rule : Rule) (R : RattleType) (old new : Thin T A) where
-  -- `IsFilled placed most` holds if a call to `extend` turned the list `old` into `new` by
-  -- appending the items `placed`, and the iterator could yield at most `most` items. The fields are
-  -- clauses of the contract of `extend`.
+  -- `IsFilled placed most` describes a successful call to `extend`, which turned the list `old`
+  -- into `new`. The call appended the items `placed`, and the iterator could yield at most `most`
+  -- items. The fields are clauses of the contract of `extend`.
   pub record IsFilled (placed : List T) (most : ℕ) : Type 0 where
     pub items : new.items ≡ old.items ++ placed
     pub capacity : IsLoose rule R old.capacity new.capacity
@@ -198,8 +207,8 @@ module _ {T A : Type 0} (rule : Rule) (R : RattleType) (old new : Thin T A) wher
     pub cheap : IsCheap old → IsCheap new
     pub alloc : new.alloc ≡ old.alloc
 
-  -- If `extend` appended the items `placed`, then `Replaces` holds: these items replace the empty
-  -- range at the end of the list.
+  -- If `IsFilled` holds, that is, if `extend` appended the items `placed`, then `Replaces` holds:
+  -- the items `placed` replaced the empty range at the end of the list.
   pub replaces-end : {placed : List T} {most : ℕ} → IsFilled placed most
       → Replaces rule R old (length old.items) (length old.items) placed most new
   replaces-end {placed} {most} f =

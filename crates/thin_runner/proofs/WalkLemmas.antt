@@ -1,5 +1,5 @@
--- A step on a range is a call to `next` or `next_back`. These lemmas state the results of a
--- sequence of steps that begins with `next_back`.
+-- A step on a range is a call to `next` or `next_back`. These lemmas compute the results of a
+-- sequence of steps whose first step is `next_back`.
 use Rattle.std.proofs.Common.{◌≡◌, ◌-◌, List, [], ◌∷◌, ◌++◌, Option, None, Some, ap, arith, length, refl, subst, sym, take, ◌∙◌}
 use Rattle.std.proofs.Math.Seq.{take-append_seam}
 use Rattle.std.proofs.lemmas.List.{length_push}
@@ -15,9 +15,9 @@ module _ {T : Type 0} where
   last-of [] x = refl
   last-of (y ∷ xs) x = last-of xs x
 
-  -- Suppose that `item` is the last item of the list `xs`, and that `ys` contains the items before
-  -- it. (If `xs` is empty, then `item` is `None`, and `ys` is empty.) Then the results of the steps
-  -- `Back ∷ steps` on `xs` are `item`, followed by the results of `steps` on `ys`.
+  -- If `xs` is not empty, let `item` be its last item, and let `ys` be the list of the items before
+  -- the last one. If `xs` is empty, let `item` be `None`, and let `ys` be empty. Then the results
+  -- of the steps `Back ∷ steps` on `xs` are `item`, followed by the results of `steps` on `ys`.
   walked-last : (xs ys : List T) (item : Option T)
       → MatchOption item ((xs ≡ []) × (ys ≡ [])) (λ x. xs ≡ ys ++ x ∷ [])
       → (steps : List Step) → walked xs (Back ∷ steps) ≡ item ∷ walked ys steps
@@ -32,7 +32,8 @@ module _ {T : Type 0} where
       ∙ take-append_seam ys (x ∷ []) in
       λ i. last i ∷ walked (others i) steps
 
-  -- This lemma states the same as `walked-last`, but for any first step `step` that equals `Back`.
+  -- This lemma states the same as the lemma `walked-last`. But here, the first step is a variable
+  -- `step`, which is known to equal `Back`.
   pub walked-back : (xs ys : List T) (item : Option T) (step : Step) → step ≡ Back
       → MatchOption item ((xs ≡ []) × (ys ≡ [])) (λ x. xs ≡ ys ++ x ∷ [])
       → (steps : List Step) → walked xs (step ∷ steps) ≡ item ∷ walked ys steps

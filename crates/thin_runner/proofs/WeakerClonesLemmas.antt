@@ -1,6 +1,7 @@
--- The clone relation says which values may be clones of an item. Every run that is possible with a
--- clone relation is also possible with a weaker one. So if each clone equals its source, the clone
--- relation may be replaced with equality.
+-- The clone relation says which values may be clones of an item. A relation is weaker if it allows
+-- at least the same clones. Every run that is possible with a clone relation is also possible with
+-- a weaker relation. So if each clone equals its source, then every possible run is also possible
+-- with equality as the clone relation.
 use Rattle.std.proofs.Common.{◌≡◌, ℕ, List, [], ◌∷◌}
 use Rattle.std.specs.List.{AllZip}
 use Rattle.thin_vec.specs.List.Clones.{ClonesEqual, IsResized}
@@ -15,15 +16,17 @@ use Rattle.thin_runner.specs.declared.command.Reply.TheVariants.{Done, List as M
 
 module _ {T : Type 0} (clones like : T → T → Type 0)
     (weaker : (x y : T) → clones x y → like x y) where
-  -- If the items of `ys` are clones of the items of `xs`, in order, then they are also clones
-  -- according to the weaker relation `like`.
+  -- Suppose that the relation `like` is weaker than `clones`: every clone that `clones` allows is
+  -- also allowed by `like`. If the items of `ys` are clones of the items of `xs`, in order,
+  -- according to `clones`, then they are also clones according to `like`.
   pub zip-weaker : (xs ys : List T) → AllZip clones xs ys → AllZip like xs ys
   zip-weaker [] [] z = tt
   zip-weaker (x ∷ xs) (y ∷ ys) z = (weaker x y z.0, zip-weaker xs ys z.1)
   zip-weaker xs ys z = absurd z
 
-  -- Suppose that `ys` is the list `xs`, resized with clones of `x`. Then these clones are also
-  -- clones according to the weaker relation `like`.
+  -- Suppose that the relation `like` is weaker than `clones`. If resizing the list `xs` to the
+  -- length `n` with clones of `x` may result in `ys`, then this is still possible if `like` decides
+  -- which values are clones of `x`.
   resized-weaker : (xs ys : List T) (n : ℕ) (x : T) → IsResized clones xs n x ys
       → IsResized like xs n x ys
   resized-weaker xs ys n x r = record {
@@ -34,8 +37,9 @@ module _ {T : Type 0} (clones like : T → T → Type 0)
 
 module _ {T A G J : Type 0} (here : Setting T A J) (like : T → T → Type 0)
     (weaker : (x y : T) → here.clones x y → like x y) where
-  -- Every step that is possible with a clone relation is also possible with a weaker relation
-  -- `like`.
+  -- Suppose that the relation `like` is weaker than the clone relation of the setting `here`. Then
+  -- every step that is possible with the clone relation of `here` is also possible with the clone
+  -- relation `like`.
   pub step-weaker : (old new : Thin T A) (command : Command T A G) (reply : Reply T A G)
       → Steps here old command reply new
       → Steps (record here { clones = like }) old command reply new
@@ -48,8 +52,9 @@ module _ {T A G J : Type 0} (here : Setting T A J) (like : T → T → Type 0)
       (s.0, (zip-weaker here.clones like weaker old.items copy.items s.1.0, s.1.1, s.1.2))
   step-weaker old new command reply s = s
 
-  -- Every run that is possible with a clone relation is also possible with a weaker relation
-  -- `like`.
+  -- Suppose that the relation `like` is weaker than the clone relation of the setting `here`. Then
+  -- every run that is possible with the clone relation of `here` is also possible with the clone
+  -- relation `like`.
   pub run-weaker : (old new : Thin T A) (commands : List (Command T A G))
       (replies : List (Reply T A G)) → Runs here old commands replies new
       → Runs (record here { clones = like }) old commands replies new
@@ -61,8 +66,8 @@ module _ {T A G J : Type 0} (here : Setting T A J) (like : T → T → Type 0)
 
 -- In this module, each clone equals its source.
 module _ {T A G J : Type 0} (here : Setting T A J) (equal : ClonesEqual here.clones) where
-  -- Every run that is possible with the clone relation is also possible, with the same lists and
-  -- replies, if the clone relation is replaced with equality.
+  -- Every run that is possible with the clone relation of `here` is also possible with equality as
+  -- the clone relation. Its lists and its replies are the same.
   pub run-equal : (old new : Thin T A) (commands : List (Command T A G))
       (replies : List (Reply T A G)) → Runs here old commands replies new
       → Runs (record here { clones = λ x y. y ≡ x }) old commands replies new

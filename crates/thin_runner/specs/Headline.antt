@@ -1,5 +1,6 @@
 -- The main theorem, `Headline`, states what is known about a list after any sequence of commands.
--- It holds for every item type, allocator, growth rule and judge.
+-- It holds for every item type, every allocator, every growth rule and every judge. (A judge is a
+-- value that makes decisions about items.)
 use Rattle.std.specs.Prelude.{◌≡◌, ◌+◌, ◌*◌, ◌<◌, ◌≤◌, List, ◌++◌, All, fold, map, max, scan}
 use Rattle.thin_vec.specs.Cheap.{IsCheap}
 use Rattle.thin_vec.specs.List.Clones.{ClonesEqual}
@@ -13,38 +14,41 @@ use Rattle.thin_runner.specs.declared.command.Command.{Command}
 use Rattle.thin_runner.specs.declared.command.Reply.{Reply}
 
 module _ {T A G J : Type 0} (here : Setting T A J) where
-  -- `Headline` is the main theorem about a run of `commands` that turned the list `old` into `new`.
-  -- The run appended its replies to the list `before`, which became `after`.
+  -- `Headline` states the main theorem about one run. The run carried out `commands`, which turned
+  -- the list `old` into `new`. Its replies were appended to the list `before` of replies, which
+  -- became `after`.
   pub record Headline (old : Thin T A) (commands : List (Command T A G))
       (before after : List (Reply T A G)) (new : Thin T A) : Type 0 where
-    -- The replies to the commands of the run. They were appended to the replies in `before`.
+    -- `replies` contains the replies to the commands of the run. They were appended to the replies
+    -- in `before`.
     pub replies : List (Reply T A G)
     pub appended : after ≡ before ++ replies
-    -- Suppose that each clone equals its source, and that no call failed. Then the final items are
-    -- the result of folding `items_after` over the commands. The replies, each reduced to the part
-    -- that `seen` extracts, are the result of scanning the commands with `items_after` and
-    -- `reply_to`. The functions `items_after` and `reply_to` are defined on plain lists of items.
+    -- Suppose that each clone equals its source, and that no call failed. Then two functions on
+    -- plain lists of items predict the run. Applying `items_after` for each command, in order,
+    -- computes the final items. Applying `reply_to` to each command and to the items before it
+    -- computes the replies. (More exactly, `reply_to` computes the part of each reply that `seen`
+    -- extracts.)
     pub plain : ClonesEqual here.clones → All IsGranted replies
         → (new.items ≡ fold (items_after here) old.items commands)
         × (map seen replies ≡ scan (items_after here) (reply_to here) old.items commands)
-    -- In every case, even if calls failed, the predicate `Runs` allows the replies and the final
-    -- list, including its items, capacity and cost.
+    -- Even if calls failed, the predicate `Runs` allows the result of the run: the replies, and the
+    -- items, the capacity and the cost of the list `new`.
     pub allowed : Runs here old commands replies new
-    -- The items fit into the capacity of the list. An allocation of this capacity does not exceed
-    -- the size limit for allocations.
+    -- The items of the list `new` fit into its capacity. An allocation with this capacity does not
+    -- exceed the size limit for allocations.
     pub within : IsWithin here.R new
-    -- If no command is `ReserveExact` or `ShrinkToFit`, then a cheap list is still cheap after the
-    -- run. A list with a capacity `c` greater than 0 is cheap if growth has copied fewer than `c`
-    -- items, and the number of requests for memory is at most the number of binary digits of `c`.
-    -- Every new list is cheap.
+    -- If no command is `ReserveExact` or `ShrinkToFit`, then a list that was cheap before the run
+    -- is also cheap after it. A list of capacity `c > 0` is cheap if two conditions hold. Growth
+    -- has copied fewer than `c` items, and the number of requests for memory is at most the number
+    -- of binary digits of `c`. Every new list is cheap.
     pub stays_cheap : All KeepsCheap commands → IsCheap old → IsCheap new
     -- If no command is `ReserveExact` or `ShrinkToFit`, then the number of items that growth copied
     -- during the run is at most the increase of the capacity. This holds even if the old list was
     -- not cheap.
     pub copied : All KeepsCheap commands
         → new.cost.grown + old.capacity ≤ old.cost.grown + new.capacity
-    -- Suppose that the list was new, that all commands are pushes and pops, and that `m` pushes
-    -- succeeded. If `m` is at least 1, then growth has copied fewer than `2 * m` items.
+    -- Suppose that the list was new before the run, and that all commands are pushes and pops. If
+    -- `m` pushes succeeded, and `m` is at least 1, then growth has copied fewer than `2 * m` items.
     pub amortised : All IsPushOrPop commands → IsNew old old.alloc
         → 0 < accepted commands replies → new.cost.grown < 2 * accepted commands replies
     -- If the growth rule is `Doubling`, and all commands are pushes and pops, then the capacity
@@ -53,7 +57,8 @@ module _ {T A G J : Type 0} (here : Setting T A J) where
     pub slack : here.rule ≡ doubling → All IsPushOrPop commands
         → new.capacity
         ≤ max old.capacity (max 4 (2 * peak here old new commands replies allowed))
-    -- The number of items that the run moved is at most the sum of the bounds `may_move` for its
-    -- commands. Items that growth copied are not counted.
+    -- For each command, `may_move` is an upper bound on the number of items that the command moves.
+    -- The number of items that the run moved is at most the sum of these bounds. Items that growth
+    -- copied are not counted.
     pub moves : new.cost.moves
         ≤ old.cost.moves + run_may_move here old new commands replies allowed

@@ -1,5 +1,5 @@
--- Contracts describe an iterator of the type `Hinted` by the list of the items that it has not
--- yielded yet, and by the lower bound of its size hint.
+-- Contracts describe an iterator of the type `Hinted` by two values. The first is the list of the
+-- items that the iterator has not yielded yet. The second is the lower bound of its size hint.
 use Rattle.std.specs.Prelude.{◌≡◌, ℕ, ◌+◌, List, Option, length}
 use Rattle.std.specs.Iterator.{Count, YieldsFirst, at_most}
 use Rattle.std.specs.Vec.Iter.{into_iter_items}
@@ -15,15 +15,15 @@ module _ {T A : Type 0} where
   abbrev pub hinted_claim : Hinted T A → ℕ
   hinted_claim h = h.lower
 
-  -- `hinted_count` is the upper limit that contracts use for the number of items that the iterator
-  -- may still yield. It is the number of items that are left, plus the lower bound of the size
+  -- `hinted_count` is an upper bound on the number of items that the iterator may still yield. It
+  -- is the sum of two numbers: the number of items that are left, and the lower bound of the size
   -- hint.
   abbrev pub hinted_count : Hinted T A → Count
   hinted_count h = at_most (hinted_claim h + length (hinted_items h))
 
   -- `HintedSteps old item new` holds if a call to `next` may turn the iterator `old` into `new` and
-  -- return `item`: the first item that is left in `old`, or `None` if no item is left. The call
-  -- must not change the lower bound of the size hint.
+  -- return `item`. If items are left in `old`, the call must return the first of them. Otherwise,
+  -- it must return `None`. It must not change the lower bound of the size hint.
   abbrev pub HintedSteps : Hinted T A → Option T → Hinted T A → Type 0
   HintedSteps old item new =
       YieldsFirst hinted_items old item new × (hinted_claim new ≡ hinted_claim old)

@@ -1,5 +1,5 @@
--- For a command that does not fail, these functions compute the reply and the resulting items. They
--- are defined on plain lists of items.
+-- These functions describe commands that do not fail. From the items before a command, they compute
+-- the reply and the items after the command.
 use Rattle.std.specs.Prelude.{◌-◌, Bool, true, false, ◌&&◌, List, [], ◌∷◌, ◌++◌, Option, None, drop, if◌then◌else◌, insert, length, nat_le, nat_lt, remove, replicate, slice_get, slice_range, slice_set, take}
 use Rattle.std.specs.List.{dedup, remove_range, replace_range, swap_remove}
 use Rattle.std.specs.Option.{option_map_or, unwrap_or}
@@ -14,15 +14,16 @@ use Rattle.thin_runner.specs.declared.command.Reply.{Reply}
 use Rattle.thin_runner.specs.declared.command.Reply.TheVariants.{Answers, Done, Item, List as Made, Other, OutOfRange}
 use Rattle.thin_runner.specs.declared.command.Step.TheVariants.{Front}
 
--- A value of the type `Seen` is the part of a reply that the main theorem determines. For the reply
--- `Answers`, this part is the list of the results in its vector. For any other reply, it is the
--- whole reply.
+-- Suppose that a command does not fail. Then the main theorem determines a part of its reply, which
+-- is a value of the type `Seen`. For the reply `Answers`, this part is the list of the results in
+-- its vector. For any other reply, it is the whole reply.
 pub data Seen (T A G : Type 0) : Type 0 where
   says : Reply T A G → Seen T A G
   yields : List (Option T) → Seen T A G
 
 module _ {T A G : Type 0} where
-  -- `seen reply` is the part of the reply that the main theorem determines.
+  -- `seen reply` extracts the part of the reply that the main theorem determines. For the reply
+  -- `Answers`, it extracts the results, but not the vector that contains them.
   abbrev pub seen : Reply T A G → Seen T A G
   seen (Answers answers) = yields answers.items
   seen reply = says reply
@@ -41,8 +42,8 @@ module _ {T A G : Type 0} where
   in_range xs command = true
 
 module _ {T A G J : Type 0} (here : Setting T A J) where
-  -- `granted xs command` is the pair of the reply and the resulting items if the command runs on a
-  -- list with the items `xs`, is in range, and does not fail.
+  -- Suppose that a command runs on a list with the items `xs`, is in range, and does not fail. Then
+  -- `granted xs command` is a pair. It contains the reply and the items after the command.
   abbrev pub granted : List T → Command T A G → Seen T A G × List T
   granted xs (Push v) = (says Done, xs ++ v ∷ [])
   granted xs Pop = let last = length xs - 1 in (says (Item (slice_get xs last)), take last xs)
@@ -73,22 +74,23 @@ module _ {T A G J : Type 0} (here : Setting T A J) where
       )
   granted xs (Splice a b steps ys lower) =
       (yields (walked (slice_range xs a b) steps.items), replace_range xs a b ys.items)
-  -- All other commands test the items and remove some of them.
+  -- This case is about `Retain`, `RetainMut`, `DedupBy` and `DedupByKey`, which test the items and
+  -- remove some of them.
   granted xs command = (says Done, left_at true (unwrap_or (answered here xs command) []))
 
-  -- `plain_step xs command` is the pair of the reply and the resulting items if the command runs on
-  -- a list with the items `xs` and does not fail. If the command is out of range, the reply returns
-  -- the command, and the items do not change.
+  -- Suppose that a command runs on a list with the items `xs` and does not fail. Then `plain_step
+  -- xs command` is a pair. It contains the reply and the items after the command. If the command is
+  -- out of range, the reply returns the command, and the items do not change.
   abbrev pub plain_step : List T → Command T A G → Seen T A G × List T
   plain_step xs command =
       if in_range xs command then granted xs command else (says (OutOfRange command), xs)
 
-  -- `reply_to xs command` is the reply if the command runs on a list with the items `xs` and does
-  -- not fail.
+  -- If `command` runs on a list with the items `xs` and does not fail, then `reply_to xs command`
+  -- is its reply.
   abbrev pub reply_to : List T → Command T A G → Seen T A G
   reply_to xs command = (plain_step xs command).0
 
-  -- `items_after xs command` is the list of the resulting items if the command runs on a list with
-  -- the items `xs` and does not fail.
+  -- If `command` runs on a list with the items `xs` and does not fail, then `items_after xs
+  -- command` is the list of the items after the command.
   abbrev pub items_after : List T → Command T A G → List T
   items_after xs command = (plain_step xs command).1

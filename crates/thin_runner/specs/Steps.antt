@@ -1,6 +1,6 @@
--- `Steps` states how each command may change a list, and which replies it may get. A change or a
--- reply that no case describes is not allowed. In these definitions, the difference of two numbers
--- is 0 if it would be negative.
+-- `Steps` states how each command may change a list, and which replies it may get. No other changes
+-- and replies are allowed. In these definitions, the difference `a - b` is 0 if `a` is less than
+-- `b`.
 use Rattle.std.specs.Prelude.{◌≡◌, ◌+◌, ◌-◌, ◌==◌, ◌<◌, ◌≤◌, ◌↔◌, List, [], ◌∷◌, ◌++◌, IsSome, MatchOption, None, Some, drop, false, if◌then◌else◌, insert, length, remove, replicate, slice_get, slice_range, slice_set, take}
 use Rattle.std.specs.List.{AllZip, AppendsClones, remove_range, swap_remove}
 use Rattle.std.specs.Option.{option_to_list}
@@ -36,8 +36,8 @@ module _ {T A G : Type 0} where
   IsInRange xs command = Unit {0}
 
 module _ {T A G J : Type 0} (here : Setting T A J) where
-  -- `Does old command reply new` holds if a command that is in range may turn the list `old` into
-  -- `new` and get this reply.
+  -- `Does old command reply new` holds if the command may turn the list `old` into `new` and get
+  -- this reply. The command must be in range.
   abbrev pub Does : Thin T A → Command T A G → Reply T A G → Thin T A → Type 0
   Does old (Push v) Done new = Grows here old 1 (old.items ++ v ∷ []) 1 new
   Does old (Push v) (Returned w cause) new =
@@ -117,8 +117,8 @@ module _ {T A G J : Type 0} (here : Setting T A J) where
       × StopsBetween here.rule here.R old a b xs.items held.items lower cause in_hand rest new
   Does old (Splice a b steps xs lower) (Refused cause) new =
       (0 < length steps.items) × (cause ≡ OutOfMemory) × (new ≡ old)
-  -- After `Retain`, `RetainMut`, `Dedup`, `DedupBy` or `DedupByKey`, the list contains only the
-  -- items that the tests keep.
+  -- This case is about `Retain`, `RetainMut`, `Dedup`, `DedupBy` and `DedupByKey`. After such a
+  -- command, the list contains only the items that its tests keep.
   Does old command Done new =
       MatchOption (answered here old.items command) ⊥ (λ verdicts. new ≡ sifted old verdicts)
   Does old command reply new = ⊥

@@ -1,11 +1,13 @@
-//! The types of commands and of replies. A command describes a call on a list.
+//! Defines the types `Command` and `Reply`. A command is a value that describes a call to a method
+//! of a list. A reply is a value that describes the result of a command.
 ghost use Rattle.std.specs.Prelude.{◌≡◌};
 
 use crate::hinted::Hinted;
 use std::alloc::{Allocator, Global};
 use thin_vec::{Doubling, Growth, ThinVec, ThinVecError};
 
-/// A step on a `Drain` or a `Splice`: a call that yields an item from one end of its range.
+/// A step on a `Drain` or a `Splice`. It describes a call that yields an item from one end of the
+/// range.
 #[derive(Clone, Copy, PartialEq, Eq)]
 pub enum Step {
     /// Calls `next`, which yields the first item that is left.
@@ -14,7 +16,7 @@ pub enum Step {
     Back,
 }
 
-/// A call on a list, as a value.
+/// A value that describes a call to a method of a list.
 ///
 /// The comment of each variant names the method that is called and the possible replies. If the
 /// index or the range of a command is out of bounds, no method is called, and the reply is
@@ -57,30 +59,34 @@ pub enum Command<T, A: Allocator = Global, G: Growth = Doubling> {
     SplitOff(usize),
     /// Calls `clone`. The reply is `List`, or `Refused` on failure.
     Clone,
-    /// Calls `retain` with the method `look` of the judge. The reply is `Done`.
+    /// Calls `retain` with a closure that calls the method `look` of the judge. The reply is
+    /// `Done`.
     Retain,
-    /// Calls `retain_mut` with the method `keep` of the judge. The reply is `Done`.
+    /// Calls `retain_mut` with a closure that calls the method `keep` of the judge. The reply is
+    /// `Done`.
     RetainMut,
     /// Calls `dedup`. The reply is `Done`.
     Dedup,
-    /// Calls `dedup_by` with the method `same` of the judge. The reply is `Done`.
+    /// Calls `dedup_by` with a closure that calls the method `same` of the judge. The reply is
+    /// `Done`.
     DedupBy,
-    /// Calls `dedup_by_key` with the method `key` of the judge. The reply is `Done`.
+    /// Calls `dedup_by_key` with a closure that calls the method `key` of the judge. The reply is
+    /// `Done`.
     DedupByKey,
     /// Calls `drain` on the range from the first index up to, but not including, the second. Then
-    /// takes the steps in order, and drops the `Drain`. The reply is `Answers`, or `Refused` if
-    /// there is not enough memory for the results of the steps.
+    /// carries out the steps in order, and drops the `Drain`. The reply is `Answers`, or `Refused`
+    /// if there is not enough memory for the results of the steps.
     Drain(usize, usize, Vec<Step, A>),
-    /// Calls `extract_if` on the range from the first index up to, but not including, the second,
-    /// with the method `take` of the judge. The third number says how many times `next` is called
-    /// before the `ExtractIf` is dropped. The reply is `Answers`, or `Refused` if there is not
-    /// enough memory for the results of these calls.
+    /// Calls `extract_if` on the range from the first index up to, but not including, the second.
+    /// The closure calls the method `take` of the judge. The third number says how many times
+    /// `next` is called before the `ExtractIf` is dropped. The reply is `Answers`, or `Refused` if
+    /// there is not enough memory for the results of these calls.
     ExtractIf(usize, usize, usize),
     /// Calls `splice` on the range from the first index up to, but not including, the second. Then
-    /// takes the steps in order, and calls `finish`. The new items are the items of the second
-    /// vector. The last number is the lower bound of the size hint of their iterator. The reply is
-    /// `Answers`, `Stopped` if `finish` fails, or `Refused` if there is not enough memory for the
-    /// results of the steps.
+    /// carries out the steps in order, and calls `finish`. The second vector contains the new
+    /// items. The last number is the lower bound of the size hint of the iterator that yields them.
+    /// The reply is `Answers`, `Stopped` if `finish` fails, or `Refused` if there is not enough
+    /// memory for the results of the steps.
     Splice(usize, usize, Vec<Step, A>, Vec<T, A>, usize),
 }
 
@@ -95,8 +101,8 @@ pub enum Reply<T, A: Allocator = Global, G: Growth = Doubling> {
     Answers(Vec<Option<T>, A>),
     /// The list that the call made.
     List(ThinVec<T, A, G>),
-    /// The list that was passed to `append`, and the cause if `append` failed. On success, the list
-    /// is empty. On failure, the list is unchanged.
+    /// The list that was passed to `append`, and the cause of the failure if `append` failed. On
+    /// success, this list is empty. On failure, it is unchanged.
     Other(ThinVec<T, A, G>, Option<ThinVecError>),
     /// The value that was passed to a call that failed, and the cause of the failure.
     Returned(T, ThinVecError),
@@ -104,17 +110,18 @@ pub enum Reply<T, A: Allocator = Global, G: Growth = Doubling> {
     Refused(ThinVecError),
     /// A call to `extend`, or to `finish` on a `Splice`, failed.
     Stopped {
-        /// The results of the steps that were taken before `finish` was called. If `extend` failed,
-        /// this vector is empty.
+        /// The results of the steps that were carried out before `finish` was called. If `extend`
+        /// failed, this vector is empty.
         answers: Vec<Option<T>, A>,
         /// The cause of the failure.
         cause: ThinVecError,
-        /// The items that were taken from the iterator but did not fit into the list. The item in
-        /// `in_hand` is not among them.
+        /// The items that were taken from the iterator, but did not fit into the list. This vector
+        /// does not contain the item in `in_hand`.
         held: Vec<T, A>,
         /// The last item that was taken from the iterator, if there was no room for it.
         in_hand: Option<T>,
-        /// The iterator, which still yields the items that have not been taken from it.
+        /// The rest of the iterator. It yields the items that have not been taken from the iterator
+        /// yet.
         rest: Hinted<T, A>,
     },
     /// The command itself. Its index or range is out of bounds, so no call was made.

@@ -1,5 +1,5 @@
-//! The iterator `Hinted`. The lower bound of its size hint may be greater or less than the number
-//! of items that the iterator yields.
+//! Defines the iterator `Hinted`. The lower bound of its size hint need not be correct: it may be
+//! greater or less than the number of items that the iterator yields.
 ghost use Rattle.std.specs.Prelude.{◌≡◌, IfSome, None};
 ghost use Rattle.std.specs.Iterator.{UpTo};
 ghost use Rattle.std.specs.Iterator.Runs.{YieldsInOrder};
@@ -9,11 +9,11 @@ use std::alloc::{Allocator, Global};
 use std::vec::IntoIter;
 
 /// An iterator that yields its items in order, and then always returns `None`. The lower bound of
-/// its size hint is always the same.
+/// its size hint never changes.
 ///
 /// This lower bound may exceed the number of items that are left. But the contract of `size_hint`
-/// does not allow a lower bound above the ghost value `remaining`. To satisfy this contract,
-/// `remaining` is defined as the number of items that are left, plus the lower bound.
+/// does not allow a lower bound above the ghost value `remaining`. For this reason, `remaining` is
+/// the sum of the number of items that are left and the lower bound.
 #[derive(Drop)]
 pub struct Hinted<T, A: Allocator = Global> {
     items: IntoIter<T, A>,

@@ -1,4 +1,4 @@
-//! The functions `step` and `run`, which carry out commands on a list.
+//! Defines the functions `step` and `run`, which carry out commands on a list.
 ghost use Rattle.std.specs.Prelude.{◌≡◌, ◌<◌, ◌+◌, ◌≤◌, ◌↔◌, IsTrue, IfErr, IsOk, OnErr, OnOk, vec_capacity, vec_len};
 ghost use Rattle.thin_runner.specs.Headline.{Headline};
 ghost use Rattle.thin_runner.specs.Setting.{setting};
@@ -118,9 +118,9 @@ pub fn run<T: Clone + Eq, A: Allocator + Copy, G: Growth, J: Judge<T>>(
         × (vec_capacity replies.new ≡ vec_capacity replies.old)) }
     ensures cause { IfErr result (λ cause. cause ≡ ThinVecError.OutOfMemory) }
 {
-    // Only the prover needs this call. The contract of `capacity` states that, before any command
-    // runs, the items of the list fit into its capacity. The proof of the clause `ok` uses this
-    // fact.
+    // The proof needs this call, but the program does not. The contract of `capacity` states that
+    // the items of the list fit into its capacity. The proof of the clause `ok` uses this fact
+    // about the list before the first command.
     let _capacity = list.capacity();
     match replies.reserve(commands.len()) {
         Ok(()) => (),
@@ -133,8 +133,8 @@ pub fn run<T: Clone + Eq, A: Allocator + Copy, G: Growth, J: Judge<T>>(
             Err(_refused) => unreachable!(),
         }
     }
-    // Only the prover needs this call. The contract of `capacity` implies the field `within` of
-    // `Headline`, which does not follow from the contract of `step`.
+    // The proof needs this call, but the program does not. The field `within` of `Headline` follows
+    // from the contract of `capacity`, but not from the contract of `step`.
     let _end = list.capacity();
     Ok(())
 }

@@ -1,4 +1,4 @@
-//! The methods that carry out the commands. Each command has its own method.
+//! Implements the commands. There is one method for each command.
 mod filters;
 mod items;
 mod many;
@@ -8,9 +8,9 @@ mod splices;
 
 use std::marker::PhantomData;
 
-/// The values that a command may need in addition to its list: the allocator for new lists and
-/// vectors, and the judge that was passed to `run` or `step`. The fields `alloc` and `judge` of the
-/// record `Setting` in the specs have the same values.
+/// Contains the values that a command may need in addition to its list: the allocator for new lists
+/// and vectors, and the judge that was passed to `run` or `step`. The record `Setting` in the
+/// folder `specs` also has the fields `alloc` and `judge`, with the same values.
 #[derive(Drop)]
 pub(crate) struct Setting<T, A, G, J> {
     pub(crate) alloc: A,

@@ -1,8 +1,8 @@
-//! The traits through which the workloads use lists. A workload is a piece of work whose time is
-//! measured.
+//! Defines the traits through which the workloads access lists. A workload is a task whose running
+//! time is measured.
 //!
-//! Unless its comment says otherwise, each method calls the list's method of the same name. A
-//! method that returns a `Result` fails if there is no room for the items.
+//! Unless the comment of a method says otherwise, the method calls the list's method of the same
+//! name. A method that returns a `Result` fails if there is no room for the items.
 mod kit;
 mod thin;
 
@@ -12,8 +12,9 @@ use std::alloc::{AllocError, Global};
 use std::io::Write;
 pub use thin::Thin;
 
-/// A kind of list: either `ThinVec`, or the `Vec` of Rattle's library. Each associated type is a
-/// list type for one type of items, except that `Cells` is the type of a table.
+/// A kind of list: either `ThinVec`, or the `Vec` of Rattle's library. Each associated type is this
+/// kind of list with a certain type of items. The only exception is `Cells`, which is the type of a
+/// table.
 pub trait Family {
     type Numbers: Numbers;
 
@@ -93,8 +94,7 @@ pub trait Numbers: List<u64> {
     fn extend_filtered(&mut self, items: &[u64]) -> Result<(), AllocError>;
 
     /// Appends the first half of `items`, and then the second half, using two calls to `extend`.
-    /// The two iterators have the same type, so both calls run the same instance of the generic
-    /// method `extend`.
+    /// The two iterators have the same type, so both calls run the same compiled code of `extend`.
     fn extend_twice(&mut self, items: &[u64]) -> Result<(), AllocError>;
 
     /// Appends copies of `items`.
@@ -153,10 +153,10 @@ pub trait Numbers: List<u64> {
     fn walk(self, sum: u64) -> u64;
 }
 
-/// A sparse table of numbers, each of which has a row and a column. The table is a `Rows` of the
+/// A sparse table of numbers. Each number has a row and a column. The table is a `Rows` of the
 /// crate `thin_rows`, or a `BTreeMap`.
 pub trait Table: Drop {
-    /// Makes a table without entries. It has at least `rows` rows.
+    /// Makes a table without entries that has at least `rows` rows.
     fn with_rows(alloc: Global, rows: usize) -> Result<Self, AllocError>;
 
     /// Writes `value` at row `row` and column `column`. Does nothing if the table is a `Rows`

@@ -1,5 +1,5 @@
-//! Reads lines that each name a workload. Runs each workload, and prints the sum that the workload
-//! computes.
+//! Runs workloads, which are tasks whose running time is measured. Each line of the input names one
+//! workload. The program runs this workload and prints the sum that it computes.
 #![tactic(auto)]
 
 mod lists;
@@ -22,10 +22,13 @@ fn main(rt: HostRuntime) -> io::Result<()> {
     Ok(())
 }
 
-// Runs the workload that `line` names. The first four words of the line are the kind of list
-// (`thin` for `ThinVec`, or `kit` for the `Vec` of Rattle's library), the name of the workload, the
-// size (such as the number of items, or the depth of a tree), and the number of times that the work
-// is done. Returns `None` if one of these words is missing or invalid.
+// Runs the workload that `line` names, and returns its result. Returns `None` if one of the first
+// four words of the line is missing or invalid. These words are:
+//
+// - the kind of list: `thin` for `ThinVec`, or `kit` for the `Vec` of Rattle's library
+// - the name of the workload
+// - the size, such as the number of items, or the depth of a tree
+// - the number of times that the workload does its work
 fn asked(alloc: Global, line: &str) -> Option<Outcome> {
     let mut words = line.split_whitespace();
     let list = words.next()?;

@@ -1,4 +1,5 @@
-//! The items that the workloads put into lists, and the sums that are computed from the items.
+//! Defines the items that the workloads put into lists, and the sums that the workloads compute
+//! from these items.
 ghost use Rattle.std.specs.Prelude.{◌-◌};
 ghost use Rattle.std.specs.Iterator.{at_most};
 
@@ -14,15 +15,16 @@ pub fn mixed(sum: u64, number: u64) -> u64 {
     sum.wrapping_mul(31).wrapping_add(number)
 }
 
-/// An item of a list. A workload can compute a number from the item, and mix this number into a
-/// sum.
+/// An item of a list. The method `number` computes a number from the item. A workload can mix this
+/// number into a sum.
 pub trait Item: Drop {
-    /// Returns the number that is computed from the item.
+    /// Computes a number from the item. For example, the number of a `u64` is the `u64` itself, and
+    /// the number of a string is its length.
     fn number(&self) -> u64;
 }
 
-/// Returns the length of `items`, plus the number that is computed from the item in the middle. If
-/// `items` is empty, returns 0.
+/// Returns the length of `items`, plus the number that the method `number` computes from the middle
+/// item. If `items` is empty, returns 0.
 pub fn seen<T: Item>(items: &[T]) -> u64 {
     let middle = match items.get(items.len() / 2) {
         Some(item) => item.number(),
@@ -31,7 +33,7 @@ pub fn seen<T: Item>(items: &[T]) -> u64 {
     middle.wrapping_add(items.len() as u64)
 }
 
-/// The sixteen items that each call in the workload `extend_sixteen` appends.
+/// The sixteen items that the workload `extend_sixteen` appends with each call.
 pub const SIXTEEN: [u64; 16] = [7; 16];
 
 /// An item of 24 bytes.
@@ -102,7 +104,7 @@ impl Item for String {
     }
 }
 
-/// A way to make the items of a list.
+/// A rule that makes the items of a list, each one from its index.
 pub trait Source<T: Drop> {
     /// Makes the item at index `number` of a list.
     ///
@@ -170,7 +172,7 @@ impl Source<u64> for Pairs {
     }
 }
 
-/// A source of items of 24 bytes.
+/// A rule (`Source`) that makes items of 24 bytes.
 pub struct Triples;
 
 impl Source<Triple> for Triples {
@@ -181,7 +183,7 @@ impl Source<Triple> for Triples {
     }
 }
 
-/// A source of items of 320 bytes.
+/// A rule (`Source`) that makes items of 320 bytes.
 pub struct Wides;
 
 impl Source<Wide> for Wides {
@@ -238,10 +240,10 @@ impl Iterator for Unhinted {
     }
 }
 
-/// The four items that each call in the workload `replace_more` inserts.
+/// The four items that the workload `replace_more` inserts with each call.
 pub const FOUR: [u64; 4] = [7; 4];
 
-/// A type that states how many items the method `splice_few` inserts.
+/// A type that determines how many items the method `splice_few` inserts.
 pub trait Count {
     /// Returns the number of items to insert.
     fn count() -> usize;

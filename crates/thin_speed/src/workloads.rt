@@ -19,8 +19,8 @@ use crate::workloads::tables::run_tables;
 use std::alloc::Global;
 
 /// Runs `workload` on lists of the kind `F`, and returns the sum that the workload computes. `size`
-/// is, for example, the number of items of a list, or the depth of a tree. `times` is the number of
-/// times that the work is done.
+/// is, for example, the number of items of a list, or the depth of a tree. The workload does its
+/// work `times` times.
 ///
 /// # Errors
 ///

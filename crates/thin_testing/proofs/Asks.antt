@@ -1,6 +1,6 @@
--- These lemmas are about a call to `refuses`. They show that a shared reference to the counts of
--- the allocator satisfies the precondition of the call, and that the call returns a Boolean. The
--- lemmas assume the laws of the separation logic (`Logic`).
+-- These lemmas are about calls to `refuses`. If the caller has a shared reference to the counts of
+-- the allocator, then the precondition of the call holds. The call returns a Boolean. The lemmas
+-- assume the laws of the separation logic (`Logic`).
 use Rattle.std.proofs.Common.{◌≡◌, ℕ, Bool, List, [], ◌∷◌, refl, ap}
 use seplogic.Ra.Ura.{Ura}
 use mir.Val.{Val, vbool, vptr}
@@ -30,10 +30,10 @@ module _ {M : Type 1} {𝓤 : Ura M} (𝓛 : Logic 𝓤) (at_mem : Memory → SP
   abbrev pub Asks : Contract 𝓤
   Asks = triple_of 𝓛 RF.signature (RF.spec 𝓛 at_mem run)
 
-  -- `at_asks κ q c k` consists of the ghost arguments for a call to `refuses`. The call passes a
-  -- reference of the lifetime `κ` to the counts, which have the address `c` and the value `k`. In
-  -- the proof, the caller also passes the fraction `q` of the token that proves that `κ` has not
-  -- ended.
+  -- `at_asks κ q c k` contains the ghost arguments for a call to `refuses`. Ghost arguments exist
+  -- only in the proof. The call passes a shared reference to the counts. Here, `κ` is the lifetime
+  -- of the reference, `c` is the address of the counts, and `k` is their value. A token proves that
+  -- `κ` has not ended, and `q` is the caller's share of this token.
   abbrev pub at_asks : Lft → Share → ℕ × ℕ → Row.Denot → Asks.Ghost
   at_asks κ q c k = (
     (
@@ -50,8 +50,8 @@ module _ {M : Type 1} {𝓤 : Ura M} (𝓛 : Logic 𝓤) (at_mem : Memory → SP
     (κ : Lft) (q : Share) (c : ℕ × ℕ) (k : Row.Denot) where
   open 𝓛 use {H, A}
 
-  -- If the counts are shared for the lifetime `κ`, and a token proves that `κ` has not ended, then
-  -- the precondition of `refuses` holds.
+  -- Suppose that the caller has a shared reference to the counts with the lifetime `κ`, and a token
+  -- that proves that `κ` has not ended. Then the precondition of `refuses` holds.
   pub Asks-goes : ent 𝓤 (sep 𝓤 (sem 𝓛 (hidden_shr Row κ k c.0 c.1)) (A.lft κ q))
       ((Asks 𝓛 at_mem run).pre (at_asks 𝓛 at_mem run κ q c k))
   Asks-goes =
@@ -60,8 +60,8 @@ module _ {M : Type 1} {𝓤 : Ura M} (𝓛 : Logic 𝓤) (at_mem : Memory → SP
       nothing ! $ move ! (1 ∷ []) $ fjoin ! $ nothing ! $ move ! (2 ∷ []) $ join ! $ join ! $
       nothing ! $ move ! (1 ∷ []) $ done !
 
-  -- A call to `refuses` returns a Boolean. In the proof, the caller also gets back the token of the
-  -- lifetime `κ`, which proves that `κ` has not ended.
+  -- A call to `refuses` returns a Boolean. It also returns the caller's token, which proves that
+  -- the lifetime `κ` has not ended. (The token exists only in the proof.)
   pub Asks-gives : (v : Val) → ent 𝓤 ((Asks 𝓛 at_mem run).post (at_asks 𝓛 at_mem run κ q c k) v)
       (H.⇛ (ex 𝓤 (λ (y : Bool). guard 𝓤 (v ≡ vbool y) (A.lft κ q))))
   Asks-gives v =

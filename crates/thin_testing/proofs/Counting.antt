@@ -1,6 +1,6 @@
--- These lemmas are about calls to `granted` and `returned`. They show that a shared reference to
--- the counts of the allocator satisfies the preconditions of both functions, and that both
--- functions return the unit value. The lemmas assume the laws of the separation logic (`Logic`).
+-- These lemmas are about calls to `granted` and `returned`. If the caller has a shared reference to
+-- the counts of the allocator, then the preconditions of both functions hold. Both functions return
+-- the unit value. The lemmas assume the laws of the separation logic (`Logic`).
 use Rattle.std.proofs.Common.{◌≡◌, ℕ, List, [], ◌∷◌, refl, ap}
 use seplogic.Ra.Ura.{Ura}
 use mir.Val.{Val, vunit, vptr}
@@ -36,10 +36,11 @@ module _ {M : Type 1} {𝓤 : Ura M} (𝓛 : Logic 𝓤) (at_mem : Memory → SP
   abbrev pub Returned : Contract 𝓤
   Returned = triple_of 𝓛 RE.signature (RE.spec 𝓛 at_mem run)
 
-  -- `at_granted κ q c k y v` consists of the ghost arguments for a call to `granted` with the
-  -- answer `y`, whose machine value is `v`. The call passes a reference of the lifetime `κ` to the
-  -- counts, which have the address `c` and the value `k`. In the proof, the caller also passes the
-  -- fraction `q` of the token that proves that `κ` has not ended.
+  -- `at_granted κ q c k y v` contains the ghost arguments for a call to `granted` with the answer
+  -- `y`. The machine value of this answer is `v`. Ghost arguments exist only in the proof. The call
+  -- also passes a shared reference to the counts. Here, `κ` is the lifetime of the reference, `c`
+  -- is the address of the counts, and `k` is their value. A token proves that `κ` has not ended,
+  -- and `q` is the caller's share of this token.
   abbrev pub at_granted : Lft → Share → ℕ × ℕ → Row.Denot → Answer.Denot → Val → Granted.Ghost
   at_granted κ q c k y v = (
     (
@@ -52,10 +53,10 @@ module _ {M : Type 1} {𝓤 : Ura M} (𝓛 : Logic 𝓤) (at_mem : Memory → SP
     tt,
   )
 
-  -- `at_returned κ q c k` consists of the ghost arguments for a call to `returned`. The call passes
-  -- a reference of the lifetime `κ` to the counts, which have the address `c` and the value `k`. In
-  -- the proof, the caller also passes the fraction `q` of the token that proves that `κ` has not
-  -- ended.
+  -- `at_returned κ q c k` contains the ghost arguments for a call to `returned`. Ghost arguments
+  -- exist only in the proof. The call passes a shared reference to the counts. Here, `κ` is the
+  -- lifetime of the reference, `c` is the address of the counts, and `k` is their value. A token
+  -- proves that `κ` has not ended, and `q` is the caller's share of this token.
   abbrev pub at_returned : Lft → Share → ℕ × ℕ → Row.Denot → Returned.Ghost
   at_returned κ q c k =
       (((κ, tt), (q, tt), tt, (record { ref_ptr = c; now = k }, tt), (vptr c.0 c.1 ∷ [], tt)), tt)
@@ -64,9 +65,9 @@ module _ {M : Type 1} {𝓤 : Ura M} (𝓛 : Logic 𝓤) (at_mem : Memory → SP
     (κ : Lft) (q : Share) (c : ℕ × ℕ) (k : Row.Denot) where
   open 𝓛 use {H, A}
 
-  -- Suppose that the counts are shared for the lifetime `κ`, and that a token proves that `κ` has
-  -- not ended. Then the precondition of `granted` holds for each answer `y` with the machine value
-  -- `v`.
+  -- Suppose that the caller has a shared reference to the counts with the lifetime `κ`, and a token
+  -- that proves that `κ` has not ended. Then the precondition of `granted` holds for each answer
+  -- `y` whose machine value is `v`.
   pub Granted-goes : (y : Answer.Denot) (v : Val)
       → ent 𝓤 (emp 𝓤) (sem 𝓛 (Answer.own_val y (v ∷ [])))
       → ent 𝓤 (sep 𝓤 (sem 𝓛 (hidden_shr Row κ k c.0 c.1)) (A.lft κ q))
@@ -78,8 +79,8 @@ module _ {M : Type 1} {𝓤 : Ura M} (𝓛 : Logic 𝓤) (at_mem : Memory → SP
       move ! (1 ∷ []) $ fjoin ! $
       nothing ! $ move ! (2 ∷ []) $ join ! $ join ! $ nothing ! $ move ! (1 ∷ []) $ done !
 
-  -- A call to `granted` returns the unit value. In the proof, the caller also gets back the token
-  -- of the lifetime `κ`, which proves that `κ` has not ended.
+  -- A call to `granted` returns the unit value. It also returns the caller's token, which proves
+  -- that the lifetime `κ` has not ended. (The token exists only in the proof.)
   pub Granted-gives : (y : Answer.Denot) (w v : Val)
       → ent 𝓤 ((Granted 𝓛 at_mem run).post (at_granted 𝓛 at_mem run κ q c k y w) v)
       (H.⇛ (guard 𝓤 (v ≡ vunit) (A.lft κ q)))
@@ -93,8 +94,8 @@ module _ {M : Type 1} {𝓤 : Ura M} (𝓛 : Logic 𝓤) (at_mem : Memory → SP
       split ! $ split ! $ move ! (1 ∷ []) $
       feq_l ! (λ e. split ! $ at_once ! $ check ! (ap only e) $ keep ! (0 ∷ []) $ done !))
 
-  -- If the counts are shared for the lifetime `κ`, and a token proves that `κ` has not ended, then
-  -- the precondition of `returned` holds.
+  -- Suppose that the caller has a shared reference to the counts with the lifetime `κ`, and a token
+  -- that proves that `κ` has not ended. Then the precondition of `returned` holds.
   pub Returned-goes : ent 𝓤 (sep 𝓤 (sem 𝓛 (hidden_shr Row κ k c.0 c.1)) (A.lft κ q))
       ((Returned 𝓛 at_mem run).pre (at_returned 𝓛 at_mem run κ q c k))
   Returned-goes =
@@ -103,8 +104,8 @@ module _ {M : Type 1} {𝓤 : Ura M} (𝓛 : Logic 𝓤) (at_mem : Memory → SP
       nothing ! $ move ! (1 ∷ []) $ fjoin ! $ nothing ! $ move ! (2 ∷ []) $ join ! $ join ! $
       nothing ! $ move ! (1 ∷ []) $ done !
 
-  -- A call to `returned` returns the unit value. In the proof, the caller also gets back the token
-  -- of the lifetime `κ`, which proves that `κ` has not ended.
+  -- A call to `returned` returns the unit value. It also returns the caller's token, which proves
+  -- that the lifetime `κ` has not ended. (The token exists only in the proof.)
   pub Returned-gives : (v : Val)
       → ent 𝓤 ((Returned 𝓛 at_mem run).post (at_returned 𝓛 at_mem run κ q c k) v)
       (H.⇛ (guard 𝓤 (v ≡ vunit) (A.lft κ q)))

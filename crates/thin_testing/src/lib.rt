@@ -1,6 +1,6 @@
-//! Provides tools for the tests of several crates. The allocator `Refusing` refuses one request,
-//! which the test chooses. `Fourfold` and `Threefold` are growth rules that only tests use. The
-//! trait `Ruled` computes the capacities that tests expect.
+//! Provides types for the tests of several crates. `Refusing` is an allocator that refuses one
+//! request, which the test chooses. `Fourfold` and `Threefold` are growth rules that only tests
+//! use. The trait `Ruled` computes the capacities that tests expect.
 #![tactic(auto)]
 
 mod multiples;

@@ -17,10 +17,10 @@
 use std::alloc::{AllocError, Allocator};
 use std::cell::Cell;
 
-// The counts of an allocator `Refusing`. `requests` is the number of requests since the allocator
-// was created or since the last call to `refuse`. `blocks` is the number of blocks that are
-// allocated and have not been freed yet. The request with the number `refused` is refused. If
-// `refused` is 0, no request is refused.
+// The counters of an allocator `Refusing`, and the number of the request that it refuses.
+// `requests` is the number of requests since the allocator was created or since the last call to
+// `refuse`. `blocks` is the number of blocks that are allocated and have not been freed yet.
+// `refused` is the number of the refused request, or 0 if no request is refused.
 #[derive(Drop)]
 struct Counts {
     requests: Cell<u64>,
@@ -28,7 +28,7 @@ struct Counts {
     blocks: Cell<u64>,
 }
 
-// Counts a request, and returns whether the request is refused.
+// Counts a request, and returns whether this request is refused.
 fn refuses(counts: &Counts) -> bool {
     let request = counts.requests.get().saturating_add(1);
     counts.requests.set(request);
@@ -42,7 +42,7 @@ fn granted(counts: &Counts, answer: Result<*mut u8, AllocError>) {
     }
 }
 
-// Subtracts 1 from the number of blocks, because the caller frees a block.
+// Subtracts 1 from the number of blocks. The caller then frees a block.
 fn returned(counts: &Counts) {
     counts.blocks.set(counts.blocks.get().saturating_sub(1));
 }

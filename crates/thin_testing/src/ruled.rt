@@ -1,6 +1,6 @@
-//! Defines each growth rule a second time, as a function on numbers. Tests use these functions to
-//! compute the capacities that they expect. Unlike a growth rule, such a function also returns
-//! capacities that are too large to be allocated.
+//! For each growth rule, defines a function that computes the same capacities. Tests use these
+//! functions to compute the capacities that they expect. Unlike the growth rule itself, such a
+//! function also returns capacities that are too large to be allocated.
 use crate::multiples::{Fourfold, Threefold};
 use thin_vec::{Doubling, Growth, PowerBytes};
 
@@ -22,9 +22,9 @@ impl Ruled for Doubling {
 }
 
 impl Ruled for PowerBytes {
-    // Returns how many items fit into the block after a header of 16 bytes. The size of the block
-    // in bytes is the smallest power of two that is enough both for `want` items and for twice
-    // `capacity` items. If `size` is 0, the result is the same as for `Doubling`.
+    // Returns how many items fit into an allocation after a header of 16 bytes. The size of the
+    // allocation in bytes is the smallest power of two with room for the header and for `max(want,
+    // 2 * capacity)` items. If `size` is 0, the result is the same as for `Doubling`.
     fn expected_capacity(size: usize, capacity: usize, want: usize) -> usize {
         if size == 0 {
             return Doubling::expected_capacity(size, capacity, want);

@@ -1,5 +1,6 @@
--- This file proves that a list has its old items again after a range of the list has been replaced,
--- and the old items of the range have then been put back.
+-- This file is about two splices of a list. The first splice replaces the items of a range. The
+-- second splice puts the old items back. The file proves that the list then has all its old items
+-- again.
 use Rattle.std.proofs.Common.{◌≡◌, ℕ, ◌+◌, ◌≤◌, List, ◌++◌, ◌∙◌, ap, append_assoc, arith, drop, length, length-append, sym, take}
 use Rattle.std.proofs.lemmas.List.{drop_at, length-take-le, take_at}
 use Rattle.std.proofs.lemmas.List.Edits.{split_between}
@@ -8,8 +9,9 @@ use Rattle.std.specs.declared.result.Result.{Result}
 use Rattle.std.specs.declared.result.Result.TheVariants.{Ok, Err}
 
 module _ {T : Type 0} (old numbers : List T) (start stop : ℕ) where
-  -- Suppose that `new` results from replacing the items `start..stop` of the list `old` with
-  -- `numbers`. Then replacing these numbers in `new` with the old items yields `old` again.
+  -- Suppose that `new` is the list that results if the items `start..stop` of the list `old` are
+  -- replaced with `numbers`. If these numbers are then replaced with the removed items, the result
+  -- is the list `old` again.
   pub put_back : (new : List T) → start ≤ stop → stop ≤ length old
       → new ≡ (take start old ++ numbers) ++ drop stop old
       → (take start new ++ slice_range old start stop) ++ drop (start + length numbers) new ≡ old
@@ -29,8 +31,8 @@ module _ {T : Type 0} (old numbers : List T) (start stop : ℕ) where
       (λ i. (front i ++ gone) ++ back i)
       ∙ (append_assoc pre gone post ∙ sym (split_between old start stop order))
 
--- If `P` implies `Q`, then `OnOk r P` implies `OnOk r Q`. Here, `OnOk r P` states that `P` holds if
--- the result `r` is `Ok`.
+-- `OnOk r P` states that `P` holds if the result `r` is `Ok`. So if `P` implies `Q`, then `OnOk r
+-- P` implies `OnOk r Q`.
 pub on_ok : {X E P Q : Type 0} (r : Result X E) → (P → Q) → OnOk r P → OnOk r Q
 on_ok (Ok _) h p = h p
 on_ok (Err _) h p = p

@@ -1,5 +1,6 @@
--- These definitions state how a call that edits items changes a list, and how a call fails if there
--- is no room for more items. (std: `Vec::push`, `Vec::insert`, `Vec::remove`)
+-- These definitions state how a call that adds, removes or replaces items changes a list. They also
+-- state how a call fails if there is no room for more items. (std: `Vec::push`, `Vec::insert`,
+-- `Vec::remove`)
 use Rattle.std.specs.Prelude.{◌≡◌, ℕ, ◌↔◌, List, None, Option, Some}
 use Rattle.thin_vec.specs.Cost.{moving}
 use Rattle.thin_vec.specs.ThinVec.{HasRoomFor, Thin, capacity_for, cost_at}
@@ -8,28 +9,28 @@ use Rattle.thin_vec.specs.declared.ThinVecError.TheVariants.{CapacityOverflow}
 use Rattle.thin_runner.specs.Setting.{Setting}
 
 module _ {T A : Type 0} where
-  -- `edited old xs m` is the list `old` with its items replaced with `xs`, and with `m` more moves
-  -- in its cost.
+  -- `edited old xs m` is the list `old` after its items were replaced with the items `xs`. Its cost
+  -- contains `m` more moves than the cost of `old`.
   abbrev pub edited : Thin T A → List T → ℕ → Thin T A
   edited old xs m = record old { items = xs; cost = moving m old.cost }
 
-  -- `at_capacity old c` is the list `old` after its capacity became `c`. Its cost includes the cost
-  -- of this change.
+  -- `at_capacity old c` is the list `old` after its capacity was changed to `c`. Its cost includes
+  -- the cost of this change.
   abbrev pub at_capacity : Thin T A → ℕ → Thin T A
   at_capacity old c = record old { capacity = c; cost = cost_at old c }
 
-  -- `Refuses named old k cause new` states that a call failed because the list `old` has no room
-  -- for `k` more items, and that the list did not change. `named` is the capacity that the call
-  -- needed, or `None` if this capacity is too large. The cause is `CapacityOverflow` if and only if
-  -- `named` is `None`.
+  -- `Refuses named old k cause new` holds if a call may fail with `cause` because the list `old`
+  -- has no room for `k` more items. The list does not change, so `new` equals `old`. The option
+  -- `named` is the capacity that the call needed, or `None` if this capacity is too large. The
+  -- cause is `CapacityOverflow` if and only if `named` is `None`.
   abbrev pub Refuses : Option ℕ → Thin T A → ℕ → ThinVecError → Thin T A → Type 0
   Refuses named old k cause new =
       ¬ (HasRoomFor old k) × ((named ≡ None) ↔ (cause ≡ CapacityOverflow)) × (new ≡ old)
 
 module _ {T A J : Type 0} (here : Setting T A J) where
-  -- `Grows old k xs m new` holds if `new` is the list `old` with the items `xs`, with `m` more
-  -- moves in its cost, and with the capacity that the growth rule requires for `k` more items
-  -- (`capacity_for`).
+  -- `Grows old k xs m new` holds if a call may change the list `old` to `new` as follows. The new
+  -- capacity is the capacity after reserving room for `k` more items (`capacity_for`). The items of
+  -- `new` are `xs`, and its cost contains `m` more moves.
   abbrev pub Grows : Thin T A → ℕ → List T → ℕ → Thin T A → Type 0
   Grows old k xs m new = (capacity_for here.rule here.R old k ≡ Some new.capacity)
       × (new ≡ edited (at_capacity old new.capacity) xs m)

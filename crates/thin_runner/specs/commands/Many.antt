@@ -1,5 +1,5 @@
--- This definition states how a list may change if a call that clones many items fails. (std:
--- `Vec::resize`, `Vec::extend_from_slice`)
+-- This file states how a list may change if a call that clones items fails. (std: `Vec::resize`,
+-- `Vec::extend_from_slice`)
 use Rattle.std.specs.Prelude.{◌≡◌, ◌⊎◌, ℕ, ◌<◌, ◌↔◌, List, All, HoldsAt, None, length}
 use Rattle.thin_vec.specs.ThinVec.{HasRoomFor, Thin, capacity_for}
 use Rattle.thin_vec.specs.declared.ThinVecError.{ThinVecError}
@@ -8,10 +8,12 @@ use Rattle.thin_runner.specs.Setting.{Setting}
 use Rattle.thin_runner.specs.commands.Items.{Grows}
 
 module _ {T A J : Type 0} (here : Setting T A J) where
-  -- `RefusesClone old k sources cause new` states that a call failed without changing the items of
-  -- the list. The call clones the items `sources` and needs room for `k` more items. Either nothing
-  -- else changed, or there was room (perhaps after growth) but a source could not be cloned. In the
-  -- second case, each source that was cloned before the failure counts as one move.
+  -- `RefusesClone old k sources cause new` holds if a call may fail with `cause` and change the
+  -- list `old` to `new`. The call needs room for `k` more items and clones the items `sources`. The
+  -- failed call does not change the items of the list. There are two cases. In the first case,
+  -- nothing else changes. In the second case, there is room (perhaps after growth), but one of the
+  -- items `sources` cannot be cloned. Then each item that was cloned before the failure counts as
+  -- one move.
   abbrev pub RefusesClone : Thin T A → ℕ → List T → ThinVecError → Thin T A → Type 0
   RefusesClone old k sources cause new =
       ((capacity_for here.rule here.R old k ≡ None) ↔ (cause ≡ CapacityOverflow))

@@ -1,13 +1,13 @@
--- This definition computes the results of calls to `next` and `next_back` on a range of items.
--- (std: `Vec::drain`, `DoubleEndedIterator`)
+-- This file defines the results of calls to `next` and `next_back` on a range of items. (std:
+-- `Vec::drain`, `DoubleEndedIterator`)
 use Rattle.std.specs.Prelude.{◌-◌, List, [], ◌∷◌, Option, drop, length, slice_get, take}
 use Rattle.thin_runner.specs.declared.command.Step.{Step}
 use Rattle.thin_runner.specs.declared.command.Step.TheVariants.{Front, Back}
 
 module _ {T : Type 0} where
-  -- `walked xs steps` lists the results of the steps, in order, on a range that contains the items
-  -- `xs`. `Front` removes and returns the first item that is left, and `Back` the last one. Both
-  -- return `None` if no item is left.
+  -- `walked xs steps` is the list of the results of the steps, in order, on a range with the items
+  -- `xs`. The step `Front` removes and returns the first item that is left. The step `Back` removes
+  -- and returns the last item that is left. Both steps return `None` if no item is left.
   abbrev pub walked : List T → List Step → List (Option T)
   walked xs [] = []
   walked xs (Front ∷ steps) = slice_get xs 0 ∷ walked (drop 1 xs) steps

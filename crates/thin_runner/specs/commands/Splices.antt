@@ -15,7 +15,8 @@ use Rattle.thin_vec.specs.declared.ThinVecError.TheVariants.{CapacityOverflow, O
 use Rattle.thin_runner.specs.declared.hinted.Hinted.{Hinted}
 
 module _ {T A : Type 0} (old : Thin T A) (a b : ℕ) where
-  -- `cut` is the list `old` without the items `a..b`. Its cost is the cost of `old`.
+  -- `cut` is the list `old` without the items `a..b`. Its capacity, its allocator and its cost are
+  -- those of `old`.
   abbrev pub cut : Thin T A
   cut = record old { items = remove_range old.items a b }
 
@@ -26,11 +27,12 @@ module _ {T A : Type 0} (old : Thin T A) (a b : ℕ) where
   HasPlacesFor most = (most ≤ b - a) ⊎ ((b ≡ length old.items) × HasRoomFor cut most)
 
 module _ {T A : Type 0} (rule : Rule) (R : RattleType) (old : Thin T A) (a b : ℕ) where
-  -- `Replaces placed most new` states that the items `placed` replaced the items `a..b` of the list
-  -- `old`, which became `new`. `most` is an upper bound on the number of items that the iterator
-  -- could yield. Each placed item was moved once, and each item after the range at most twice. If
-  -- the capacity changed, the growth rule chose the new capacity, either for at most the final
-  -- number of items or for a size hint of at most `most`.
+  -- `Replaces placed most new` holds if a call may replace the items `a..b` of the list `old` with
+  -- the items `placed`, so that the list becomes `new`. The iterator could yield at most `most`
+  -- items. Each placed item counts as one move. Each item after the range counts as at most two
+  -- moves. If the capacity changed, then the growth rule chose the new capacity. The rule chose it
+  -- either for at most the final number of items, or for a size hint with a lower bound of at most
+  -- `most`.
   pub record Replaces (placed : List T) (most : ℕ) (new : Thin T A) : Type 0 where
     pub items : new.items ≡ (take a old.items ++ placed) ++ drop b old.items
     pub capacity : IsLoose rule R old.capacity new.capacity
@@ -41,9 +43,10 @@ module _ {T A : Type 0} (rule : Rule) (R : RattleType) (old : Thin T A) (a b : �
     pub cheap : IsCheap old → IsCheap new
     pub alloc : new.alloc ≡ old.alloc
 
-  -- `StopsBetween` states that a splice or a call to `extend` failed after it had placed the items
-  -- `placed` (perhaps none). All other items of the iterator must be in `held`, in `in_hand`, or in
-  -- `rest`.
+  -- `StopsBetween` describes a splice or a call to `extend` that failed with `cause` and left the
+  -- list `new`. The iterator had the items `xs`. Before the failure, the call put some of these
+  -- items into the list (perhaps none). The field `placed` contains them. All other items are in
+  -- `held`, in `in_hand`, or in `rest`.
   pub record StopsBetween (xs held : List T) (lower : ℕ) (cause : ThinVecError)
       (in_hand : Option T) (rest : Hinted T A) (new : Thin T A) : Type 0 where
     pub placed : List T
@@ -51,31 +54,36 @@ module _ {T A : Type 0} (rule : Rule) (R : RattleType) (old : Thin T A) (a b : �
     pub claim : rest.lower ≡ lower
     pub filled : Replaces placed (lower + length xs) new
     pub no_room : ¬ (HasPlacesFor old a b (lower + length xs))
-    -- If `held` is empty and `in_hand` is `None`, then the list has no room for as many items as
-    -- the size hint of `rest` may promise, and growing the list for these items failed with
-    -- `cause`.
+    -- Suppose that `held` is empty, and that `in_hand` is `None`. Then the call failed because the
+    -- list could not get room for `h` more items. Here, `h` is a possible lower bound of the size
+    -- hint of `rest`. The cause is `CapacityOverflow` if and only if the growth rule chooses no
+    -- capacity for `h` more items.
     pub by_hint : held ≡ [] → in_hand ≡ None
         → FailsAtHint rule R new (at_most (rest.lower + length (into_iter_items rest.items))) cause
-    -- If `held` has items and `in_hand` is `None`, then the cause is `CapacityOverflow` if and only
-    -- if the growth rule has no capacity for the items of the list together with the items in
-    -- `held`.
+    -- If `held` contains items and `in_hand` is `None`, then the growth rule decides the cause. The
+    -- cause is `CapacityOverflow` if and only if the rule chooses no capacity that has room for the
+    -- items in `held`, in addition to the items of the list.
     pub by_held : 0 < length held → in_hand ≡ None
         → (cause ≡ CapacityOverflow) ↔ (capacity_for rule R new (length held) ≡ None)
-    -- If `in_hand` has an item, and items follow the range, then the cause is `OutOfMemory`: there
-    -- was not enough memory to hold the item.
+    -- If `in_hand` contains an item, and the list `old` has items after the range, then the cause
+    -- is `OutOfMemory`. The call failed because there was not enough memory to store the item in
+    -- `held`.
     pub by_in_hand : b < length old.items → IsSome in_hand → cause ≡ OutOfMemory
-    -- If `in_hand` has an item, and no item follows the range, then the cause is `CapacityOverflow`
-    -- if and only if the growth rule has no capacity for one more item.
+    -- If `in_hand` contains an item, and no item follows the range, then the growth rule decides
+    -- the cause. The cause is `CapacityOverflow` if and only if the rule chooses no capacity for
+    -- one more item.
     pub by_push : b ≡ length old.items → IsSome in_hand
         → (cause ≡ CapacityOverflow) ↔ (capacity_for rule R new 1 ≡ None)
-    -- If `held` has items and `in_hand` is `None`, then the iterator has ended.
+    -- If `held` contains items and `in_hand` is `None`, then the iterator has ended: `rest` has no
+    -- items left.
     pub ended : in_hand ≡ None → 0 < length held → into_iter_items rest.items ≡ []
-    -- If items follow the range `a..b`, then the number of placed items is at least the length of
-    -- the range.
+    -- If the list `old` has items after the range `a..b`, then the call placed at least as many
+    -- items as the range had.
     pub range : b < length old.items → b - a ≤ length placed
-    -- If no item follows the range, then `held` is empty. If, in addition, `in_hand` has an item,
-    -- then the list is full.
+    -- If no item follows the range, then `held` is empty. If, in addition, `in_hand` contains an
+    -- item, then the list `new` is full.
     pub at_end : b ≡ length old.items → (held ≡ [])
         × (IsSome in_hand → length new.items ≡ new.capacity)
-    -- If no item follows the range, and `in_hand` is `None`, then no item was placed.
+    -- If no item follows the range, and `in_hand` is `None`, then the call placed no item. The list
+    -- `new` is the list `old` without the items of the range.
     pub unchanged : b ≡ length old.items → in_hand ≡ None → new ≡ cut old a b

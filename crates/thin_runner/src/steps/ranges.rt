@@ -1,4 +1,4 @@
-//! The commands that remove items from a range of the list: `Drain` and `ExtractIf`.
+//! Implements the commands `Drain` and `ExtractIf`, which remove items from a range of the list.
 ghost use Rattle.std.specs.Prelude.{◌≡◌, ◌+◌, ◌≤◌, List, ◌∷◌, ◌++◌, length, vec_capacity, vec_len};
 ghost use Rattle.thin_runner.specs.Setting.{setting};
 ghost use Rattle.thin_runner.specs.Steps.{Steps};
@@ -13,8 +13,8 @@ use std::alloc::Allocator;
 use thin_vec::{Drain, Growth, ThinVec, ThinVecError};
 
 impl<T: Clone + Eq, A: Allocator + Copy, G: Growth, J: Judge<T>> Setting<T, A, G, J> {
-    // Reserves room for the results of the steps, and then drains the range `start..end`. If there
-    // are no steps, no memory is allocated for the results.
+    // Carries out the command `Drain`. First reserves room for the results of the steps. Then
+    // drains the range `start..end`. If there are no steps, allocates no memory for the results.
     pub(crate) fn drain(
         self,
         list: &mut ThinVec<T, A, G>,
@@ -39,8 +39,9 @@ impl<T: Clone + Eq, A: Allocator + Copy, G: Growth, J: Judge<T>> Setting<T, A, G
         Reply::Answers(answers)
     }
 
-    // Reserves room for the results of `count` calls to `next`, and then extracts items of the
-    // range `start..end`. If `count` is 0, no memory is allocated for the results.
+    // Carries out the command `ExtractIf`. First reserves room for the results of `count` calls to
+    // `next`. Then extracts items from the range `start..end`. If `count` is 0, allocates no memory
+    // for the results.
     pub(crate) fn extract_if(
         self,
         list: &mut ThinVec<T, A, G>,
@@ -79,7 +80,7 @@ impl<T: Clone + Eq, A: Allocator + Copy, G: Growth, J: Judge<T>> Setting<T, A, G
     }
 }
 
-// Takes the steps on `drain` in order, and appends their results to `answers`.
+// Carries out the steps on `drain` in order, and appends their results to `answers`.
 fn walk<T: Drop, A: Allocator, G: Growth>(
     drain: &mut Drain<'_, T, A, G>,
     steps: Vec<Step, A>,
@@ -98,7 +99,7 @@ fn walk<T: Drop, A: Allocator, G: Growth>(
     }
 }
 
-// Takes one step on `drain`, and returns its result.
+// Carries out one step on `drain`, and returns its result.
 fn take<T, A: Allocator, G: Growth>(drain: &mut Drain<'_, T, A, G>, step: Step) -> Option<T>
     ensures value { (steps : List Step) → walked (drain_rest drain.old) (step ∷ steps)
         ≡ result ∷ walked (drain_rest drain.new) steps }

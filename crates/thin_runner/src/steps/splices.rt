@@ -1,4 +1,5 @@
-//! The command `Splice`, which replaces the items of a range with the items of an iterator.
+//! Implements the command `Splice`, which replaces the items of a range with the items of an
+//! iterator.
 ghost use Rattle.std.specs.Prelude.{◌≡◌, ◌+◌, ◌≤◌, List, ◌∷◌, ◌++◌, length, vec_capacity, vec_len};
 ghost use Rattle.thin_runner.specs.Setting.{setting};
 ghost use Rattle.thin_runner.specs.Steps.{Steps};
@@ -14,8 +15,9 @@ use std::alloc::Allocator;
 use thin_vec::{Growth, Splice, SpliceRefused, ThinVec, ThinVecError};
 
 impl<T: Clone + Eq, A: Allocator + Copy, G: Growth, J: Judge<T>> Setting<T, A, G, J> {
-    // Reserves room for the results of the steps, and then replaces the items of the range
-    // `start..end` with `items`. If there are no steps, no memory is allocated for the results.
+    // Carries out the command `Splice`. First reserves room for the results of the steps. Then
+    // replaces the items of the range `start..end` with `items`. If there are no steps, allocates
+    // no memory for the results.
     pub(crate) fn splice(
         self,
         list: &mut ThinVec<T, A, G>,
@@ -59,7 +61,7 @@ impl<T: Clone + Eq, A: Allocator + Copy, G: Growth, J: Judge<T>> Setting<T, A, G
     }
 }
 
-// Takes the steps on `splice` in order, and appends their results to `answers`.
+// Carries out the steps on `splice` in order, and appends their results to `answers`.
 fn walk<T: Drop, A: Allocator, G: Growth>(
     splice: &mut Splice<'_, Hinted<T, A>, T, A, G>,
     steps: Vec<Step, A>,
@@ -78,7 +80,7 @@ fn walk<T: Drop, A: Allocator, G: Growth>(
     }
 }
 
-// Takes one step on `splice`, and returns its result.
+// Carries out one step on `splice`, and returns its result.
 fn take<T, A: Allocator, G: Growth>(
     splice: &mut Splice<'_, Hinted<T, A>, T, A, G>,
     step: Step,

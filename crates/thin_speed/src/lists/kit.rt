@@ -1,11 +1,11 @@
 //! Implements the traits of the module `lists` for the `Vec` of Rattle's library. In the input of
-//! this program, this kind of list is called `kit`.
+//! this program, the name of this kind of list is `kit`.
 use crate::lists::{Family, List, Numbers, Table};
 use crate::numbers::{Count, Outcome, Pick, Triple, Unhinted, Wide, mixed};
 use std::alloc::{AllocError, Global};
 use std::collections::BTreeMap;
 
-/// The kind of list that uses the `Vec` of Rattle's library.
+/// Selects the `Vec` of Rattle's library as the kind of list on which a workload runs.
 pub struct Kit;
 
 impl Family for Kit {

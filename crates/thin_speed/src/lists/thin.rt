@@ -1,12 +1,12 @@
-//! Implements the traits of the module `lists` for `ThinVec`. In the input of this program, this
-//! kind of list is called `thin`.
+//! Implements the traits of the module `lists` for `ThinVec`. In the input of this program, the
+//! name of this kind of list is `thin`.
 use crate::lists::{Family, List, Numbers, Table};
 use crate::numbers::{Count, Outcome, Pick, Triple, Unhinted, Wide, mixed};
 use std::alloc::{AllocError, Global};
 use thin_rows::Rows;
 use thin_vec::ThinVec;
 
-/// The kind of list that uses `ThinVec`.
+/// Selects `ThinVec` as the kind of list on which a workload runs.
 pub struct Thin;
 
 impl Family for Thin {

@@ -5,8 +5,8 @@ use crate::workloads::shapes::{Work, filled, refill, refilled, repeated};
 use std::alloc::Global;
 use std::marker::PhantomData;
 
-/// The workloads that edit a list at the front or in the middle, and the workload `ShrinkPush`,
-/// which shrinks a list.
+/// The workloads of this file. All of them edit a list at the front or in the middle, except for
+/// `ShrinkPush`, which shrinks a list.
 #[derive(Clone, Copy)]
 pub enum Editing {
     InsertFront,
@@ -76,8 +76,8 @@ impl<L: Numbers> Work<L, u64> for InsertFirst {
     }
 }
 
-/// A workload that removes the first item, or the item in the middle if `IN_MIDDLE` is true. It
-/// then pushes the removed number plus 1.
+/// A workload that removes the first item, or the middle item if `IN_MIDDLE` is true. Then the
+/// workload pushes the removed number plus 1.
 pub struct Remove<const IN_MIDDLE: bool>;
 
 impl<L: Numbers, const IN_MIDDLE: bool> Work<L, u64> for Remove<IN_MIDDLE> {
@@ -95,8 +95,8 @@ impl<L: Numbers, const IN_MIDDLE: bool> Work<L, u64> for Remove<IN_MIDDLE> {
     }
 }
 
-/// Fills a list, and then calls `swap_remove` until the list is empty. Each call removes the item
-/// in the middle. Does this `times` times.
+/// In each of `times` rounds, fills a list with `size` items, and then calls `swap_remove` until
+/// the list is empty. Each of these calls removes the item in the middle.
 ///
 /// # Errors
 ///
@@ -116,8 +116,8 @@ pub fn swap_remove<L: Numbers>(alloc: Global, size: usize, times: usize) -> Outc
     Ok(sum)
 }
 
-/// Splits off the second half of a list, and then appends it to the first half. Does this `times`
-/// times.
+/// Makes a list of `size` items. In each of `times` rounds, splits off the second half of the list,
+/// and then appends it to the first half.
 ///
 /// # Errors
 ///
@@ -144,8 +144,8 @@ impl<L: Numbers> Work<L, u64> for Drain {
     }
 }
 
-/// A workload that drains the items from `START` up to, but not including, `END`. It then pushes
-/// the same number of items.
+/// A workload that drains the items from `START` up to, but not including, `END`. Then the workload
+/// pushes the same number of items.
 pub struct DrainFew<const START: usize, const END: usize>;
 
 impl<L: Numbers, const START: usize, const END: usize> Work<L, u64> for DrainFew<START, END> {
@@ -159,8 +159,9 @@ impl<L: Numbers, const START: usize, const END: usize> Work<L, u64> for DrainFew
     }
 }
 
-/// A workload that replaces two items, at the indices `START..END`, with one or two items. If it
-/// inserts only one item, it then pushes an item, so that the length of the list does not change.
+/// A workload that replaces the two items at the indices `START..END` with one or two items. `C`
+/// determines the number of new items. If there is only one, the workload also pushes an item, so
+/// that the length of the list does not change.
 pub struct SpliceFew<C, const START: usize, const END: usize> {
     count: PhantomData<C>,
 }
@@ -188,8 +189,8 @@ impl<L: Numbers> Work<L, u64> for SpliceMore {
     }
 }
 
-/// A workload that replaces two items with four items, alternately at index 5 and at index 6. It
-/// then pops two items.
+/// A workload that replaces two items with four items, and then pops two items. Alternately, the
+/// replaced items are at the indices 5 and 6, or at the indices 6 and 7.
 pub struct ReplaceMore;
 
 impl<L: Numbers> Work<L, u64> for ReplaceMore {
@@ -201,8 +202,8 @@ impl<L: Numbers> Work<L, u64> for ReplaceMore {
     }
 }
 
-/// A workload that shrinks the capacity to the length. It then pushes a number, so that the list
-/// has to grow, and pops this number.
+/// A workload that shrinks the capacity of a list to its length. Then the workload pushes a number,
+/// so that the list has to grow, and pops this number.
 pub struct ShrinkPush;
 
 impl<L: Numbers> Work<L, u64> for ShrinkPush {

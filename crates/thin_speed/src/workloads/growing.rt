@@ -77,7 +77,7 @@ pub fn run_growing<F: Family>(
     }
 }
 
-/// Makes a new list, and pushes `size` items onto it. Does this `times` times.
+/// In each of `times` rounds, makes a new list, and pushes `size` items onto it.
 ///
 /// # Errors
 ///
@@ -99,8 +99,8 @@ pub fn push<L: List<T>, T: Item, S: Source<T>>(
     Ok(sum)
 }
 
-/// Makes a new list, pushes `size` numbers onto it, and then pops all of them. Does this `times`
-/// times.
+/// In each of `times` rounds, makes a new list, pushes `size` numbers onto it, and then pops all of
+/// them.
 ///
 /// # Errors
 ///
@@ -122,7 +122,8 @@ pub fn push_pop<L: Numbers>(alloc: Global, size: usize, times: usize) -> Outcome
     Ok(sum)
 }
 
-/// A workload that makes a list with enough capacity, and pushes numbers onto it.
+/// A workload that makes a list with enough capacity for `size` numbers, and then pushes these
+/// numbers onto it.
 pub struct Reserved;
 
 impl<L: Numbers> Make<L> for Reserved {
@@ -170,8 +171,8 @@ impl<L: Numbers> Make<L> for ExtendFilter {
     }
 }
 
-/// A workload that makes a list with enough capacity. It then extends the list with the two halves
-/// of a slice, using two calls to `extend`.
+/// A workload that makes a list with enough capacity for a slice. Then the workload extends the
+/// list with the two halves of the slice, using two calls to `extend`.
 pub struct ExtendTwice;
 
 impl<L: Numbers> Make<L> for ExtendTwice {
@@ -241,7 +242,8 @@ impl<L: Numbers> Make<L> for Copied {
     }
 }
 
-/// Makes a new list, and writes five bytes to it in each of `size` calls. Does this `times` times.
+/// In each of `times` rounds, makes a new list of bytes and calls `write_all` `size` times. Each of
+/// these calls appends five bytes to the list.
 ///
 /// # Errors
 ///
@@ -261,7 +263,8 @@ pub fn write_five<L: List<u8> + Write>(alloc: Global, size: usize, times: usize)
     Ok(sum)
 }
 
-/// Fills a list, and then consumes it from the front, using `into_iter`. Does this `times` times.
+/// In each of `times` rounds, fills a list with `size` numbers, and then consumes the list from the
+/// front, using `into_iter`.
 ///
 /// # Errors
 ///

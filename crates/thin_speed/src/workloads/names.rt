@@ -1,11 +1,12 @@
-//! The names of the workloads, as the input spells them.
+//! Assigns a name to each workload. The input of this program contains these names.
 use crate::workloads::editing::Editing;
 use crate::workloads::filtering::Filtering;
 use crate::workloads::growing::Growing;
 use crate::workloads::many::Many;
 use crate::workloads::tables::Tables;
 
-/// A workload. There is one variant for each file that defines workloads.
+/// A workload, which is a task whose running time is measured. Each file that defines workloads has
+/// its own variant.
 #[derive(Clone, Copy)]
 pub enum Workload {
     Growing(Growing),

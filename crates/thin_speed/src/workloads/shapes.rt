@@ -1,12 +1,12 @@
-//! The loops that many workloads share, and the traits for the work inside these loops.
+//! Defines the loops that many workloads share, and the traits for the work inside these loops.
 use crate::lists::{List, Numbers};
 use crate::numbers::{Item, Outcome, Source, mixed, seen};
 use std::alloc::{AllocError, Global};
 
-/// The work that a workload does repeatedly on a list.
+/// A task that a workload repeats on a list.
 pub trait Work<L, T> {
-    /// Does the work once, and returns the new sum. Some kinds of work mix the items that they
-    /// remove into `sum`. The other kinds return `sum` unchanged.
+    /// Does the work once, and returns the new sum. Some implementations mix the items that they
+    /// remove into `sum`. The other implementations return `sum` unchanged.
     ///
     /// The meaning of `number` depends on the caller. `refilled` passes the length of the list.
     /// `repeated` passes the number of times that the work has already been done.
@@ -17,7 +17,7 @@ pub trait Work<L, T> {
     fn work(list: &mut L, alloc: Global, number: usize, sum: u64) -> Outcome;
 }
 
-/// Work that does nothing, so that the workload only fills a list.
+/// A task that does nothing. A workload with this task only fills a list.
 pub struct Idle;
 
 impl<L, T> Work<L, T> for Idle {
@@ -27,8 +27,8 @@ impl<L, T> Work<L, T> for Idle {
     }
 }
 
-/// Clears a list, and pushes `size` items onto it. The list keeps its allocation if its capacity is
-/// large enough.
+/// Clears `list`, and then pushes `size` items onto it. The list keeps its allocation if its
+/// capacity is large enough.
 ///
 /// # Errors
 ///
@@ -46,8 +46,8 @@ pub fn refill<L: List<T>, T: Drop, S: Source<T>>(
     Ok(())
 }
 
-/// Makes a list. Then performs `times` rounds. Each round refills the list, and does the work `W`
-/// on it.
+/// Makes a list. In each of `times` rounds, clears the list, pushes `size` items onto it, and does
+/// the work `W` on it.
 ///
 /// # Errors
 ///
@@ -82,7 +82,7 @@ pub fn filled<L: List<u64>>(alloc: Global, size: usize) -> Result<L, AllocError>
     Ok(list)
 }
 
-/// Fills a list once, and then does the work `W` on it `times` times.
+/// Makes a list of `size` numbers, and then does the work `W` on this list `times` times.
 ///
 /// # Errors
 ///
@@ -97,7 +97,7 @@ pub fn repeated<L: Numbers, W: Work<L, u64>>(alloc: Global, size: usize, times: 
     Ok(mixed(sum, seen(list.as_slice())))
 }
 
-/// The way in which a workload makes a new list.
+/// A way of making a list. Some workloads measure how long it takes to make a list in this way.
 pub trait Make<L> {
     /// Makes a new list. Some implementations take its items from `source`, whose length is `size`.
     /// The other implementations use only `size`.
@@ -108,7 +108,7 @@ pub trait Make<L> {
     fn make(alloc: Global, size: usize, source: &L) -> Result<L, AllocError>;
 }
 
-/// Makes a new list using `M::make`. Does this `times` times.
+/// In each of `times` rounds, makes a new list with the function `M::make`.
 ///
 /// # Errors
 ///

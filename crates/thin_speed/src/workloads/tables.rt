@@ -10,7 +10,8 @@ pub enum Tables {
     TableGet,
 }
 
-/// Runs `workload` on a table of the kind `F`.
+/// Runs `workload` on tables. If the lists of the kind `F` are `ThinVec`s, the tables are `Rows`.
+/// Otherwise, they are `BTreeMap`s.
 ///
 /// # Errors
 ///
@@ -27,7 +28,7 @@ pub fn run_tables<F: Family>(
     }
 }
 
-/// Makes a table with `size` entries, and reads one of the entries. Does this `times` times.
+/// In each of `times` rounds, makes a table, writes `size` entries to it, and reads one of them.
 ///
 /// # Errors
 ///
@@ -42,8 +43,9 @@ pub fn set_all<C: Table>(alloc: Global, size: usize, times: usize) -> Outcome {
     Ok(sum)
 }
 
-/// Makes a table with `size` entries, and then reads all entries `times` times. The entries are
-/// read in a scattered order, which differs from the order in which they were written.
+/// Makes a table, and writes `size` entries to it. In each of `times` rounds, reads the entries of
+/// the table. The entries are read in a scattered order, which differs from the order in which they
+/// were written.
 ///
 /// # Errors
 ///
@@ -63,7 +65,7 @@ pub fn get_all<C: Table>(alloc: Global, size: usize, times: usize) -> Outcome {
 
 // Makes a table with thirty columns, and writes entries to its first `size` places. The places are
 // numbered row by row, but the entries are written in a scattered order. If `size` is a multiple of
-// 7919, some of these places get no entry.
+// 7919, some places are written several times, and others get no entry.
 #[inline(never)]
 fn filled_table<C: Table>(alloc: Global, size: usize) -> Result<C, AllocError> {
     let mut table = C::with_rows(alloc, size / 30 + 1)?;

@@ -72,7 +72,7 @@ fn copy_into_vec<A: Allocator + Copy>(
 }
 
 // Converts the list to an iterator, clones the iterator with the allocator `alloc`, and extends a
-// new list with the items of this clone. Then calls `move_into_vec` with the new list.
+// new list with the items that the clone yields. Then calls `move_into_vec` with the new list.
 fn clone_iter_into_vec<A: Allocator + Copy>(
     rt: &impl Abort,
     list: ThinVec<i32, A>,
@@ -87,7 +87,7 @@ fn clone_iter_into_vec<A: Allocator + Copy>(
 }
 
 // Moves the items of `list` into a `Vec` with the allocator `other`, using one of six functions.
-// The number `way`, from 0 to 5, selects the function.
+// The value of `way` (0 to 5) selects the function.
 fn move_by_way(
     rt: &impl Abort,
     way: u32,
@@ -104,9 +104,9 @@ fn move_by_way(
     }
 }
 
-// Moves a list of `items` to another allocator with each of the six functions that `move_by_way`
-// calls. Asserts after each move that the list's own allocator has no allocated block, and that the
-// other allocator has one allocated block.
+// Makes a list of `items`, and moves the items into a `Vec` with another allocator. Does this with
+// each of the six functions that `move_by_way` calls. Asserts each time that the allocator of the
+// list then has no allocated block, and that the other allocator has one.
 fn assert_each_way_moves_the_block(rt: &impl Abort, alloc: Global, items: &[i32]) {
     let own = refusing_nth(rt, alloc, 0);
     let other = refusing_nth(rt, alloc, 0);

@@ -57,8 +57,8 @@ fn assert_extended<'a>(
 }
 
 // Tries twice to append clones of three items to a list of one item. In the first attempt, only one
-// item can be cloned, so the call fails and drops the clone. In the second attempt, all three items
-// can be cloned.
+// item can be cloned, so the call fails and drops this clone. In the second attempt, all three
+// items can be cloned, so the call succeeds.
 fn assert_extended_at_second_try(
     rt: &impl Abort,
     alloc: Global,
@@ -83,9 +83,9 @@ fn row_37_extend_from_slice_drops_its_clones_if_one_fails(rt: HostRuntime) {
     assert_same(&rt, drops.get(), 8);
 }
 
-// Tries to replace the first of two items with clones of three items. The cell `granted` allows
-// fewer than three clones, so the call fails. Asserts that the failed call drops the clones that it
-// has made.
+// Tries to replace the first of two items with clones of three items. The number in `granted` says
+// how many items can be cloned. It is less than three, so the call fails. Asserts that the failed
+// call drops the clones that it has made.
 fn assert_replace_range_fails(
     rt: &impl Abort,
     alloc: Global,

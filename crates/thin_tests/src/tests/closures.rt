@@ -1,5 +1,5 @@
-//! Tests that methods such as `retain` drop their closure, together with the values that the
-//! closure owns, when the call ends. Also tests that an `ExtractIf` drops its closure when the
+//! Tests that methods such as `retain` drop their closure when the call ends, together with the
+//! values that the closure owns. Also tests that an `ExtractIf` drops its closure when the
 //! `ExtractIf` is dropped.
 use crate::tests::support::assertions::{assert_items, assert_len, assert_same};
 use crate::tests::support::counted::Counted;
@@ -9,7 +9,8 @@ use std::process::Abort;
 use std::rc::Rc;
 use thin_vec::ThinVec;
 
-// Returns whether `item` is not 2. The closure that calls this function owns the value `_owned`.
+// Returns whether `item` is not 2. A closure that calls this function owns the value that it passes
+// as `_owned`.
 fn is_not_two(_owned: &Counted<'_>, item: i32) -> bool {
     item != 2
 }
@@ -57,9 +58,9 @@ fn dedup_by_key_drops_its_closure(rt: HostRuntime) {
     assert_without_two(&rt, &list, &drops);
 }
 
-// In this test, the closure owns an `Rc`. The reference count of the `Rc` shows whether the closure
-// has been dropped. The closure cannot own a `Counted` instead, because a `Counted` borrows a cell,
-// and the borrow checker does not accept a closure with a borrow here.
+// Tests the closure of `extract_if`, which owns an `Rc`. The reference count of the `Rc` shows
+// whether the closure has been dropped. In the other tests, the closure owns a `Counted`, which
+// borrows a cell. Here, the borrow checker does not accept a closure with a borrow.
 #[test]
 fn extract_if_drops_its_closure(rt: HostRuntime) {
     let kept = Rc::new(rt.alloc(), 2).ok().expect(&rt, "memory");

@@ -1,5 +1,5 @@
-//! Functions whose contracts show what a caller of `drain` can conclude. The tests check which
-//! items a `Drain` yields, and which items remain in the list.
+//! Defines functions whose contracts show what a caller can prove about a call to `drain`. The
+//! tests check which items a `Drain` yields, and which items remain in the list.
 ghost use Rattle.std.specs.Prelude.{◌≡◌, ◌+◌, ◌≤◌, ◌++◌, IfOk, IfSome, OnOk, drop, length, max, reverse, slice_range, take};
 ghost use Rattle.std.specs.List.{fold, remove_range};
 ghost use Rattle.thin_vec.specs.Edits.Drain.{drain_lender};

@@ -11,7 +11,8 @@ use std::ops::Range;
 use std::process::Abort;
 use thin_vec::{ExtendRefused, ThinVec, ThinVecError};
 
-// Extends a new list with one item that counts its drops, and then drops the list.
+// Extends a new list with one item, and then drops the list. The cell `drops` counts how often the
+// item is dropped.
 fn extend_counted(rt: &impl Abort, alloc: Global, drops: &Cell<u32>) {
     let mut counted = ThinVec::new(alloc);
     counted
@@ -33,7 +34,7 @@ fn extend_by(rt: &impl Abort, list: &mut ThinVec<i32>, numbers: Range<i32>) {
     list.extend(numbers).ok().expect(rt, "memory");
 }
 
-// Extends the list with the items of its own clone.
+// Clones the list, and then extends the list with the items of the clone.
 fn extend_by_clone(rt: &impl Abort, list: &mut ThinVec<i32>, alloc: Global) {
     let clone = list.clone(alloc).expect(rt, "memory");
     list.extend(clone.as_slice().iter().copied())

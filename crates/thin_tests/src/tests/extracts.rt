@@ -1,4 +1,5 @@
-//! A function whose contract shows what a caller can conclude if an `ExtractIf` is dropped early.
+//! Defines a function that drops an `ExtractIf` early. The contract of this function shows what a
+//! caller can prove in this case.
 ghost use Rattle.std.specs.Prelude.{◌≡◌, ◌≤◌, length};
 
 use std::alloc::Allocator;

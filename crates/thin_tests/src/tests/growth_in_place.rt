@@ -9,13 +9,14 @@ use std::process::Abort;
 use thin_testing::{Refusing, Ruled};
 use thin_vec::{Doubling, Growth, PowerBytes, ThinVec, ThinVecError};
 
-// A type of items that can be made from a number.
+// A type of items. The function `numbered` makes an item of this type from a number.
 trait Numbered: Copy + PartialEq + Debug + Drop {
     fn numbered(number: usize) -> Self;
 }
 
-// The value is the number modulo 251, and not modulo 256. So in a list of consecutive numbers, any
-// two neighboring 8-byte words contain different bytes.
+// The value is the number modulo 251. In a list of consecutive numbers, any two neighboring 8-byte
+// words contain different bytes. The modulus is not 256, because the values would then repeat every
+// 256 bytes. A test would not notice if bytes were moved by 256.
 impl Numbered for u8 {
     fn numbered(number: usize) -> u8 {
         (number % 251) as u8
@@ -153,9 +154,9 @@ fn assert_capacity_made<T: Numbered, B: Allocator>(
     assert_same(rt, refusing.requests(), 2);
 }
 
-// Makes a full list of `len` items. Adds `more` to its capacity, adds `more` again, and then
-// subtracts `more`. Then fills the list, truncates it to `len` items, and reduces its capacity to
-// `len`. Checks each change of the capacity with `assert_capacity_made`.
+// Makes a full list of `len` items. Then changes its capacity to `len + more`, to `len + 2 * more`,
+// and back to `len + more`. Then fills the list, truncates it to `len` items, and reduces its
+// capacity to `len`. Checks each change of the capacity with `assert_capacity_made`.
 fn assert_capacities<T: Numbered, B: Allocator>(
     rt: &impl Abort,
     refusing: &Refusing<B>,
@@ -177,10 +178,10 @@ fn assert_capacities<T: Numbered, B: Allocator>(
     assert_same(rt, refusing.blocks(), 1);
 }
 
-// Runs `assert_pushes` and `assert_capacities` for an item type of `size` bytes. Only lists whose
-// items take at least 256 bytes can grow in place, so `assert_capacities` is run with lists of
-// about this size. If an item is smaller than 8 bytes, some of the tested capacities fill a whole
-// number of 8-byte words, and others do not.
+// Runs `assert_pushes` and `assert_capacities` for an item type of `size` bytes. A list can grow in
+// place only if its items take at least 256 bytes. For this reason, `assert_capacities` is run with
+// lists whose items take about 256 bytes. If an item is smaller than 8 bytes, some of the tested
+// capacities fill a whole number of 8-byte words, and others do not.
 fn assert_type<T: Numbered>(rt: &impl Abort, alloc: Global, size: usize) {
     let refusing = Refusing::new(alloc, 0);
     for first in [0, 5, 261] {
@@ -222,8 +223,9 @@ fn a_list_of_pairs_of_words_grows_and_shrinks_in_place(rt: HostRuntime) {
     assert_type::<u128>(&rt, rt.alloc(), 16);
 }
 
-// Pushes 3000 items to a list. Before each growth, another list allocates the memory directly after
-// the allocation of this list, so this list cannot grow in place.
+// Pushes 3000 items to a list. Before each growth of this list, another list is made. The
+// allocation of the other list lies directly behind the allocation of the growing list, which
+// therefore cannot grow in place.
 fn assert_pushes_beside_neighbours<T: Numbered>(rt: &impl Abort, alloc: Global) {
     let mut neighbours = ThinVec::<ThinVec<u8>>::new(alloc);
     let mut list = ThinVec::<T>::new(alloc);

@@ -1,6 +1,6 @@
-//! Functions that rely on two facts about every list: its length is at most its capacity, and its
-//! capacity is less than 2^63. The prover finds both facts by itself. So these functions need
-//! neither a hand-written proof nor a call to `len` that tells the prover these facts.
+//! Defines functions that rely on two facts about every list: its length is at most its capacity,
+//! and its capacity is less than 2^63. The prover finds both facts by itself. So these functions
+//! need no handwritten proof, and no call to `len` that tells the prover these facts.
 ghost use Rattle.std.specs.Prelude.{◌≡◌, ◌+◌, ◌<◌, ◌≤◌, IsTrue, length, take};
 
 use std::alloc::Allocator;
@@ -19,7 +19,7 @@ pub fn replace_last<T: Drop, A: Allocator, G: Growth>(list: &mut ThinVec<T, A, G
 }
 
 /// Replaces all items with the single item `value`, and returns whether this succeeded. If the list
-/// was not empty, allocates no memory and succeeds.
+/// was not empty, the call succeeds and allocates no memory.
 pub fn replace_all<T: Drop, A: Allocator, G: Growth>(list: &mut ThinVec<T, A, G>, value: T) -> bool
     ensures succeeds { 0 < length list.old.items → IsTrue result }
 {

@@ -13,8 +13,8 @@ use thin_vec::{
     Doubling, ExtractIf, Growth, IntoIter, Rejected, ThinVec, ThinVecError, fits, thin_vec,
 };
 
-// A call of this function compiles only if the type `L` implements all traits in the bounds below.
-// The test calls the function with a list of bytes.
+// Checks at compile time that the type `L` implements all traits in the `where` clause. The test
+// calls this function with a list of bytes.
 fn assert_list_traits<L>(_list: &L)
 where
     L: Clone + Eq + Ord + Hash + Debug + Drop,
@@ -22,15 +22,15 @@ where
     L: Index<usize, Output = u8> + IndexMut<usize> + IntoIterator<Item = u8> + Write,
 {}
 
-// A call of this function compiles only if the type `I` implements all traits in the bounds below.
-// The test calls the function with an `IntoIter` and with a `Drain` of bytes.
+// Checks at compile time that the type `I` implements all traits in the `where` clause. The test
+// calls this function with an `IntoIter` and with a `Drain` of bytes.
 fn assert_iterator_traits<I>(_items: &I)
 where
     I: DoubleEndedIterator + ExactSizeIterator + FusedIterator + Iterator<Item = u8> + Debug + Drop,
 {}
 
-// A call of this function compiles only if the type `E` implements all traits in the bounds below.
-// The test calls the function with a `ThinVecError`.
+// Checks at compile time that the type `E` implements all traits in the `where` clause. The test
+// calls this function with a `ThinVecError`.
 fn assert_error_traits<E>(_cause: &E)
 where
     E: Error + Copy + Eq + From<AllocError> + From<Rejected<u8>>,

@@ -12,8 +12,8 @@ use thin_examples::rows::Outcome;
 use thin_testing::Refusing;
 use thin_vec::ThinVecError;
 
-// A writer that appends the written bytes to `text`. The calls to `write` are numbered from 1, and
-// the call with the number `failing` fails. If `failing` is 0, no call fails.
+// A writer that appends the written bytes to `text`. The call to `write` with the number `failing`
+// fails. The first call has the number 1. If `failing` is 0, no call fails.
 #[derive(Drop)]
 struct Failing<'a> {
     text: &'a mut String,
@@ -47,8 +47,8 @@ const REPORT: &str =
     row 36 ok\nrow 40 ok\nrow 41 ok\n\
     35 rows ok\n";
 
-// The exit codes of the program, as `{:?}` prints them. Printing an `ExitCode` is the only way to
-// read its value.
+// These constants are the exit codes of the program, as `{:?}` prints them. Printing an `ExitCode`
+// is the only way to read its value.
 const EVERY_ROW_OK: &str = "ExitCode(unix_exit_status(0))";
 
 const ROW_FAILED: &str = "ExitCode(unix_exit_status(1))";
@@ -77,9 +77,9 @@ fn report_into<A: Allocator + Copy, R: Abort>(
     out.calls
 }
 
-// Writes a report with a writer whose call with the number `failing` fails. Asserts that the
-// written text is the beginning of the whole report, and that nothing is written after the failed
-// call.
+// Writes a report with a writer that fails in the call to `write` with the number `failing`.
+// Asserts that the written text is the beginning of the whole report, and that nothing is written
+// after the failed call.
 fn assert_written_until<R: Abort>(rt: &R, alloc: Global, failing: usize) {
     let mut text = String::new(alloc);
     let calls = report_into(rt, alloc, &mut text, failing, NOT_WRITTEN);
@@ -143,8 +143,8 @@ fn assert_report_of_rows(rt: &impl Abort, alloc: Global, rows: &[u32], wanted: &
 
 #[test]
 fn report_counts_failed_rows_and_exits_with_1(rt: HostRuntime) {
-    // The report calls a worked example a row. There is no worked example with the number 0, so the
-    // report says that row 0 has failed.
+    // In a report, each line about a worked example begins with the word "row". There is no worked
+    // example with the number 0, so the report says that row 0 has failed.
     for (rows, text) in [
         ([0, 1].as_slice(), "row 0 failed\nrow 1 ok\n1 rows failed\n"),
         (

@@ -16,7 +16,7 @@ fn assert_reserve<A: Allocator>(rt: &impl Abort, items: &mut Vec<u8, A>, granted
     assert_same(rt, items.reserve(1000).is_ok(), granted);
 }
 
-// Asserts that exactly `blocks` blocks are currently allocated.
+// Asserts that the allocator `refusing` currently has exactly `blocks` allocated blocks.
 fn assert_blocks(rt: &impl Abort, refusing: &Refusing<Global>, blocks: u64) {
     assert_same(rt, refusing.blocks(), blocks);
 }

@@ -8,10 +8,11 @@ use thin_examples::rows::{ROWS, row};
 use thin_testing::Refusing;
 use thin_vec::{ThinVec, thin_vec};
 
-// One line for each worked example: its number, how many values it compares, and how many requests
-// for memory it makes. These counts were made by hand, so they expose an example that compares too
-// few values. For example 35, the number of requests is not checked and is given as 0, because
-// `format!` of Rattle's library makes some of them.
+// Each line is about one worked example. It contains the number of the example, the number of
+// values that it compares, and the number of requests for memory that it makes. These numbers were
+// counted by hand, so they reveal an example that compares too few values. For example 35, the test
+// does not check the number of requests, and the line contains 0. The reason is that `format!` of
+// Rattle's library makes some of these requests.
 const COUNTS: &str = "\
     1: 5, 0\n\
     2: 12, 2\n\
@@ -49,9 +50,9 @@ const COUNTS: &str = "\
     40: 15, 2\n\
     41: 6, 5\n";
 
-// Runs worked example number `number`. Asserts that the example succeeds, and that all memory has
-// been freed at the end. Returns how many values the example compares, and how many requests for
-// memory it makes.
+// Runs the worked example with the number `number`. Asserts that the example succeeds, and that all
+// memory has been freed at the end. Returns how many values the example compares, and how many
+// requests for memory it makes.
 fn run_and_count<R: Abort>(rt: &R, alloc: Global, number: u32) -> (u32, u64) {
     let refusing = Refusing::new(alloc, 0);
     let checks = row(&refusing, number).ok().expect(rt, "no refusal");
@@ -60,8 +61,8 @@ fn run_and_count<R: Abort>(rt: &R, alloc: Global, number: u32) -> (u32, u64) {
     (checks.compared(), requests)
 }
 
-// Appends one line to `lines`. This line contains the counts of the worked example with the number
-// `number`.
+// Appends one line to `lines`. The line contains the number of a worked example, the number of
+// values that the example compares, and the number of requests for memory that it makes.
 fn append_counts<R: Abort>(rt: &R, alloc: Global, number: u32, lines: &mut String) {
     let (values, requests) = run_and_count(rt, alloc, number);
     let line = format!(in alloc; "{number}: {values}, {requests}\n").expect(rt, "memory");

@@ -1,6 +1,6 @@
--- In `step`, each arm of the `match` calls the method of `Setting` for its command. The clause
--- `allowed` of this method implies the clause `allowed` of `step`, because `command` equals the
--- pattern of the arm.
+-- Each arm of the `match` in `step` calls the method that carries out its command. The contract of
+-- the method has a clause `allowed` about the pattern of the arm. In the arm, `command` equals this
+-- pattern. So the clause `allowed` of `step`, which is about `command`, follows.
 use Rattle.thin_runner.proofs.runner.step.Goals as goal
 
 pub returns-in-Push : goal.returns-in-Push

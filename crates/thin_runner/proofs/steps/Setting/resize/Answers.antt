@@ -1,5 +1,5 @@
--- The contract of `resize` implies what `Steps` states about the command `Resize`, both on success
--- and on failure.
+-- `Steps` states what the command `Resize` may do and which replies it may get. These statements
+-- follow from the contract of `resize`, both on success and on failure.
 use Rattle.std.proofs.Common.{rules}
 use Rattle.thin_runner.proofs.steps.Setting.resize.Goals as goal
 

@@ -1,5 +1,5 @@
--- No item of the iterator is lost: after a failed splice, each item is in the list, in `held`, in
--- `in_hand`, or in `rest`.
+-- If a splice fails, no item of the iterator is lost. Each item is then in the list, in the vector
+-- `held` of the error, in its option `in_hand`, or in the rest of the iterator, `rest`.
 use Rattle.std.proofs.Common.{rules, inl, inr, ◌≡◌, ◌≤◌, ◌+◌, ◌-◌, ◌++◌, ◌∙◌, ap, arith, length, length-append, subst, sym}
 use Rattle.std.proofs.lemmas.Bool.{false≢true}
 use Rattle.std.specs.Iterator.{at_most, size}

@@ -1,5 +1,6 @@
--- The function `build` for trees of `Vec`s terminates, because it calls itself only with a smaller
--- depth. Inside its loop, the depth is greater than 0.
+-- The function `build` makes a tree of `Vec`s. It terminates, because it calls itself only with a
+-- smaller depth. The loop invariant states that the depth is greater than 0, so it can be decreased
+-- by 1.
 use Rattle.std.proofs.Common.{◌<◌}
 use Rattle.thin_speed.proofs.lists.kit.+build.Given as goal
 

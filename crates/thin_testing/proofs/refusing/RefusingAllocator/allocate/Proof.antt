@@ -1,6 +1,7 @@
--- `allocate` calls `refuses`. If `refuses` returns `true`, `allocate` returns an error. Otherwise
--- it passes the answer of the inner allocator to `granted`, which counts the block if the answer is
--- `Ok`. Then it returns this answer. The proof assumes the laws of the separation logic (`Logic`).
+-- `allocate` first calls `refuses`. If `refuses` returns `true`, `allocate` returns an error.
+-- Otherwise, `allocate` asks the inner allocator for a block, and returns its answer. If this
+-- answer is `Ok`, the function `granted` counts the block. The proof assumes the laws of the
+-- separation logic (`Logic`).
 use Rattle.std.proofs.Common.{◌≡◌, ℕ, zero, suc, ◌+◌, ◌^◌, ◌<◌, true, false, Bool, List, [], ◌∷◌, Ok, Err, refl, w64, Bor}
 use seplogic.Ra.Ura.{Ura}
 use mir.Syntax.{Ty, Args, Fn, Body, seq, skip, a_type, dnil, dcons}
@@ -106,8 +107,8 @@ module _ (Z : Al) {M : Type 1} {𝓤 : Ura M} (𝓛 : Logic 𝓤) (at_mem : Memo
     abbrev Post : Val → SProp 𝓤
     Post = (walk_of 𝓛 (ended Z) (stayed Z) held).post bound
 
-    -- The postcondition holds if `allocate` returns an error, whether the request was refused or
-    -- the inner allocator failed.
+    -- If `allocate` returns an error, its postcondition holds. The reason for the error may be that
+    -- the request was refused, or that the inner allocator failed.
     refused : Sq 𝓛 (‵ (flft κ₁ q₁) ∷ (‵ (flft κ₂ q₂) ⊛ ‵ ftrue) ∷ [])
         (prop (Post (answer_val false 0 0)))
     refused =
@@ -138,9 +139,9 @@ module _ (Z : Al) {M : Type 1} {𝓤 : Ura M} (𝓛 : Logic 𝓤) (at_mem : Memo
         fsplit ! $ use1 𝓛 (‵ (hidden_shr Row κ₁ r.now.counts c.0 c.1)) (id⊢ 𝓤 _) $
         shr_dup ! Row the_row_laws.shr_laws r.now.counts c.0 c.1 κ₁ $
         keep ! (0 ∷ 7 ∷ 3 ∷ 8 ∷ 1 ∷ []) $
-        -- The context now holds, in this order: [the shared counts; the token of the lifetime `κ₁`;
-        -- the inner allocator; the token of the lifetime `κ₂`; the shared counts a second time].
-        -- The next step enters the body of `allocate`.
+        -- At this point, the proof has the following resources, in this order: [the shared counts;
+        -- the token of the lifetime `κ₁`; the inner allocator; the token of the lifetime `κ₂`; a
+        -- copy of the shared counts]. The next step enters the body of `allocate`.
         enter ! 𝓣.C 𝓣.Λ (here Z) vs _ $
         alloc_all ! (λ l. pass_all ! refl
         ((tt, tt), ((tt, record { fits = fn }), ((tt, record { fits = fa }), tt))) $

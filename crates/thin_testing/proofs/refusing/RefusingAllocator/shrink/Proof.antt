@@ -1,6 +1,6 @@
--- `shrink` calls `refuses`. If `refuses` returns `true`, `shrink` returns an error, and the block
--- does not change. Otherwise it returns the result of `shrink` of the inner allocator. The proof
--- assumes the laws of the separation logic (`Logic`).
+-- `shrink` first calls `refuses`. If `refuses` returns `true`, `shrink` returns an error, and the
+-- block does not change. Otherwise, `shrink` calls the method `shrink` of the inner allocator, and
+-- returns its result. The proof assumes the laws of the separation logic (`Logic`).
 use Rattle.std.proofs.Common.{◌≡◌, ℕ, zero, suc, ◌+◌, ◌^◌, ◌<◌, false, Bool, List, [], ◌∷◌, refl, w64, Bor}
 use seplogic.Ra.Ura.{Ura}
 use mir.Syntax.{Args, Fn, Body, seq, skip, a_type, dnil, dcons}
@@ -131,13 +131,13 @@ module _ (Z : Al) (X : RattleType) {M : Type 1} {𝓤 : Ura M} (𝓛 : Logic �
     abbrev c : ℕ × ℕ
     c = (r.ref_ptr.0, r.ref_ptr.1 + up 8 (up (align (α Z)) 0 + size (α Z)))
 
-    -- `left b o y` is the block that the caller owns after a call to `shrink` with the result `y`.
-    -- Before the call, the block was at the offset `o` of the allocation `b`.
+    -- `left b o y` describes the block that the caller owns after a call to `shrink` with the
+    -- result `y`. Before the call, this block was at the offset `o` of the allocation `b`.
     abbrev left : ℕ → ℕ → Answer.Denot → Fml
     left b o = left_by Z X (Shrinks X) 𝓛 at_mem run κ κT q qT p r.now.inner b o len old new xs
 
-    -- The postcondition holds for every result of `shrink`, whether the request was refused or
-    -- passed on to the inner allocator.
+    -- The postcondition of `shrink` holds for every result, no matter whether the request was
+    -- refused or passed on to the inner allocator.
     ends : (b o : ℕ) (y : Bool) (b' o' : ℕ)
         → Sq 𝓛 (‵ (left b o (result_of y b' o')) ∷ ‵ (flft κ q) ∷ ‵ (flft κT qT) ∷ ‵ (flft ρ s)
         ∷ []) (prop (Post (block_ptr b o) (answer_val y b' o')))
@@ -178,9 +178,9 @@ module _ (Z : Al) (X : RattleType) {M : Type 1} {𝓤 : Ura M} (𝓛 : Logic �
         use1 𝓛 (‵ (seen Z κ p h)) (id⊢ 𝓤 _) $ move ! (1 ∷ []) $ fsplit ! $
         use1 𝓛 (‵ (hidden_shr Row κ r.now.counts c.0 c.1)) (id⊢ 𝓤 _) $
         keep ! (0 ∷ 8 ∷ 2 ∷ 10 ∷ 6 ∷ 9 ∷ []) $
-        -- The context now holds, in this order: [the shared counts; the token of the lifetime `κ`;
-        -- the inner allocator; the block; the token of the lifetime `κT`; the token of the lifetime
-        -- `ρ`]. The next step enters the body of `shrink`.
+        -- At this point, the proof has the following resources, in this order: [the shared counts;
+        -- the token of the lifetime `κ`; the inner allocator; the block; the token of the lifetime
+        -- `κT`; the token of the lifetime `ρ`]. The next step enters the body of `shrink`.
         enter ! 𝓣.C 𝓣.Λ (here Z X) (vs x) _ $
         alloc_all ! (λ l. pass_all ! refl (
           (tt, tt),

@@ -1,5 +1,6 @@
--- This file proves the contract of `push_full`. The new capacity follows from the growth rule, and
--- the numbers of copied items and allocated blocks follow from the new capacity.
+-- This file proves the contract of `push_full`, which pushes an item to a full list. The growth
+-- rule determines the new capacity. The numbers of copied items and of allocated blocks follow from
+-- the new capacity.
 use Rattle.std.proofs.Common.{arith}
 use Rattle.thin_block.proofs.CapacityLemmas.{doubling_first, doubling_next}
 use Rattle.thin_vec.proofs.ThinVecLemmas.{costs}
