@@ -1,2 +1,3 @@
--- Definitions for the contracts of the conversions in `src/convert/`.
+-- The module `IntoIter` contains the definitions for the contracts of the conversions in
+-- `src/convert/`.
 pub mod IntoIter

@@ -1,4 +1,4 @@
--- Definitions for the contracts of the calls in `src/edits/`.
+-- These modules contain the definitions for the contracts of the methods in `src/edits/`.
 pub mod Dedup
 pub mod Drain
 pub mod ExtractIf

@@ -1,4 +1,4 @@
--- Definitions that say what a list contains after a `&mut` borrow of its items has ended.
+-- These definitions say what a list contains after a `&mut` borrow of its items has ended.
 use Rattle.std.specs.Prelude.{List, Option, ℕ, length, slice_set}
 use Rattle.std.specs.declared.alloc.Allocator.{Ghosts as AllocatorGhosts}
 use Rattle.std.specs.List.{refill}

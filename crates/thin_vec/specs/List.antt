@@ -1,4 +1,4 @@
--- Definitions for the contracts of the calls in `src/list/`.
+-- These modules contain the definitions for the contracts of the methods in `src/list/`.
 pub mod Capacity
 pub mod Clones
 pub mod Extend

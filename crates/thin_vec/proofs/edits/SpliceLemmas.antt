@@ -1,5 +1,6 @@
--- These lemmas are about splices. They state how many items a splice moves, what it costs, which
--- items its iterator has yielded, and why `finish` failed.
+-- These lemmas are for the proof of `Splice::finish`, which puts the items of an iterator in place
+-- of a range of a list. They state what `finish` costs, which items the iterator has yielded, and
+-- why `finish` fails.
 use Rattle.std.proofs.Common.{if◌then◌else◌, inl, inr, Option, Some, None, append_assoc, drop, take, subst, ◌≡◌, ℕ, ◌+◌, ◌-◌, ◌*◌, ◌^◌, ◌<◌, ◌≤◌, Bool, true, false, eqb, List, [], ◌∷◌, ◌++◌, ap, arith, length, length-append, refl, sym, ◌∙◌}
 use Rattle.std.proofs.lemmas.List.{append-nil, drop_at, length-drop, length-take-le, take_at}
 use Rattle.std.specs.Borrow.{RattleType}
@@ -34,9 +35,10 @@ pub moving-zero : (c : Cost) → c ≡ moving 0 c
 moving-zero c = ap (λ m. let d : Cost = record c { moves = m } in d)
     (let e : c.moves ≡ c.moves + 0 = omega arith in e)
 
--- Suppose that `n` items were placed into the gap of the open block `v`, which became the open
--- block `w`. Then closing `w` moves each tail item at most once, and it moves no item if the gap is
--- full.
+-- Suppose that `n` items were put into the gap of the open block `v`, which became `w`, at the cost
+-- of one move each. Suppose also that `w` has no middle items (items of the edited range). Then
+-- closing `w` moves each tail item (each item after the range) at most once. If the gap has no
+-- empty slot left, no item is moved.
 pub closed-moves : {T A : Type 0} (v w : Open T A) (n : ℕ) → w.cost ≡ moving (v.gap - w.gap)
     v.cost → w.rest ≡ [] → w.tail ≡ v.tail → n ≡ v.gap - w.gap
     → (m : ℕ) × (cost_closed w ≡ moving (n + m) v.cost) × (m ≤ length v.tail)
@@ -71,8 +73,8 @@ closed-moves v w n paid none same count = go (eqb w.gap 0) refl
         false-true : false ≡ true → ⊥
         false-true h = cc
 
--- Suppose that `n` items are moved up (none if `count` is 0), and that `k + m` more moves follow.
--- Then the total number of moves is `k + x` for some number `x` with `x ≤ n + m`.
+-- Suppose that the cost `d` is the cost `c` plus `n` moves, or `c` itself if `count` is 0. Then `d`
+-- plus `k + m` moves is `c` plus `k + x` moves for some number `x`, and `x ≤ n + m`.
 pub run-moves : (count n k m : ℕ) (c d : Cost) → d ≡ (if eqb count 0 then c else moving n c)
     → (x : ℕ) × (moving (k + m) d ≡ moving (k + x) c) × (x ≤ n + m)
 run-moves count n k m c d e = go (eqb count 0) e
@@ -90,7 +92,8 @@ run-moves count n k m c d e = go (eqb count 0) e
 
 module _ {S X : Type 0} (steps : S → Option X → S → Type 0) where
   -- If calls to `next` yielded the items `xs`, and later calls yielded the items `ys` and then
-  -- returned `o`, then all these calls together yielded `xs ++ ys` and then returned `o`.
+  -- returned `o`, then all these calls together yielded `zs`, which is `xs ++ ys`, and then
+  -- returned `o`.
   pub yields-held : (s t u : S) (xs ys zs : List X) (o : Option X) → Yields steps s xs t
       → zs ≡ xs ++ ys → YieldsThen steps t ys o u → YieldsThen steps s zs o u
   yields-held s t u xs ys zs o before e now = (
@@ -100,17 +103,18 @@ module _ {S X : Type 0} (steps : S → Option X → S → Type 0) where
     now.2,
   )
 
-  -- If calls to `next` yielded the items `xs`, and one more call returned `Some x`, then all these
-  -- calls together yielded the items `xs ++ x ∷ []`.
+  -- Suppose that calls to `next` yielded the items `xs`, and that the following call returned `o`.
+  -- If `o` is `Some x`, then all these calls together yielded the items `xs ++ x ∷ []`.
   pub yields-drawn : (s u : S) (xs : List X) (o : Option X) (x : X) → o ≡ Some x
       → YieldsThen steps s xs o u → Yields steps s (xs ++ x ∷ []) u
   yields-drawn s u xs o x is all =
       yields-more steps s all.0 u xs x all.1 (subst (λ r. steps all.0 r u) is all.2)
 
-  -- Suppose that a call to `next` yielded `x`, and that later calls yielded `xs`. If `o` is
-  -- `Some y`, and `x ∷ xs` is `held ++ y ∷ []`, then all calls together yielded `held ++ y ∷ []`.
-  -- If `o` is `None`, `x ∷ xs` is `held`, and the later calls finally returned `None`, then all
-  -- calls together yielded `held` and then returned `None`.
+  -- Suppose that a call to `next` yielded `x`, and that later calls yielded the items `xs`. Suppose
+  -- also that `x ∷ xs` is the list `held`, followed by the item in `o` if `o` is `Some`. If `o` is
+  -- `Some y`, then all these calls together yielded `held ++ y ∷ []`. If `o` is `None`, and the
+  -- last call returned `None`, then all these calls together yielded `held` and then returned
+  -- `None`.
   pub drawn-after : (s t u : S) (x : X) (xs held : List X) (o : Option X) → steps s (Some x) t
       → held ++ option_to_list o ≡ x ∷ xs
       → MatchOption o (YieldsThen steps t xs None u) (λ _. Yields steps t xs u)
@@ -124,9 +128,9 @@ module _ {S X : Type 0} (steps : S → Option X → S → Type 0) where
       subst (λ l. Yields steps s l u) (sym parts) (t, one, now)
 
 module _ {T A : Type 0} where
-  -- Suppose that `k` items were added to the list `v`, with `k + m` moves and without a change of
-  -- the capacity. If `m ≤ n`, then `CostsAdding` holds for `v` and the new list `w`, with the bound
-  -- `n` on the moves of old items.
+  -- Suppose that adding `k` items turned the list `v` into `w`, with `k + m` moves and without a
+  -- change of the capacity. If `m ≤ n`, then `CostsAdding v w n` holds: each added item was moved
+  -- once, and the old items were moved at most `n` times in total.
   pub adding-run : (v w : Thin T A) (k m n : ℕ) → w.cost ≡ moving (k + m) v.cost
       → w.capacity ≡ v.capacity → length w.items ≡ length v.items + k → m ≤ n → CostsAdding v w n
   adding-run v w k m n e same long few = record {
@@ -149,7 +153,8 @@ pub any-err : {X E : Type 0} {Q : E → Type 0} (r : Result X E) → ((e : E) �
 any-err (Ok _) h = tt
 any-err (Err e) h = h e
 
--- Inserting the list `ys` into the list `xs` yields a list of length `length xs + length ys`.
+-- Inserting the list `ys` into the list `xs` at index `at` results in a list of length `length xs +
+-- length ys`.
 pub inserted-long : {T : Type 0} (xs ys : List T) (at : ℕ) → at ≤ length xs
     → length ((take at xs ++ ys) ++ drop at xs) ≡ length xs + length ys
 inserted-long xs ys at in_bounds =
@@ -172,9 +177,10 @@ module _ {S X : Type 0} (steps : S → Option X → S → Type 0) where
 
 module _ {S X A : Type 0} (steps : S → Option X → S → Type 0) (can : S → Type 0)
     (remaining : S → Count) where
-  -- Suppose that calls to `next` yielded the items `xs`, and that `Stopped` holds for the later
-  -- calls with an empty list of placed items. Then `Stopped` holds for all calls together, with
-  -- `xs` as the list of placed items.
+  -- `Stopped` describes which items of an iterator a failed call to `finish` inserted into the
+  -- list, and which items it returned in `error`. Suppose that the first calls to `next` yielded
+  -- the items `xs`, which were inserted. If `Stopped` holds for the later calls with no inserted
+  -- items, then it holds for all calls together with the inserted items `xs`.
   pub stopped-more : (s t : S) (xs : List X) (error : SpliceRefused X S A) → Yields steps s xs t
       → Stopped steps can remaining t [] error → Stopped steps can remaining s xs error
   stopped-more s t xs error before (inl now) =
@@ -195,9 +201,10 @@ module _ {S X A : Type 0} (steps : S → Option X → S → Type 0) (can : S →
         (now.2.0, yields-join steps s t now.2.0 xs error.held.items before now.2.1, now.2.2),
       )
 
-  -- Suppose that the list `held` in the error is empty. Suppose also that calls to `next` yielded
-  -- the items that were placed in the list, and then the item `in_hand` of the error, if there is
-  -- one. Then `Stopped` holds for these calls.
+  -- `Stopped` describes which items of an iterator a failed call to `finish` inserted into the
+  -- list, and which items it returned in `error`. Suppose that calls to `next` yielded the items
+  -- `xs`, which were inserted, and then the item in `error.in_hand`, if there is one. If
+  -- `error.held` is empty, then `Stopped` holds for these calls with the inserted items `xs`.
   pub stopped-now : (s : S) (xs : List X) (error : SpliceRefused X S A) → error.held.items ≡ []
       → PausedAfter steps can remaining s (xs ++ option_to_list error.in_hand) error.rest
       → Stopped steps can remaining s xs error
@@ -212,13 +219,14 @@ module _ {S X A : Type 0} (steps : S → Option X → S → Type 0) (can : S →
         λ _. none,
       )
 
--- In this module, `error` is the error of a failed call to `finish`, and `v` is the list after the
--- failure. `left` is an upper bound on the number of items that the iterator may still yield.
+-- In this module, a call to `finish` failed with `error`. `v` is the list after the call, and
+-- `tail` contains the items after the replaced range. `left` is an upper bound on the number of
+-- items that the iterator may still yield.
 module _ {S T A : Type 0} (rule : Rule) (R : RattleType) (v : Thin T A) (tail : List T)
     (left : Count) (error : SpliceRefused T S A) where
-  -- Suppose that items follow the range, that the error contains no items, and that the list could
-  -- not reserve room for the size hint of the iterator. Then `IsStopCause` holds: this is an
-  -- allowed reason for `finish` to fail.
+  -- `IsStopCause` states why `finish` failed. It holds if there are items after the range (`tail`),
+  -- the error returns no items, and the list could not reserve room for as many items as the lower
+  -- bound of the iterator's size hint.
   pub stop-at-hint : 0 < length tail → error.held.items ≡ [] → error.in_hand ≡ None
       → FailsAtHint rule R v left error.cause → IsStopCause rule R v tail left error
   stop-at-hint some none empty fails = record {
@@ -228,10 +236,11 @@ module _ {S T A : Type 0} (rule : Rule) (R : RattleType) (v : Thin T A) (tail : 
     by_push = λ no_tail. absurd (omega (arith, some, ap length no_tail));
   }
 
-  -- Suppose that items follow the range, and that the error contains items. If the error has an
-  -- item `in_hand`, suppose that its cause is `OutOfMemory`. Otherwise, suppose that its cause is
-  -- `CapacityOverflow` if and only if the growth rule chooses no capacity for the items `held`.
-  -- Then `IsStopCause` holds.
+  -- `IsStopCause` states why `finish` failed. Suppose that there are items after the range
+  -- (`tail`), and that the error returns items. There are two cases. If `in_hand` is `Some`,
+  -- suppose that the cause is `OutOfMemory`. If `in_hand` is `None`, suppose that the cause is
+  -- `CapacityOverflow` if and only if the growth rule chooses no capacity with room for the items
+  -- in `held`. Then `IsStopCause` holds.
   pub stop-at-held : 0 < length tail → (error.in_hand ≡ None → 0 < length error.held.items)
       → (error.in_hand ≡ None → (error.cause ≡ CapacityOverflow)
       ↔ (capacity_for rule R v (length error.held.items) ≡ None))
@@ -244,10 +253,10 @@ module _ {S T A : Type 0} (rule : Rule) (R : RattleType) (v : Thin T A) (tail : 
     by_push = λ no_tail. absurd (omega (arith, some, ap length no_tail));
   }
 
-  -- Suppose that no items follow the range, and that the list `held` in `error` is empty. Suppose
-  -- also that `extend` failed with an error that has the same cause and the same item `in_hand` as
-  -- `error`. If `IsExtendCause` holds for the error of `extend`, then `IsStopCause` holds for
-  -- `error`.
+  -- Suppose that no item follows the range (`tail` is empty), that `error.held` is empty, and that
+  -- `extend` failed with the error `e`. Suppose also that the fields `cause` and `in_hand` of
+  -- `error` are those of `e`. If `IsExtendCause`, which states why `extend` failed, holds for `e`,
+  -- then `IsStopCause`, which states why `finish` failed, holds for `error`.
   pub stop-at-end : (e : ExtendRefused T S) → tail ≡ [] → error.held.items ≡ []
       → error.cause ≡ e.cause → error.in_hand ≡ e.in_hand → IsExtendCause rule R v left e
       → IsStopCause rule R v tail left error
@@ -264,9 +273,9 @@ module _ {S T A : Type 0} (rule : Rule) (R : RattleType) (v : Thin T A) (tail : 
   }
 
 module _ (rule : Rule) (R : RattleType) where
-  -- Suppose that the growth rule chooses the capacity `d` for the list `v` with `k` more items. If
-  -- `n` is at least the new length, `length v.items + k`, then `IsKeptOrRuled` holds for `d` and
-  -- `n`.
+  -- Suppose that `d` is the capacity of the list `v` after a call that reserves room for `k` more
+  -- items, and that `n` is at least `length v.items + k`. Then `IsKeptOrRuled` holds: `d` is the
+  -- old capacity of `v`, or a capacity that the growth rule chooses for at most `n` items.
   pub kept-or-ruled : KeepsLaw rule → {T A : Type 0} (v : Thin T A) (k d n : ℕ)
       → capacity_for rule R v k ≡ Some d → length v.items + k ≤ n
       → IsKeptOrRuled rule R v.capacity d n
@@ -276,14 +285,16 @@ module _ (rule : Rule) (R : RattleType) where
         | inr spare ↦ inl (cap-kept rule R law v k d spare e)
       ]
 
--- If `n` is 0, then adding `n` moves to a cost does not change the cost.
+-- If `n` is 0, then adding `n` moves to the cost `c` does not change `c`. So it does not matter
+-- whether `b` is true or false.
 unmoved : (b : Bool) (c : Cost) (n : ℕ) → n ≡ 0 → (if b then c else moving n c) ≡ c
 unmoved true c n none = refl
 unmoved false c n none = ap (λ k. moving k c) none ∙ sym (moving-zero c)
 
 module _ {T A : Type 0} where
-  -- If the open block `v` has no middle items and no tail items, then closing it yields the list
-  -- `left_of v`, and no item is moved.
+  -- Suppose that the open block `v` has no middle items (items of the edited range) and no tail
+  -- items (items after the range). Then closing `v` moves no item. The result is the list `left_of
+  -- v u.alloc`, which contains the front items of `v`, and whose allocator is the allocator of `u`.
   pub closed-left : (v : Open T A) (u : Thin T A) → v.rest ≡ [] → v.tail ≡ []
       → record u { items = items_of v; capacity = v.capacity; cost = cost_closed v }
       ≡ left_of v u.alloc
@@ -298,9 +309,9 @@ module _ {T A : Type 0} where
         cost = free i;
       }
 
-  -- Suppose that `us` are the items of the open block `v` with `xs` in place of its middle items.
-  -- Then inserting `ys` directly after `xs` yields the items of `v` with `xs ++ ys` in place of its
-  -- middle items.
+  -- `with_between v xs` contains the items of the open block `v`, with `xs` in place of its middle
+  -- items. Suppose that `us` is this list, and that `xs` ends at index `end` of `us`. Then
+  -- inserting `ys` into `us` at index `end` results in `with_between v (xs ++ ys)`.
   pub between-more : (v : Open T A) (us xs ys : List T) (end : ℕ) → us ≡ with_between v xs
       → end ≡ length v.front + length xs
       → (take end us ++ ys) ++ drop end us ≡ with_between v (xs ++ ys)
@@ -311,15 +322,16 @@ module _ {T A : Type 0} where
       ∙ ((λ i. (take_at pre v.tail end here i ++ ys) ++ drop_at pre v.tail end here i)
       ∙ ap (λ l. l ++ v.tail) (append_assoc v.front xs ys))
 
-  -- If the items `xs` replace the middle items of an open block, then the new number of items is
-  -- the number of front items and tail items, plus the length of `xs`.
+  -- `with_between v xs` contains the front items of the open block `v`, then the items `xs`, and
+  -- then the tail items of `v`. So its length is the sum of the lengths of these three parts.
   pub between-length : (v : Open T A) (xs : List T)
       → length (with_between v xs) ≡ length v.front + length xs + length v.tail
   between-length v xs =
       omega (arith, length-append (v.front ++ xs) v.tail, length-append v.front xs)
 
-  -- If the open block `v` has no tail items, then appending `xs` to its front items is the same as
-  -- replacing its middle items with `xs`.
+  -- `with_between v xs` contains the front items of the open block `v`, then the items `xs`, and
+  -- then the tail items of `v`. If `v` has no tail items, then the front items, followed by `xs`,
+  -- are the same list.
   pub after-items : (v : Open T A) (xs : List T) → v.tail ≡ []
       → (v.front ++ v.tail) ++ xs ≡ with_between v xs
   after-items v xs none =
@@ -327,11 +339,13 @@ module _ {T A : Type 0} where
       ∙ (ap (λ l. l ++ xs) (append-nil v.front)
       ∙ (sym (append-nil (v.front ++ xs)) ∙ (λ i. (v.front ++ xs) ++ sym none i)))
 
--- In this module, the items have the type `R`, and the growth rule `rule` chooses the capacities.
+-- In this module, `R` is the type of the items, and `rule` is the growth rule, which chooses the
+-- capacities of the lists.
 module _ (rule : Rule) (R : RattleType) {T A : Type 0} where
-  -- Suppose that `k` items were added to the list `v`, with `k + m` moves and without a change of
-  -- the capacity. If `m ≤ n`, then `HasTaken` holds for `v` and the new list `w`, with the bound
-  -- `n` on the moves of old items.
+  -- `HasTaken` describes how adding items of an iterator may change a list. Suppose that adding `k`
+  -- items turned the list `v` into `w`, with `k + m` moves and without a change of the capacity or
+  -- of the allocator. If `m ≤ n`, then `HasTaken` holds for `v` and `w`, and the old items were
+  -- moved at most `n` times in total.
   pub taken-spare : (v w : Thin T A) (k m n : ℕ) (left : Count) → w.cost ≡ moving (k + m) v.cost
       → w.capacity ≡ v.capacity → length w.items ≡ length v.items + k → m ≤ n → w.alloc ≡ v.alloc
       → HasTaken rule R v w n left
@@ -355,7 +369,8 @@ module _ (rule : Rule) (R : RattleType) {T A : Type 0} where
     };
   }
 
-  -- If the lists `v` and `w` are equal, then `HasTaken` holds for `v` and `w`.
+  -- `HasTaken` describes how adding items of an iterator may change a list. If the lists `v` and
+  -- `w` are equal, then `HasTaken` holds for them, because no item was added.
   pub taken-none : (v w : Thin T A) (n : ℕ) (left : Count) → w ≡ v → HasTaken rule R v w n left
   taken-none v w n left e =
       taken-spare v w 0 0 n left (ap (λ z. z.cost) e ∙ moving-zero v.cost)
@@ -363,10 +378,10 @@ module _ (rule : Rule) (R : RattleType) {T A : Type 0} where
       (ap (λ z. z.alloc) e)
 
   module _ (law : KeepsLaw rule) where
-    -- Suppose that the list `v` grew to the capacity that the growth rule chooses for `h` more
-    -- items. Suppose also that `h` is at most `left`, the upper bound on the number of items that
-    -- the iterator may yield. Then `HasTaken` holds for `v` and the new list `w`, with the bound 0
-    -- on the moves of old items.
+    -- `HasTaken` describes how adding items of an iterator may change a list. Suppose that
+    -- reserving room for `h` more items turned the list `v` into `w`, and that the iterator may
+    -- yield at least `h` items (`h ≤ size left`). Then `HasTaken` holds for `v` and `w`, with no
+    -- moves of old items.
     pub taken-reserved : (v w : Thin T A) (h : ℕ) (left : Count)
         → capacity_for rule R v h ≡ Some w.capacity → w.items ≡ v.items → w.alloc ≡ v.alloc
         → w.cost ≡ cost_at v w.capacity → (IsCheap v → IsCheap w) → h ≤ size left
@@ -380,9 +395,9 @@ module _ (rule : Rule) (R : RattleType) {T A : Type 0} where
       cheap = cheap;
     }
 
-    -- Suppose that `HasTaken` holds for `v` and `u` with the bound `m` on the moves of old items,
-    -- and for `u` and `w` with the bound `n`. Then it holds for `v` and `w` with each bound `k`
-    -- that is at least `m + n`.
+    -- `HasTaken` describes how adding items of an iterator may change a list. Suppose that it holds
+    -- for `v` and `u` with at most `m` moves of old items, and for `u` and `w` with at most `n`
+    -- moves. If `m + n ≤ k`, then `HasTaken` holds for `v` and `w` with at most `k` moves.
     pub taken-join : (v u w : Thin T A) (m n k : ℕ) (left more : Count) → m + n ≤ k
         → length v.items ≤ length u.items
         → (HasRoomFor v (size left) → u.capacity ≡ v.capacity → HasRoomFor u (size more))

@@ -33,7 +33,8 @@ module _ (rule : Rule) (law : KeepsLaw rule) (R : RattleType) where
       }
 
 module _ {T : Type 0} where
-  -- `empty c` is `front [] c`: the slots of an empty list of capacity `c` are `c` empty slots.
+  -- `empty c` is a row of `c` empty slots. It is equal to `front [] c`, the slots of an empty list
+  -- of capacity `c`.
   pub front-none : (c : ℕ) → empty {T = T} c ≡ front [] c
   front-none c = let same : c ≡ c - 0 = omega arith in ap (λ (m : ℕ). empty m) same
 
@@ -49,8 +50,9 @@ module _ {T A : Type 0} {b : Block T A} {a : A} (t : IsThin b a) where
       settled b' a (items_in b.slots) c (ap (λ v. v.slots) w ∙ e) (ap (λ v. v.len) w ∙ t.packed.len)
       room (λ x h. some-same (sym h ∙ ap (λ v. v.alloc) w))
 
-  -- Suppose that a call tried to grow a block to `c` slots. Whether or not the growth succeeded,
-  -- the resulting block `b'` is that of a list with the same items, and `b'` has at most `c` slots.
+  -- Suppose that a call tried to grow the block of a list to `c` slots, and returned `r`. Whether
+  -- or not the growth succeeded, the resulting block `b'` is the block of a list with the same
+  -- items, and `b'` has at most `c` slots.
   pub settle-tried : {X E : Type 0} (r : Result X E) (b' : Block T A) (c : ℕ)
       → length b.slots < c
       → OnOk r (seen b' ≡ record (seen b) {

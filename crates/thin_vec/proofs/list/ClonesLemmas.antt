@@ -23,9 +23,9 @@ module _ {T : Type 0} {clones : T → T → Type 0} {sources : List T} {n i : �
   length-copies few = sym (length_all_zip clones (take n sources) lays.copies lays.cloned)
       ∙ length-take-le n sources few
 
-  -- Suppose that consecutive slots hold clones of the first `n` items of `sources`. If a clone `y`
-  -- of the item at index `n` is written into the slot directly after them, then these slots
-  -- together hold clones of the first `n + 1` items.
+  -- Suppose that clones of the first `n` items of `sources` are in the slots from index `i` onward.
+  -- If a clone `y` of the next item is written into the next slot, then clones of the first `n + 1`
+  -- items are in the slots from index `i` onward.
   pub lays-more : (y : T) {x : T} {s'' : List (Option T)} → n < length sources
       → i + length sources ≤ length s → x ≡ get_or sources n x → clones x y
       → s'' ≡ set s' (i + n) (Some y) → LaysClones clones sources (n + 1) i s s''
@@ -47,8 +47,9 @@ pub all-repeated : {T : Type 0} (clones : T → T → Type 0) (x : T) (n m : ℕ
     → AllZip clones (take n (replicate m x)) ys → All (clones x) ys
 all-repeated {T} clones x n m ys cloned = All-from_recursion (clones x) ys (each n m ys cloned)
   where
-    -- If `ys` consists of clones of the first `n` items of `replicate m x`, then every item of `ys`
-    -- is a clone of `x`. The proof is by recursion.
+    -- This lemma is the lemma `all-repeated` with `AllByRecursion` in place of `All`: if `ys`
+    -- consists of clones of the first `n` items of `replicate m x`, then every item of `ys` is a
+    -- clone of `x`.
     each : (n m : ℕ) (ys : List T) → AllZip clones (take n (replicate m x)) ys
         → AllByRecursion (clones x) ys
     each zero m [] e = tt
@@ -79,8 +80,8 @@ module _ {T : Type 0} (clones : T → T → Type 0) where
       each [] e = refl
       each (y ∷ ys) e = λ i. equal y e.0 i ∷ each ys e.1 i
 
--- A new list `v` has no items and a capacity of 0. So the capacity that the growth rule determines
--- for a length of `k` is `ruled_capacity rule R 0 k`.
+-- A new list `v` has no items, and its capacity is 0. So if room for `k` items is reserved in `v`,
+-- the new capacity is `ruled_capacity rule R 0 k`.
 pub capacity-new : {T A : Type 0} (rule : Rule) (R : RattleType) (v : Thin T A) (a : A) (k : ℕ)
     → IsNew v a → capacity_for rule R v (k - length v.items) ≡ ruled_capacity rule R 0 k
 capacity-new rule R v a k new =
@@ -89,14 +90,15 @@ capacity-new rule R v a k new =
     (let e : length v.items + (k - length v.items) ≡ k = omega (arith, ap length new.items) in
     e)
 
--- If the item of `xs` at index `i` does not satisfy the predicate `P`, then not all items of `xs`
--- satisfy `P`.
+-- If the item of `xs` at index `i` does not satisfy the predicate `P`, then `All P xs` is false:
+-- not all items of `xs` satisfy `P`.
 pub not-all : {X : Type 0} (P : X → Type 0) (xs : List X) (i : ℕ) → i < length xs
     → HoldsAt (λ x. ¬ (P x)) xs i → All P xs → ⊥
 not-all P [] i low never all = absurd (omega arith)
 not-all P (x ∷ xs) i low never all = never x (all i x low)
 
--- This rule set for the prover contains the lemma about the capacity of a new list.
+-- A rule set is a list of lemmas that a proof can pass to the prover. This rule set contains only
+-- `capacity-new`, the lemma about the capacity of a new list.
 pub ruleset new_lists = (capacity-new)
 
 module _ {T : Type 0} (xs : List T) (a b : ℕ) (within : b ≤ length xs) where

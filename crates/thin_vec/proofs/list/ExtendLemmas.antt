@@ -51,15 +51,15 @@ module _ {S X : Type 0} (steps : S → Option X → S → Type 0) where
       let rest = yields-first e.0 u xs ys e.2 in (rest.0, (e.0, e.1, rest.1))
 
   -- Suppose that calls to `next` yielded the items `xs` and then returned `None`, and that `xs`
-  -- satisfies the predicate `P`. Then these calls form a complete run of the iterator (`WholeRun`),
-  -- and the items of this run satisfy `P`.
+  -- satisfies the predicate `P`. Then `WholeRun` holds: these calls form a complete run of the
+  -- iterator, and the items of this run satisfy `P`.
   pub run_of : (s : S) (P : List X → Type 0) → (xs : List X) × Drains steps s xs × P xs
       → WholeRun steps s (λ p. P p.items)
   run_of s P all = (run steps s all.0 true (to_end steps s all.0 all.1), refl, refl, all.2)
 
   -- Suppose that the result `r` is `Ok`, and that calls to `next` yielded items that satisfy `P`
-  -- and then returned `None`. Then these calls form a complete run of the iterator (`WholeRun`),
-  -- and the items of this run satisfy `P`.
+  -- and then returned `None`. Then `WholeRun` holds: these calls form a complete run of the
+  -- iterator, and the items of this run satisfy `P`.
   pub run_of_ok : {E : Type 0} (s : S) (P : List X → Type 0) (r : Result (Unit {0}) E)
       → OnOk r ((xs : List X) × Drains steps s xs × P xs)
       → OnOk r (WholeRun steps s (λ p. P p.items))
@@ -67,18 +67,19 @@ module _ {S X : Type 0} (steps : S → Option X → S → Type 0) where
   run_of_ok s P (Err _) all = tt
 
 module _ {S X : Type 0} (steps : S → Option X → S → Type 0) (s : S) where
-  -- Suppose that calls to `next` yielded the items `xs`, and then the item in the option `o` if `o`
-  -- is `Some`. If the list of all these items satisfies `P`, then the calls form a run (`SomeRun`)
-  -- whose items satisfy `P`. This run may be incomplete.
+  -- Suppose that calls to `next` yielded the items `xs` and then, if `o` is `Some`, the item in
+  -- `o`. If the list of all these items satisfies `P`, then `SomeRun` holds: the calls form a run
+  -- of the iterator, which may be incomplete, and the items of this run satisfy `P`.
   pub run_given : (xs : List X) (o : Option X) (t : S) (P : List X → Type 0)
       → Yields steps s (xs ++ option_to_list o) t → P (xs ++ option_to_list o)
       → SomeRun steps s (λ p. P p.items)
   run_given xs o t P gave h =
       (run steps s (xs ++ option_to_list o) false (t, gave, λ e. absurd (false≢true e)), refl, h)
 
-  -- Suppose that the result `r` is an error, and that calls to `next` yielded the items `xs` and
-  -- then the item that the error returns, if there is one. Then these calls form a run of the
-  -- iterator (`SomeRun`), which may be incomplete.
+  -- Suppose that `r` is an error `e`. Suppose also that calls to `next` yielded the items `xs`, and
+  -- then the item in `hand e`, if there is one. If `xs` satisfies `P`, then `SomeRun` holds: the
+  -- calls form a run of the iterator, which may be incomplete. `can` and `remaining` occur only in
+  -- the assumptions.
   pub run_given_err : {E : Type 0} (can : S → Type 0) (remaining : S → Count)
       (hand : E → Option X) (rest : E → S) (P : List X → Type 0) (r : Result (Unit {0}) E)
       → IfErr r (λ e. (xs : List X) × P xs
@@ -91,20 +92,20 @@ module _ {S X : Type 0} (steps : S → Option X → S → Type 0) (s : S) where
       (λ l. (xs : List X) × P xs × (l ≡ xs ++ option_to_list (hand e)))
       all.2.gave (all.0, all.1, refl)
 
--- If the option `o` is `Some`, and the statement `P` holds, then `MatchOption o Q (λ _. P)` holds,
--- where `Q` is the case for `None`.
+-- `MatchOption o Q (λ _. P)` is the statement `Q` if the option `o` is `None`, and the statement
+-- `P` if `o` is `Some`. So it holds if `o` is `Some` and `P` holds.
 pub match-some : {X : Type 0} (P Q : Type 0) (o : Option X) → IsSome o → P
     → MatchOption o Q (λ _. P)
 match-some P Q (Some x) some p = p
 match-some P Q None some p = absurd (false≢true some)
 
--- An option that is `Some` is not `None`.
+-- An option cannot be both `Some` and `None`.
 pub hand-empty : {X : Type 0} {o : Option X} → IsSome o → o ≡ None → ⊥
 hand-empty some none = false≢true (subst IsSome none some)
 
--- Suppose that the result `r` is an error whose field `in_hand` is `Some`. If the statement `P`
--- holds, then `MatchOption error.in_hand (Q error) (λ _. P)` holds, where `Q error` is the case for
--- `None`.
+-- Suppose that the result `r` is an error whose field `in_hand` is `Some`, and that the statement
+-- `P` holds. Then a `MatchOption` statement about `in_hand` holds. It states `Q` if `in_hand` is
+-- `None`, and `P` if `in_hand` is `Some`.
 pub full-in-hand : {T S : Type 0} (P : Type 0) (Q : ExtendRefused T S → Type 0)
     (r : Result (Unit {0}) (ExtendRefused T S)) → IfErr r (λ error. IsSome error.in_hand)
     → OnErr r P → IfErr r (λ error. MatchOption error.in_hand (Q error) (λ _. P))
@@ -127,14 +128,14 @@ module _ {T : Type 0} where
         (sym (map-append (λ (y : T). Some y) xs (x ∷ [])))))
 
 module _ {T A : Type 0} where
-  -- If `n` is 0, adding `n` moves to the cost of a block changes nothing.
+  -- If `n` is 0, then adding `n` moves to the cost of the block `v` does not change `v`.
   pub put-none : (v : Seen T A) (n : ℕ) → n ≡ 0 → v ≡ record v { cost = moving n v.cost }
   put-none v n none = λ i. record v
       { cost = (sym (moving-none v.cost) ∙ ap (λ (k : ℕ). moving k v.cost) (sym none)) i }
 
   -- Suppose that the block `v` differs from the block `u` only in its slots and in `n` additional
   -- moves in its cost. If one more item is put into `v`, then the resulting block `w` differs from
-  -- `u` only in its slots and in `n + 1` additional moves.
+  -- `u` only in its slots and in `k` additional moves, where `k` is `n + 1`.
   pub put-more : (u : Seen T A) {v w : Seen T A} {s : List (Option T)} (n k : ℕ) → k ≡ n + 1
       → w ≡ record v { slots = s; cost = moving 1 v.cost }
       → v ≡ record u { slots = v.slots; cost = moving n u.cost }
@@ -148,9 +149,9 @@ module _ {T A : Type 0} where
         ∙ (moving-more 1 n u.cost ∙ ap (λ (m : ℕ). moving m u.cost) (sym one)))) i;
   }
 
--- Suppose that the list `v` became `w` when the items `xs` were appended, at the cost of one move
--- for each item. Then `w` differs from `v` only in its items and in
--- `length w.items - length v.items` additional moves.
+-- Suppose that appending the items `xs` turned the list `v` into `w`, at the cost of one move for
+-- each item. Then `w` differs from `v` only in its items and in its cost, which has increased by
+-- `length w.items - length v.items` moves.
 pub spare-kept : {T A : Type 0} (v w : Thin T A) (xs : List T)
     → w ≡ record v { items = v.items ++ xs; cost = moving (length xs) v.cost }
     → w ≡ record v
@@ -161,46 +162,54 @@ spare-kept v w xs is =
     omega (arith, ap length items, length-append v.items xs) in
     is ∙ (λ i. record v { items = sym items i; cost = moving (many i) v.cost })
 
--- Section: growth of a capacity over several calls
+-- The following lemmas are about the growth of a capacity over several calls.
 
 module _ (rule : Rule) (R : RattleType) (law : KeepsLaw rule) where
-  -- If `IsLoose rule R c d` holds for the old capacity `c` and the new capacity `d`, then `c ≤ d`.
+  -- `IsLoose rule R c d` states that `d` is equal to `c`, or at least as large as a capacity that
+  -- the growth rule chooses if a block of capacity `c` has to grow. In both cases, `c ≤ d`.
   pub loose-le : (c d : ℕ) → IsLoose rule R c d → c ≤ d
   loose-le c d (inl e) = omega arith
   loose-le c d (inr p) = let g = ruled-grows rule R c p.0 p.1 law p.2 p.3 in
       omega (arith, g.doubled, p.4)
 
-  -- The relation `IsLoose` between an old and a new capacity is transitive.
+  -- `IsLoose rule R c d` states that a list may grow from the capacity `c` to the capacity `d`.
+  -- This relation is transitive: if it holds for `c` and `d`, and for `d` and `e`, then it holds
+  -- for `c` and `e`.
   pub loose-join : (c d e : ℕ) → IsLoose rule R c d → IsLoose rule R d e → IsLoose rule R c e
   loose-join c d e (inl p) q = subst (λ n. IsLoose rule R n e) p q
   loose-join c d e (inr p) q = inr (p.0, p.1, p.2, p.3, omega (arith, p.4, loose-le d e q))
 
-  -- If a capacity satisfies `IsKeptOrRuled` for `n` items, and `n ≤ m`, then the capacity also
-  -- satisfies `IsKeptOrRuled` for `m` items.
+  -- `IsKeptOrRuled rule R c d n` states that `d` is the old capacity `c`, or a capacity that the
+  -- growth rule chooses for at most `n` items. If this holds for `n`, and `n ≤ m`, then it also
+  -- holds for `m`.
   pub ruled-more : (c n m : ℕ) {d d' : ℕ} → d' ≡ d → n ≤ m → IsKeptOrRuled rule R c d n
       → IsKeptOrRuled rule R c d' m
   ruled-more c n m same more (inl e) = inl (same ∙ e)
   ruled-more c n m same more (inr p) =
       inr (p.0, p.1, p.2, omega (arith, p.3, more), p.4 ∙ ap Some (sym same))
 
-  -- Suppose that `IsKeptOrRuled` holds for the old capacity `d` and the new capacity `e`, and that
-  -- `e ≡ d` implies `P`. Then, for every capacity `c`, either `P` holds, or `IsKeptOrRuled` holds
-  -- for the old capacity `c` and the new capacity `e`.
+  -- `IsKeptOrRuled rule R d e n` states that the new capacity `e` is the old capacity `d`, or a
+  -- capacity that the growth rule chooses for at most `n` items. Suppose that it holds, and that `e
+  -- ≡ d` implies `P`. Then `P` holds, or `IsKeptOrRuled` holds with any capacity `c` in place of
+  -- `d`.
   pub ruled-after : (c d e n : ℕ) (P : Type 0) → IsKeptOrRuled rule R d e n → (e ≡ d → P)
       → IsKeptOrRuled rule R c e n ⊎ P
   ruled-after c d e n P (inl same) f = inr (f same)
   ruled-after c d e n P (inr p) f = inl (inr p)
 
-  -- Suppose that a new list was made with the capacity `c` that `exact_capacity` returns for `h`
-  -- items, and that `h` is a possible size hint of the iterator. If the change from `c` to a later
-  -- capacity `d` satisfies `IsKeptOrRuled`, then `d` satisfies `IsCollected`.
+  -- Suppose that a new list was made with the capacity `c`, which is exactly enough for `h` items,
+  -- and that `h` may be the lower bound of the iterator's size hint. Suppose also that the capacity
+  -- then changed from `c` to `d`, and that this change satisfies `IsKeptOrRuled`. Then
+  -- `IsCollected` holds: `d` is an allowed capacity of a list that is made from the items of the
+  -- iterator.
   pub collected-after : {c d : ℕ} (n h : ℕ) (left : Count) → IsWithinCount h left
       → exact_capacity R 0 h ≡ Some c → IsKeptOrRuled rule R c d n → IsCollected rule R d n left
   collected-after n h left hint e (inl same) = inr (h, hint, e ∙ ap Some (sym same))
   collected-after n h left hint e (inr p) = inl p
 
-  -- If the growth rule determines the capacity `d` for `k` more items in the list `v`, then the
-  -- change from the capacity of `v` to `d` satisfies `IsLoose`.
+  -- Suppose that `d` is the capacity of the list `v` after a call that reserves room for `k` more
+  -- items. Then `IsLoose` holds, which states that a list may grow from the old capacity of `v` to
+  -- `d`.
   pub loose-ruled : {T A : Type 0} (v : Thin T A) (k d : ℕ) → capacity_for rule R v k ≡ Some d
       → IsLoose rule R v.capacity d
   loose-ruled v k d e =
@@ -210,9 +219,9 @@ module _ (rule : Rule) (R : RattleType) (law : KeepsLaw rule) where
       ]
 
 module _ {T A : Type 0} where
-  -- Suppose that the list `v` grew at most once, and became `w` when `k` items were appended with
-  -- `k` moves. If the growth copied at most one item for each slot that it added, then
-  -- `CostsAdding v w 0` holds: apart from the growth, no old item was moved.
+  -- Suppose that appending `k` items turned the list `v` into `w`, with `k` moves and at most one
+  -- reallocation. If the reallocation copied at most one item for each new slot, then `CostsAdding
+  -- v w 0` holds: apart from the reallocation, no old item was moved.
   pub filled-at : (v w : Thin T A) (k : ℕ) → w.cost ≡ moving k (cost_at v w.capacity)
       → length w.items ≡ length v.items + k
       → (cost_at v w.capacity).grown + v.capacity ≤ v.cost.grown + w.capacity → CostsAdding v w 0
@@ -228,8 +237,9 @@ module _ {T A : Type 0} where
         (omega (arith, ap (λ c. c.blocks) f), omega (arith, ap (λ c. c.grown) f));
   }
 
-  -- Suppose that the list `v` grew at most once and became `w`, with the same items. If the growth
-  -- copied at most one item for each slot that it added, then `CostsAdding v w 0` holds.
+  -- Suppose that reserving room turned the list `v` into `w`, with at most one reallocation and
+  -- without a change of the items. If the reallocation copied at most one item for each new slot,
+  -- then `CostsAdding v w 0` holds: apart from the reallocation, no old item was moved.
   pub filled-reserved : (v w : Thin T A) → w.cost ≡ cost_at v w.capacity
       → w.items ≡ v.items
       → (cost_at v w.capacity).grown + v.capacity ≤ v.cost.grown + w.capacity → CostsAdding v w 0
@@ -244,8 +254,8 @@ module _ {T A : Type 0} where
             z) i;
       })) (omega (arith, ap length n)) few
 
-  -- Suppose that the list `v` became `w` when `k` items were appended with `k` moves, and that the
-  -- capacity did not change. Then `CostsAdding v w 0` holds, because no old item was moved.
+  -- Suppose that appending `k` items turned the list `v` into `w`, with `k` moves and without a
+  -- change of the capacity. Then `CostsAdding v w 0` holds: no old item was moved.
   pub filled-spare : (v w : Thin T A) (k : ℕ)
       → w ≡ record v { items = w.items; cost = moving k v.cost }
       → length w.items ≡ length v.items + k → CostsAdding v w 0
@@ -255,9 +265,11 @@ module _ {T A : Type 0} where
       filled-at v w k (ap (λ u. u.cost) e ∙ ap (λ c. moving k c) (sym kept)) n
       (omega (arith, ap (λ c. c.grown) kept, same))
 
-  -- Suppose that the list `v` becomes `u`, and `u` then becomes `w`. Suppose also that neither step
-  -- shrinks the capacity, and that `u` is not shorter than `v`. If `CostsAdding v u m` and
-  -- `CostsAdding u w n` hold, and `m + n ≤ k`, then `CostsAdding v w k` holds.
+  -- `CostsAdding v w k` bounds the cost of adding items to the list `v`, which became `w`: the old
+  -- items were moved at most `k` times in total. Suppose that `v` became `u`, and that `u` became
+  -- `w`. Suppose also that the capacity never became smaller, and that `u` is not shorter than `v`.
+  -- If `CostsAdding v u m` and `CostsAdding u w n` hold, and `m + n ≤ k`, then `CostsAdding v w k`
+  -- holds.
   pub adding-join : {v u w : Thin T A} (m n k : ℕ) → m + n ≤ k → CostsAdding v u m
       → CostsAdding u w n → v.capacity ≤ u.capacity → u.capacity ≤ w.capacity
       → length v.items ≤ length u.items → CostsAdding v w k
@@ -280,8 +292,9 @@ module _ {T A : Type 0} where
     ];
   }
 
-  -- `CostsAdding v w 0` implies `CostsAdding v w n` for every `n`, because the last argument is
-  -- only an upper bound on the number of moves of old items.
+  -- `CostsAdding v w n` bounds the cost of adding items to the list `v`, which became `w`: the old
+  -- items were moved at most `n` times in total. So if `CostsAdding v w 0` holds, then `CostsAdding
+  -- v w n` holds for every `n`.
   pub adding-more : (v w : Thin T A) (n : ℕ) → CostsAdding v w 0 → CostsAdding v w n
   adding-more v w n p = record {
     copied = p.copied;

@@ -18,7 +18,7 @@ use Rattle.thin_block.proofs.SlotsLemmas.{same_or_not, the_item, moved_left, mov
 use lib.Seq.{set-set, take-set-le}
 use mathlib.Core.Logic.{⊎_elim}
 
--- Section: moves of adjacent items by one slot
+-- The following lemmas are about moving adjacent items by one slot.
 
 module _ {T : Type 0} where
   -- Suppose that the first slots of a row hold the items `xs`, and that all other slots are empty.
@@ -47,8 +47,9 @@ module _ {T : Type 0} where
   -- for a new item at index `i`.
   module _ (xs : List T) (c i : ℕ) {j k : ℕ} (h : i ≤ length xs) (l : length xs < c) (e : j ≡ i + 1)
       (n : k ≡ length xs - i) where
-    -- `after` is the row of slots after slot `i`, at the point where the items from index `i`
-    -- onward have just been moved up by one slot.
+    -- Suppose that the items of `xs` from index `i` onward have just been moved up by one slot.
+    -- Then `after` is the row of slots that follow slot `i`: first the slots of the moved items,
+    -- and then empty slots.
     after : List (Option T)
     after = full (drop i xs) ++ replicate (c - length xs - 1) None
 
@@ -129,8 +130,8 @@ module _ {T A : Type 0} {b : Block T A} {a : A} (t : IsThin b a) where
       (omega (arith, len, t.packed.len, length-insert xs i v h))
       (omega (arith, o, t.packed.len, length-insert xs i v h))
 
-  -- After the items of a block from index `i` onward have been moved up by one slot, slot `i` is
-  -- empty.
+  -- Suppose that the block `b` has an empty slot after its last item. If the items from index `i`
+  -- onward are moved up by one slot, then slot `i` is empty.
   pub thin-gap : (i : ℕ) {j k : ℕ} → i ≤ length (items_in b.slots) → b.len < length b.slots
       → j ≡ i + 1 → k ≡ b.len - i → slot (moved i j k b.slots) i ≡ None
   thin-gap i {j} {k} h o e n =
@@ -138,7 +139,7 @@ module _ {T A : Type 0} {b : Block T A} {a : A} (t : IsThin b a) where
       ∙ front-gap (items_in b.slots) (length b.slots) i h (omega (arith, o, t.packed.len)) e
       (omega (arith, n, t.packed.len))
 
--- Section: removal of items
+-- The following lemmas are about the removal of items.
 
 module _ {T : Type 0} where
   -- `emptying xs k i c` is the row of slots `front xs c` after the slots `k..i` were emptied. The
@@ -166,8 +167,8 @@ module _ {T : Type 0} where
   pub full-append : (xs ys : List T) → full (xs ++ ys) ≡ full xs ++ full ys
   full-append xs ys = map-append (λ (x : T). Some x) xs ys
 
-  -- If no slot has been emptied yet, the row of slots `emptying xs k k c` is `front xs c`: slots
-  -- with the items `xs`, followed by empty slots.
+  -- `emptying xs k i c` is the row of slots `front xs c` after the slots `k..i` were emptied. If
+  -- `i` is `k`, no slot was emptied, so the row is `front xs c`.
   pub emptying-none : (xs : List T) (k c : ℕ) → emptying xs k k c ≡ front xs c
   emptying-none xs k c =
       let r : List (Option T) = empty (c - length xs) in
@@ -178,15 +179,17 @@ module _ {T : Type 0} where
       ∙ ap full (take-append-drop k xs)))
 
   module _ (xs : List T) (k i c : ℕ) (order : k ≤ i) (bound : i < length xs) where
-    -- `pre` is the list of the slots before slot `i` in the row of slots `emptying xs k i c`.
+    -- `pre` contains the slots before slot `i` of the row `emptying xs k i c`, in which the slots
+    -- `k..i` are empty.
     pre : List (Option T)
     pre = full (take k xs) ++ empty (i - k)
 
-    -- `post` is the list of the slots after slot `i` in the row of slots `emptying xs k i c`.
+    -- `post` contains the slots after slot `i` of the row `emptying xs k i c`, in which the slots
+    -- `k..i` are empty.
     post : List (Option T)
     post = full (drop (i + 1) xs) ++ empty (c - length xs)
 
-    -- The list `pre` of the slots before slot `i` has `i` elements.
+    -- The list `pre`, which contains all slots before slot `i`, has length `i`.
     length-pre : length pre ≡ i
     unfolding pre
     length-pre =
@@ -229,7 +232,7 @@ module _ {T : Type 0} where
         ∙ ap (λ (s : List (Option T)). s ++ post)
         (replicate-append-replicate (i - k) 1 None ∙ ap empty more))))
 
-  -- After all slots from index `k` onward have been emptied, the row of slots is
+  -- If all slots of the row `front xs c` from index `k` onward are emptied, then the row becomes
   -- `front (take k xs) c`: slots with the first `k` items of `xs`, followed by empty slots.
   pub emptying-all : (xs : List T) (k c : ℕ) → k ≤ length xs → length xs ≤ c
       → emptying xs k (length xs) c ≡ front (take k xs) c
@@ -241,8 +244,8 @@ module _ {T : Type 0} where
       ∙ ap (λ (s : List (Option T)). full (take k xs) ++ s)
       (replicate-append-replicate (length xs - k) (c - length xs) None ∙ ap empty many)
 
-  -- If `i` is less than the length of `xs`, writing `m` into slot `i` replaces the item of `xs` at
-  -- index `i` with `m`.
+  -- The row of slots `full xs ++ s` begins with the items `xs`. If `i` is less than the length of
+  -- `xs`, then writing `m` into slot `i` replaces the item of `xs` at index `i` with `m`.
   pub full-set : (xs : List T) (s : List (Option T)) (i : ℕ) (m : T) → i < length xs
       → set (full xs ++ s) i (Some m) ≡ full (set xs i m) ++ s
   full-set [] s i m h = absurd (omega arith)
@@ -250,9 +253,10 @@ module _ {T : Type 0} where
   full-set (x ∷ xs) s (suc i) m h = ap (λ (r : List (Option T)). Some x ∷ r)
       (full-set xs s i m (omega arith))
 
-  -- Suppose that `i` is less than the index of the last item `m`. If slot `i` and the slot of `m`
-  -- are emptied, and `m` is then written into slot `i`, the slots hold the items of the list after
-  -- `swap_remove` at index `i`, followed by empty slots.
+  -- Suppose that a row of `c` slots holds the items `ys`, then the item `m`, and nothing else, and
+  -- that `i < length ys`. If slot `i` and the slot of `m` are emptied, and `m` is then written into
+  -- slot `i`, then the row holds the items of the list after `swap_remove` at index `i`, followed
+  -- by empty slots. The value of `v` does not matter.
   front-swap_remove : (ys : List T) (c i : ℕ) (v m : T) → i < length ys → length (ys ++ m ∷ []) ≤ c
       → set (set (set (front (ys ++ m ∷ []) c) i None) (length ys) None) i (Some m) ≡ front
       (swap_remove (ys ++ m ∷ []) i v) c
@@ -287,9 +291,9 @@ module _ {T A : Type 0} where
       settle-front t b' [] (length b.slots) w (e ∙ front-none (length b.slots)) refl (omega arith)
 
   module _ {b : Block T A} {a : A} (t : IsThin b a) (b' : Block T A) (i last : ℕ) where
-    -- Suppose that slot `i` is emptied, the last item is moved from slot `last` into slot `i`, and
-    -- the stored length is decremented. If `i` is less than `last`, then the new block `b'` is the
-    -- block of the list after `swap_remove` at index `i`.
+    -- Suppose that slot `i` is emptied, the last item `m` is moved from slot `last` into slot `i`,
+    -- and the stored length is decremented. If `i < last`, then the new block `b'` is the block of
+    -- the list after `swap_remove` at index `i`. The value of `v` does not matter.
     settle-swap_remove : (v : T) {m : T} → i < last → last + 1 ≡ b.len → slot b.slots last ≡ Some m
         → {k : Cost} → IsWritten b b' (set (set (set b.slots i None) last None) i (Some m)) last k
         → Settled b' a (swap_remove (items_in b.slots) i v) (length b.slots)
@@ -314,7 +318,9 @@ module _ {T A : Type 0} where
         (omega (arith, cut, room, length_push ys m, long)) in
         subst (λ (l : List T). Settled b' a (swap_remove l i v) c) (sym at_end) done
       where
-        -- `swap_remove` makes a list shorter by one item.
+        -- If the list `ys` has `k` items, and `i < k`, then removing the item at index `i` of the
+        -- list `ys ++ m ∷ []` with `swap_remove` results in a list of `k` items. The value of `v`
+        -- does not matter.
         length-swap_remove : (ys : List T) (i : ℕ) (v m : T) {k : ℕ} → length ys ≡ k → i < k
             → length (swap_remove (ys ++ m ∷ []) i v) ≡ k
         length-swap_remove ys i v m {k} long lt =
@@ -328,9 +334,9 @@ module _ {T A : Type 0} where
               long,
             )
 
-    -- Suppose that the item in the last filled slot is moved into slot `i`, and that the stored
-    -- length is decremented. Then the new block `b'` is the block of the list after `swap_remove`
-    -- at index `i`. Slot `i` may itself be the last filled slot.
+    -- Suppose that slot `i` holds the item `v`, that the item in the last filled slot is moved into
+    -- slot `i`, and that the stored length is decremented. Then the new block `b'` is the block of
+    -- the list after `swap_remove` at index `i`. Slot `i` may itself be the last filled slot.
     pub settle-replaced : (v : T) → i ≤ last → last + 1 ≡ b.len → slot b.slots i ≡ Some v
         → {k : Cost} → IsWritten b b' (set (set b.slots i (slot b.slots last)) last None) last k
         → Settled b' a (swap_remove (items_in b.slots) i v) (length b.slots)

@@ -13,17 +13,17 @@ use Rattle.thin_vec.specs.List.Capacity.{Keeps, Reserves, TellsOverflow, TellsOv
 use Rattle.thin_vec.specs.ThinVec.{HasRoomFor, IsWithin, Thin, capacity_for}
 
 -- `TellsOverflow named r` states that the result `r` is the error `CapacityOverflow` if and only if
--- the needed capacity, `named`, is `None`. `TellsOverflow` holds if `r` is `Ok x` and `named` is
--- `Some n`.
+-- the needed capacity, `named`, is `None`. So it holds if `r` is `Ok x` and `named` is `Some n`.
 pub tells-ok : {X : Type 0} (x : X) (named : Option ℕ) (n : ℕ) → named ≡ Some n
     → TellsOverflow named (Ok x)
 tells-ok x named n is = record {
   overflow = (λ e. ok-err x CapacityOverflow e, λ none. absurd (none-some none is));
 }
 
--- Suppose that `exact_capacity` returns the same capacity for `m` items of type `R` and for `n`
--- items of type `S`. If `TellsOverflowOf R m` holds for the result `Ok x`, then
--- `TellsOverflowOf S n` holds for the result `Ok y`.
+-- `TellsOverflowOf` states that the result of making a list is the error `CapacityOverflow` if and
+-- only if the capacity is too large. Suppose that a list of `m` items of type `R` and a list of `n`
+-- items of type `S` need the same capacity. If `TellsOverflowOf` holds for the first list and the
+-- result `Ok x`, then it holds for the second list and the result `Ok y`.
 pub tells-made : {X : Type 0} {x y : X} (R S : RattleType) (m n : ℕ)
     → exact_capacity R 0 m ≡ exact_capacity S 0 n
     → TellsOverflowOf R m (let r : Result X ThinVecError = Ok x in r)
@@ -35,25 +35,26 @@ tells-made {x = x} {y} R S m n e told = record {
   );
 }
 
--- Suppose that `exact_capacity` returns the same capacity for `m` items of type `R` and for `n`
--- items of type `S`. If `TellsOverflowOf R m r` holds for the result `r`, then
--- `TellsOverflowOf S n r` holds.
+-- `TellsOverflowOf R m r` states that the result `r` of making a list of `m` items of type `R` is
+-- the error `CapacityOverflow` if and only if the capacity is too large. Suppose that a list of `n`
+-- items of type `S` needs the same capacity. Then `TellsOverflowOf R m r` implies `TellsOverflowOf
+-- S n r`.
 pub tells-same : {X : Type 0} {r : Result X ThinVecError} (R S : RattleType) (m n : ℕ)
     → exact_capacity R 0 m ≡ exact_capacity S 0 n → TellsOverflowOf R m r → TellsOverflowOf S n r
 tells-same R S m n e told = record {
   overflow = (λ over. sym e ∙ told.overflow.0 over, λ none. told.overflow.1 (e ∙ none));
 }
 
--- No error is both `OutOfMemory` and `CapacityOverflow`. So the assumption that an error is both
--- implies every statement `P`.
+-- An error cannot be both `OutOfMemory` and `CapacityOverflow`. So every statement `P` follows from
+-- the assumption that `cause` is both.
 memory-no-overflow : {P : Type 0} (cause : ThinVecError) → cause ≡ OutOfMemory
     → cause ≡ CapacityOverflow → P
 memory-no-overflow cause is over = cc
 
 module _ {T A : Type 0} (R : RattleType) (v : Thin T A) where
-  -- Suppose that the list `v` satisfies `IsCheap`, which bounds the cost of growth. If the list `w`
-  -- has the same capacity and the same counts of requests for memory and of copied items, then `w`
-  -- satisfies `IsCheap` too.
+  -- Suppose that the list `v` became `w`, and that the capacity, the number of requests for memory
+  -- and the number of copied items did not change. If `v` satisfies `IsCheap`, which bounds the
+  -- cost of growth, then `w` satisfies `IsCheap` too.
   cheap-kept : (w : Thin T A) → w.capacity ≡ v.capacity
       → (w.cost.blocks ≡ v.cost.blocks) × (w.cost.grown ≡ v.cost.grown) → IsCheap v → IsCheap w
   cheap-kept w capacity (blocks, grown) cheap = record {
@@ -65,9 +66,10 @@ module _ {T A : Type 0} (R : RattleType) (v : Thin T A) where
         rw (blocks, capacity) old;
   }
 
-  -- Suppose that the lists `v` and `w` have the same allocator and capacity, and the same counts of
-  -- requests for memory and of copied items. If both lists satisfy `IsWithin`, then `Keeps R v w`
-  -- holds.
+  -- Suppose that the list `v` became `w`, and that the allocator, the capacity, the number of
+  -- requests for memory and the number of copied items did not change. If both lists satisfy
+  -- `IsWithin`, which limits their length and capacity, then `Keeps R v w` holds. Every call that
+  -- may grow a list has to guarantee `Keeps`.
   pub keeps-kept : (w : Thin T A) → w.alloc ≡ v.alloc → w.capacity ≡ v.capacity
       → (w.cost.blocks ≡ v.cost.blocks) × (w.cost.grown ≡ v.cost.grown)
       → IsWithin R v × IsWithin R w → Keeps R v w
@@ -79,8 +81,9 @@ module _ {T A : Type 0} (R : RattleType) (v : Thin T A) where
   }
 
   module _ (rule : Rule) where
-    -- If the list `v` has room for `k` more items, then every call that returns `Ok` and does not
-    -- change the capacity satisfies `Reserves` for `k` items.
+    -- `Reserves` states how a call that needs room for `k` more items may change the capacity, and
+    -- when the call fails. It holds if the list `v` already has room for `k` more items, the call
+    -- returns `Ok`, and the capacity does not change.
     pub reserves-room : {X : Type 0} {x : X} (k : ℕ) (w : Thin T A) → HasRoomFor v k
         → w.capacity ≡ v.capacity → Reserves rule R k v w (Ok x)
     reserves-room {x = x} k w room capacity =
@@ -93,10 +96,11 @@ module _ {T A : Type 0} (R : RattleType) (v : Thin T A) where
           overflow = (λ e. ok-err x CapacityOverflow e, λ none. absurd (none-some none named));
         }
 
-    -- Suppose that the first step of a call returns `Ok` and satisfies `Reserves`, and that the
-    -- second step keeps the capacity and fails only with `OutOfMemory`. Then the whole call
-    -- satisfies `Reserves`. If the growth rule chooses the same capacity for items of another type
-    -- `S`, then this is also true for `S`.
+    -- `Reserves` states how a call that needs room for `k` more items may change the capacity, and
+    -- when the call fails. Suppose that a call has two steps. The first step returns `Ok` and
+    -- satisfies `Reserves`. The second step does not change the capacity, and fails only with
+    -- `OutOfMemory`. Then the whole call satisfies `Reserves`. If items of another type `S` need
+    -- the same capacity, then the whole call also satisfies `Reserves` for `S`.
     pub reserves-then : {X Y : Type 0} {x : X} (S : RattleType) (k l : ℕ) (u w : Thin T A)
         (r : Result Y ThinVecError) → l ≡ k
         → capacity_for rule S v l ≡ capacity_for rule R v k → w.capacity ≡ u.capacity
@@ -122,9 +126,11 @@ module _ {T A : Type 0} (R : RattleType) (v : Thin T A) where
           );
         }
 
-    -- Suppose that a call fails without changing the list, and satisfies `Reserves`. Then another
-    -- call that fails with the same error also satisfies `Reserves`. If the growth rule chooses the
-    -- same capacity for items of another type `S`, then this is also true for `S`.
+    -- `Reserves` states how a call that needs room for `k` more items may change the capacity, and
+    -- when the call fails. Suppose that a call satisfies `Reserves`, and fails without changing the
+    -- list. Then another call that fails with the same error and does not change the list also
+    -- satisfies `Reserves`. If items of another type `S` need the same capacity, then this other
+    -- call also satisfies `Reserves` for `S`.
     pub reserves-failed : {X Y : Type 0} (S : RattleType) (k l : ℕ) (w : Thin T A)
         (cause : ThinVecError) → l ≡ k
         → capacity_for rule S v l ≡ capacity_for rule R v k

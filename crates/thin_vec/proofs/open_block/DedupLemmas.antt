@@ -1,5 +1,6 @@
--- These lemmas state how contracts describe an open block while one of its items is tested against
--- another item. Each lemma is about one step of such a test.
+-- An open block is the block of a list during an edit. These lemmas are for the `dedup` methods,
+-- which test an item of an open block against another item. Each lemma states what one step of such
+-- a test changes in the open block, as it appears in contracts.
 use Rattle.std.proofs.Common.{◌≡◌, ◌≢◌, ℕ, zero, suc, ◌+◌, ◌-◌, ◌<◌, ◌≤◌, List, [], ◌∷◌, ◌++◌, Option, Some, None, length, take, drop, refl, sym, ap, ◌∙◌, arith, length-append, append_assoc, get_or}
 use Rattle.std.proofs.lemmas.List.{drop_at, get_or_at, get_or-set_other, length-drop, length-take-le, length_push, set_at, take_at}
 use Rattle.std.specs.Prelude.{IsSome, slice_range}
@@ -20,9 +21,10 @@ use Rattle.thin_vec.proofs.ListLemmas.{length-full}
 use Rattle.thin_vec.proofs.open_block.SiftLemmas.{row-at, same-past, write-step, written}
 
 module _ {T : Type 0} where
-  -- Section: two neighbouring items
+  -- The following lemmas are about two items in neighboring slots.
 
-  -- Writing no items over the slots `s` does not change these slots.
+  -- `over s 0 []` is the row of slots `s` after its first items were overwritten with the items of
+  -- an empty list. So this row is equal to `s`.
   over-none : (s : List (Option T)) → over s 0 [] ≡ s
   over-none [] = refl
   over-none (None ∷ s) = refl
@@ -37,7 +39,7 @@ module _ {T : Type 0} where
     pub now : over s i (k' ∷ x' ∷ []) ≡ set (set s i (Some k')) (suc i) (Some x')
 
   -- If the slots `i` and `i + 1` hold the items `k` and `x`, then `Neighbours` holds for these
-  -- items.
+  -- items and all new items `k'` and `x'`.
   pub neighbours : (s : List (Option T)) (i : ℕ) (k x k' x' : T) → Some k ∷ Some x ∷ [] ≡ take 2
       (drop i s) → Neighbours s i k x k' x'
   neighbours [] zero k x k' x' e = absurd (cons-not-nil e)
@@ -56,8 +58,8 @@ module _ {T : Type 0} where
       let h = neighbours s i k x k' x' e in
       record { first = h.first; second = h.second; now = ap (λ (r : List (Option T)). p ∷ r) h.now }
 
-  -- In this module, `all` is a slice of the two items in the slots `i` and `i + 1`. It is split
-  -- into the slices `a` and `b` of one item each.
+  -- In this module, the slice `all` contains the two items in the slots `i` and `i + 1`. It is
+  -- split into the slices `a` and `b`, which contain one item each.
   module _ (s : List (Option T)) (i : ℕ) (all a b : List T) (within : i + 2 ≤ length s)
       (lent : full all ≡ slice_range s i (i + 2)) (cut : all ≡ a ++ b) (one : length a ≡ 1) where
     -- Suppose that the slice `a` consists of the item `k`, and the slice `b` of the item `x`. Then
@@ -90,11 +92,13 @@ module _ {T : Type 0} where
         (h, (λ j. over s i (set (p.1 j) 0 k' ++ set (q.1 j) 0 x')) ∙ h.now)
 
 module _ {T A : Type 0} where
-  -- Section: open blocks
+  -- The following lemmas are about open blocks. An open block is the block of a list during an
+  -- edit.
 
-  -- `WrittenTwo` states that the middle items `x` and `y` of the open block `h`, at the indices `k`
-  -- and `k + 1`, were overwritten with `x'` and `y'`. In contracts, the new open block, which is
-  -- stored in `b`, differs from `h` only in these two items.
+  -- `WrittenTwo` states that two neighboring middle items of the open block `h`, the items `x` and
+  -- `y` at the indices `k` and `k + 1`, were overwritten with `x'` and `y'`. The slots of the new
+  -- open block are in the block `b`. As it appears in contracts, the new open block differs from
+  -- `h` only in these two items.
   pub record WrittenTwo (h : Inside T A) (o : IsOpen h) (k : ℕ) (b : Block T A)
       (x y x' y' : T) : Type 0 where
     pub pre : List T
@@ -112,8 +116,8 @@ module _ {T A : Type 0} where
 
   module _ (h : Inside T A) (o : IsOpen h) (b : Block T A)
       (kept : seen b ≡ record (seen h.block) { slots = b.slots }) where
-    -- If two neighboring middle items were overwritten, then `WrittenTwo` holds, because nothing
-    -- else has changed.
+    -- If two neighboring middle items of the open block `h` were overwritten, and no other slot was
+    -- changed, then `WrittenTwo` holds.
     pub write-two-step : (k : ℕ) {x y : T} (x' y' : T) → suc k < length (open_of h).rest
         → slot h.block.slots (h.rest_start + k) ≡ Some x
         → slot h.block.slots (suc (h.rest_start + k)) ≡ Some y
@@ -170,8 +174,8 @@ module _ {T A : Type 0} where
         }
 
   -- `WrittenLast` states that the last front item `x` of the open block `h` was overwritten with
-  -- `y`. In contracts, the new open block, which is stored in `b`, differs from `h` only in this
-  -- item.
+  -- `y`. The slots of the new open block are in the block `b`. As it appears in contracts, the new
+  -- open block differs from `h` only in this item.
   pub record WrittenLast (h : Inside T A) (b : Block T A) (x y : T) : Type 0 where
     pub pre : List T
     pub was : (open_of h).front ≡ pre ++ x ∷ []
@@ -184,8 +188,8 @@ module _ {T A : Type 0} where
       len = h.len;
     }) (record (open_of h) { front = pre ++ y ∷ [] })
 
-  -- If the last front item was overwritten, then `WrittenLast` holds, because nothing else has
-  -- changed.
+  -- If the last front item of the open block `h` was overwritten, and no other slot was changed,
+  -- then `WrittenLast` holds.
   pub write-last-step : (h : Inside T A) (o : IsOpen h) (b : Block T A) {x : T} (y : T)
       → 0 < length (open_of h).front → slot h.block.slots (h.front_end - 1) ≡ Some x
       → seen b ≡ record (seen h.block) { slots = set h.block.slots (h.front_end - 1) (Some y) }
@@ -238,8 +242,9 @@ module _ {T A : Type 0} where
             (ap (λ (z : Seen T A). z.cost) now);
       }
 
-  -- If the item `x` was written into the first slot of the gap, then `x` is the last front item of
-  -- the new open block, and the gap is one slot shorter than before.
+  -- The gap of the open block `h` consists of the empty slots after the front items. If the item
+  -- `x` was written into the first slot of the gap, then `x` is the last front item of the new open
+  -- block, and the gap is one slot shorter than before.
   pub put-step : (h : Inside T A) (o : IsOpen h) (b : Block T A) (x : T) {c : Cost}
       → 0 < (open_of h).gap
       → seen b ≡ record (seen h.block)
@@ -296,7 +301,7 @@ module _ {T A : Type 0} where
       } in
       found i w shows (ap (λ (z : Seen T A). z.alloc) now) refl
 
-  -- If there are front items, then the slot at index `front_end - 1` is filled: it holds the last
+  -- If the open block `h` has front items, then the slot at index `front_end - 1` holds the last
   -- front item.
   pub last-filled : (h : Inside T A) (o : IsOpen h) → 0 < length (open_of h).front
       → IsSome (slot h.block.slots (h.front_end - 1))

@@ -1,6 +1,7 @@
--- These lemmas state how contracts describe an open block after one of its middle items was tested,
--- and after its first `k` middle items became front items. In this file, `h` is an open block as it
--- is stored.
+-- These lemmas are for methods that test the items of an open block, which is the block of a list
+-- during an edit. They state how the open block appears in contracts after one of its middle items
+-- was tested, and after its first `k` middle items became front items. In this file, `h` is the
+-- open block as it is stored at run time.
 use Rattle.std.proofs.Common.{◌≡◌, ℕ, zero, suc, ◌+◌, ◌-◌, ◌<◌, ◌≤◌, List, [], ◌∷◌, ◌++◌, Option, Some, None, length, take, drop, refl, sym, ap, ◌∙◌, arith, length-append, append_assoc}
 use Rattle.std.proofs.lemmas.List.{get_or_at, length-drop, length-take-le, set_at, take-append-drop}
 use lib.ListN.{set}
@@ -40,17 +41,17 @@ module _ {T : Type 0} where
       ∙ sym (append_assoc a (full pre) (Some x ∷ (full post ++ z))))
 
 module _ {T A : Type 0} where
-  -- Suppose that two open blocks have the same gap before the tail items, the same tail items, and
-  -- the same number of empty slots after the tail items. Then their slots after the middle items
-  -- are equal.
+  -- Suppose that the open blocks `v` and `w` have equal tail items. Suppose also that they have
+  -- equally many empty slots before the tail items, and equally many empty slots after the tail
+  -- items. Then the slots after the middle items are equal in both blocks.
   pub same-past : (v w : Open T A) → w.gap_after ≡ v.gap_after → w.tail ≡ v.tail
       → v.capacity - reach v ≡ w.capacity - reach w → past_rest v ≡ past_rest w
   same-past v w b t n = λ i. empty (sym b i) ++ (full (sym t i) ++ empty (n i))
 
   module _ (h : Inside T A) (o : IsOpen h) (b : Block T A) (k : ℕ)
       (low : k < length (open_of h).rest) where
-    -- `v` is the description of the open block `h` in contracts, before its middle item at index
-    -- `k` is overwritten.
+    -- `v` is the open block `h` as it appears in contracts, before its middle item at index `k` is
+    -- overwritten.
     abbrev v : Open T A
     v = open_of h
 
@@ -65,13 +66,13 @@ module _ {T A : Type 0} where
       len = h.len;
     }
 
-    -- `written-seen ys` is the open block `written` as contracts describe it. Its middle items are
-    -- `ys`.
+    -- `written-seen ys` is the open block `written` as it appears in contracts, if its middle items
+    -- are `ys`.
     abbrev pub written-seen : List T → Open T A
     written-seen ys = record v { rest = ys }
 
-    -- `Written x y` states that the middle item `x` at index `k` was overwritten with `y`. In
-    -- contracts, the new open block differs from the old one only in this item.
+    -- `Written x y` states that the middle item `x` at index `k` was overwritten with `y`. As it
+    -- appears in contracts, the new open block differs from the old one only in this item.
     pub record Written (x y : T) : Type 0 where
       pub pre : List T
       pub post : List T
@@ -80,7 +81,7 @@ module _ {T A : Type 0} where
       pub shown : Found written (written-seen (pre ++ y ∷ post))
 
     -- If the slot of the middle item at index `k` held `x`, and `y` was written into this slot,
-    -- then `Written x y` holds.
+    -- then `Written x y` holds: the new open block differs from the old one only in this item.
     pub write-step : (x y : T) → slot h.block.slots (h.rest_start + k) ≡ Some x
         → seen b ≡ record (seen h.block)
         { slots = set h.block.slots (h.rest_start + k) (Some y) } → Written x y
@@ -141,8 +142,8 @@ module _ {T A : Type 0} where
 
   -- In this module, the first `k` middle items are moved to the end of the front items.
   module _ (h : Inside T A) (o : IsOpen h) (k : ℕ) (low : k ≤ length (open_of h).rest) where
-    -- `u` is the description of the open block `h` in contracts, before its first `k` middle items
-    -- are moved.
+    -- `u` is the open block `h` as it appears in contracts, before its first `k` middle items are
+    -- moved.
     abbrev u : Open T A
     u = open_of h
 
@@ -158,15 +159,15 @@ module _ {T A : Type 0} where
       len = h.len;
     }
 
-    -- `moved_run-seen b` is the open block `moved_run b` as contracts describe it. The first `k`
-    -- middle items have become the last front items.
+    -- `moved_run-seen b` is the open block `moved_run b` as it appears in contracts. Its last `k`
+    -- front items are the items that were the first `k` middle items before.
     abbrev pub moved_run-seen : Block T A → Open T A
     moved_run-seen b = record u
         { front = u.front ++ take k u.rest; rest = drop k u.rest; cost = b.cost }
 
     -- Suppose that the slots of `b` are, in this order: the slots of the front items, the slots of
-    -- the moved items, the gap, and all later slots. Then `moved_run-seen b` is the description of
-    -- the open block `moved_run b` in contracts.
+    -- the moved items, the gap, and all later slots. Then the open block `moved_run b` appears in
+    -- contracts as `moved_run-seen b`.
     moved_run-shows : (b : Block T A)
         → b.slots ≡ full u.front
         ++ (full (take k u.rest) ++ (empty u.gap ++ (full (drop k u.rest) ++ past_rest u)))
@@ -215,7 +216,7 @@ module _ {T A : Type 0} where
     parted = o.row ∙ ap (λ (r : List (Option T)). full u.front ++ (empty u.gap ++ r)) cut
 
     -- If there is no gap after the front items, then the first `k` middle items become front items
-    -- and stay in their slots.
+    -- without being moved.
     pub pass-step : u.gap ≡ 0 → Found (moved_run h.block) (moved_run-seen h.block)
     pass-step none =
         moved_run-shows h.block
@@ -226,7 +227,7 @@ module _ {T A : Type 0} where
         (sym none))) refl
 
     -- If the first `k` middle items were moved to the slots directly after the front items, then
-    -- `moved_run-seen b` is the description of the open block `moved_run b` in contracts.
+    -- the open block `moved_run b` appears in contracts as `moved_run-seen b`.
     pub move_run_down-step : (b : Block T A) {c : Cost}
         → seen b ≡ record (seen h.block)
         { slots = moved h.rest_start h.front_end k h.block.slots; cost = c }
@@ -240,8 +241,8 @@ module _ {T A : Type 0} where
         (full (drop k u.rest) ++ past_rest u) (sym (length-full u.front ∙ o.front))
         (sym o.gap) (sym few))) (ap (λ (z : Seen T A). z.alloc) now)
 
-  -- If the first middle item was moved from its slot to the slot directly after the front items,
-  -- then it is the last front item of the new open block, as contracts describe it.
+  -- Suppose that the first middle item was moved from its slot to the slot directly after the front
+  -- items. Then this item is the last front item of the new open block, as it appears in contracts.
   pub move_one_down-step : (h : Inside T A) (o : IsOpen h) (some : 1 ≤ length (open_of h).rest)
       → 0 < (open_of h).gap → (b : Block T A) {x : T} {c : Cost}
       → slot h.block.slots h.rest_start ≡ Some x

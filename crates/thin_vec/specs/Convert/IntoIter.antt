@@ -1,5 +1,5 @@
--- Definitions for the iterator that `into_iter` returns. In contracts, the items of this iterator
--- are the items that have not been yielded yet. (std: `vec::IntoIter`)
+-- These definitions are for the contracts of the iterator that `into_iter` returns. In contracts,
+-- the items of this iterator are the items that it has not yielded yet. (std: `vec::IntoIter`)
 use Rattle.std.specs.Prelude.{◌≡◌, ◌++◌, ℕ, ◌+◌, ◌-◌, List, length}
 use Rattle.std.specs.Iterator.{YieldsFirst, YieldsLast}
 use Rattle.std.specs.Iterator.Runs.{YieldsInOrder, YieldsInReverse}
@@ -21,12 +21,12 @@ module _ {T A : Type 0} where
   rest v = v.items
 
 module _ (T A : Type 0) where
-  -- `RestInOrder` states that repeated calls to `next` yield the items that have not been yielded
-  -- yet, in order.
+  -- `RestInOrder` states that, for every iterator, repeated calls to `next` yield the items that
+  -- have not been yielded yet, in order.
   abbrev pub RestInOrder : Type 0
   RestInOrder = YieldsInOrder (YieldsFirst (rest {T = T} {A = A})) rest
 
-  -- `RestInReverse` states that repeated calls to `next_back` yield the items that have not been
-  -- yielded yet, in reverse order.
+  -- `RestInReverse` states that, for every iterator, repeated calls to `next_back` yield the items
+  -- that have not been yielded yet, in reverse order.
   abbrev pub RestInReverse : Type 0
   RestInReverse = YieldsInReverse (YieldsLast (rest {T = T} {A = A})) rest

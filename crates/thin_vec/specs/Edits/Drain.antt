@@ -1,5 +1,5 @@
--- Definitions for the contracts of `Drain`. They name the parts of a `Drain`, and they say what its
--- methods guarantee. (std: `vec::Drain`)
+-- These definitions are for the contracts of `Drain`. They name the parts of a `Drain`, and they
+-- say what its methods guarantee. (std: `vec::Drain`)
 use Rattle.std.specs.Prelude.{◌≡◌, ℕ, List, ◌++◌, Option}
 use Rattle.std.specs.Borrow.{GName}
 use Rattle.std.specs.Iterator.{Yields, YieldsFirst, YieldsLast}
@@ -11,32 +11,34 @@ use Rattle.thin_vec.specs.declared.edits.drain.Drain.{Drain}
 use Rattle.thin_vec.specs.declared.edits.holder.Holder.{Holder}
 use Rattle.thin_vec.specs.declared.edits.holder.Holds.{Ghosts as HoldsGhosts}
 
--- A `Drain` has a field that owns the block of the list until the `Drain` is dropped. In this
--- module, the type of this field is `Holder`, as in every `Drain` that the method `drain` returns.
+-- Until a `Drain` is dropped, it owns the block of the list. The block is in a field of the
+-- `Drain`. In this module, the type of this field is `Holder`, as in every `Drain` that the method
+-- `drain` returns.
 module _ {T A G : Type 0} {g : Ghosts G} {h : HoldsGhosts (Holder (Open T A)) (Open T A)} where
-  -- The items of the range that have not been yielded yet.
+  -- `drain_rest d` contains the items of the range that the `Drain` has not yielded yet.
   abbrev pub drain_rest : Drain T A G (Holder (Open T A)) g h → List T
   drain_rest d = d.holder.value.rest
 
-  -- The items that the list will contain after the `Drain` is dropped.
+  -- `drain_kept d` contains the items that the list will contain after the `Drain` is dropped.
   abbrev pub drain_kept : Drain T A G (Holder (Open T A)) g h → List T
   drain_kept d = d.holder.value.front ++ d.holder.value.tail
 
-  -- The capacity that the list will have after the `Drain` is dropped.
+  -- `drain_capacity d` is the capacity that the list will have after the `Drain` is dropped.
   abbrev pub drain_capacity : Drain T A G (Holder (Open T A)) g h → ℕ
   drain_capacity d = d.holder.value.capacity
 
-  -- The allocator of the list.
+  -- `drain_alloc d` is the allocator of the list that the `Drain` borrows.
   abbrev pub drain_alloc : Drain T A G (Holder (Open T A)) g h → A
   drain_alloc d = d.list.now.alloc
 
-  -- The recorded cost (requests for memory, copied items and moves) that the list will have after
-  -- the `Drain` is dropped.
+  -- `drain_cost d` is the recorded cost (requests for memory, copied items and moves) that the list
+  -- will have after the `Drain` is dropped.
   abbrev pub drain_cost : Drain T A G (Holder (Open T A)) g h → Cost
   drain_cost d = cost_drained d.holder.value
 
-  -- The ghost name of the reference to the list that the `Drain` borrows. References with equal
-  -- ghost names borrow the same list.
+  -- `drain_lender d` identifies the list that the `Drain` borrows. It is the ghost name of the
+  -- reference to this list, and exists only in contracts and proofs. References with equal ghost
+  -- names borrow the same list.
   abbrev pub drain_lender : Drain T A G (Holder (Open T A)) g h → GName
   drain_lender d = d.list.ghost_name
 
@@ -50,34 +52,35 @@ module _ {T A G : Type 0} {g : Ghosts G} {h : HoldsGhosts (Holder (Open T A)) (O
     pub cost : drain_cost new ≡ drain_cost old
 
   -- `DrainSteps old item new` states that a call to `next` changed the `Drain` from `old` to `new`
-  -- and returned `item`. This `item` is the first item that had not been yielded before, or `None`
-  -- if there was no such item.
+  -- and returned `item`. This `item` is the first item of the range that had not been yielded
+  -- before, or `None` if there was no such item.
   pub record DrainSteps (old : Drain T A G (Holder (Open T A)) g h) (item : Option T)
       (new : Drain T A G (Holder (Open T A)) g h) : Type 0 where
     pub gave : YieldsFirst drain_rest old item new
     pub keeps : DrainKeeps old new
 
   -- `DrainStepsBack old item new` states that a call to `next_back` changed the `Drain` from `old`
-  -- to `new` and returned `item`. This `item` is the last item that had not been yielded before, or
-  -- `None` if there was no such item.
+  -- to `new` and returned `item`. This `item` is the last item of the range that had not been
+  -- yielded before, or `None` if there was no such item.
   pub record DrainStepsBack (old : Drain T A G (Holder (Open T A)) g h) (item : Option T)
       (new : Drain T A G (Holder (Open T A)) g h) : Type 0 where
     pub gave : YieldsLast drain_rest old item new
     pub keeps : DrainKeeps old new
 
-  -- `DrainKeepsAlong d` states that no sequence of calls to `next` on `d` changes the list that
-  -- remains after the `Drain` is dropped. (`DrainSteps` and `DrainStepsBack` imply this for a
-  -- single call to `next` or `next_back`.)
+  -- `DrainKeepsAlong d` states that calls to `next` on `d`, however many there are, do not change
+  -- the list that will remain after the `Drain` is dropped. (For a single call to `next` or
+  -- `next_back`, this follows from `DrainSteps` or `DrainStepsBack`.)
   abbrev pub DrainKeepsAlong : Drain T A G (Holder (Open T A)) g h → Type 0
   DrainKeepsAlong first = (items : List T) (later : Drain T A G (Holder (Open T A)) g h)
       → Yields DrainSteps first items later → DrainKeeps first later
 
-  -- `DrainsInOrder d` states that, for every `Drain` of the same type as `d`, calls to `next` yield
-  -- the items of `drain_rest` in order.
+  -- `DrainsInOrder d` states that calls to `next` yield the remaining items of the range
+  -- (`drain_rest`) in order. This is a statement about every `Drain` of the same type as `d`.
   abbrev pub DrainsInOrder : Drain T A G (Holder (Open T A)) g h → Type 0
   DrainsInOrder d = YieldsInOrder DrainSteps drain_rest
 
-  -- `DrainsInReverse d` states that, for every `Drain` of the same type as `d`, calls to
-  -- `next_back` yield the items of `drain_rest` in reverse order.
+  -- `DrainsInReverse d` states that calls to `next_back` yield the remaining items of the range
+  -- (`drain_rest`) in reverse order. This is a statement about every `Drain` of the same type as
+  -- `d`.
   abbrev pub DrainsInReverse : Drain T A G (Holder (Open T A)) g h → Type 0
   DrainsInReverse d = YieldsInReverse DrainStepsBack drain_rest

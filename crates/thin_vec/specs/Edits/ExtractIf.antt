@@ -1,5 +1,5 @@
--- Definitions for the contracts of `ExtractIf`. They name the parts of an `ExtractIf`, and they say
--- what a call to `next` changes. (std: `Vec::extract_if`)
+-- These definitions are for the contracts of `ExtractIf`. They name the parts of an `ExtractIf`,
+-- and they say what a call to `next` changes. (std: `Vec::extract_if`)
 use Rattle.std.specs.Prelude.{◌≡◌, ◌+◌, ◌==◌, ◌++◌, Bool, List, Option, if◌then◌else◌, length, ℕ}
 use Rattle.std.specs.List.Retain.{ExtractsNext}
 use Rattle.std.specs.Option.{option_to_list}
@@ -11,14 +11,15 @@ use Rattle.thin_vec.specs.declared.edits.extract_if.ExtractIf.{ExtractIf}
 use Rattle.thin_vec.specs.declared.edits.holder.Holder.{Holder}
 use Rattle.thin_vec.specs.declared.edits.holder.Holds.{Ghosts as HoldsGhosts}
 
--- `R f x b g y` describes one call of the closure with the item `x`, which returned the boolean
+-- `R f x b g y` states that the closure was called with the item `x` and returned the Boolean value
 -- `b`. The call changed the state of the closure from `f` to `g`, and the item from `x` to `y`.
 module _ {T F A : Type 0} (R : F → T → Bool → F → T → Type 0) where
   -- `Extracts old item new` states that a call to `next` changed `old` to `new` and returned
-  -- `item`. The call passed the untested items of the range to the closure, in order, until the
-  -- closure returned true for `item` or no untested item was left. The items `kept`, for which the
-  -- closure returned false, remain in the list. Each of these kept items counts as one move if an
-  -- item had already been extracted before the call.
+  -- `item`. The call passed the untested items of the range to the closure, in order. It stopped
+  -- when the closure returned true for an item, or when no untested item was left. If the closure
+  -- returned true for an item, the call removed and returned this item. The items `kept`, for which
+  -- the closure returned false, remain in the list. If an item had already been extracted before
+  -- the call, each item in `kept` counts as one move.
   pub record Extracts (old : Extracting T F A) (item : Option T)
       (new : Extracting T F A) : Type 0 where
     pub kept : List T
@@ -33,45 +34,47 @@ module _ {T F A : Type 0} (R : F → T → Bool → F → T → Type 0) where
     pub cost : new.block.cost ≡ (if old.block.gap == 0 then old.block.cost else moving
         (length kept) old.block.cost)
 
--- An `ExtractIf` has a field that owns the block of the list until the `ExtractIf` is dropped. In
--- this module, the type of this field is `Holder`, as in every `ExtractIf` that the method
--- `extract_if` returns.
+-- Until an `ExtractIf` is dropped, it owns the block of the list. The block is in a field of the
+-- `ExtractIf`. In this module, the type of this field is `Holder`, as in every `ExtractIf` that the
+-- method `extract_if` returns.
 module _ {T F A G : Type 0} {g : Ghosts G}
     {h : HoldsGhosts (Holder (Extracting T F A)) (Extracting T F A)} where
-  -- The items before the range, followed by the tested items that were kept, as the closure left
-  -- them.
+  -- `extract_front e` contains the items before the range, followed by the tested items that were
+  -- kept, as the closure left them.
   abbrev pub extract_front : ExtractIf T F A G (Holder (Extracting T F A)) g h → List T
   extract_front e = e.holder.value.block.front
 
-  -- The items of the range that have not been tested yet.
+  -- `extract_rest e` contains the items of the range that have not been tested yet.
   abbrev pub extract_rest : ExtractIf T F A G (Holder (Extracting T F A)) g h → List T
   extract_rest e = e.holder.value.block.rest
 
-  -- The items after the range.
+  -- `extract_tail e` contains the items after the range.
   abbrev pub extract_tail : ExtractIf T F A G (Holder (Extracting T F A)) g h → List T
   extract_tail e = e.holder.value.block.tail
 
-  -- The number of items that have been yielded.
+  -- `extract_gone e` is the number of items that the `ExtractIf` has yielded so far.
   abbrev pub extract_gone : ExtractIf T F A G (Holder (Extracting T F A)) g h → ℕ
   extract_gone e = e.holder.value.block.gap
 
-  -- The closure in its present state.
+  -- `extract_callee e` is the closure that the `ExtractIf` owns, in its present state.
   abbrev pub extract_callee : ExtractIf T F A G (Holder (Extracting T F A)) g h → F
   extract_callee e = e.holder.value.picks.pick
 
-  -- The recorded cost of the list so far (requests for memory, copied items and moves).
+  -- `extract_cost e` is the recorded cost of the list so far (requests for memory, copied items and
+  -- moves).
   abbrev pub extract_cost : ExtractIf T F A G (Holder (Extracting T F A)) g h → Cost
   extract_cost e = e.holder.value.block.cost
 
-  -- The capacity that the list will have after the `ExtractIf` is dropped.
+  -- `extract_capacity e` is the capacity that the list will have after the `ExtractIf` is dropped.
   abbrev pub extract_capacity : ExtractIf T F A G (Holder (Extracting T F A)) g h → ℕ
   extract_capacity e = e.holder.value.block.capacity
 
-  -- The allocator of the list.
+  -- `extract_alloc e` is the allocator of the list that the `ExtractIf` borrows.
   abbrev pub extract_alloc : ExtractIf T F A G (Holder (Extracting T F A)) g h → A
   extract_alloc e = e.list.now.alloc
 
-  -- The ghost name of the reference to the list that the `ExtractIf` borrows. References with equal
+  -- `extract_lender e` identifies the list that the `ExtractIf` borrows. It is the ghost name of
+  -- the reference to this list, and exists only in contracts and proofs. References with equal
   -- ghost names borrow the same list.
   abbrev pub extract_lender : ExtractIf T F A G (Holder (Extracting T F A)) g h → GName
   extract_lender e = e.list.ghost_name

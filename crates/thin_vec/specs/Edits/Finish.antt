@@ -1,5 +1,5 @@
--- Definitions for the private functions that `Splice::finish` calls. No public contract uses these
--- definitions.
+-- These definitions are for the private functions that `Splice::finish` calls. No public contract
+-- uses these definitions.
 use Rattle.std.specs.Prelude.{◌≡◌, ℕ, ◌+◌, ◌*◌, ◌<◌, ◌≤◌, List, [], IfErr, IsOk, OnErr, OnOk, Option, length}
 use Rattle.std.specs.Iterator.{Count, Drains, size}
 use Rattle.std.specs.declared.result.Result.{Result}
@@ -14,10 +14,10 @@ use Rattle.thin_vec.specs.ThinVec.{HasRoomFor, Thin}
 use Rattle.thin_vec.specs.declared.errors.SpliceRefused.{SpliceRefused}
 
 module _ {T A : Type 0} where
-  -- `HasTaken rule R v w n left` describes how the list `v` became `w` when items of an iterator
-  -- were added. `rule` is the growth rule of the list, and `R` is the type of the items. The
-  -- iterator could yield at most `left` items, and the old items of `v` were moved at most `n`
-  -- times in total.
+  -- `HasTaken rule R v w n left` describes how adding items of an iterator turned the list `v` into
+  -- `w`. `rule` is the growth rule of the list, and `R` is the type of the items. The iterator
+  -- could yield at most `left` items, and the old items of `v` were moved at most `n` times in
+  -- total.
   pub record HasTaken (rule : Rule) (R : RattleType) (v w : Thin T A) (n : ℕ)
       (left : Count) : Type 0 where
     pub capacity : IsLoose rule R v.capacity w.capacity
@@ -27,22 +27,24 @@ module _ {T A : Type 0} where
     pub cheap : IsCheap v → IsCheap w
 
   -- An open block is the block of a list during an edit, and its gap consists of empty slots.
-  -- `IsClosedWith v xs a w` states that the items `xs` were written into the gap of the open block
-  -- `v`, and that `v` then became the block of the list `w`, whose allocator is `a`.
+  -- `IsClosedWith v xs a w` states that the items `xs` were put into the gap of the open block `v`,
+  -- and that the block was then put back into its list. After that, the list is `w`, and its
+  -- allocator is `a`.
   pub record IsClosedWith (v : Open T A) (xs : List T) (a : A) (w : Thin T A) : Type 0 where
     pub items : w.items ≡ with_between v xs
     pub capacity : w.capacity ≡ v.capacity
     pub alloc : w.alloc ≡ a
-    -- The tail items are the items after the gap. Each item of `xs` was moved once. Each tail item
-    -- was moved at most once, and was not moved if `xs` filled the gap.
+    -- Each item of `xs` was moved once. `m` is the number of moves of tail items, which are the
+    -- items after the edited range. Each tail item was moved at most once. If `xs` filled the gap,
+    -- no tail item was moved.
     pub cost : (m : ℕ) × (w.cost ≡ moving (length xs + m) v.cost) × (m ≤ length v.tail)
         × (length xs ≡ v.gap → m ≡ 0)
 
 module _ {S T A : Type 0} (steps : S → Option T → S → Type 0) (can : S → Type 0)
     (remaining : S → Count) where
-  -- `IsFinished` describes a call that inserted items of the iterator `s` into the open block `v`
-  -- and returned `result`. After the call, the list is `w`, and its allocator is `a`. The clauses
-  -- of `Splice::finish` follow from the clauses below.
+  -- `IsFinished` describes a call that inserts the items of the iterator `s` into the open block
+  -- `v`, in place of the removed range, and returns `result`. After the call, the list is `w`, and
+  -- its allocator is `a`. The clauses of `Splice::finish` follow from this record.
   pub record IsFinished (rule : Rule) (R : RattleType) (v : Open T A) (a : A) (s : S)
       (w : Thin T A) (result : Result (Unit {0}) (SpliceRefused T S A)) : Type 0 where
     pub succeeds : size (remaining s) ≤ v.gap → IsOk result

@@ -1,20 +1,20 @@
--- Definitions for calls that replace a range of a list with other items. They say which items the
--- list contains afterwards, and how many moves are counted. (std: `Vec::splice`)
+-- These definitions are for methods that replace a range of a list with other items. They say which
+-- items the list contains afterwards, and how many moves are counted. (std: `Vec::splice`)
 use Rattle.std.specs.Prelude.{◌≡◌, ℕ, ◌+◌, ◌-◌, ◌==◌, ◌≤◌, List, if◌then◌else◌, length, min}
 use Rattle.std.specs.List.{AllZip, replace_range}
 use Rattle.thin_block.specs.Cost.{Cost, moving}
 use Rattle.thin_vec.specs.ThinVec.{Thin, cost_at}
 
 module _ {T A : Type 0} where
-  -- `moves_replacing v i j k` is the number of moves if `k` new items replace the items `i..j` of
-  -- the list `v`. Each new item counts as one move. If `k` is not the length of the range, each
-  -- item after the range also counts as one move.
+  -- `moves_replacing v i j k` is the number of moves that are counted if `k` new items replace the
+  -- items `i..j` of the list `v`. Each new item counts as one move. If `k` is not the length of the
+  -- range, each item after the range also counts as one move.
   abbrev pub moves_replacing : Thin T A → ℕ → ℕ → ℕ → ℕ
   moves_replacing v i j k = k + (if k == j - i then 0 else length v.items - j)
 
-  -- `moves_cloning v i j k` is the number of moves if `k` clones replace the items `i..j` of the
-  -- list `v`. The clones are made while the old items are still in the list. So each clone that is
-  -- later moved into the range costs one move that `moves_replacing` does not count.
+  -- `moves_cloning v i j k` is the number of moves that are counted if `k` clones replace the items
+  -- `i..j` of the list `v`. The clones are made while the old items are still in the list. So each
+  -- clone that is later moved into the range costs one move that `moves_replacing` does not count.
   abbrev pub moves_cloning : Thin T A → ℕ → ℕ → ℕ → ℕ
   moves_cloning v i j k = moves_replacing v i j k + min k (j - i)
 

@@ -1,5 +1,5 @@
--- Definitions for calls that test each item of a list and remove the items that fail the test.
--- (std: `Vec::retain_mut`)
+-- These definitions are for methods that test each item of a list and remove the items that fail
+-- the test. (std: `Vec::retain_mut`)
 use Rattle.std.specs.Prelude.{◌≡◌, ℕ, zero, suc, List, [], ◌∷◌, Bool, true, false, map}
 use Rattle.thin_block.specs.Cost.{moving}
 use Rattle.thin_vec.specs.ThinVec.{Thin}
@@ -10,16 +10,16 @@ trues [] = zero
 trues (true ∷ flags) = suc (trues flags)
 trues (false ∷ flags) = trues flags
 
--- The flags `stays` say for each item of a list whether the item is kept. `moved_down stays` is the
--- number of kept items that follow the first removed item in the list. These are the items that
--- move down.
+-- `stays` contains one flag for each item of a list. The flag is true if the item is kept.
+-- `moved_down stays` is the number of kept items that follow the first removed item. These are the
+-- items that have to move down.
 abbrev pub moved_down : List Bool → ℕ
 moved_down [] = zero
 moved_down (true ∷ stays) = moved_down stays
 moved_down (false ∷ stays) = trues stays
 
--- `Verdicts T` is the type of lists of verdicts on items. A verdict consists of a flag, which is
--- true if the item is kept, and of the item as the test left it.
+-- `Verdicts T` is the type of lists of verdicts. A verdict on an item consists of a flag, which is
+-- true if the item is kept, and the item as the test left it.
 abbrev pub Verdicts : Type 0 → Type 0
 Verdicts T = List (Bool × T)
 
@@ -43,8 +43,9 @@ module _ {T : Type 0} where
   abbrev pub flags_of : Verdicts T → List Bool
   flags_of verdicts = map (λ (answer : Bool × T). answer.0) verdicts
 
--- `R s x b t y` describes one call of a test, where `b` is true if the item `x` is to be kept. The
--- call changes the state of the test from `s` to `t`, and the item from `x` to `y`.
+-- `R s x b t y` describes one call of a test with the item `x`. The call returns the Boolean value
+-- `b`, which is true if the item is to be kept. The call changes the state of the test from `s` to
+-- `t`, and the item from `x` to `y`.
 module _ {S T : Type 0} (R : S → T → Bool → S → T → Type 0) where
   -- `Asked s xs verdicts t` states that each item of the list `xs` was tested once, in order. The
   -- test returned `verdicts`, and it changed its state from `s` to `t`.
@@ -63,13 +64,13 @@ module _ {S T : Type 0} (R : S → T → Bool → S → T → Type 0) where
     pub items : w.items ≡ left_at true verdicts
     pub cost : w.cost ≡ moving (moved_down (flags_of verdicts)) v.cost
 
-  -- `IsRetained s v w` states that there is a final state `t` of the test for which
-  -- `IsRetainedTo s v w t` holds.
+  -- `IsRetained s v w` states that `IsRetainedTo s v w t` holds for some final state `t` of the
+  -- test. So removing the items that failed the test turned the list `v` into `w`.
   abbrev pub IsRetained : {A : Type 0} → S → Thin T A → Thin T A → Type 0
   IsRetained s v w = (t : S) × IsRetainedTo s v w t
 
--- `Looks R` describes a test that does not change the tested item. `R s x b t` describes one call,
--- where `b` is true if the item `x` is to be kept. The call changes the state of the test from `s`
--- to `t`.
+-- `Looks R` describes a test that does not change the tested item. `R s x b t` describes one call
+-- of the test with the item `x`. The call returns the Boolean value `b`, which is true if the item
+-- is to be kept, and changes the state of the test from `s` to `t`.
 abbrev pub Looks : {S T : Type 0} → (S → T → Bool → S → Type 0) → S → T → Bool → S → T → Type 0
 Looks R s x b t y = R s x b t × (y ≡ x)

@@ -1,5 +1,5 @@
--- Definitions for the contracts of `Splice`. They name the parts of a `Splice`, and they describe
--- the list and the error after a call to `finish`. (std: `Vec::splice`)
+-- These definitions are for the contracts of `Splice`. They name the parts of a `Splice`, and they
+-- describe the list and the error after a call to `finish`. (std: `Vec::splice`)
 use Rattle.std.specs.Prelude.{◌≡◌, ◌⊎◌, ◌↔◌, ◌<◌, ◌≤◌, [], ◌++◌, IsSome, List, MatchOption, Option, length, ℕ}
 use Rattle.std.specs.Iterator.{Count, YieldsFirst, YieldsLast, YieldsThen}
 use Rattle.std.specs.Option.{option_to_list}
@@ -17,11 +17,12 @@ use Rattle.thin_vec.specs.declared.edits.holder.Holds.{Ghosts as HoldsGhosts}
 
 module _ {S T A : Type 0} (steps : S → Option T → S → Type 0) where
   -- `Stopped can remaining s placed error` states that `finish` failed with `error` after it had
-  -- inserted the items `placed` of the iterator `s`. The error returns the items that were drawn
-  -- afterwards: first the items in `held`, and then the item in the option `in_hand`. If `held` is
-  -- not empty and `in_hand` is `None`, the iterator has ended. Otherwise, `can` states that `next`
-  -- may be called on the rest of the iterator, and `remaining` is a finite upper bound on the
-  -- number of items that the rest may yield.
+  -- inserted the items `placed` of the iterator `s`. The error returns the items that `s` yielded
+  -- after them: first the items in `held`, and then the item in `in_hand`, if there is one.
+  --
+  -- If `held` is not empty and `in_hand` is `None`, the iterator has ended. Otherwise, `next` may
+  -- be called again (`can`), and the rest of the iterator yields only finitely many items
+  -- (`remaining`).
   abbrev pub Stopped : (S → Type 0) → (S → Count) → S → List T → SpliceRefused T S A → Type 0
   Stopped can remaining s placed error =
       (PausedAfter steps can remaining s
@@ -31,13 +32,14 @@ module _ {S T A : Type 0} (steps : S → Option T → S → Type 0) where
       × YieldsThen steps s (placed ++ error.held.items) None error.rest)
 
 module _ {T A : Type 0} where
-  -- These clauses say why a call to `finish` failed. `w` is the list after the call, and `tail`
-  -- contains the items after the range. `left` is an upper bound on the number of items that the
-  -- rest of the iterator may yield.
+  -- `IsStopCause` states why a call to `finish` failed with `error`. `w` is the list after the
+  -- call, and `tail` contains the items after the range. `left` is an upper bound on the number of
+  -- items that the rest of the iterator may yield.
   pub record IsStopCause {S : Type 0} (rule : Rule) (R : RattleType) (w : Thin T A) (tail : List T)
       (left : Count) (error : SpliceRefused T S A) : Type 0 where
-    -- If `held` is empty and `in_hand` is `None`, the error returns no items. In this case, the
-    -- call could not reserve room for as many items as the lower bound of the iterator's size hint.
+    -- The error returns no items if `held` is empty and `in_hand` is `None`. In this case, the call
+    -- failed because it could not reserve room for as many items as the lower bound of the
+    -- iterator's size hint.
     pub by_hint : error.held.items ≡ [] → error.in_hand ≡ None
         → FailsAtHint rule R w left error.cause
     -- If the vector `held` is not empty, and `in_hand` is `None`, the cause is `CapacityOverflow`
@@ -53,15 +55,15 @@ module _ {T A : Type 0} where
     pub by_push : tail ≡ [] → IsSome error.in_hand
         → (error.cause ≡ CapacityOverflow) ↔ (capacity_for rule R w 1 ≡ None)
 
-  -- These clauses describe a call to `finish` that failed, for the case that no item follows the
-  -- range. `v` is the list without the items of the range, `w` is the list after the call, and `s`
-  -- is the iterator before the call.
+  -- Suppose that no item follows the range, and that a call to `finish` fails with `error`.
+  -- `FailsAsExtend` describes this failure. `v` is the list without the items of the range, `w` is
+  -- the list after the call, and `s` is the iterator before the call.
   pub record FailsAsExtend {S : Type 0} (v w : Thin T A) (s : S) (error : SpliceRefused T S A)
       : Type 0 where
     pub held : error.held.items ≡ []
-    -- If `in_hand` is `None`, no item was drawn from the iterator, and the list after the call is
-    -- `v`, the list without the items of the range. If `in_hand` is `Some`, the list after the call
-    -- is full.
+    -- If `in_hand` is `None`, the iterator has yielded no item, and the list after the call is `v`,
+    -- the list without the items of the range. If `in_hand` is `Some`, the list after the call is
+    -- full.
     pub in_hand : MatchOption error.in_hand ((w ≡ v) × (error.rest ≡ s))
         (λ _. length w.items ≡ w.capacity)
 
@@ -81,46 +83,48 @@ module _ {T A : Type 0} where
   with_between v xs = (v.front ++ xs) ++ v.tail
 
 module _ {I T A G H : Type 0} {g : Ghosts G} {h : HoldsGhosts H (Open T A)} where
-  -- The open block that the `Splice` owns. Its front contains the items before the range, its
-  -- middle run contains the items of the range that have not been yielded yet, and its tail
-  -- contains the items after the range.
+  -- `splice_block s` is the open block that the `Splice` owns. Its front contains the items before
+  -- the range, its middle run contains the items of the range that have not been yielded yet, and
+  -- its tail contains the items after the range.
   abbrev pub splice_block : Splice I T A G H g h → Open T A
   splice_block s = h.inner s.holder
 
-  -- The items of the range that have not been yielded yet.
+  -- `splice_rest s` contains the items of the range that have not been yielded yet.
   abbrev pub splice_rest : Splice I T A G H g h → List T
   splice_rest s = rest_of (splice_block s)
 
-  -- The iterator whose items will replace the range.
+  -- `splice_iter s` is the iterator whose items will replace the range.
   abbrev pub splice_iter : Splice I T A G H g h → I
   splice_iter s = s.iter
 
-  -- The allocator of the list.
+  -- `splice_alloc s` is the allocator of the list that the `Splice` borrows.
   abbrev pub splice_alloc : Splice I T A G H g h → A
   splice_alloc s = s.list.now.alloc
 
-  -- The ghost name of the reference to the list that the `Splice` borrows. References with equal
-  -- ghost names borrow the same list.
+  -- `splice_lender s` identifies the list that the `Splice` borrows. It is the ghost name of the
+  -- reference to this list, and exists only in contracts and proofs. References with equal ghost
+  -- names borrow the same list.
   abbrev pub splice_lender : Splice I T A G H g h → GName
   splice_lender s = s.list.ghost_name
 
-  -- The list without the items of the range. Its recorded cost is the present cost of the block,
-  -- because no item after the range has been moved yet.
+  -- `splice_left s` is the list without the items of the range. Its recorded cost is the present
+  -- cost of the block, because no item after the range has been moved yet.
   abbrev pub splice_left : Splice I T A G H g h → Thin T A
   splice_left s = left_of (splice_block s) (splice_alloc s)
 
-  -- The number of slots of the range, including the slots of items that have already been yielded.
+  -- `splice_range s` is the number of slots of the range, including the slots of items that have
+  -- already been yielded.
   abbrev pub splice_range : Splice I T A G H g h → ℕ
   splice_range s = range_len (splice_block s)
 
-  -- `splice_replaced s xs` contains the items that the list will have after the range is replaced
-  -- with `xs`.
+  -- `splice_replaced s xs` contains the items that the list will contain after the items of the
+  -- range are replaced with `xs`.
   abbrev pub splice_replaced : Splice I T A G H g h → List T → List T
   splice_replaced s xs = with_between (splice_block s) xs
 
-  -- `HasPlacesFor s most` states that inserting `most` items needs no request for memory. There are
-  -- two cases: the range has at least `most` slots, or no item follows the range and the list
-  -- without the range has room for `most` more items.
+  -- `HasPlacesFor s most` states that `most` items can be inserted without a request for memory.
+  -- There are two cases: the range has at least `most` slots, or no item follows the range and the
+  -- list without the range has room for `most` more items.
   abbrev pub HasPlacesFor : Splice I T A G H g h → ℕ → Type 0
   HasPlacesFor s most =
       (most ≤ splice_range s)
@@ -139,16 +143,16 @@ module _ {I T A G H : Type 0} {g : Ghosts G} {h : HoldsGhosts H (Open T A)} wher
     pub cost : (splice_block new).cost ≡ (splice_block old).cost
 
   -- `SpliceSteps old item new` states that a call to `next` changed the `Splice` from `old` to
-  -- `new` and returned `item`. This `item` is the first item that had not been yielded before, or
-  -- `None` if there was no such item.
+  -- `new` and returned `item`. This `item` is the first item of the range that had not been yielded
+  -- before, or `None` if there was no such item.
   pub record SpliceSteps (old : Splice I T A G H g h) (item : Option T)
       (new : Splice I T A G H g h) : Type 0 where
     pub gave : YieldsFirst splice_rest old item new
     pub keeps : SpliceKeeps old new
 
   -- `SpliceStepsBack old item new` states that a call to `next_back` changed the `Splice` from
-  -- `old` to `new` and returned `item`. This `item` is the last item that had not been yielded
-  -- before, or `None` if there was no such item.
+  -- `old` to `new` and returned `item`. This `item` is the last item of the range that had not been
+  -- yielded before, or `None` if there was no such item.
   pub record SpliceStepsBack (old : Splice I T A G H g h) (item : Option T)
       (new : Splice I T A G H g h) : Type 0 where
     pub gave : YieldsLast splice_rest old item new

@@ -1,4 +1,4 @@
--- When the loop reaches index `i`, the slots before index `i` are empty, and all other slots are
+-- When the loop variable is `i`, the slots before index `i` are empty, and all other slots are
 -- unchanged.
 use Rattle.std.proofs.Common.{◌≡◌, length}
 use Rattle.thin_block.specs.Block.{seen}

@@ -6,8 +6,8 @@ use Rattle.thin_block.specs.Cost.{moving}
 use Rattle.thin_vec.specs.List.Clones.{LaysClones}
 use Rattle.thin_vec.proofs.put.put_repeated.Given as goal
 
--- When the loop reaches `i`, the first `i` slots from index `start` onward hold clones of `value`,
--- and `i` moves have been counted.
+-- When the loop variable is `i`, the first `i` slots from index `start` onward hold clones of
+-- `value`, and `i` moves have been counted.
 abbrev pub invariant-loop-i : goal.invariant-loop-i
 invariant-loop-i g l =
     record {

@@ -8,8 +8,8 @@ use Rattle.thin_block.specs.Cost.{moving}
 use Rattle.thin_block.specs.Slots.{full, laid}
 use Rattle.thin_vec.proofs.put.put_results.Given as goal
 
--- When the loop reaches `i`, the first `i` slots from index `start` onward hold the results of `i`
--- calls to `make`, in order, and `i` moves have been counted.
+-- When the loop variable is `i`, the first `i` slots from index `start` onward hold the results of
+-- `i` calls to `make`, in order, and `i` moves have been counted.
 abbrev pub invariant-loop-i : goal.invariant-loop-i
 invariant-loop-i g l = record {
   placed : (xs : List g.row.T.Denot) × (l.block.slots ≡ laid l.start (full xs) l.fn.block.slots)

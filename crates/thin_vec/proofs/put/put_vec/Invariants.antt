@@ -1,5 +1,5 @@
--- The items that have been removed from the vector are in their slots, and one move has been
--- counted for each of them. Each iteration of the loop reduces the number of items in the vector.
+-- Each item that was removed from the vector is now in the slot to which it belongs, and one move
+-- has been counted for it. Each iteration of the loop reduces the number of items in the vector.
 use Rattle.std.proofs.Common.{◌≡◌, ◌-◌, length}
 use Rattle.thin_block.specs.Block.{seen}
 use Rattle.thin_block.specs.Cost.{moving}

@@ -1,6 +1,6 @@
--- Each iteration of the loop pushes the item `next` to the vector `held`, and then pushes items of
--- the iterator until the capacity of `held` is used up. If `draw_spare` returns one more item, this
--- item becomes `next` in the following iteration.
+-- Each iteration of the loop pushes the item `next` to the vector `held`. Then `draw_spare` pushes
+-- items of the iterator until `held` is full. If `draw_spare` also returns an item, this item is
+-- `next` in the following iteration.
 use Rattle.std.proofs.Common.{[], ◌++◌, ◌∷◌, ◌∙◌, ap, arith, length, refl, subst}
 use Rattle.std.proofs.lemmas.List.{append-nil, length_push}
 use Rattle.std.specs.Iterator.{YieldsThen}

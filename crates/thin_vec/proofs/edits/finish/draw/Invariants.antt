@@ -1,5 +1,5 @@
--- The vector `held` and the item `next` together consist of the item `first` and the items that the
--- iterator has yielded so far, in this order.
+-- The items in the vector `held`, followed by the item `next`, are the item `first`, followed by
+-- all items that the iterator has yielded so far.
 use Rattle.std.proofs.Common.{[], ◌≡◌, ◌+◌, ◌≤◌, List, ◌++◌, ◌∷◌, length}
 use Rattle.std.specs.Iterator.{IsFinite, Yields, size}
 use Rattle.thin_vec.proofs.edits.finish.draw.Given as goal

@@ -1,6 +1,6 @@
--- Only `extend_from_copies` requires the item type to be `Copy`, but its contract and the contract
--- of `reserve_run` depend only on the size and the alignment of an item. So both contracts name the
--- same capacity and the same error.
+-- `extend_from_copies` calls `reserve_run`. Only `extend_from_copies` requires the item type to be
+-- `Copy`, but both contracts depend only on the size and the alignment of an item. So
+-- `extend_from_copies` guarantees what `reserve_run` guarantees about the capacity and the error.
 use Rattle.std.proofs.Common.{◌+◌, Ok, length, refl}
 use Rattle.thin_block.proofs.CapacityLemmas.{ruled-at}
 use Rattle.thin_vec.proofs.list.ReservesLemmas.{reserves-failed, reserves-then}

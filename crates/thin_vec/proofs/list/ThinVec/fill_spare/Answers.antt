@@ -12,9 +12,9 @@ use Rattle.thin_vec.proofs.PutLemmas.{filled-fits, filled-room}
 use Rattle.thin_vec.proofs.ThinVecLemmas.{within-kept}
 use Rattle.thin_vec.proofs.list.ThinVec.fill_spare.Goals as goal
 
--- The block that is put back into the list differs from the old block in two ways: the yielded
--- items are in the slots directly after the old items, and the cost counts one more move for each
--- yielded item.
+-- After the call to `put_iter`, `fill_spare` puts the block back into the list. At this point, the
+-- block differs from the old block in two ways: the yielded items are in the slots directly after
+-- the old items, and the cost counts one more move for each yielded item.
 stored : (g : _) (c : goal.After-set_len g) → seen c.replace-none.new.dest
     ≡ record (seen c.self.inside.block) {
       slots = laid c.len-len.result (full c.put_iter-block.ensures.filled.0.items)

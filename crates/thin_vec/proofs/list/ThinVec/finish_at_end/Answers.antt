@@ -1,6 +1,6 @@
 -- No item follows the replaced range. So after the call to `close`, the list contains only the
--- items before the range. The call to `extend` then appends the items of the iterator, and the
--- clauses follow from the contracts of these two calls.
+-- items before the range. Then `extend` appends the items of the iterator. The contracts of `close`
+-- and `extend` imply the clauses.
 use Rattle.std.proofs.Common.{◌≡◌, ◌*◌, ◌++◌, ◌∙◌, ap, arith, length, length-append, refl, subst, sym}
 use Rattle.std.specs.Iterator.{size}
 use Rattle.std.specs.Prelude.{MatchOption}
@@ -16,16 +16,16 @@ use Rattle.thin_vec.specs.declared.errors.SpliceRefused.{SpliceRefused}
 use Rattle.thin_vec.proofs.list.ThinVec.finish_at_end.Goals.{After-extend}
 use Rattle.thin_vec.proofs.list.ThinVec.finish_at_end.Goals as goal
 
--- After the call to `close`, the list contains only the items outside the replaced range
--- (`left_of`).
+-- After the call to `close`, the list contains only the items outside the replaced range. The
+-- definition `left_of` describes this list.
 left : (g : _) (c : After-extend g)
     → c.close.new.self ≡ left_of c.args.block c.args.self.now.alloc
 left g c =
     c.close.ensures.changes
     ∙ closed-left c.args.block c.args.self.now c.requires.none c.requires.no_tail
 
--- `HasTaken` relates the list before the call to `extend` to the list after the call. This relation
--- describes how a list changes when items of an iterator are added.
+-- The call to `extend` changes the list as `HasTaken` says. This relation describes how adding
+-- items of an iterator may change the capacity and the cost of a list.
 taken : (g : _) (c : After-extend g)
     → HasTaken g.G.Growth.rule (param 0 g.row.T) (left_of c.args.block c.args.self.now.alloc)
     c.extend.new.self (2 * length c.args.block.tail) (g.I.Iterator.remaining c.args.iter)
@@ -41,7 +41,8 @@ taken g c =
     } in
     subst (λ z. HasTaken g.G.Growth.rule (param 0 g.row.T) z w n more) (left g c) now
 
--- After the call to `extend`, the list has a capacity that `IsExtended` allows.
+-- After the call to `extend`, the capacity of the list satisfies `IsExtended`: it has not changed,
+-- or the growth rule has chosen it.
 ruled : (g : _) (c : After-extend g)
     → IsExtended g.G.Growth.rule (param 0 g.row.T) (left_of c.args.block c.args.self.now.alloc)
     c.extend.new.self.capacity (length c.extend.new.self.items)

@@ -1,6 +1,6 @@
--- The invariant of the loop: the items of the list are the items in `vec`, followed by the items
--- that are still in the iterator. The capacity of `vec` does not change, and each iteration reduces
--- the number of items in the iterator.
+-- Before each iteration of the loop, the items in `vec`, followed by the items that are still in
+-- the iterator, are the items of the original list. The capacity of `vec` does not change, and each
+-- iteration reduces the number of items in the iterator.
 use Rattle.std.proofs.Common.{◌≡◌, ◌+◌, ◌++◌, length, vec_capacity, vec_len}
 use Rattle.thin_vec.proofs.list.ThinVec.moved_to.Given as goal
 

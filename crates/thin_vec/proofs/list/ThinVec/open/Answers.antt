@@ -9,8 +9,8 @@ use Rattle.thin_vec.proofs.ListLemmas.{thin_of-becomes}
 use Rattle.thin_vec.proofs.OpenBlockLemmas.{Found, open-step, opened, opened-seen}
 use Rattle.thin_vec.proofs.list.ThinVec.open.Goals as goal
 
--- `replace` returns the old block of the list. So this block satisfies `IsThin`, the invariant of a
--- list's block.
+-- `replace` returns the old block of the list. So this block satisfies `IsThin`, which the block of
+-- every list satisfies.
 was : (g : _) (c : goal.After-replace-block g) → IsThin c.replace-block.result c.self.inside.alloc
 was g c = subst (λ b. IsThin b c.self.inside.alloc)
     (sym c.replace-block.ensures.value) c.self.invariant

@@ -1,6 +1,7 @@
--- `replace_range_from_copies` calls `reserve`. Both contracts depend only on the size and the
--- alignment of an item. So they name the same capacity and the same error, although only
--- `replace_range_from_copies` requires the item type to be `Copy`.
+-- `replace_range_from_copies` calls `reserve`. Only `replace_range_from_copies` requires the item
+-- type to be `Copy`, but both contracts depend only on the size and the alignment of an item. So
+-- `replace_range_from_copies` guarantees what `reserve` guarantees about the capacity and the
+-- error.
 use Rattle.std.proofs.Common.{◌≡◌, ◌+◌, ◌-◌, ◌∙◌, Ok, ap, arith, length, refl}
 use denote.Param.{copied}
 use Rattle.thin_block.proofs.CapacityLemmas.{ruled-at}

@@ -1,6 +1,6 @@
 -- `replace_range_from_list` calls `reserve` with the number of new items minus the length of the
--- range, or with 0 if the range is longer. So the list gets the capacity that `reserve` chooses,
--- and any error of `reserve` is returned.
+-- range, or with 0 if there are fewer new items than items in the range. So the list gets the
+-- capacity that `reserve` chooses. If `reserve` fails, its error is returned.
 use Rattle.std.proofs.Common.{◌≡◌, ◌-◌, Ok, ap, arith, length}
 use denote.Param.{param}
 use Rattle.thin_vec.specs.ThinVec.{capacity_for}

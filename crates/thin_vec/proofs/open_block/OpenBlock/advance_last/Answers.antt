@@ -1,6 +1,6 @@
--- The open block has at most one middle item, that is, at most one untested item. The clause
--- `advances` holds in each of three cases: there is no middle item, the item is kept and becomes a
--- front item, or the item is to be removed.
+-- `advance_last` is called if at most one untested item remains. The clause `advances` holds in
+-- each of three cases: no untested item remains, the test keeps the item, or the test decides to
+-- remove the item.
 use Rattle.std.proofs.Common.{◌++◌, ◌∙◌, ap, arith, drop, rules, sym, take}
 use Rattle.std.proofs.lemmas.List.{append-nil}
 use Rattle.thin_block.specs.Cost.{moving}
@@ -8,7 +8,7 @@ use Rattle.thin_vec.proofs.RetainLemmas.{asked-count, moving-after, moving-none,
 use Rattle.std.proofs.lemmas.Grind.{common_steps}
 use Rattle.thin_vec.proofs.open_block.OpenBlock.advance_last.Goals as goal
 
--- The clause `advances` holds if there is no middle item, because nothing has changed.
+-- If no untested item remains, `advance_last` changes nothing. So the clause `advances` holds.
 pub returns-then-rest_len-eq0-clause-advances : goal.returns-then-rest_len-eq0-clause-advances
 returns-then-rest_len-eq0-clause-advances g c =
     let R = g.J.Test.tests in
@@ -25,8 +25,8 @@ returns-then-rest_len-eq0-clause-advances g c =
       };
     }
 
--- The clause `advances` holds if the only middle item is kept, because the item was moved to the
--- end of the front items.
+-- If the test keeps the last untested item, `advance_last` moves this item to the end of the kept
+-- items. So the clause `advances` holds.
 pub returns-then-test-clause-advances : goal.returns-then-test-clause-advances
 returns-then-test-clause-advances g c =
     let R = g.J.Test.tests in
@@ -47,8 +47,8 @@ returns-then-test-clause-advances g c =
       });
     }
 
--- The clause `advances` holds if the only middle item is to be removed, because the item is still
--- in its slot, as the test left it.
+-- If the test decides to remove the last untested item, this item remains in its slot, as the test
+-- left it. So the clause `advances` holds.
 pub returns-clause-advances : goal.returns-clause-advances
 returns-clause-advances g c =
     let R = g.J.Test.tests in

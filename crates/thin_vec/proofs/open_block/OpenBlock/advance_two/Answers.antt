@@ -1,6 +1,6 @@
--- The clause `advances` holds in each of three cases: the first item is to be removed, the second
--- item is to be removed, or both are kept. In the third case, the later items are tested up to the
--- first item to be removed.
+-- `advance_two` first tests two items. The clause `advances` holds in each of three cases: the
+-- first item is to be removed, the second item is to be removed, or both are kept. If both are
+-- kept, the later items are tested up to the first item to be removed.
 use Rattle.std.proofs.Common.{◌≡◌, ◌++◌, ◌∙◌, ap, arith, drop, rules, sym, take}
 use Rattle.std.proofs.lemmas.List.{append-nil}
 use Rattle.thin_block.specs.Cost.{moving}
@@ -8,7 +8,7 @@ use Rattle.thin_vec.proofs.RetainLemmas.{moving-after, moving-none, one-stays, r
 use Rattle.std.proofs.lemmas.Grind.{common_steps}
 use Rattle.thin_vec.proofs.open_block.OpenBlock.advance_two.Goals as goal
 
--- The clause `advances` holds if the first item is to be removed, because no item was moved.
+-- If the test decides to remove the first item, no item is moved. So the clause `advances` holds.
 pub returns-then-not-test-clause-advances : goal.returns-then-not-test-clause-advances
 returns-then-not-test-clause-advances g c =
     let R = g.J.Test.tests in
@@ -28,8 +28,8 @@ returns-then-not-test-clause-advances g c =
       });
     }
 
--- The clause `advances` holds if the first item is kept and the second item is to be removed,
--- because the first item was moved to the end of the front items.
+-- If the test keeps the first item and decides to remove the second item, the first item is moved
+-- to the end of the kept items. So the clause `advances` holds.
 pub returns-then-not-test-2-clause-advances : goal.returns-then-not-test-2-clause-advances
 returns-then-not-test-2-clause-advances g c =
     let R = g.J.Test.tests in
@@ -52,8 +52,8 @@ returns-then-not-test-2-clause-advances g c =
       });
     }
 
--- The clause `advances` holds if both items are kept, because all items before the first item to be
--- removed were moved to the end of the front items.
+-- If the test keeps the first two items, all items before the first item to be removed are moved to
+-- the end of the kept items. So the clause `advances` holds.
 pub returns-clause-advances : goal.returns-clause-advances
 returns-clause-advances g c =
     let R = g.J.Test.tests in

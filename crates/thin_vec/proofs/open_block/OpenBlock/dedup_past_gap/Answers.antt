@@ -1,6 +1,7 @@
--- If `Dedups` holds for the earlier iterations of the loop and for one more iteration, then it
--- holds for all these iterations together. After each iteration there is a front item, so the next
--- item can be compared with the last kept item.
+-- `Dedups` describes how testing some items changes the open block. If it holds for the first
+-- iterations of the loop, and for the iteration after them, then it holds for all of them together.
+-- After each iteration, there is a front item, so the next item can be compared with the last kept
+-- item.
 use Rattle.thin_vec.proofs.edits.DedupLemmas.{dedups-start, dedups-then}
 use Rattle.thin_vec.proofs.open_block.OpenBlock.dedup_past_gap.Goals as goal
 

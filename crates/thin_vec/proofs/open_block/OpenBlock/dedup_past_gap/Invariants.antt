@@ -1,4 +1,4 @@
--- `Dedups` relates the open block before the loop to the current open block, which still has a gap
+-- `Dedups` describes how the loop has changed the open block so far. The block still has a gap
 -- after its front items. Each iteration reduces the number of untested items.
 use Rattle.std.proofs.Common.{◌<◌, length}
 use Rattle.thin_vec.specs.OpenBlock.Dedup.{Dedups}

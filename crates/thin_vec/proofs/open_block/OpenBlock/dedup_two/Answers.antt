@@ -1,4 +1,4 @@
--- A call to `dedup_two` ends after it has removed one item, or when no item remains to be tested.
+-- A call to `dedup_two` ends when it has removed one item, or when no item remains to be tested.
 -- The clause `dedups` holds in each of four cases: the first item is removed, the second item is
 -- removed, a later item is removed, or no item is removed.
 use Rattle.std.proofs.Common.{◌≡◌, ◌∷◌, [], ap, false, refl, sym, ◌∙◌, arith, rules}
@@ -7,15 +7,16 @@ use Rattle.thin_vec.proofs.edits.DedupLemmas.{run-count, run-ends, run-goes, ded
 use Rattle.std.proofs.lemmas.Grind.{common_steps}
 use Rattle.thin_vec.proofs.open_block.OpenBlock.dedup_two.Goals as goal
 
--- The clause `dedups` holds if the next item is to be removed, because this item is then dropped.
+-- If the test decides to remove the next item, `dedup_two` drops this item. So the clause `dedups`
+-- holds.
 pub returns-then-test_last-clause-dedups : goal.returns-then-test_last-clause-dedups
 returns-then-test_last-clause-dedups g c =
     dedups-goes g.J.PairTest.tests c.args.self.now c.test_last.new.self
     c.take_first-later.result c.test_last.new.later c.test_last.new.self.front
     (search rules) (search rules) (search rules) (search rules)
 
--- The clause `dedups` holds if the next item is kept and the item after it is to be removed. In
--- this case, the kept item is appended to the front items, and the other item is dropped.
+-- If the test keeps the next item and decides to remove the item after it, `dedup_two` appends the
+-- first of these items to the kept items, and drops the second. So the clause `dedups` holds.
 pub returns-then-goes-clause-dedups : goal.returns-then-goes-clause-dedups
 returns-then-goes-clause-dedups g c =
     dedups-two g.J.PairTest.tests c.args.self.now c.take_first.new.self c.args.test.now
@@ -26,8 +27,9 @@ returns-then-goes-clause-dedups g c =
     c.test_next-goes.result c.test_next-goes.ensures.asked (search rules)
     c.if-goes.true c.take_first.result (search rules) (search rules) (search rules)
 
--- The clause `dedups` holds if the next two items are kept and a later item is to be removed. In
--- this case, all items before the removed item are moved to the end of the front items.
+-- If the test keeps the next two items and decides to remove a later item, `dedup_two` moves all
+-- items before that item to the end of the kept items, and drops that item. So the clause `dedups`
+-- holds.
 pub returns-then-rest_len-gt0-clause-dedups : goal.returns-then-rest_len-gt0-clause-dedups
 returns-then-rest_len-gt0-clause-dedups g c =
     let R = g.J.PairTest.tests in
@@ -46,8 +48,8 @@ returns-then-rest_len-gt0-clause-dedups g c =
     c.test_pairs-kept.new.self.rest r goes.0 (run-count R _ _ _ _ _ r (false ∷ []) refl goes.1)
     (search rules) (search rules)
 
--- The clause `dedups` holds if all items are kept, because all of them are then appended to the
--- front items.
+-- If the test keeps all remaining items, `dedup_two` moves all of them to the end of the kept
+-- items. So the clause `dedups` holds.
 pub returns-else-rest_len-gt0-clause-dedups : goal.returns-else-rest_len-gt0-clause-dedups
 returns-else-rest_len-gt0-clause-dedups g c =
     let R = g.J.PairTest.tests in

@@ -9,9 +9,8 @@ use Rattle.thin_vec.proofs.OpenBlockLemmas.{fill-step}
 use Rattle.thin_vec.proofs.PutLemmas.{filled-fits, filled-room}
 use Rattle.thin_vec.proofs.open_block.OpenBlock.fill.Goals as goal
 
--- After the call to `fill`, the block differs from the old block in two ways: the yielded items are
--- in the slots directly after the front items, and the cost counts one more move for each yielded
--- item.
+-- After the call to `fill`, the yielded items are in the slots directly after the front items, and
+-- the cost counts one more move for each of them. Nothing else in the block has changed.
 stored : (g : _) (c : goal.After-self-1 g) → seen c.replace-none.new.dest
     ≡ record (seen c.self.inside.block) {
       slots = laid c.self.inside.front_end (full c.put_iter-block.ensures.filled.0.items)

@@ -16,7 +16,8 @@ move_run_to-requires-clause-filled g c = λ i low high.
     thin-filled c.other.inside.block c.other.inside.alloc i c.other.invariant
     (omega (arith, high, c.len-count.ensures.value, c.other.invariant.packed.len))
 
--- `count` is the number of items in the block of the list `other`.
+-- The local variable `count` of `fill_from_list` is the number of items in the block of the list
+-- `other`.
 count : (g : _) (c : goal.After-self-1 g)
     → c.len-count.result ≡ length (items_in c.other.inside.block.slots)
 count g c = c.len-count.ensures.value ∙ c.other.invariant.packed.len

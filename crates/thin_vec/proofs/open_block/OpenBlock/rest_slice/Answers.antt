@@ -1,4 +1,5 @@
--- The slots `rest_start..rest_end` hold the middle items, so none of these slots is empty.
+-- The slots `rest_start..rest_end` hold the middle items. So none of these slots is empty, and
+-- `rest_slice` can return them as a slice.
 use Rattle.std.proofs.Common.{ap, ◌∙◌}
 use Rattle.thin_vec.specs.OpenBlock.{open_of}
 use Rattle.thin_vec.proofs.OpenBlockLemmas.{rest-filled, rest-run}

@@ -1,6 +1,6 @@
--- If `Sifts` holds for the earlier iterations of the loop and for one more iteration, then it holds
--- for all these iterations together. After the loop, `sift_last` tests the remaining item, if there
--- is one.
+-- `Sifts` describes how testing some items changes the open block. If it holds for the first
+-- iterations of the loop, and for the iteration after them, then it holds for all of them together.
+-- After the loop, `sift_last` tests the remaining item, if there is one.
 use Rattle.thin_vec.proofs.RetainLemmas.{sifts-start, sifts-then}
 use Rattle.thin_vec.proofs.open_block.OpenBlock.sift_past_gap.Goals as goal
 

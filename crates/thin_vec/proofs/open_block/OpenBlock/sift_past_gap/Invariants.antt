@@ -1,5 +1,5 @@
--- `Sifts` relates the open block before the loop to the current open block, which still has a gap
--- after its front items. Each iteration reduces the number of untested items.
+-- `Sifts` describes how the loop has changed the open block so far. The block still has a gap after
+-- its front items. Each iteration reduces the number of untested items.
 use Rattle.std.proofs.Common.{length}
 use Rattle.thin_vec.specs.OpenBlock.Sift.{Sifts}
 use Rattle.thin_vec.proofs.open_block.OpenBlock.sift_past_gap.Given as goal

@@ -12,7 +12,7 @@ slot_mut-requires g c =
           (omega (arith, c.requires.some, ap (λ v. length v.front) c.self.view_is));
     }
 
--- After the test, the last front item is as the test left it, and nothing else has changed.
+-- After the test, the last front item is as the test left it. Nothing else has changed.
 facts : (g : _) (c : goal.After-self-1 g) → WrittenLast c.self.inside
     (with_item c.self.inside.block (c.self.inside.front_end - 1) c.test.new.kept)
     c.slot_mut.result.now c.test.new.kept

@@ -24,7 +24,7 @@ slot_mut-requires g c =
 low : (g : _) (c : goal.After-self-1 g) → 0 < length (open_of c.self.inside).rest
 low g c = omega (arith, c.requires.some, ap (λ v. length v.rest) c.self.view_is)
 
--- After the test, the first middle item is as the test left it, and nothing else has changed.
+-- After the test, the first middle item is as the test left it. Nothing else has changed.
 facts : (g : _) (c : goal.After-self-1 g) → Written c.self.inside c.self.invariant
     (with_item c.self.inside.block c.self.inside.rest_start c.test.new.later) 0 (low g c)
     c.slot_mut.result.now c.test.new.later

@@ -1,5 +1,6 @@
--- `advance` tests items up to the first item to be extracted. The tested items before this item
--- become front items. `next_picked` then extracts this item, or returns `None` if no item remains.
+-- `advance` tests items until it reaches the first item to be extracted. The tested items before
+-- that item are kept. Then `next_picked` removes and returns that item, or returns `None` if there
+-- is no such item.
 use Rattle.std.proofs.Common.{◌≡◌, ◌∙◌, [], ap, arith, rules, sym, take}
 use Rattle.std.proofs.lemmas.Bool.{false≢true}
 use Rattle.std.specs.Fn.{CalledAtMut}
@@ -7,7 +8,8 @@ use Rattle.thin_vec.proofs.edits.ExtractIfLemmas.{cost-of, picked-count, picked-
 use Rattle.thin_vec.proofs.RetainLemmas.{none-left}
 use Rattle.thin_vec.proofs.edits.extract_if.Extracting.next_picked.Goals as goal
 
--- The clause `extracts` holds if `advance` returns true, because the next item is then extracted.
+-- If `advance` returns true, it has reached an item to be extracted, and `next_picked` removes and
+-- returns this item. So the clause `extracts` holds.
 pub returns-then-advance-clause-extracts : goal.returns-then-advance-clause-extracts
 returns-then-advance-clause-extracts g c =
     let R = CalledAtMut g.F.FnMut in
@@ -32,7 +34,8 @@ returns-then-advance-clause-extracts g c =
           (picked-room R (λ s. s.pick) a.count v.picks v.block.rest t a.left a.run));
     }
 
--- The clause `extracts` holds if `advance` returns false, because there is no item to be extracted.
+-- If `advance` returns false, there is no item to be extracted, and `next_picked` returns `None`.
+-- So the clause `extracts` holds.
 pub returns-else-advance-clause-extracts : goal.returns-else-advance-clause-extracts
 returns-else-advance-clause-extracts g c =
     let R = CalledAtMut g.F.FnMut in
