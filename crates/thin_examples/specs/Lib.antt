@@ -1,5 +1,6 @@
--- These modules contain the definitions that the contracts of this crate use. They are about syntax
--- trees, last digits, and keepers. A keeper decides for each item of a list whether to keep it.
+-- The contracts of this crate use the definitions in these modules. `SyntaxTree` is about the nodes
+-- of a syntax tree. `LastDigits` is about the last decimal digit of a number. `Keepers` is about
+-- keepers, which decide for each item of a list whether to keep it.
 pub mod SyntaxTree
 pub mod LastDigits
 pub mod Keepers

@@ -1,5 +1,5 @@
--- The contracts describe a node of a syntax tree by its kind, its children and its node count. This
--- file defines these values.
+-- A contract describes a node of a syntax tree by its kind, its children and its node count. This
+-- file defines these three values.
 use Rattle.std.specs.Prelude.{ℕ, ◌+◌, sum}
 use Rattle.std.specs.declared.alloc.Global.{Global}
 use Rattle.thin_vec.specs.ThinVec.{Thin}
@@ -15,8 +15,8 @@ kind_of node = (out-Node node).kind
 abbrev pub children_of : Node → Thin Node Global
 children_of node = (out-Node node).children
 
--- `count_step node` is 1 plus the sum of the numbers in `node`. Here, `node` is a node in which
--- each child has already been replaced with its node count.
+-- `count_step node` is 1 plus the sum of the node counts of the children. In `node`, each child has
+-- already been replaced with its node count.
 abbrev pub count_step : Node-F ℕ → ℕ
 count_step node = 1 + sum node.children.items
 

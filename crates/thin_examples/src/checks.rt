@@ -1,10 +1,10 @@
-//! The counter that a worked example uses to count its comparisons. A worked example compares the
-//! results of calls with values that were worked out by hand.
+//! Defines `Checks`, which counts the comparisons in a worked example. A worked example is a
+//! function that compares the results of calls with values that were computed by hand.
 use std::alloc::Allocator;
 use thin_vec::{Growth, ThinVec};
 
-/// The number of results that were compared with expected values, and the number of results that
-/// were different from the expected ones.
+/// A counter of the comparisons in a worked example. It contains the number of all comparisons, and
+/// the number of comparisons in which a result differed from the expected value.
 #[derive(Clone, Copy)]
 pub struct Checks {
     compared: u32,
@@ -20,17 +20,17 @@ impl Checks {
         }
     }
 
-    /// Returns the number of values that were compared.
+    /// Returns the number of comparisons so far.
     pub fn compared(&self) -> u32 {
         self.compared
     }
 
-    /// Returns whether at least one value was compared, and all compared values were as expected.
+    /// Returns whether at least one value was compared and every compared value was as expected.
     pub fn is_ok(&self) -> bool {
         self.compared > 0 && self.wrong == 0
     }
 
-    /// Counts one comparison, and counts it as wrong if `right` is false.
+    /// Counts one comparison. If `right` is false, also counts the comparison as wrong.
     pub fn is(&mut self, right: bool) {
         self.compared = self.compared.saturating_add(1);
         if !right {
@@ -43,8 +43,8 @@ impl Checks {
         self.is(found == wanted);
     }
 
-    /// Compares the items of `found` with the expected items `wanted`, and compares the lengths of
-    /// the two slices. Each of these comparisons is counted.
+    /// Compares each item of `found` with the item of `wanted` at the same index, and compares the
+    /// lengths of the two slices. Each of these comparisons is counted.
     pub fn items<T: PartialEq>(&mut self, found: &[T], wanted: &[T]) {
         for (found, wanted) in found.iter().zip(wanted) {
             self.is(*found == *wanted);
@@ -52,7 +52,8 @@ impl Checks {
         self.is(found.len() == wanted.len());
     }
 
-    /// Compares the items, the length and the capacity of `list` with the expected values.
+    /// Compares the items of `list` with `items`, the length of `list` with the length of `items`,
+    /// and the capacity of `list` with `capacity`. Each of these comparisons is counted.
     pub fn holds<T: PartialEq, A: Allocator, G: Growth>(
         &mut self,
         list: &ThinVec<T, A, G>,

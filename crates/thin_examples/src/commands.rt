@@ -13,7 +13,7 @@ use thin_runner::runner::run;
 use thin_vec::{Growth, ThinVec, ThinVecError};
 
 /// Carries out four commands on `list`: pushes of 1, 2 and 3, and then a pop. If the list is empty
-/// before the call, it contains 1 and 2 after the call.
+/// before the call, and the call succeeds, then the list contains 1 and 2 afterwards.
 ///
 /// # Errors
 ///

@@ -28,8 +28,8 @@ pub fn keep_distinct<A: Allocator, G: Growth>(list: &mut ThinVec<u32, A, G>)
     list.dedup();
 }
 
-/// Removes each number `later` with `later / 10 == kept / 10`, where `kept` is the last number that
-/// was kept before it. For example, 17 is removed if it follows 12.
+/// If adjacent numbers have the same value of `number / 10`, keeps only the first of them. For
+/// example, the numbers 12, 17, 23 become 12, 23.
 pub fn keep_tens<A: Allocator, G: Growth>(list: &mut ThinVec<u32, A, G>)
     ensures items { list.new.items ≡ dedup (λ later kept. later / 10 == kept / 10) list.old.items }
     ensures capacity { list.new.capacity ≡ list.old.capacity }
@@ -37,7 +37,7 @@ pub fn keep_tens<A: Allocator, G: Growth>(list: &mut ThinVec<u32, A, G>)
     list.dedup_by_key(|number: &mut u32| *number / 10);
 }
 
-/// Removes each number that has the same last digit as the previous kept number.
+/// If adjacent numbers have the same last digit, keeps only the first of them.
 pub fn keep_last_digits<A: Allocator, G: Growth>(list: &mut ThinVec<u32, A, G>)
     ensures items { list.new.items ≡ dedup (λ later kept. later % 10 == kept % 10) list.old.items }
     ensures capacity { list.new.capacity ≡ list.old.capacity }
@@ -45,9 +45,9 @@ pub fn keep_last_digits<A: Allocator, G: Growth>(list: &mut ThinVec<u32, A, G>)
     list.dedup_by(|later: &mut u32, kept: &mut u32| *later % 10 == *kept % 10);
 }
 
-/// Halves each number, and then removes each result that equals the previous kept result. The
-/// closure of `dedup_by` halves only the later of the two numbers that it compares. So the first
-/// number of the list is halved before the call to `dedup_by`.
+/// Halves each number, rounding down. If adjacent results are equal, keeps only the first of them.
+/// The closure of `dedup_by` never halves the first number of the list, so this number is halved
+/// before the call to `dedup_by`.
 pub fn halve_each<A: Allocator, G: Growth>(list: &mut ThinVec<u32, A, G>)
     ensures items { list.new.items
         ≡ dedup (λ later kept. later == kept) (map (λ number. number / 2) list.old.items) }
@@ -66,8 +66,8 @@ pub fn halve_each<A: Allocator, G: Growth>(list: &mut ThinVec<u32, A, G>)
 /// A keeper decides for each item of a list whether to keep it. Each decision may change the state
 /// of the keeper.
 pub trait Keeper<T>: Copy {
-    /// Maps a keeper and an item to the decision, the value of the item after the decision, and the
-    /// keeper after the decision.
+    /// Maps a keeper and an item to three values: the decision, the item after the decision, and
+    /// the keeper after the decision.
     ghost keeps: { Self → T → Bool × (T × Self) };
 
     /// Returns whether `item` is kept. The keeper may write to `item`.

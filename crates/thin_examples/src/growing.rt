@@ -1,5 +1,6 @@
-//! Example functions that make a list, add items to a list, or change an item. Only the contract of
-//! `room_for_eight` needs a hand-written proof.
+//! Example functions that make a list, add items to a list, or change an item. The prover proves
+//! the contracts of these functions by itself, except the contract of `room_for_eight`, which has a
+//! hand-written proof.
 ghost use Rattle.std.specs.Prelude.{◌≡◌, ◌+◌, ◌/◌, ◌≤◌, ◌++◌, [], IfErr, IfOk, IfSome, IsErrOf, IsOk, IsSome, IsTrue, None, filter, length, map, nat_lt, OnErr, OnOk, ◌-◌, ◌<◌, replicate, slice_index, slice_set, take};
 ghost use Rattle.thin_vec.specs.ThinVec.{HasRoomFor, IsCause, capacity_for};
 
@@ -160,12 +161,13 @@ pub fn append_line<A: Allocator, G: Growth>(
     Ok(())
 }
 
-/// Moves all items of `other` to the end of `list`. If `other` is empty, no memory is requested.
+/// Moves all items of `other` to the end of `list`. If `other` is empty, requests no memory.
 ///
 /// # Errors
 ///
-/// Fails with `CapacityOverflow` if the growth rule of `list` provides no capacity for the items of
-/// both lists, and with `OutOfMemory` if the allocator fails. On failure, both lists are unchanged.
+/// Fails with `CapacityOverflow` if the items of both lists would need a greater capacity than the
+/// growth rule of `list` allows, and with `OutOfMemory` if the allocator fails. On failure, both
+/// lists are unchanged.
 pub fn take_all<T, A: Allocator, G: Growth>(
     list: &mut ThinVec<T, A, G>,
     other: &mut ThinVec<T, A, G>,

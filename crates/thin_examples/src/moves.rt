@@ -32,8 +32,8 @@ pub fn removed_first<T, A: Allocator, G: Growth>(list: &mut ThinVec<T, A, G>) ->
     list.remove(0)
 }
 
-/// Drains the four middle items of a list of six items. Calls to `next` and `next_back` yield two
-/// of them, and the other two are dropped. Only the last item of the list is moved.
+/// Drains the four middle items of a list of six items. The calls to `next` and `next_back` yield
+/// two of the four items, and the other two are dropped. Only the last item of the list is moved.
 pub fn drained_middle<T: Drop, A: Allocator, G: Growth>(list: &mut ThinVec<T, A, G>)
     requires six { length list.old.items ≡ 6 }
     ensures one_move { list.new.cost.moves ≡ list.old.cost.moves + 1 }
@@ -64,8 +64,8 @@ pub fn kept_all<T: Drop, A: Allocator, G: Growth>(list: &mut ThinVec<T, A, G>)
 }
 
 /// Extracts the first even number among the numbers at the indices `1..5`, without testing the
-/// numbers after it. The list contains the numbers 1 to 6, so the call extracts 2, and moves the
-/// four numbers after 2.
+/// numbers after it. The list must contain the numbers 1 to 6. So the call extracts 2, and moves
+/// the four numbers after 2.
 pub fn extracted_first<A: Allocator, G: Growth>(list: &mut ThinVec<u32, A, G>) -> Option<u32>
     requires to_six { list.old.items ≡ 1 ∷ 2 ∷ 3 ∷ 4 ∷ 5 ∷ 6 ∷ [] }
     ensures value { result ≡ Some 2 }
@@ -77,8 +77,8 @@ pub fn extracted_first<A: Allocator, G: Growth>(list: &mut ThinVec<u32, A, G>) -
         .next()
 }
 
-/// Replaces the third and the fourth of five items with three new items. This makes at most five
-/// moves: one for each new item, and two for the fifth item.
+/// Replaces the third and the fourth of five items with three new items. Each new item is moved
+/// once, and the fifth item is moved at most twice. So there are at most five moves.
 ///
 /// # Errors
 ///
@@ -116,8 +116,8 @@ pub fn edited<A: Allocator + Copy>(alloc: A) -> Result<ThinVec<u32, A>, AllocErr
     Ok(list)
 }
 
-// Replaces the items 2 and 3 of the list 1, 2, 3, 4, 5, 6 with 9. This makes at most seven moves:
-// one for 9, and two for each of the three items after it.
+// Replaces the items 2 and 3 of the list 1, 2, 3, 4, 5, 6 with 9. The item 9 is moved once, and
+// each of the items 4, 5 and 6 is moved at most twice. So there are at most seven moves.
 fn nine_for_two<A: Allocator>(list: &mut ThinVec<u32, A>, alloc: A) -> Result<(), AllocError>
     requires to_six { list.old.items ≡ 1 ∷ 2 ∷ 3 ∷ 4 ∷ 5 ∷ 6 ∷ [] }
     ensures items { OnOk result (list.new.items ≡ 1 ∷ 9 ∷ 4 ∷ 5 ∷ 6 ∷ []) }

@@ -1,4 +1,5 @@
-//! Example functions that use `?` and return an error type of their own.
+//! Example functions that use `?` to convert errors of `ThinVec` to `OrderError`, an error type
+//! that this module defines.
 ghost use Rattle.std.specs.Prelude.{◌≡◌, ◌↔◌, [], ◌∷◌, ◌++◌, ◌<◌, IsErrOf, IsOk, OnErr, OnOk, length};
 ghost use Rattle.thin_vec.specs.ThinVec.{HasRoomFor};
 

@@ -29,7 +29,7 @@ pub fn replace_word<A: Allocator, G: Growth>(
 }
 
 /// Replaces the bytes at the indices `start..end` with `word`. The call cannot fail, because the
-/// precondition `shorter` says that `word` is no longer than this range.
+/// precondition `shorter` says that `word` is not longer than this range.
 pub fn shorten_to<A: Allocator, G: Growth>(
     text: &mut ThinVec<u8, A, G>,
     start: usize,

@@ -11,9 +11,9 @@ use thin_vec::{Growth, ThinVec, ThinVecError};
 ///
 /// # Errors
 ///
-/// Fails with `CapacityOverflow` if the growth rule of the list provides no capacity for two more
-/// items, and with `OutOfMemory` if the allocator fails. On failure, the list is unchanged, and
-/// both items are dropped.
+/// Fails with `CapacityOverflow` if two more items would need a greater capacity than the growth
+/// rule of the list allows, and with `OutOfMemory` if the allocator fails. On failure, the list is
+/// unchanged, and both items are dropped.
 pub fn push_both<T: Drop, A: Allocator, G: Growth>(
     list: &mut ThinVec<T, A, G>,
     first: T,

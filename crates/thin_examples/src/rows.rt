@@ -1,6 +1,6 @@
-//! The worked examples, which the code calls rows. A worked example is a function that calls the
-//! tested functions, and compares their results with values that were worked out by hand. It
-//! returns an error only if one of these calls fails unexpectedly.
+//! This module contains the worked examples. Each of them is a function whose name is `row_`
+//! followed by a number. The function makes several calls, and compares their results with values
+//! that were computed by hand. It returns an error only if one of its calls fails unexpectedly.
 ghost use Rattle.std.specs.Prelude.{◌≡◌, IfOk};
 
 mod bulk;
@@ -31,8 +31,8 @@ pub const ROWS: [u32; 35] = [
     30, 31, 32, 33, 34, 35, 36, 40, 41,
 ];
 
-/// The result of a worked example: the counter of its comparisons, or the error of a call that
-/// failed unexpectedly.
+/// The result of a worked example. `Ok` contains the counter of its comparisons, and `Err` contains
+/// the error of a call that failed unexpectedly.
 pub type Outcome = Result<Checks, ThinVecError>;
 
 /// Runs the worked example with the number `number`. If there is no such example, compares nothing.

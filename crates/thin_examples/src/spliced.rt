@@ -8,14 +8,15 @@ use thin_vec::{Growth, SpliceRefused, ThinVec};
 
 /// Replaces the items at the indices `range.0..range.1` with the items that `iter` yields.
 ///
-/// The function is generic in the type of the iterator. Some iterators contain a borrow, for
-/// example iterators over slices. A caller can prove a splice with such an iterator by calling a
-/// generic function like this one.
+/// The function is generic in the type of the iterator. Some iterators contain a borrow: for
+/// example, an iterator over a slice borrows the slice. A function that splices with such an
+/// iterator can call a generic function like this one. The prover can then prove the contract of
+/// the caller.
 ///
 /// # Errors
 ///
 /// Fails if there is no room for the items. The error contains the items that were taken from the
-/// iterator but were not inserted, and the iterator, which yields the remaining items.
+/// iterator but were not inserted. It also contains the iterator, which yields the remaining items.
 pub fn splice_by<T: Drop, A: Allocator, G: Growth, I: Iterator<Item = T>>(
     list: &mut ThinVec<T, A, G>,
     range: (usize, usize),
@@ -37,8 +38,8 @@ pub fn splice_by<T: Drop, A: Allocator, G: Growth, I: Iterator<Item = T>>(
 ///
 /// # Errors
 ///
-/// Fails if there is no room for the numbers. On failure, the range has been replaced with only the
-/// numbers that fit, and the other numbers are dropped.
+/// Fails if there is no room for the numbers. On failure, the old items are removed, the numbers
+/// for which there was room are inserted, and the remaining numbers are dropped.
 pub fn splice_numbers<A: Allocator, G: Growth>(
     list: &mut ThinVec<u32, A, G>,
     start: usize,

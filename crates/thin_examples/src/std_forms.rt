@@ -1,5 +1,5 @@
-//! Example functions that use `thin_vec!` with the syntax of std's `vec!`, or that use std's traits
-//! `Emptied` and `MadeWith`.
+//! Example functions that call `thin_vec!` in the syntax of std's `vec!`, and example functions
+//! that use the traits `Emptied` and `MadeWith` of Rattle's std.
 ghost use Rattle.std.specs.Prelude.{◌≡◌, [], ◌∷◌, IfOk, OnErr, OnOk, replicate};
 
 use std::alloc::{AllocError, Allocator};

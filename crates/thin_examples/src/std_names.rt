@@ -6,8 +6,8 @@ ghost use Rattle.thin_vec.specs.ThinVec.{HasRoomFor};
 use std::alloc::Allocator;
 use thin_vec::{Growth, ThinVec, ThinVecError};
 
-/// Shrinks the capacity to `most`, but not below the length of the list. If the capacity is already
-/// small enough, nothing changes.
+/// Shrinks the capacity to `most`, or to the length of the list if the length is greater. If the
+/// capacity is at most `most`, nothing changes.
 ///
 /// # Errors
 ///
@@ -24,7 +24,8 @@ pub fn trim<T, A: Allocator, G: Growth>(
     list.shrink_to(most)
 }
 
-/// Removes and returns the last number, if it is even.
+/// If the last number is even, removes and returns it. Otherwise, returns `None`, and the list is
+/// unchanged.
 pub fn pop_even<A: Allocator, G: Growth>(list: &mut ThinVec<u32, A, G>) -> Option<u32>
     ensures popped { IfSome result (λ number. list.old.items ≡ list.new.items ++ number ∷ []) }
     ensures kept { IfNone result (list.new.items ≡ list.old.items) }

@@ -1,5 +1,5 @@
-//! Example functions that compare and hash lists. Only the items of the lists matter, not their
-//! capacities.
+//! Example functions that compare and hash lists. The results depend only on the items of the
+//! lists, and not on their capacities.
 ghost use Rattle.std.specs.Prelude.{◌≡◌, ◌↔◌, IsTrue, fold};
 ghost use Rattle.std.specs.Hash as fed;
 ghost use Rattle.std.specs.Hash.DefaultHasher as sip;
@@ -19,8 +19,8 @@ pub fn same_style<A: Allocator, G: Growth>(
     one == other
 }
 
-/// Returns the hash of a style, which std's `DefaultHasher` computes. The hash depends on the rules
-/// alone, so equal styles have equal hashes.
+/// Returns the hash that std's `DefaultHasher` computes for `style`, which is a list of rules. The
+/// hash depends only on the rules, so equal styles have equal hashes.
 pub fn style_hash<A: Allocator, G: Growth>(style: &ThinVec<u32, A, G>) -> u64
     ensures value { result ≡ sip.finish
         (fold sip.write sip.initial (fed.slice fed.u32 style.now.items)) }

@@ -1,4 +1,5 @@
-//! An example of a syntax tree. The list of the children of a leaf is empty, and has no allocation.
+//! An example of a syntax tree. Each node has a list of its children. A leaf has no children, so
+//! its list is empty and has no allocation.
 ghost use Rattle.std.specs.Prelude.{◌≡◌, ◌+◌, ◌-◌, ◌^◌, [], ◌∷◌, ◌++◌, IfErr, IsOk, OnErr, OnOk, min};
 ghost use Rattle.thin_vec.specs.ThinVec.{HasRoomFor, IsNew};
 ghost use Rattle.thin_examples.specs.SyntaxTree.{children_of, kind_of, node_count};
@@ -6,7 +7,7 @@ ghost use Rattle.thin_examples.specs.SyntaxTree.{children_of, kind_of, node_coun
 use std::alloc::Global;
 use thin_vec::{Rejected, ThinVec};
 
-/// A node of a syntax tree: the kind of the node, and the list of its children in order.
+/// A node of a syntax tree. It contains its kind, and the list of its children in order.
 #[derive(Drop)]
 pub struct Node {
     pub kind: u32,

@@ -1,5 +1,5 @@
-//! Example functions that consume a list. They read its items, or move them into a `Vec`. Some
-//! functions use a loop, and others do not.
+//! Example functions that consume a list. They count its items, compute a minimum, or move the
+//! items into a `Vec`. Some of them use a loop, and others use `collect`.
 ghost use Rattle.std.specs.Prelude.{◌≡◌, [], IfOk, IsOk, length, min, reverse};
 ghost use Rattle.std.specs.List.{fold};
 

@@ -1,6 +1,6 @@
--- A run executes a list of commands, and produces one reply for each command. These lemmas state
--- that a run of a single command has exactly one reply, and that the main theorem of `thin_runner`,
--- which is called `Headline`, holds for this reply.
+-- A run carries out a list of commands, and produces one reply for each command. These lemmas are
+-- about a run of a single command. They state that such a run produces exactly one reply, and that
+-- the main theorem of `thin_runner` (`Headline`) holds for the command and this reply.
 use Rattle.std.proofs.Common.{◌≡◌, List, [], ◌∷◌, ◌++◌, Option, Some, ap, arith, length, length-append, refl, subst, sym, ◌∙◌}
 use Rattle.std.specs.Option.{option_to_list}
 use Rattle.thin_vec.specs.ThinVec.{Thin}
@@ -10,26 +10,28 @@ use Rattle.thin_runner.specs.Setting.{Setting}
 use Rattle.thin_runner.specs.declared.command.Command.{Command}
 use Rattle.thin_runner.specs.declared.command.Reply.{Reply}
 
--- If the list `front ++ x ∷ []` has length 1, then this list is `x ∷ []`.
+-- If the list `front ++ x ∷ []` has length 1, then it equals `x ∷ []`, because `front` is empty.
 alone : {X : Type 0} (front : List X) (x : X) → length (front ++ x ∷ []) ≡ 1
     → front ++ x ∷ [] ≡ x ∷ []
 alone [] x one = refl
 alone (y ∷ front) x one = absurd (omega (arith, length-append front (x ∷ [])))
 
--- This module assumes that `commands` consists of the single command `command`, that the list of
--- replies was empty before the run, and that the main theorem `Headline` holds for the run.
+-- In this module, a single command was run with the setting `here`. The command turned the list
+-- `old` into the list `new`. The list of replies was empty before the run, and the main theorem
+-- `Headline` holds for the run.
 module _ {T A G J : Type 0} (here : Setting T A J) (old new : Thin T A)
     (command : Command T A G) (commands : List (Command T A G)) (before after : List (Reply T A G))
     (one : commands ≡ command ∷ []) (none : before ≡ [])
     (headline : Headline here old commands before after new) where
-  -- A run of one command has exactly one reply.
+  -- If a run of the single command `command` turns the list `old` into `new` and produces the
+  -- replies `replies`, then there is exactly one reply.
   has_one : (replies : List (Reply T A G)) → Runs here old (command ∷ []) replies new
       → length replies ≡ 1
   has_one [] run = absurd run
   has_one (reply ∷ []) run = refl
   has_one (reply ∷ more ∷ replies) run = absurd run.1.1
 
-  -- After the run of the single command, the list of all replies, `after`, contains exactly one
+  -- After the run of the single command, the list `after` of all replies contains exactly one
   -- reply.
   pub one_reply : length after ≡ 1
   one_reply =
@@ -37,9 +39,9 @@ module _ {T A G J : Type 0} (here : Setting T A J) (old new : Thin T A)
       ∙ has_one headline.replies
       (subst (λ cs. Runs here old cs headline.replies new) one headline.allowed)
 
-  -- Let `after` be the list of replies after the run, and suppose that popping its last item yields
-  -- `reply`. Then the main theorem `Headline` holds for the single command with the single reply
-  -- `reply`.
+  -- Suppose that a call to `pop` on the list of replies returns `popped`, which is `Some reply`,
+  -- and leaves the list `left`. Then the main theorem `Headline` holds for the run, with the single
+  -- command and the single reply `reply`.
   pub headline-one : (left : List (Reply T A G)) (popped : Option (Reply T A G))
       (reply : Reply T A G) → after ≡ left ++ option_to_list popped → popped ≡ Some reply
       → Headline here old (command ∷ []) [] (reply ∷ []) new

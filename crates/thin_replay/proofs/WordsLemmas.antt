@@ -1,12 +1,13 @@
--- These lemmas are about words that are parsed one by one. The relation `R` holds between a word
--- and the value that parsing this word yields.
+-- These lemmas are about functions that parse a list of words one by one. In these lemmas, `R x y`
+-- says that parsing the word `x` yields the value `y`.
 use Rattle.std.proofs.Common.{ℕ, ◌+◌, ◌<◌, ◌≤◌, List, [], ◌∷◌, ◌++◌, get_or, length, subst, take}
 use Rattle.std.proofs.lemmas.List.{take_all, take_more}
 use Rattle.std.specs.List.{AllZip}
 
 module _ {X Y : Type 0} (R : X → Y → Type 0) where
-  -- `AllZip R xs ys` holds if `R` relates the lists `xs` and `ys` item by item. If it holds, and
-  -- `R x y` holds, then `AllZip R (xs ++ x ∷ []) (ys ++ y ∷ [])` holds, too.
+  -- `AllZip R xs ys` holds if the lists `xs` and `ys` have the same length, and `R` holds for every
+  -- pair of items at the same index. If `AllZip R xs ys` and `R x y` hold, then `AllZip R (xs ++ x
+  -- ∷ []) (ys ++ y ∷ [])` holds, too.
   zip-push : (xs : List X) (ys : List Y) (x : X) (y : Y) → AllZip R xs ys → R x y
       → AllZip R (xs ++ x ∷ []) (ys ++ y ∷ [])
   zip-push [] [] x y all one = (one, tt)
@@ -14,16 +15,18 @@ module _ {X Y : Type 0} (R : X → Y → Type 0) where
   zip-push [] (b ∷ ys) x y all one = absurd all
   zip-push (a ∷ xs) [] x y all one = absurd all
 
-  -- `AllZip R` holds for two lists if `R` relates them item by item. If it holds for `take i xs`
-  -- and `ys`, and `R` relates the item of `xs` at index `i` to `y`, then it also holds for
-  -- `take (i + 1) xs` and `ys ++ y ∷ []`.
+  -- `AllZip R xs ys` holds if `R` relates the lists `xs` and `ys` item by item. Suppose that `R`
+  -- relates the first `i` items of `xs` to the list `ys`, and the next item of `xs` to `y`. Then
+  -- `R` relates the first `i + 1` items of `xs` to the list `ys ++ y ∷ []`. The default item `d` is
+  -- never used, because `i < length xs`.
   pub zip-next : (xs : List X) (i : ℕ) (d : X) (ys : List Y) (y : Y) → i < length xs
       → AllZip R (take i xs) ys → R (get_or xs i d) y → AllZip R (take (i + 1) xs) (ys ++ y ∷ [])
   zip-next xs i d ys y within all one =
       rw (take_more xs i d within) (zip-push (take i xs) ys (get_or xs i d) y all one)
 
-  -- `AllZip R` holds for two lists if `R` relates them item by item. If `length xs ≤ n`, and
-  -- `AllZip R (take n xs) ys` holds, then `AllZip R xs ys` holds, too.
+  -- `AllZip R xs ys` holds if `R` relates the lists `xs` and `ys` item by item. Suppose that
+  -- `length xs ≤ n`, so that `take n xs` is the whole list `xs`. If `AllZip R (take n xs) ys`
+  -- holds, then `AllZip R xs ys` holds, too.
   pub zip-all : (xs : List X) (n : ℕ) (ys : List Y) → length xs ≤ n → AllZip R (take n xs) ys
       → AllZip R xs ys
   zip-all xs n ys past all = subst (λ l. AllZip R l ys) (take_all n xs past) all

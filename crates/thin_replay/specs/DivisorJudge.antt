@@ -5,8 +5,8 @@ use Rattle.thin_runner.specs.Judge.{Judging}
 use Rattle.thin_replay.specs.Words.{Spells}
 use Rattle.thin_replay.specs.declared.divisor_judge.DivisorJudge.{DivisorJudge}
 
--- `number_for judge x` is the number that the judge computes for the item `x`, and then divides by
--- its divisor.
+-- `number_for judge x` is the number that the judge computes for the item `x`. To make a decision,
+-- the judge divides this number by its divisor.
 abbrev pub number_for : DivisorJudge → ℕ → ℕ
 number_for judge x = (x + judge.offset) % 2 ^ 64
 
@@ -23,9 +23,9 @@ written judge x = (x + judge.added) % 2 ^ 64
 abbrev pub chooses : DivisorJudge → ℕ → Bool
 chooses judge x = number_for judge x % judge.divisor == 0
 
--- `judging` specifies how `DivisorJudge` implements the trait `Judge`. For each method, it contains
--- a function that says what the method returns, what it writes to the items, and how the judge
--- changes.
+-- `judging` specifies how `DivisorJudge` implements the trait `Judge`. For each method, `judging`
+-- contains a function that says what the method returns, which values it writes to the items, and
+-- how it changes the judge.
 abbrev pub judging : Judging ℕ DivisorJudge
 judging = record {
   look = λ judge x. (chooses judge x, counted judge);
@@ -40,9 +40,9 @@ judging = record {
   take = λ judge x. (chooses judge x, written judge x, counted judge);
 }
 
--- `SpellsJudge divisor stride added judge` holds if each of the texts `divisor`, `stride` and
--- `added` spells the number in the field of `judge` that has the same name, and `judge` has not
--- made any decision yet.
+-- `SpellsJudge divisor stride added judge` holds if each of the three texts spells the number in
+-- the field of `judge` with the same name. In addition, `judge` must be in its initial state, in
+-- which it has made no decisions.
 pub record SpellsJudge (divisor stride added : List ℕ) (judge : DivisorJudge) : Type 0 where
   pub divisor_is : Spells divisor judge.divisor
   pub stride_is : Spells stride judge.stride

@@ -19,9 +19,9 @@ use Rattle.thin_replay.specs.declared.line.Line.TheVariants.{Carry, Help, New}
 abbrev pub BeginsForm : Words → List ℕ → ℕ → Type 0
 BeginsForm words name count = (count ≤ length words) × (word words 0 ≡ name)
 
--- `Says words command` holds if the words have the form of a line with the command `command`, and
--- spell the arguments of this command. If the command calls methods of a judge, the words for the
--- judge may be arbitrary.
+-- `Says words command` holds if the words have the form of a line for `command`, and spell the
+-- arguments of `command`. Some commands need a judge, which makes decisions in place of a closure.
+-- For such a command, `Says` allows any words in the places that describe the judge.
 abbrev pub Says : {A G : Type 0} → Words → Command ℕ A G → Type 0
 Says words (Push item) = HasForm words (codes "push") 2 × Spells (word words 1) item
 Says words Pop = HasForm words (codes "pop") 1
@@ -63,8 +63,9 @@ Says words (Splice start end steps items lower) = BeginsForm words (codes "splic
     × (SpellsSteps (word words 3) steps.items
     × (Spells (word words 4) lower × SpellAll (drop 5 words) items.items))))
 
--- `SaysJudge words command judge` holds if the last three words spell the divisor, the stride and
--- the addend of `judge`. It also holds if the command calls no method of a judge.
+-- If `command` calls methods of a judge, then `SaysJudge words command judge` holds if the last
+-- three words of the command's form spell the divisor, the stride and the addend of `judge`. If
+-- `command` calls no method of a judge, then `SaysJudge words command judge` always holds.
 abbrev pub SaysJudge : {A G : Type 0} → Words → Command ℕ A G → DivisorJudge → Type 0
 SaysJudge words Retain judge = SpellsJudge (word words 1) (word words 2) (word words 3) judge
 SaysJudge words RetainMut judge = SpellsJudge (word words 1) (word words 2) (word words 3) judge
@@ -74,7 +75,8 @@ SaysJudge words (ExtractIf start end calls) judge =
     SpellsJudge (word words 4) (word words 5) (word words 6) judge
 SaysJudge words command judge = Unit {0}
 
--- `AsksNone command` holds if the command calls no method of a judge.
+-- `AsksNone command` holds if the command calls no method of a judge. A judge makes decisions in
+-- place of a closure.
 abbrev pub AsksNone : {A G : Type 0} → Command ℕ A G → Type 0
 AsksNone Retain = ⊥
 AsksNone RetainMut = ⊥
@@ -84,13 +86,13 @@ AsksNone (ExtractIf start end calls) = ⊥
 AsksNone command = Unit {0}
 
 -- `SaysUnjudged words command` holds if the words describe the command, and the command calls no
--- method of a judge.
+-- method of a judge. A judge makes decisions in place of a closure.
 abbrev pub SaysUnjudged : {A G : Type 0} → Words → Command ℕ A G → Type 0
 SaysUnjudged words command = Says words command × AsksNone command
 
--- `IsFilter name command` holds if `name` is the name of the command, and a line with this command
--- consists of the name and three words that describe a judge. A judge makes decisions in place of a
--- closure.
+-- `IsFilter name command` holds if `command` is `Retain`, `RetainMut`, `DedupBy` or `DedupByKey`,
+-- and `name` is the name of this command. On a line with such a command, three words follow the
+-- name. They describe a judge, which makes decisions in place of a closure.
 abbrev pub IsFilter : {A G : Type 0} → List ℕ → Command ℕ A G → Type 0
 IsFilter name Retain = name ≡ codes "retain"
 IsFilter name RetainMut = name ≡ codes "retain_mut"
@@ -99,7 +101,8 @@ IsFilter name DedupByKey = name ≡ codes "dedup_by_key"
 IsFilter name command = ⊥
 
 -- `IsCall words call` holds if the words describe the command of `call`. If this command calls
--- methods of a judge, the last three words must describe the judge of `call`.
+-- methods of a judge, which makes decisions in place of a closure, then the last three words must
+-- describe the judge of `call`.
 abbrev pub IsCall : Words → Call → Type 0
 IsCall words call = Says words call.command × SaysJudge words call.command call.judge
 

@@ -7,8 +7,8 @@ use thin_runner::command::Reply;
 use thin_runner::hinted::Hinted;
 use thin_vec::{ThinVec, ThinVecError};
 
-/// Writes the text that the line `help` prints: first the forms that a line can have, and then
-/// notes that explain the words in capitals in these forms.
+/// Writes the text that the program prints for the line `help`. The text lists the forms that a
+/// line can have, and then explains the words in capital letters in these forms.
 pub fn write_help(out: &mut impl Write) -> io::Result<()> {
     for form in &FORMS {
         writeln!(out, "{form}")?;
@@ -20,7 +20,7 @@ pub fn write_help(out: &mut impl Write) -> io::Result<()> {
     Ok(())
 }
 
-/// Writes the items and the capacity of the list, and ends the line of output.
+/// Writes the items and the capacity of the list, followed by a newline.
 pub fn write_list(out: &mut impl Write, list: &ThinVec<u64>) -> io::Result<()> {
     let capacity = list.capacity();
     writeln!(out, "; items {list:?}; capacity {capacity}")
@@ -56,8 +56,8 @@ pub fn write_reply(out: &mut impl Write, reply: Reply<u64>) -> io::Result<()> {
     }
 }
 
-// Writes the list that was passed to `append`. If the call to `append` failed, first writes the
-// cause of the failure.
+// Writes the list that a command passed to the method `append`. If the call to this method failed,
+// first writes the cause of the failure.
 fn write_other(
     out: &mut impl Write,
     other: &ThinVec<u64>,
@@ -70,7 +70,7 @@ fn write_other(
     write!(out, "other {other:?}; capacity {capacity}")
 }
 
-// Writes the remaining items of an iterator.
+// Writes the items that the iterator `rest` has not yielded yet.
 fn write_rest(out: &mut impl Write, rest: Hinted<u64>) -> io::Result<()> {
     write!(out, "; rest")?;
     for item in rest {

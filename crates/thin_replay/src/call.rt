@@ -29,7 +29,7 @@ impl Call {
 
     /// Parses the words of a line as a command. If the command calls methods of a judge, also
     /// parses the judge. Returns `None` if the words do not have the form of a command. Fails if
-    /// they have this form but one of the words cannot be parsed, or if there is not enough memory
+    /// the words have this form but one of them cannot be parsed, or if there is not enough memory
     /// for the command.
     pub fn parse(alloc: Global, words: &[&str]) -> Result<Option<Call>, LineError>
         ensures says { IfOk result (λ found. IfSome found (IsCall words.now)) }
@@ -41,7 +41,8 @@ impl Call {
         Ok(command.map(Call::unjudged))
     }
 
-    // Makes a `Call` from a command, such as `Push`, that calls no method of a judge.
+    // Makes a `Call` from a command that calls no method of a judge. The judge of the `Call` is a
+    // placeholder.
     fn unjudged(command: Command<u64>) -> Call
         ensures command { result.command ≡ command }
     {

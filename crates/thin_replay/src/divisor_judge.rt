@@ -7,13 +7,15 @@ use crate::words::number_of;
 use thin_runner::judge::Judge;
 
 /// A judge that computes a number for each item, and divides this number by `divisor`. The number
-/// is the sum of the item and `stride * n`, where `n` is the number of decisions that the judge has
-/// made before.
+/// is `item + stride * n`, where `n` is the number of decisions that the judge has made before.
 ///
-/// The judge chooses an item if `divisor` divides the number. The key of an item is the quotient,
-/// rounded down. A later item is a duplicate of a kept item if the number for the later item and
-/// the kept item itself have the same remainder modulo `divisor`. After each decision, the judge
-/// adds `added` to the items that it may change. All sums and products are modulo 2^64.
+/// - The judge chooses an item if `divisor` divides the number.
+/// - The key of an item is the quotient, rounded down.
+/// - A later item is a duplicate of a kept item if the number for the later item and the kept item
+///   itself have the same remainder modulo `divisor`.
+///
+/// After each decision, the judge adds `added` to the items that it may change. All sums and
+/// products are modulo 2^64.
 #[derive(Clone, Copy)]
 pub struct DivisorJudge {
     divisor: u64,
@@ -56,8 +58,8 @@ impl DivisorJudge {
         })
     }
 
-    // Returns the number that the judge computes for `item` and then divides by `divisor`. The call
-    // counts as one decision.
+    // Returns the number that the judge computes for `item`. To make a decision, the caller divides
+    // this number by `divisor`. The call counts as one decision.
     fn number(&mut self, item: u64) -> u64
         ensures value { result ≡ number_for self.old item }
         ensures counted { self.new ≡ counted self.old }

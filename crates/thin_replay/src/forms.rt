@@ -1,4 +1,4 @@
-//! The text that `help` prints.
+//! The text that the program prints for the line `help`.
 
 /// The forms that a line of the input can have. The first word of each form is the name of the
 /// command.
@@ -32,7 +32,7 @@ pub static FORMS: [&str; 27] = [
     "splice START END STEPS HINT ITEM ..",
 ];
 
-/// Notes that explain the words in capitals in `FORMS`.
+/// Notes that explain the words in capital letters in `FORMS`.
 pub static NOTES: [&str; 5] = [
     "All numbers are from 0 to 18446744073709551615.",
     "STEPS is `-`, or a word of the letters `f` (a call of `next`) and `b` (of `next_back`).",

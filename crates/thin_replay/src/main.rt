@@ -44,7 +44,7 @@ fn replay(rt: &(impl Input + Print), alloc: Global) -> Result<(), ReplayError> {
     Ok(())
 }
 
-// Reads and parses all lines. Blank lines are skipped.
+// Reads and parses all lines, and skips blank lines.
 fn read_lines(alloc: Global, reader: impl BufRead + Drop) -> Result<Vec<Line>, ReplayError> {
     let mut lines = Vec::new(alloc);
     for (index, text) in reader.lines(alloc).enumerate() {

@@ -1,6 +1,6 @@
--- A row of a sparse table stores its entries in a list, which is sorted by column. These lemmas say
--- what a binary search for a column returns, and how an edit of the list at the returned index
--- changes the entries.
+-- A row of a sparse table stores its entries in a list that is sorted by column. These lemmas say
+-- which index a binary search for a column returns. They also say that writing or removing the
+-- entry of this column edits the list at exactly this index.
 use Rattle.std.proofs.Common.{◌≡◌, ℕ, zero, suc, ◌+◌, ◌<◌, ◌≤◌, ◌≢◌, Bool, true, false, cond, not, ◌&&◌, T, List, [], ◌∷◌, length, map, get_or, set, Some, None, Result, Ok, Err, IfOk, IfErr, refl, sym, ap, ◌∙◌, nat_cmp, is_lt, is_eq, Less, Equal, Greater, insert, remove, arith}
 use Rattle.std.specs.FinMap.{find, put}
 use Rattle.std.specs.FinMap.Entries.{below_all, by_order, where_key}
@@ -30,8 +30,8 @@ is_more c k more = grind (arith, nat_tests)
 less_from : (c k : ℕ) → T (is_lt (nat_cmp c k)) → c < k
 less_from c k h = grind (arith, nat_tests)
 
--- `stays c k` is true if the columns `c` and `k` differ. If the entry of column `c` is removed, an
--- entry of column `k` is kept if and only if `stays c k` is true.
+-- `stays c k` is true if and only if the columns `c` and `k` differ. Removing the entry of column
+-- `c` from a row keeps exactly the entries whose column `k` satisfies `stays c k`.
 abbrev pub stays : ℕ → ℕ → Bool
 stays c k = not (eq_by_cmp nat_cmp c k)
 
@@ -52,7 +52,8 @@ module _ {V : Type 0} where
       all_above c entries (both_hold _ _ h).1 k d (omega arith)
 
   -- If the columns of the entries are strictly increasing, then the column at an index `i` is less
-  -- than the column at any later index `k`.
+  -- than the column at any later index `k`. The default entry `d` is never used, because both
+  -- indices are in bounds.
   pub columns_rise : (entries : List (ℕ × V)) → IsRising entries → (i k : ℕ) (d : ℕ × V) → i < k
       → k < length entries → column_at entries i d < column_at entries k d
   columns_rise [] h i k d before inside = absurd (omega arith)
@@ -77,9 +78,9 @@ module _ {V : Type 0} where
   columns_increase [] h k inside = absurd (omega arith)
 
   module _ (c : ℕ) where
-    -- If the entry of column `c` is at index `at + 1` of the list `e ∷ entries`, then it is at
-    -- index `at` of the list `entries`. The next lemma says the same about the index at which an
-    -- entry of column `c` would be inserted.
+    -- If the entry of column `c` is at index `at + 1` of the list `e ∷ entries`, then this entry is
+    -- at index `at` of the list `entries`. The lemma `gap_after` says the same about the index at
+    -- which an entry of column `c` would be inserted.
     place_after : (e : ℕ × V) (entries : List (ℕ × V)) (at : ℕ)
         → IsPlaceOf (e ∷ entries) c (suc at) → IsPlaceOf entries c at
     place_after e entries at p = record { in_bounds = omega (arith, p.in_bounds); same = p.same }
@@ -92,8 +93,9 @@ module _ {V : Type 0} where
       greater = λ k d from inside. g.greater (suc k) d (omega arith) (omega arith);
     }
 
-    -- If the columns of the entries are strictly increasing, and the entry of column `c` is not the
-    -- first entry, then the column of the first entry is less than `c`.
+    -- Suppose that the columns of the list `e ∷ entries` are strictly increasing. If the entry of
+    -- column `c` is at index `at + 1`, so that it is not the first entry, then the column of the
+    -- first entry `e` is less than `c`.
     before_place : (e : ℕ × V) (entries : List (ℕ × V)) (at : ℕ) → IsRising (e ∷ entries)
         → IsPlaceOf (e ∷ entries) c (suc at) → e.0 < c
     before_place e entries at h p =
@@ -176,8 +178,9 @@ module _ {V : Type 0} where
         (e ∷ put nat_cmp c v entries)) (is_more c e.0 (g.smaller 0 e (omega arith)))
         ∙ ap (λ rest. e ∷ rest) (put_gap entries at v (gap_after e entries at g))
 
-    -- If the columns of the entries are strictly increasing, then the results of comparing the
-    -- columns with `c` do not decrease from entry to entry. A binary search requires this.
+    -- Suppose that the columns of the entries are strictly increasing, and that each column is
+    -- compared with `c`. Then all results `Less` precede all results `Equal`, which precede all
+    -- results `Greater`. A binary search requires this order.
     comparisons_rise : (entries : List (ℕ × V)) → IsRising entries
         → IsNonDecreasingBy (λ e. ordering_index (nat_cmp e.0 c)) entries
     comparisons_rise entries h i k d before inside =
@@ -189,9 +192,10 @@ module _ {V : Type 0} where
         ) in
         grind (arith, nat_tests)
 
-    -- If the columns of the entries are strictly increasing, a binary search for column `c` returns
-    -- the index of the entry of this column. If there is no such entry, the search returns
-    -- `Err(i)`, and the entry would be inserted at index `i`.
+    -- Suppose that the columns of the entries are strictly increasing, and that `r` is the result
+    -- of a binary search for column `c`. If there is an entry of this column, then `r` is `Ok` with
+    -- the index of this entry. Otherwise, `r` is `Err` with the index at which such an entry would
+    -- be inserted.
     pub searched : (entries : List (ℕ × V)) → IsRising entries → (r : Result ℕ ℕ)
         → IsSearchInRange r (length entries)
         → IsBinarySearchResult (λ e. nat_cmp e.0 c) entries r

@@ -10,8 +10,9 @@ use Rattle.std.specs.Ordering.{eq_by_cmp}
 use Rattle.thin_rows.specs.Entries.{IsGapFor, IsPlaceOf, IsRising}
 use Rattle.thin_rows.proofs.EntriesLemmas.{find_at, find_gap, put_at, put_gap, stays, without_at, without_gap}
 
--- `stays c k` says whether an entry of column `k` is kept when the entry of column `c` is removed.
--- If the columns `q` and `k` compare as equal, then `stays c k` equals `stays c q`.
+-- If the columns `q` and `k` compare as equal, then `stays c q` equals `stays c k`. The function
+-- `stays` says whether an entry of column `k` remains after the entry of column `c` has been
+-- removed.
 alike : (c q k : ℕ) → nat_cmp q k ≡ Equal → stays c k ≡ stays c q
 alike c q k e = ap (stays c) (sym (ranked q k Equal (sym e)))
 
@@ -22,14 +23,14 @@ module _ {V : Type 0} (es : List (ℕ × V)) (rising : IsRising es) where
   abbrev row : map.FinMap nat_cmp V
   row = from_sorted es
 
-  -- If the list `es` of entries is sorted by column, then the map that it represents has
-  -- `length es` entries.
+  -- Suppose that the list `es` of entries is sorted by column, and that `row` is the map that `es`
+  -- represents. Then `row` has `length es` entries.
   pub len_is : map.len row ≡ length es
   len_is = len-entries row ∙ ap length (entries-from_sorted nat_cmp es rising)
 
   module _ (c : ℕ) where
-    -- In this module, the list `new` is the result of putting the value `v` at column `c` into the
-    -- list `es` of entries.
+    -- In this module, `new` is the list `es` of entries after the value `v` has been written at
+    -- column `c`.
     module _ (v : V) (new : List (ℕ × V)) (is_put : put nat_cmp c v es ≡ new) where
       put_rises : IsRising new
       put_rises = subst IsRising is_put (is_sorted-put nat_cmp nat_cmp_total c v es rising)
@@ -39,8 +40,8 @@ module _ {V : Type 0} (es : List (ℕ × V)) (rising : IsRising es) where
           ∙ (sym is_put ∙ (ap (put nat_cmp c v) (sym (entries-from_sorted nat_cmp es rising))
           ∙ sym (entries-insert nat_cmp_total row c v))))
 
-    -- In this module, the list `new` contains those entries of the list `es` whose column is not
-    -- `c`.
+    -- In this module, `new` is the list `es` of entries after the entry of column `c`, if there is
+    -- one, has been removed.
     module _ (new : List (ℕ × V)) (is_left : where_key nat_cmp (stays c) es ≡ new) where
       left_rises : IsRising new
       left_rises = subst IsRising is_left (is_sorted-where_key nat_cmp (stays c) es rising)
@@ -57,7 +58,8 @@ module _ {V : Type 0} (es : List (ℕ × V)) (rising : IsRising es) where
       left_is = same_map nat_cmp_total nat_cmp-IsAntisymmetric (from_sorted new)
           (map.remove row c) left_finds
 
-    -- In this module, `at` is the index of the entry of column `c` in the list `es`.
+    -- In this module, the list `es` has an entry of column `c`, and `at` is the index of this
+    -- entry.
     module _ (at : ℕ) (place : IsPlaceOf es c at) where
       pub get_at : (d : ℕ × V) → map.get row c ≡ Some (get_or es at d).1
       get_at d = get-from_sorted nat_cmp es c rising ∙ find_at c es at d rising place

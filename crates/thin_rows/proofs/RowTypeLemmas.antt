@@ -1,6 +1,6 @@
--- The capacity that a list chooses depends only on the size and the alignment of its item type, not
--- on the type itself. So a contract about capacities for one item type also holds for each item
--- type of the same size and alignment.
+-- The capacity that a list chooses depends on the size and the alignment of its item type, but on
+-- no other property of this type. So a statement about capacities for one item type also holds for
+-- every other item type of the same size and alignment.
 use Rattle.std.proofs.Common.{◌≡◌, ◌↔◌, ℕ, IsErrOf, None, Option, Result, Ok, Err, ap, refl, sym, ◌∙◌}
 use Rattle.std.specs.Borrow.{RattleType}
 use Rattle.std.specs.Mem.{type_size}
@@ -11,23 +11,25 @@ use Rattle.thin_vec.specs.declared.ThinVecError.TheVariants.{CapacityOverflow}
 use Rattle.thin_vec.specs.List.Capacity.{TellsOverflow, TellsOverflowOf}
 use Rattle.thin_vec.specs.Growth.{Rule, exact_capacity, ruled_capacity}
 
--- If the types `R` and `S` have the same size and the same alignment, then the function
--- `exact_capacity` returns the same capacity for both types.
+-- If the types `R` and `S` have the same size and alignment, then `exact_capacity` returns the same
+-- capacity for both types. In both cases, the old capacity is `c`, and the required capacity is
+-- `w`.
 pub exact_of_same : (R S : RattleType) (c w : ℕ) → type_size R ≡ type_size S
     → type_align R ≡ type_align S → exact_capacity R c w ≡ exact_capacity S c w
 unfolding exact_capacity
 exact_of_same R S c w size align = rw (size, align) refl
 
--- Suppose that the item types `R` and `S` have the same size and alignment, that the old capacities
--- `c` and `d` are equal, and that the required capacities `v` and `w` are equal. Then each growth
--- rule chooses the same capacity in both cases.
+-- Suppose that the item types `R` and `S` have the same size and alignment. If the old capacities
+-- `c` and `d` are equal, and the required capacities `v` and `w` are equal, then the growth rule
+-- `rule` chooses the same new capacity for both types.
 pub ruled_of_same : (rule : Rule) (R S : RattleType) (c d v w : ℕ) → type_size R ≡ type_size S
     → type_align R ≡ type_align S → c ≡ d → v ≡ w
     → ruled_capacity rule R c v ≡ ruled_capacity rule S d w
 unfolding ruled_capacity
 ruled_of_same rule R S c d v w size align capacity want = rw (size, align, capacity, want) refl
 
--- The result `Ok x` is not an error. So if it were the error `e`, every statement `P` would follow.
+-- The result `Ok x` is not an error. So the assumption that `Ok x` is the error `e` is false, and
+-- every statement `P` follows from this assumption.
 no_error : {X E P : Type 0} {x : X} {e : E} → IsErrOf (Ok x) e → P
 no_error same = cc
 
@@ -35,9 +37,10 @@ no_error same = cc
 pub same_cause : {X E : Type 0} {d e : E} → IsErrOf {T = X} (Err d) e → d ≡ e
 same_cause same = cc
 
--- Suppose that `result` is the error `cause`, and that the types `R` and `S` have the same size and
--- alignment. Suppose also that `cause` is `CapacityOverflow` if and only if a block for `w` items
--- of the type `R` is too large. Then the same holds for a block for `w` items of the type `S`.
+-- Suppose that the types `R` and `S` have the same size and alignment, and that `result` is the
+-- error `cause`. Suppose also that `cause` is `CapacityOverflow` if and only if the capacity for
+-- `w` items of the type `R` is too large. Then `result` is `CapacityOverflow` if and only if the
+-- capacity for `w` items of the type `S` is too large.
 pub error_tells : {X Y : Type 0} (R S : RattleType) (w : ℕ) (cause : ThinVecError)
     (result : Result Y ThinVecError) → type_size S ≡ type_size R → type_align S ≡ type_align R
     → IsErrAnd result (λ e. e ≡ cause) → TellsOverflowOf {X = X} R w (Err cause)
@@ -52,8 +55,8 @@ error_tells R S w cause (Err e) size align passed told = record {
 }
 
 -- Suppose that a call fails with the error `cause`, and that `cause` is `CapacityOverflow` if and
--- only if `b` is `None`. If `a` equals `b`, then `TellsOverflow a` holds: `cause` is
--- `CapacityOverflow` if and only if `a` is `None`.
+-- only if `b` is `None`. If `a` equals `b`, then `cause` is `CapacityOverflow` if and only if `a`
+-- is `None`. The predicate `TellsOverflow a` states this conclusion.
 pub failure_tells : {X Y : Type 0} {a b : Option ℕ} {cause : ThinVecError} → a ≡ b
     → IsErrOf {T = X} (Err cause) CapacityOverflow ↔ (b ≡ None)
     → TellsOverflow a (let r : Result Y ThinVecError = Err cause in r)
@@ -64,9 +67,10 @@ failure_tells same told = record {
   );
 }
 
--- If a call succeeded, then `TellsOverflowOf R w` says that a block for `w` items of the type `R`
--- is not too large. This lemma derives `TellsOverflowOf S w` from `TellsOverflowOf R w` if the
--- types `R` and `S` have the same size and alignment.
+-- Suppose that the types `R` and `S` have the same size and alignment. If `TellsOverflowOf R w`
+-- holds for the successful result `Ok x`, then `TellsOverflowOf S w` holds for the successful
+-- result `Ok y`. For a successful result, these predicates say that the capacity for `w` items is
+-- not too large.
 pub made_tells : {X Y : Type 0} (R S : RattleType) (w : ℕ) (x : X) (y : Y)
     → type_size S ≡ type_size R → type_align S ≡ type_align R
     → TellsOverflowOf R w (Ok x) → TellsOverflowOf S w (Ok y)

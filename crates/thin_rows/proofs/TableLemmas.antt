@@ -13,11 +13,11 @@ use Rattle.std.proofs.lemmas.Option.{same_Some}
 use Rattle.thin_rows.specs.Table.{Columns, Table, row_of, value_at, with_empty_row, with_value, without_value}
 use Rattle.thin_rows.proofs.EntriesLemmas.{columns_rise, find_at}
 
--- Each column compares as equal to itself.
+-- Each column `j` compares as equal to itself.
 same_column : (j : ℕ) → eq_by_cmp nat_cmp j j ≡ true
 same_column j = grind (arith, nat_tests)
 
--- Two different columns do not compare as equal.
+-- Two different columns `j` and `l` do not compare as equal.
 other_column : (j l : ℕ) → l ≢ j → eq_by_cmp nat_cmp l j ≡ false
 other_column j l other = grind (arith, nat_tests)
 
@@ -30,8 +30,8 @@ module _ {V : Type 0} where
   later : (f : ℕ × V) (es : List (ℕ × V)) (e : ℕ × V) → IsAmong es e → IsAmong (f ∷ es) e
   later f es e among = (suc among.0, omega (arith, among.1), among.2)
 
-  -- If `find` returns the value `v` for column `j` in the list `es`, then `es` contains the pair of
-  -- `j` and `v`.
+  -- If `find` returns the value `v` for column `j` in the list `es`, then `es` contains the entry
+  -- `(j, v)`.
   found_at : (j : ℕ) (v : V) (es : List (ℕ × V)) → find nat_cmp j es ≡ Some v
       → IsAmong es (j, v)
   found_at j v [] found = cc
@@ -51,8 +51,9 @@ module _ {V : Type 0} where
   pub outside : (t : Table V) (i j : ℕ) → length t ≤ i → value_at t i j ≡ None
   outside t i j past = ap (λ r. map.get r j) (get_or_past t i map.empty past) ∙ get-empty nat_cmp j
 
-  -- If row `i` of a table is replaced with a row that has the same value at column `l` as the old
-  -- row `i`, then each row `k` of the table keeps its value at column `l`.
+  -- Suppose that row `i` of the table `t` is replaced with `row`. If `row` has the same value at
+  -- column `l` as the old row `i`, then the value at column `l` does not change in any row `k` of
+  -- the table.
   other_columns : (t : Table V) (i k l : ℕ) (row : Columns V)
       → map.get row l ≡ value_at t i l → value_at (set t i row) k l ≡ value_at t k l
   other_columns t i k l row same = elim (cases_eq k i) [
@@ -66,8 +67,8 @@ module _ {V : Type 0} where
     | inr other ↦ ap (λ r. map.get r l) (get_or-set_other t i k row map.empty other)
   ]
 
-  -- If row `i` of a table is replaced with a row that has no value at column `l`, then the new
-  -- table has no value at row `i` and column `l`.
+  -- Suppose that row `i` of the table `t` is replaced with `row`. If `row` has no value at column
+  -- `l`, then the new table has no value at row `i` and column `l`.
   no_value : (t : Table V) (i l : ℕ) (row : Columns V) → map.get row l ≡ None
       → value_at (set t i row) i l ≡ None
   no_value t i l row none = elim (cases_lt i (length t)) [
@@ -75,8 +76,8 @@ module _ {V : Type 0} where
     | inr past ↦ outside (set t i row) i l (omega (arith, past, length-set t i row))
   ]
 
-  -- If the table `t` has a row `i`, then writing the value `v` at row `i` and column `j` makes `v`
-  -- the value there.
+  -- Suppose that the table `t` has a row `i`. If the value `v` is written at row `i` and column
+  -- `j`, then the new table has the value `v` at this row and column.
   pub written : (t : Table V) (i j : ℕ) (v : V) → i < length t
       → value_at (with_value t i j v) i j ≡ Some v
   written t i j v inside =
@@ -84,33 +85,38 @@ module _ {V : Type 0} where
       ∙ (get-insert nat_cmp_total (row_of t i) j v j
       ∙ ap (λ b. cond b (Some v) (map.get (row_of t i) j)) (same_column j))
 
-  -- Writing a value at column `j` does not change the values at any other column `l`.
+  -- If the value `v` is written at row `i` and column `j`, then the value at any row `k` and any
+  -- other column `l` does not change.
   pub columns_unchanged : (t : Table V) (i j k l : ℕ) (v : V) → l ≢ j
       → value_at (with_value t i j v) k l ≡ value_at t k l
   columns_unchanged t i j k l v other = other_columns t i k l (map.insert (row_of t i) j v)
       (get-insert nat_cmp_total (row_of t i) j v l
       ∙ ap (λ b. cond b (Some v) (map.get (row_of t i) l)) (other_column j l other))
 
-  -- Writing a value in row `i` does not change the values in any other row `k`.
+  -- If the value `v` is written at row `i` and column `j`, then the value at any other row `k` and
+  -- any column `l` does not change.
   pub rows_unchanged : (t : Table V) (i j k l : ℕ) (v : V) → k ≢ i
       → value_at (with_value t i j v) k l ≡ value_at t k l
   rows_unchanged t i j k l v other = ap (λ r. map.get r l)
       (get_or-set_other t i k (map.insert (row_of t i) j v) map.empty other)
 
-  -- After the entry at row `i` and column `j` has been removed, there is no value there.
+  -- After the entry at row `i` and column `j` has been removed, the table has no value at this row
+  -- and column.
   pub removed : (t : Table V) (i j : ℕ) → value_at (without_value t i j) i j ≡ None
   removed t i j = no_value t i j (map.remove (row_of t i) j)
       (get-remove nat_cmp_total (row_of t i) j j
       ∙ ap (λ b. cond b None (map.get (row_of t i) j)) (same_column j))
 
-  -- Removing an entry at column `j` does not change the values at any other column `l`.
+  -- If the entry at row `i` and column `j` is removed, then the value at any row `k` and any other
+  -- column `l` does not change.
   pub columns_left : (t : Table V) (i j k l : ℕ) → l ≢ j
       → value_at (without_value t i j) k l ≡ value_at t k l
   columns_left t i j k l other = other_columns t i k l (map.remove (row_of t i) j)
       (get-remove nat_cmp_total (row_of t i) j l
       ∙ ap (λ b. cond b None (map.get (row_of t i) l)) (other_column j l other))
 
-  -- Removing an entry of row `i` does not change the values in any other row `k`.
+  -- If the entry at row `i` and column `j` is removed, then the value at any other row `k` and any
+  -- column `l` does not change.
   pub rows_left : (t : Table V) (i j k l : ℕ) → k ≢ i
       → value_at (without_value t i j) k l ≡ value_at t k l
   rows_left t i j k l other = ap (λ r. map.get r l)
@@ -120,7 +126,8 @@ module _ {V : Type 0} where
   pub cleared : (t : Table V) (i j : ℕ) → value_at (with_empty_row t i) i j ≡ None
   cleared t i j = no_value t i j map.empty (get-empty nat_cmp j)
 
-  -- Removing all entries of row `i` does not change the values in any other row `k`.
+  -- If all entries of row `i` are removed, then the value at any other row `k` and any column `l`
+  -- does not change.
   pub rows_kept : (t : Table V) (i k l : ℕ) → k ≢ i
       → value_at (with_empty_row t i) k l ≡ value_at t k l
   rows_kept t i k l other = ap (λ r. map.get r l)
@@ -135,8 +142,9 @@ module _ {V : Type 0} where
         (omega (arith, past, length-replicate n (map.empty {X = V} {R = nat_cmp})))
   ]
 
-  -- If the list of a row's entries contains a pair of a column and a value, then the row has this
-  -- value at this column.
+  -- Let `k` be an index into the list of the entries of `row`. Then `row` maps the column of the
+  -- entry at index `k` to the value of this entry. The default entry `d` is never used, because `k`
+  -- is in bounds.
   pub listed : (row : Columns V) (k : ℕ) (d : ℕ × V) → k < length (map.entries row)
       → map.get row (slice_index_or (map.entries row) k d).0
       ≡ Some (slice_index_or (map.entries row) k d).1
@@ -148,13 +156,15 @@ module _ {V : Type 0} where
         same = λ e. ap (λ x. x.0) (get_or_default (map.entries row) k e d inside);
       })
 
-  -- If a row has the value `v` at column `j`, then the list of its entries contains the pair of `j`
-  -- and `v`.
+  -- If `row` has the value `v` at column `j`, then the list of its entries contains the entry `(j,
+  -- v)`.
   pub is_listed : (row : Columns V) (j : ℕ) (v : V) → map.get row j ≡ Some v
       → IsAmong (map.entries row) (j, v)
   is_listed row j v there = found_at j v (map.entries row) (sym (get-entries row j) ∙ there)
 
-  -- The columns in the list of a row's entries are strictly increasing.
+  -- The columns of the entries of `row` are strictly increasing: if `k < m`, then the column of the
+  -- entry at index `k` is less than the column of the entry at index `m`. The default entry `d` is
+  -- never used, because both indices are in bounds.
   pub in_order : (row : Columns V) (k m : ℕ) (d : ℕ × V) → k < m → m < length (map.entries row)
       → (slice_index_or (map.entries row) k d).0 < (slice_index_or (map.entries row) m d).0
   in_order row k m d before inside =

@@ -1,4 +1,5 @@
--- This file defines what a row or a table contains after the borrow of one of its values has ended.
+-- A row or a table can lend one of its values to a caller as a mutable reference. This file defines
+-- what the row or the table contains after the borrow has ended.
 use Rattle.std.specs.Prelude.{ℕ, Option}
 use Rattle.std.specs.Borrow.{Lends, LendsIf, Fml, RattleType, MutBor}
 use Rattle.std.specs.FinMap.{insert}
@@ -8,22 +9,22 @@ use Rattle.thin_rows.specs.contracts.row.Row.{the_row}
 use Rattle.thin_rows.specs.contracts.table.Rows.{the_row as table_row}
 
 module _ (V A : RattleType) (allocator : AllocatorGhosts A.Denot) where
-  -- `LendsColumn row column r` says that `r` is a `&mut` to the value of `row` at `column`. It also
-  -- says that, after the borrow has ended, this value is the final value of `r`, and nothing else
-  -- in the row has changed.
+  -- `LendsColumn row column r` says that `r` is a mutable reference to the value of `row` at
+  -- `column`. After the borrow has ended, `row` contains the final value of `r` at `column`, and is
+  -- otherwise unchanged.
   abbrev pub LendsColumn : MutBor (Columns V.Denot) → ℕ → MutBor V.Denot → Fml
   LendsColumn row column r = Lends (the_row V A allocator) V row r (insert row.now column)
 
-  -- `LendsIfThere row column r` says that `r` is a `&mut` to the value of `row` at `column`, or
-  -- `None` if there is no such value. It also says that, after the borrow has ended, this value is
-  -- the final value of the reference, and nothing else in the row has changed.
+  -- `LendsIfThere row column r` says that `r` is a mutable reference to the value of `row` at
+  -- `column`, or `None` if there is no such value. After the borrow has ended, `row` contains the
+  -- final value of the reference at `column`, and is otherwise unchanged.
   abbrev pub LendsIfThere : MutBor (Columns V.Denot) → ℕ → Option (MutBor V.Denot) → Fml
   LendsIfThere row column r = LendsIf (the_row V A allocator) V row r
       (insert row.now column) row.now
 
-  -- `LendsValue table i column r` says that `r` is a `&mut` to the value in row `i` of `table` at
-  -- `column`, or `None` if there is no such value. It also says that, after the borrow has ended,
-  -- this value is the final value of the reference, and nothing else in the table has changed.
+  -- `LendsValue table i column r` says that `r` is a mutable reference to the value in row `i` of
+  -- `table` at `column`, or `None` if there is no such value. After the borrow has ended, `table`
+  -- contains the final value of the reference at this place, and is otherwise unchanged.
   abbrev pub LendsValue : MutBor (Table V.Denot) → ℕ → ℕ → Option (MutBor V.Denot) → Fml
   LendsValue table i column r = LendsIf (table_row V A allocator) V table r
       (with_value table.now i column) table.now

@@ -40,7 +40,7 @@ impl<V, A: Allocator> Row<V, A> {
     ghost use Rattle.thin_rows.specs.EntryType.{entry_type};
     ghost use Rattle.thin_rows.specs.Lends.{LendsColumn, LendsIfThere};
 
-    // Returns a row without entries. No memory is allocated.
+    // Returns a row without entries. Allocates no memory.
     pub(crate) fn new(alloc: A) -> Row<V, A>
         ensures new { result ≡ map.empty }
     {
@@ -95,8 +95,8 @@ impl<V, A: Allocator> Row<V, A> {
         }
     }
 
-    // Returns a mutable reference to the value at `column`. `at` must be the index of the entry of
-    // this column.
+    // Returns a mutable reference to the value at `column`. The argument `at` must be the index of
+    // the entry of this column.
     fn value_mut(&mut self, column: usize, at: usize) -> &mut V
         requires place { IsPlaceOf (map.entries self.old) column at }
         ensures* writes_back { sem 𝓛
@@ -107,7 +107,8 @@ impl<V, A: Allocator> Row<V, A> {
     }
 
     // Writes `value` at `column`, and returns the old value, if there was one. The call fails only
-    // if it needs room for a new entry and cannot get it. In this case, the error contains `value`.
+    // if the column has no entry and there is no room for a new entry. In this case, the error
+    // contains `value`.
     pub(crate) fn set(&mut self, column: usize, value: V) -> Result<Option<V>, Rejected<V>>
         ensures succeeds { IsSome (map.get self.old column) → IsOk result }
         ensures value { IfOk result (λ old. old ≡ map.get self.old column) }
@@ -134,8 +135,8 @@ impl<V, A: Allocator> Row<V, A> {
         }
     }
 
-    // Removes the entry at `column`, if there is one, and returns its value. Removing the last
-    // entry frees the block of the row.
+    // Removes the entry at `column`, if there is one, and returns its value. If the row then has no
+    // entries, frees the block of the row.
     pub(crate) fn remove(&mut self, column: usize) -> Option<V>
         ensures value { result ≡ map.get self.old column }
         ensures columns { self.new ≡ map.remove self.old column }

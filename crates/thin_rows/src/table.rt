@@ -1,4 +1,5 @@
-//! Defines the sparse table `Rows`: its type, its model in contracts, and its methods.
+//! Defines the sparse table `Rows`. The module contains the type and its methods. It also defines
+//! the value that describes a table in contracts.
 ghost use Rattle.std.specs.Prelude.{◌≡◌, ◌↔◌, ◌+◌, ◌-◌, ◌^◌, ◌<◌, IfErr, IfOk, IsOk, IsSome, IsTrue, OnErr, OnOk, length, map, min, replicate, sum};
 ghost use Rattle.std.specs.FinMap as columns;
 ghost use Rattle.std.specs.List.Sorted.{IsStrictlyIncreasing};
@@ -14,9 +15,10 @@ use thin_vec::{Rejected, ThinVec, ThinVecError};
 /// A sparse table, which maps a row and a column to a value. The number of rows is fixed.
 ///
 /// A row keeps its entries in one block, in increasing order of their columns. A row without
-/// entries owns no block, and takes up only the space of a pointer and of its allocator. Each row
-/// number that is passed to a method must be less than the number of rows. This is a precondition,
-/// which the methods do not test at run time.
+/// entries owns no block, and takes up only the space of a pointer and of its allocator.
+///
+/// Each row number that is passed to a method must be less than the number of rows. This is a
+/// precondition, which the methods do not test at run time.
 #[derive(Drop)]
 pub struct Rows<V, A: Allocator = Global> {
     rows: ThinVec<Row<V, A>, A>,
@@ -100,7 +102,8 @@ impl<V, A: Allocator> Rows<V, A> {
     }
 
     /// Returns a mutable reference to the value at the given row and column, or `None` if there is
-    /// no entry. A value that is written through the reference replaces the old value in the table.
+    /// no entry. If the caller writes a new value through the reference, this value replaces the
+    /// old value in the table.
     pub fn get_mut(&mut self, row: usize, column: usize) -> Option<&mut V>
         requires in_bounds { row < length self.old }
         ensures* writes_back { sem 𝓛
@@ -115,10 +118,10 @@ impl<V, A: Allocator> Rows<V, A> {
     ///
     /// # Errors
     ///
-    /// Fails only if a new entry is needed and the row cannot get room for it. The cause is
-    /// `OutOfMemory` if the allocator fails, and `CapacityOverflow` if the new capacity of the row
-    /// would be too large. The error returns `value` to the caller. The table is unchanged, and a
-    /// row that owned no block before the call owns no block after it.
+    /// Fails only if there is no entry at this row and column, and no room for a new entry. The
+    /// cause is `OutOfMemory` if the allocator fails, and `CapacityOverflow` if the new capacity of
+    /// the row would be too large. The error contains `value`. On failure, the table is unchanged.
+    /// In particular, a row that owned no block before the call owns no block after it.
     pub fn set(&mut self, row: usize, column: usize, value: V) -> Result<Option<V>, Rejected<V>>
         requires in_bounds { row < length self.old }
 
@@ -140,7 +143,7 @@ impl<V, A: Allocator> Rows<V, A> {
     }
 
     /// Removes the entry at the given row and column, if there is one, and returns its value. The
-    /// call requests no memory. A row that loses its last entry frees its block.
+    /// call requests no memory. If the row then has no entries, its block is freed.
     pub fn remove(&mut self, row: usize, column: usize) -> Option<V>
         requires in_bounds { row < length self.old }
         ensures value { result ≡ value_at self.old row column }

@@ -1,5 +1,5 @@
--- Each command calls a method of a list. These lemmas help to derive, from the contract of the
--- method, what `specs/Steps` states about the command.
+-- Each command calls a method of a list, and `specs/Steps` states how the command may change the
+-- list. These lemmas help to derive this statement from the contract of the method.
 use Rattle.std.proofs.Common.{◌≡◌, ℕ, ◌<◌, ◌⊎◌, List, [], ◌∷◌, Some, refl, length, inl, inr, arith}
 use Rattle.std.specs.Borrow.{RattleType}
 use Rattle.std.specs.Prelude.{HoldsAt}
@@ -14,14 +14,15 @@ some-items [] none = absurd (none refl)
 some-items (x ∷ xs) none = omega arith
 
 module _ {T A : Type 0} where
-  -- `grown v c xs m` is the list `v` with the items `xs` and the capacity `c`. The cost of this
-  -- list is the cost of `v`, plus the cost of the change of capacity, plus `m` moves.
+  -- `grown v c xs m` is the list `v` after a call that set its items to `xs` and its capacity to
+  -- `c`. The call added `m` moves to the cost of the list. If the capacity changed, the call also
+  -- added one reallocation to the cost.
   abbrev pub grown : Thin T A → ℕ → List T → ℕ → Thin T A
   grown v c xs m = record v { items = xs; capacity = c; cost = moving m (cost_at v c) }
 
-  -- Suppose that the list `w` has the items `xs` and the allocator of the list `v`. If the cost of
-  -- `w` is the cost of `v`, plus the cost of the change of capacity, plus `m` moves, then `w` is
-  -- `grown v w.capacity xs m`.
+  -- Suppose that the list `w` has the items `xs` and the same allocator as the list `v`. Suppose
+  -- also that the cost of `w` is the cost of `v`, plus `m` moves, plus one reallocation if the
+  -- capacity changed. Then `w` is `grown v w.capacity xs m`.
   pub is-grown : (v w : Thin T A) (xs : List T) (m : ℕ) → w.items ≡ xs → w.cost
       ≡ moving m (cost_at v w.capacity) → w.alloc ≡ v.alloc → w ≡ grown v w.capacity xs m
   is-grown v w xs m items cost alloc = λ i. record {
@@ -33,9 +34,10 @@ module _ {T A : Type 0} where
 
   module _ (rule : Rule) where
     -- Suppose that a call that clones the items `sources` failed, and that it changed neither the
-    -- items nor the allocator of the list `v`. Then either nothing else changed, or a source could
-    -- not be cloned. In the second case, the new capacity is the one that the growth rule requires
-    -- for `k` more items, and each source that was cloned before the failure counts as one move.
+    -- items nor the allocator of the list. Then there are two cases. In the first case, the call
+    -- did not change the list at all. In the second case, cloning an item failed, and this item is
+    -- not `infallible`. The list has then reserved room for `k` more items, and each item that was
+    -- cloned before the failure counts as one move.
     pub refuses-clone : (R : RattleType) (k : ℕ) {infallible : T → Type 0} {sources : List T}
         {v w : Thin T A} → w.items ≡ v.items → w.alloc ≡ v.alloc
         → (w ≡ v) ⊎ (capacity_for rule R v k ≡ Some w.capacity)

@@ -17,8 +17,9 @@ use Rattle.thin_runner.proofs.SlackLemmas.{runs-slack}
 
 module _ {T A G J : Type 0} (here : Setting T A J) (law : KeepsLaw here.rule) where
   module _ {old new : Thin T A} where
-    -- If all commands have run, and the list was within its size limits (`IsWithin`) before and
-    -- after the run, then the main theorem holds for the run.
+    -- Suppose that a run carried out all of its commands, so that the list `left` of remaining
+    -- commands is empty. If the list was within its size limits (`IsWithin`) before and after the
+    -- run, then the main theorem `Headline` holds for the run.
     pub headline : {commands left : List (Command T A G)} {before after : List (Reply T A G)}
         → IsWithin here.R old → IsWithin here.R new → left ≡ []
         → HasRun here old commands left before after new

@@ -1,5 +1,5 @@
--- These lemmas are about calls to `next` on the iterator `Hinted`: which items they yield, and how
--- they change the iterator.
+-- These lemmas state which items an iterator of the type `Hinted` yields, and how calls to `next`
+-- change the iterator.
 use Rattle.std.proofs.Common.{◌≡◌, List, [], ◌∷◌, ◌++◌, ap, sym, ◌∙◌}
 use Rattle.std.proofs.lemmas.List.{append-nil}
 use Rattle.std.specs.Iterator.{Drains, Yields}
@@ -7,21 +7,23 @@ use Rattle.thin_runner.specs.Hinted.{HintedSteps, hinted_claim, hinted_items}
 use Rattle.thin_runner.specs.declared.hinted.Hinted.{Hinted}
 
 module _ {T A : Type 0} where
-  -- If calls to `next` yielded the items `xs` and turned the iterator `s` into `t`, then the items
-  -- left in `s` are `xs`, followed by the items left in `t`.
+  -- Suppose that calls to `next` yield the items `xs`, and change the iterator from the state `s`
+  -- to the state `t`. Then the items left in the state `s` are `xs`, followed by the items left in
+  -- the state `t`.
   pub yields-items : (s t : Hinted T A) (xs : List T) → Yields (HintedSteps {T = T} {A = A}) s xs t
       → hinted_items s ≡ xs ++ hinted_items t
   yields-items s t [] e = ap hinted_items e
   yields-items s t (x ∷ xs) e = e.1.0 ∙ ap (λ l. x ∷ l) (yields-items e.0 t xs e.2)
 
-  -- Calls to `next` on an iterator `Hinted` do not change the lower bound of its size hint.
+  -- Suppose that calls to `next` yield the items `xs`, and change the iterator from the state `s`
+  -- to the state `t`. Then the lower bound of the size hint is the same in both states.
   pub yields-claim : (s t : Hinted T A) (xs : List T) → Yields (HintedSteps {T = T} {A = A}) s xs t
       → hinted_claim t ≡ hinted_claim s
   yields-claim s t [] e = ap hinted_claim (sym e)
   yields-claim s t (x ∷ xs) e = yields-claim e.0 t xs e.2 ∙ e.1.1
 
-  -- Suppose that `next` is called until it returns `None`, and that the calls yield the items `xs`.
-  -- Then `xs` is the list of all items that were left in the iterator.
+  -- Suppose that `next` is called on the iterator `s` until it returns `None`, and that the calls
+  -- yield the items `xs`. Then `xs` contains exactly the items that were left in `s`, in order.
   pub drains-items : (s : Hinted T A) (xs : List T) → Drains (HintedSteps {T = T} {A = A}) s xs
       → xs ≡ hinted_items s
   drains-items s xs d = sym (yields-items s d.1.0 xs d.1.1

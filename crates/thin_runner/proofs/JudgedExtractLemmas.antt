@@ -1,5 +1,6 @@
--- A judge decides which items to remove. These lemmas are about an `ExtractIf` whose closure asks a
--- judge. They state what the calls to `next` return, and which items the list has afterwards.
+-- `ExtractIf` is an iterator that removes and yields some items of a list. In these lemmas, its
+-- closure asks a judge, which is a value that decides which items to remove. The lemmas state what
+-- the calls to `next` return, and which items the list has afterwards.
 use Rattle.std.proofs.Common.{◌≡◌, ℕ, zero, suc, ◌+◌, ◌-◌, ◌≤◌, ◌==◌, Bool, true, false, List, [], ◌∷◌, ◌++◌, Option, None, Some, length, take, drop, refl, arith, ap, subst, sym, ◌∙◌, append_assoc}
 use Rattle.std.proofs.Math.Dec.{eqb-suc-zero}
 use Rattle.std.proofs.lemmas.List.{append-nil, length-append, length-drop, length-map, length-take}
@@ -16,15 +17,15 @@ use Rattle.thin_runner.specs.commands.Ranges.{walked}
 use Rattle.thin_runner.specs.declared.command.Step.TheVariants.{Front}
 
 module _ {T : Type 0} where
-  -- `goes item` is the list of the verdicts on `item`, which is the result of a call to `next`. For
-  -- `Some x`, the list contains one verdict, which says that `x` is removed. For `None`, the list
-  -- is empty.
+  -- `goes item` is the list of the verdicts on the result `item` of a call to `next`. A verdict
+  -- says whether an item is kept. For `Some x`, the list contains one verdict, which says that `x`
+  -- is removed. For `None`, the list is empty.
   abbrev pub goes : Option T → Verdicts T
   goes None = []
   goes (Some x) = (false, x) ∷ []
 
-  -- `handed_out k xs` is the list of the results of `k` calls to `next` if the items to extract are
-  -- `xs`. The calls return these items in order, and then `None`.
+  -- `handed_out k xs` is the list of the results of `k` calls to `next` on an iterator that yields
+  -- the items `xs`. The calls return these items in order, and then return `None`.
   abbrev pub handed_out : ℕ → List T → List (Option T)
   handed_out k xs = walked xs (replicate k Front)
 
@@ -60,9 +61,10 @@ module _ {T : Type 0} where
   few-goes None = refl
   few-goes (Some x) = refl
 
-  -- A kept item is moved if an item before it was removed. So if the verdicts `a` remove an item,
-  -- then every item that the verdicts `b` keep is moved. Otherwise, the number of moves for
-  -- `a ++ b` is the sum of the numbers of moves for `a` and for `b`.
+  -- A verdict says whether an item is kept. A kept item is moved if an item before it is removed.
+  -- The number of moves for the verdicts `a ++ b` is the number of moves for `a`, plus a second
+  -- number. If `a` removes an item, the second number is the number of items that `b` keeps.
+  -- Otherwise, it is the number of moves for `b`.
   pub moves-append : (a b : Verdicts T) → moved_down (flags_of (a ++ b))
       ≡ moved_down (flags_of a) + (if length (left_at false a) == 0 then moved_down
       (flags_of b) else trues (flags_of b))
@@ -80,12 +82,14 @@ module _ {S T J : Type 0} (R : S → T → Bool → S → T → Type 0) (judge_o
   none-left j zero = refl
   none-left j (suc k) = refl
 
-  -- In this module, a call to `next` returns `item`. After this call, the items `rest` are still
-  -- untested, the closure is in the state `t`, and `k` more calls to `next` follow.
+  -- In this module, a call to `next` returns `item`, and `k` more calls to `next` follow. After the
+  -- first of these calls, the closure is in the state `t`, and the items `rest` have not been
+  -- tested yet.
   module _ (t : S) (k : ℕ) (item : Option T) (rest : List T) where
-    -- Suppose that a call to `next` keeps the items `kept` and returns `item`. Then the verdicts of
-    -- this call and of `k` more calls are, in this order: the verdicts that keep `kept`, the
-    -- verdict on `item` (if any), and the verdicts of the `k` calls.
+    -- Suppose that `xs` contains the untested items, and that a call to `next` keeps the items
+    -- `kept` and returns `item`. Then the verdicts of this call and of the next `k` calls consist
+    -- of three parts, in this order: the verdicts that keep the items `kept`, the verdict that
+    -- removes `item` (if `item` is not `None`), and the verdicts of the `k` calls.
     pub extracts-by : (s : S) (xs kept : List T) → ExtractsNext R s xs item t kept rest
         → extracting ask (judge_of s) (suc k) xs
         ≡ stay kept ++ (goes item ++ extracting ask (judge_of t) k rest)
@@ -111,7 +115,8 @@ module _ {S T J : Type 0} (R : S → T → Bool → S → T → Type 0) (judge_o
             ap (λ l. (true, e.2) ∷ l) (by m.0 m.1)
             ∙ sym (ap (λ l. stay l ++ (goes item ++ extracting ask (judge_of t) k rest)) m.2)
 
-    -- If a call to `next` returns `None`, then no untested item is left.
+    -- If a call to `next` returns `None`, then it has tested all items. So the list `rest` of
+    -- untested items is empty.
     rest-none : (s : S) (xs kept : List T) → ExtractsNext R s xs item t kept rest
         → item ≡ None → rest ≡ []
     rest-none s [] kept e none = e.3
@@ -124,8 +129,9 @@ module _ {S T J : Type 0} (R : S → T → Bool → S → T → Type 0) (judge_o
         answered true by m = let wrong = m.0 in absurd (none-some (sym none ∙ wrong))
         answered false by m = by m.0 m.1
 
-    -- Suppose that a call to `next` returns `item`. Then the results that `handed_out` computes for
-    -- this call and `k` more calls are `item`, followed by the results of the `k` calls.
+    -- Suppose that a call to `next` returns `item`, and that `k` more calls to `next` follow. Then
+    -- the list of all results, which `handed_out` computes, consists of `item` and the results of
+    -- the `k` calls, in this order.
     pub handed-by : (s : S) (xs kept : List T) → ExtractsNext R s xs item t kept rest
         → handed_out (suc k) (left_at false (extracting ask (judge_of s) (suc k) xs))
         ≡ item ∷ handed_out k (left_at false (extracting ask (judge_of t) k rest))
@@ -145,8 +151,8 @@ module _ {S T J : Type 0} (R : S → T → Bool → S → T → Type 0) (judge_o
             ∙ ap (left_at false) (none-left (judge_of t) k) in
             subst (λ l. handed_out (suc k) l ≡ None ∷ handed_out k l) (sym empty) refl
 
--- Let `k'` be 0 if `gone` is 0, and `k` otherwise. Adding first `m` moves and then `k'` moves to a
--- cost yields the same cost as adding `m + k'` moves at once.
+-- Suppose that `m` moves are added to the cost `c`, and then `k` moves are added if `gone` is not
+-- 0. The resulting cost is the same as if all these moves were added at once.
 charged : (gone m k : ℕ) (c : Cost)
     → (if gone == 0 then moving m c else moving k (moving m c))
     ≡ moving (m + (if gone == 0 then 0 else k)) c
@@ -158,7 +164,8 @@ charged (suc gone) m k c =
 
 -- The state of an `extract_if` between two calls to `next`.
 pub record Stand (T : Type 0) : Type 0 where
-  -- The verdicts on the items that have not been tested so far, computed in advance.
+  -- The verdicts on the items of the range that have not been tested yet. In proofs, these verdicts
+  -- are known in advance. A verdict says whether an item is kept.
   pub left : Verdicts T
   -- The items before the range, followed by the items of the range that have been kept so far.
   pub front : List T
@@ -167,12 +174,12 @@ pub record Stand (T : Type 0) : Type 0 where
   -- the cost so far
   pub paid : Cost
 
--- In this module, an `extract_if` tests the items of a range of a list. `asked` contains the
--- verdicts on all items of the range, and `start` contains the items before the range. `before` is
--- the cost of the list before the first call to `next`.
+-- In this module, an `extract_if` tests the items of a range of a list. `asked` contains a verdict
+-- for each item of the range, which says whether the item is kept. `start` contains the items
+-- before the range, and `before` is the cost of the list before the first call to `next`.
 module _ {T : Type 0} (asked : Verdicts T) (start : List T) (before : Cost) where
-  -- `IsExtracting at` holds if `at` is the state of the extraction after some number of calls to
-  -- `next`. The field `done` contains the verdicts of these calls.
+  -- `IsExtracting at` holds if `at` is a state of the extraction between two calls to `next`. The
+  -- field `done` contains the verdicts of the calls so far.
   pub record IsExtracting (at : Stand T) : Type 0 where
     pub done : Verdicts T
     pub split : asked ≡ done ++ at.left
@@ -180,9 +187,9 @@ module _ {T : Type 0} (asked : Verdicts T) (start : List T) (before : Cost) wher
     pub out : at.out ≡ length (left_at false done)
     pub paid : at.paid ≡ moving (moved_down (flags_of done)) before
 
-  -- Suppose that the next verdicts, `now`, first keep `k` items and then only remove items. If an
-  -- item has already been extracted in the state `at`, then the verdicts `now` add `k` moves to the
-  -- cost. Otherwise, they add no moves.
+  -- Suppose that the next verdicts, `now`, keep `k` items, and remove no item before a kept item.
+  -- If an item has already been extracted in the state `at`, then the `k` items are moved, and the
+  -- cost increases by `k` moves. Otherwise, the cost does not change.
   paid-next : (at : Stand T) (h : IsExtracting at) (now : Verdicts T) (k : ℕ)
       → moved_down (flags_of now) ≡ 0 → trues (flags_of now) ≡ k
       → (if at.out == 0 then at.paid else moving k at.paid)
@@ -195,7 +202,7 @@ module _ {T : Type 0} (asked : Verdicts T) (start : List T) (before : Cost) wher
       before)
       ∙ ap (λ m. moving m before) (sym (moves-append h.done now))))
 
-  -- `IsExtracting` holds for the state before the first call to `next`.
+  -- If `at` is the state before the first call to `next`, then `IsExtracting at` holds.
   pub extracting-none : (at : Stand T) → at.left ≡ asked → at.front ≡ start → at.out ≡ 0
       → at.paid ≡ before → IsExtracting at
   extracting-none at all same none free =
@@ -208,8 +215,8 @@ module _ {T : Type 0} (asked : Verdicts T) (start : List T) (before : Cost) wher
       }
 
   module _ (at next : Stand T) where
-    -- Suppose that `IsExtracting` holds for the state `at`. If a call to `next` keeps the items
-    -- `kept`, returns `item`, and ends in the state `next`, then `IsExtracting` holds for `next`.
+    -- Suppose that `IsExtracting at` holds. If a call to `next` keeps the items `kept`, returns
+    -- `item`, and changes the state from `at` to `next`, then `IsExtracting next` holds.
     pub extracting-step : (kept : List T) (item : Option T) → IsExtracting at
         → at.left ≡ stay kept ++ (goes item ++ next.left) → next.front ≡ at.front ++ kept
         → next.out ≡ at.out + length (option_to_list item)
@@ -246,13 +253,14 @@ module _ {T : Type 0} (asked : Verdicts T) (start : List T) (before : Cost) wher
           paid = charge ∙ paid-next at h now (length kept) still moved;
         }
 
--- In this module, an `extract_if` on the items `a..b` turned the list `v` into `w`, and `asked`
--- contains the verdicts on these items.
+-- In this module, `extract_if` tests the items `a..b` of the list `v`, and `w` is the list after
+-- the extraction. `asked` contains a verdict for each of the items `a..b`, which says whether the
+-- item is kept.
 module _ {T A : Type 0} (v w : Thin T A) (a b : ℕ) (asked : Verdicts T) where
-  -- `IsLeft at rest tail` holds if the list `w` consists of the items of `at.front`, the untested
-  -- items `rest` of the range, and the items `tail` after the range, in this order. If an item was
-  -- extracted, each item of `rest` and `tail` must count as one move. The capacity and the
-  -- allocator must be unchanged.
+  -- `IsLeft at rest tail` states that `w` is the list after an extraction that ended in the state
+  -- `at`. The items of `w` are `at.front`, then the untested items `rest` of the range, and then
+  -- the items `tail` after the range. If an item was extracted, each item of `rest` and `tail`
+  -- counts as one move. The capacity and the allocator are unchanged.
   pub record IsLeft (at : Stand T) (rest tail : List T) : Type 0 where
     pub items : w.items ≡ at.front ++ (rest ++ tail)
     pub cost : w.cost ≡ (if at.out == 0 then at.paid else moving (length rest
@@ -260,8 +268,9 @@ module _ {T A : Type 0} (v w : Thin T A) (a b : ℕ) (asked : Verdicts T) where
     pub capacity : w.capacity ≡ v.capacity
     pub alloc : w.alloc ≡ v.alloc
 
-  -- After the extraction has ended, the list `w` contains exactly the items of the list `v` that
-  -- the verdicts keep. The function `sifted` computes this list.
+  -- Suppose that an extraction ends in the state `at`, and that the items `rest` of the range are
+  -- still untested. Then the list `w` contains the items of the list `v`, except those that the
+  -- verdicts remove. The function `sifted` computes this list.
   pub extracting-ends : (at : Stand T) (rest tail : List T)
       → IsExtracting asked (take a v.items) v.cost at → at.left ≡ stay rest → tail ≡ drop b v.items
       → IsLeft at rest tail → w ≡ sifted v (around v.items a b asked)
@@ -301,7 +310,8 @@ module _ {T A : Type 0} (v w : Thin T A) (a b : ℕ) (asked : Verdicts T) where
         cost = paid i;
       }
 
--- The lemmas of this module show that an extraction does not increase the number of items.
+-- In this module, `ask` is the method of a judge that decides which items to extract. The lemmas
+-- show that an extraction does not increase the number of items in the list.
 module _ {T J : Type 0} (ask : J → T → Bool × T × J) where
   stay-length : (xs : List T) → length (stay xs) ≡ length xs
   stay-length xs = length-map xs (λ (x : T). (true, x))
@@ -312,8 +322,8 @@ module _ {T J : Type 0} (ask : J → T → Bool × T × J) where
   extracting-length j (suc k) (x ∷ xs) =
       ap suc (extracting-length (ask j x).2 (if (ask j x).0 then k else suc k) xs)
 
-  -- If `k` calls to `next` extract items from the range `a..b` of the list `xs`, then the list
-  -- keeps at most `length xs` items.
+  -- Suppose that `k` calls to `next` extract items from the range `a..b` of the list `xs`, and that
+  -- the judge starts in the state `j`. Then at most `length xs` items are left in the list.
   pub few-extracted : (j : J) (k : ℕ) (xs : List T) (a b : ℕ) → a ≤ b → b ≤ length xs
       → length (left_at true (around xs a b (extracting ask j k (slice_range xs a b)))) ≤ length xs
   few-extracted j k xs a b order within =

@@ -1,6 +1,6 @@
--- A judge decides which items are kept. These lemmas are about closures that return the decisions
--- of a judge. If a method such as `retain` calls such a closure, then the judge determines the
--- resulting list.
+-- A judge is a value that decides which items are kept. These lemmas are about closures that ask a
+-- judge and return its decisions. If a method such as `retain` calls such a closure, then the judge
+-- determines which items remain in the list.
 use Rattle.std.proofs.Common.{◌≡◌, ℕ, suc, ◌≤◌, ◌==◌, length, refl, arith, List, [], ◌∷◌, Bool, true, false, ap, subst, ◌∙◌}
 use denote.MutBor.{MutBor}
 use denote.Param.Members.{Mut}
@@ -23,8 +23,9 @@ module _ {S T J : Type 0} (R : S → T → Bool → S → T → Type 0) (judge_o
 
 module _ {S T J : Type 0} (R : S → T → Bool → S → T → Type 0) (judge_of : S → J)
     (ask : J → T → Bool × T × J) (told : AsksJudge R judge_of ask) where
-  -- Suppose that the closure asks the judge. If it was called for each item of `xs`, in order, then
-  -- its verdicts are the verdicts of the judge.
+  -- Suppose that the closure returns the decisions of the judge in its state. If the closure is
+  -- called for each item of `xs`, in order, and its state changes from `s` to `t`, then `verdicts`
+  -- contains the decisions of the judge on these items.
   pub asked-by : (s t : S) (xs : List T) (verdicts : Verdicts T) → Asked R s xs verdicts t
       → verdicts ≡ asked ask (judge_of s) xs
   asked-by s t [] verdicts a = a.0
@@ -32,9 +33,9 @@ module _ {S T J : Type 0} (R : S → T → Bool → S → T → Type 0) (judge_o
       a.6 ∙ (ap (λ l. (a.0, a.1) ∷ l) (asked-by a.2 t xs a.3 a.5)
       ∙ ap (λ l. (l.0, l.1) ∷ asked ask l.2 xs) (told s x a.0 a.2 a.1 a.4))
 
-  -- Suppose that `retain` or `retain_mut` turned the list `v` into `w`, and that its closure asked
-  -- the judge. Then `w` contains exactly the items of `v` that the judge keeps. The function
-  -- `sifted` computes this list.
+  -- Suppose that `retain` or `retain_mut` turned the list `v` into `w`, and that its closure
+  -- returned the decisions of a judge. Then `w` contains exactly the items of `v` that the judge
+  -- keeps. The function `sifted` computes this list.
   pub retained-by : {A : Type 0} (s : S) (v w : Thin T A) → IsRetained R s v w
       → w.capacity ≡ v.capacity → w.alloc ≡ v.alloc
       → w ≡ sifted v (asked ask (judge_of s) v.items)
@@ -47,9 +48,9 @@ module _ {S T J : Type 0} (R : S → T → Bool → S → T → Type 0) (judge_o
 -- This module is about methods such as `dedup_by`, which compare each item with the last item kept
 -- before it.
 module _ {T : Type 0} where
-  -- The pair `b` consists of a first item and the verdicts on the later items. `Leaves flags ys b`
-  -- holds if `flags` says for each later item whether its verdict keeps it, and `ys` is the first
-  -- item, followed by the later items that are kept.
+  -- Methods such as `dedup_by` keep the first item, and decide for each later item whether to keep
+  -- it. The pair `b` consists of the first item and the verdicts on the later items. `Leaves flags
+  -- ys b` holds if `flags` lists these decisions, and `ys` lists the items that are kept.
   abbrev pub Leaves : List Bool → List T → T × Verdicts T → Type 0
   Leaves flags ys b = (flags ≡ flags_of b.1) × (ys ≡ b.0 ∷ left_at true b.1)
 
@@ -58,10 +59,10 @@ module _ {S T J : Type 0} (R : S → T → T → Bool → S → T → T → Type
     (same : J → T → T → Bool × T × T × J)
     (told : (s : S) (x k : T) (b : Bool) (u : S) (x' k' : T) → R s x k b u x' k'
     → (b, x', k', judge_of u) ≡ same (judge_of s) x k) where
-  -- Suppose that a closure asks the judge. Suppose also that it compared each item of `xs` with the
-  -- last item kept before that item, and the first item of `xs` with `k`. Then `flags` says which
-  -- items of `xs` the judge keeps. The list `ys` contains `k` and these items, as they are after
-  -- the comparisons.
+  -- Suppose that a closure returns the decisions of a judge. The closure compares each item of `xs`
+  -- with the last item kept before it, and the first item of `xs` with `k`. Then `flags` says for
+  -- each item of `xs` whether the judge keeps it. The list `ys` contains `k` and the kept items, as
+  -- they are after the comparisons.
   pub asked-last-by : (s t : S) (k : T) (xs : List T) (flags : List Bool) (ys : List T)
       → AskedLast R s k xs flags ys t → Leaves flags ys (asked_last same (judge_of s) k xs)
   asked-last-by s t k [] flags ys a = (a.0, a.1)
@@ -81,10 +82,10 @@ module _ {S T J : Type 0} (R : S → T → T → Bool → S → T → T → Type
       answered by false m e = let h =
           by a.1 m.0 m.1 in (e ∙ ap (λ l. true ∷ l) h.0, m.2 ∙ ap (λ l. a.2 ∷ l) h.1)
 
-  -- Suppose that a closure asks the judge. Suppose also that it compared each item of `xs`, except
-  -- the first one, with the last item kept before that item. Then `ys` contains exactly the items
-  -- that the judge keeps. The number of moves is the same, whether it is computed from `flags` or
-  -- from the verdicts of the judge.
+  -- Suppose that a closure returns the decisions of a judge. The closure compares each item of
+  -- `xs`, except the first one, with the last item kept before it. Then `ys` contains exactly the
+  -- items that the judge keeps. The decisions of the judge and `flags` result in the same number of
+  -- moves.
   pub asked-pairs-by : (s t : S) (xs : List T) (flags : List Bool) (ys : List T)
       → AskedPairs R s xs flags ys t
       → (moved_down flags ≡ moved_down (flags_of (asked_pairs same (judge_of s) xs)))
@@ -93,9 +94,9 @@ module _ {S T J : Type 0} (R : S → T → T → Bool → S → T → T → Type
   asked-pairs-by s t (x ∷ xs) flags ys a = let h = asked-last-by s t x xs flags ys a
       in (ap moved_down h.0, h.1)
 
-  -- Suppose that `dedup_by` turned the list `v` into `w`, and that its closure asked the judge.
-  -- Then `w` contains exactly the items of `v` that the judge keeps. The function `sifted` computes
-  -- this list.
+  -- Suppose that `dedup_by` turned the list `v` into `w`, and that its closure returned the
+  -- decisions of a judge. Then `w` contains exactly the items of `v` that the judge keeps. The
+  -- function `sifted` computes this list.
   pub deduped-by : {A : Type 0} (s : S) (v w : Thin T A) → IsDedupedBy R s v w
       → w.capacity ≡ v.capacity → w.alloc ≡ v.alloc
       → w ≡ sifted v (asked_pairs same (judge_of s) v.items)
@@ -109,9 +110,10 @@ module _ {F T A J : Type 0} (g : Mut F (MutBor T × Unit {0}) (ℕ × (MutBor T 
     (judge_of : F → J) (key : J → T → ℕ × T × J)
     (told : (f : F) (x : T) (k : ℕ) (f' : F) (x' : T) → CalledAtMut g f x k f' x'
     → (k, x', judge_of f') ≡ key (judge_of f) x) where
-  -- Suppose that `dedup_by_key` turned the list `v` into `w`, and that its closure asked the judge.
-  -- Then `w` contains exactly the items of `v` that the judge keeps. For each comparison of two
-  -- items, the key of the later item is computed first.
+  -- Suppose that `dedup_by_key` turned the list `v` into `w`, and that its closure returned keys
+  -- that a judge computed. For each comparison of two items, the judge first computed the key of
+  -- the later item, and then the key of the kept item. Then `w` contains exactly the items of `v`
+  -- that remain if items with equal keys are duplicates. The function `sifted` computes this list.
   pub deduped-by-keys : (f : F) (v w : Thin T A)
       → IsDedupedBy (ComparesKeys g (λ a b. a == b)) f v w → w.capacity ≡ v.capacity
       → w.alloc ≡ v.alloc → w ≡ sifted v (asked_pairs (same_key key) (judge_of f) v.items)
@@ -127,51 +129,54 @@ module _ {F T A J : Type 0} (g : Mut F (MutBor T × Unit {0}) (ℕ × (MutBor T 
 
 -- In this module, `look` is a method of the judge that cannot write to the item.
 module _ {T J : Type 0} (look : J → T → Bool × J) where
-  -- `looks` returns the decision of `look`, the unchanged item, and the next state of the judge.
+  -- `looks j x` consists of the decision of `look` on the item `x`, the unchanged item `x`, and the
+  -- state of the judge after the decision.
   abbrev pub looks : J → T → Bool × T × J
   looks j x = let a = look j x in (a.0, x, a.1)
 
-  -- If a call returned the decision of `look` and did not change the item, then the decision, the
-  -- item, and the new state of the judge are the result of `looks`.
+  -- Suppose that a call to `look` for the item `x` returned the decision `b` and changed the judge
+  -- from `j` to `u`. If the item `y` after the call equals `x`, then `looks j x` is `(b, y, u)`.
   pub looked : (j u : J) (x y : T) (b : Bool) → (b, u) ≡ look j x → y ≡ x → (b, y, u) ≡ looks j x
   looked j u x y b told same = ap (λ z. (b, z, u)) same ∙ ap (λ a. (a.0, x, a.1)) told
 
 -- The lemmas of this module help to show that a command that tests items and removes some of them
 -- does not increase the number of items.
 module _ {T : Type 0} where
-  -- The number of kept items is at most the number of verdicts.
+  -- A verdict says whether an item is kept. The number of kept items is at most the number of
+  -- verdicts.
   pub few-left : (verdicts : Verdicts T) → length (left_at true verdicts) ≤ length verdicts
   few-left [] = omega arith
   few-left ((true, x) ∷ verdicts) = omega (arith, few-left verdicts)
   few-left ((false, x) ∷ verdicts) = omega (arith, few-left verdicts)
 
-  -- `next b x k a` extends the results `a` for the items after `x` with the result for `x`, which
-  -- was compared with the kept item `k`. If `b` is true, `x` is removed. Otherwise, `x` is kept.
+  -- Suppose that the item `x` was compared with the kept item `k`, and that `a` contains the
+  -- results for the items after `x`. Then `next b x k a` contains the results for `x` and the items
+  -- after it. If `b` is true, `x` is removed. Otherwise, `x` is kept.
   abbrev next : Bool → T → T → T × Verdicts T → T × Verdicts T
   next b x k a = if b then (a.0, (false, x) ∷ a.1) else (k, (true, a.0) ∷ a.1)
 
-  -- Each compared item adds one verdict to the results.
+  -- The function `next` adds the result of one comparison to the results `a`. So the new results
+  -- contain one verdict more than `a`.
   one-answer : (b : Bool) (x k : T) (a : T × Verdicts T)
       → length (next b x k a).1 ≡ suc (length a.1)
   one-answer true x k a = refl
   one-answer false x k a = refl
 
 module _ {T J : Type 0} where
-  -- If each item of `xs` is tested, the number of verdicts is `length xs`.
+  -- If a judge in the state `j` tests each item of `xs`, the number of verdicts is `length xs`.
   pub asked-length : (ask : J → T → Bool × T × J) (j : J) (xs : List T) → length (asked ask j xs)
       ≡ length xs
   asked-length ask j [] = refl
   asked-length ask j (x ∷ xs) = ap suc (asked-length ask (ask j x).2 xs)
 
-  -- If each item of `xs` is tested, the number of kept items is at most `length xs`.
+  -- If a judge in the state `j` tests each item of `xs`, it keeps at most `length xs` items.
   pub few-asked : (ask : J → T → Bool × T × J) (j : J) (xs : List T)
       → length (left_at true (asked ask j xs)) ≤ length xs
   few-asked ask j xs = omega (arith, few-left (asked ask j xs), asked-length ask j xs)
 
-  -- If the item `k` was kept, and each item of `xs` is then compared with the last item kept before
-  -- it, the number of verdicts is `length xs`. The lemma `pairs-length` is about a list whose first
-  -- item is kept without a comparison. This item has a verdict, too, so there are again as many
-  -- verdicts as items.
+  -- Suppose that the item `k` is kept, and that each item of `xs` is then compared with the last
+  -- item kept before it. Then there is exactly one verdict for each item of `xs`. The lemma
+  -- `pairs-length` states the same for a whole list, whose first item is kept without a comparison.
   last-length : (same : J → T → T → Bool × T × T × J) (j : J) (k : T) (xs : List T)
       → length (asked_last same j k xs).1 ≡ length xs
   last-length same j k [] = refl
@@ -185,23 +190,24 @@ module _ {T J : Type 0} where
   pairs-length same j [] = refl
   pairs-length same j (x ∷ xs) = ap suc (last-length same j x xs)
 
-  -- If each item of `xs` except the first is compared with the last item kept before it, the number
-  -- of kept items is at most `length xs`.
+  -- Suppose that the first item of `xs` is kept, and that each later item is compared with the last
+  -- item kept before it. Then at most `length xs` items are kept.
   pub few-pairs : (same : J → T → T → Bool × T × T × J) (j : J) (xs : List T)
       → length (left_at true (asked_pairs same j xs)) ≤ length xs
   few-pairs same j xs = omega (arith, few-left (asked_pairs same j xs), pairs-length same j xs)
 
--- The lemmas of this module show that `dedup` with the equality test `E` keeps the same items as
--- `dedup_by` with a judge that returns the results of `E`.
+-- These lemmas compare `dedup`, which uses the equality test `E`, with `dedup_by`, which asks a
+-- judge. If the judge returns the results of `E`, then both methods keep the same items.
 module _ {T J : Type 0} (E : T → T → Bool) (j : J) where
-  -- `tells` is the test `E` in the form of a method of a judge. It returns the result of `E`, and
-  -- changes neither the items nor the state of the judge.
+  -- `tells` is a method of a judge that compares two items with the test `E`. It returns the result
+  -- of `E`, and changes neither the items nor the state of the judge.
   abbrev pub tells : J → T → T → Bool × T × T × J
   tells j later kept = (E later kept, later, kept, j)
 
-  -- Suppose that `k` is the last item that was kept before the items `xs`. Then `dedup_from`
-  -- returns `k`, followed by the items of `xs` that a judge with the test `E` keeps. The flags of
-  -- `unlike_from` say which items of `xs` these are.
+  -- Suppose that `k` is the last item kept before the items `xs`, and that a judge compares items
+  -- with the test `E`. Then the list `dedup_from E k xs` consists of `k` and the items of `xs` that
+  -- this judge keeps. The flags `unlike_from E k xs` say for each item of `xs` whether the judge
+  -- keeps it.
   dedup-last : (k : T) (xs : List T) → Leaves (unlike_from E k xs) (dedup_from E k xs)
       (asked_last tells j k xs)
   dedup-last k [] = (refl, refl)
@@ -216,9 +222,9 @@ module _ {T J : Type 0} (E : T → T → Bool) (j : J) where
       told by true = let h = by k in (ap (λ l. false ∷ l) h.0, h.1)
       told by false = let h = by x in (ap (λ l. true ∷ l) h.0, ap (λ l. k ∷ l) h.1)
 
-  -- `dedup E xs` contains exactly the items of `xs` that a judge with the test `E` keeps. The
-  -- number of moves is the same, whether it is computed from the flags of `unlike` or from the
-  -- verdicts of the judge.
+  -- Suppose that a judge compares items with the test `E`. Then the list `dedup E xs` contains
+  -- exactly the items of `xs` that this judge keeps. The flags of `unlike E xs` and the verdicts of
+  -- the judge result in the same number of moves.
   pub dedup-pairs : (xs : List T)
       → (moved_down (unlike E xs) ≡ moved_down (flags_of (asked_pairs tells j xs)))
       × (dedup E xs ≡ left_at true (asked_pairs tells j xs))
@@ -226,8 +232,8 @@ module _ {T J : Type 0} (E : T → T → Bool) (j : J) where
   dedup-pairs (x ∷ xs) = let h = dedup-last x xs in (ap moved_down h.0, h.1)
 
   -- Suppose that `dedup` compared items with the test `E`, and turned the list `v` into `w`. Then
-  -- `w` contains exactly the items of `v` that a judge with the test `E` keeps. The function
-  -- `sifted` computes this list.
+  -- `w` contains exactly the items of `v` that a judge keeps if it compares items with `E`. The
+  -- function `sifted` computes this list.
   pub deduped-alike : {A : Type 0} (v w : Thin T A) → w.items ≡ dedup E v.items → w.cost
       ≡ moving (moved_down (unlike E v.items)) v.cost
       → w.capacity ≡ v.capacity → w.alloc ≡ v.alloc → w ≡ sifted v (asked_pairs tells j v.items)

@@ -1,4 +1,4 @@
--- The lemmas about commands and about sequences of commands (runs).
+-- These modules contain lemmas about commands, and about runs, which are sequences of commands.
 pub mod HintedLemmas
 mod CommandLemmas
 pub mod RunLemmas

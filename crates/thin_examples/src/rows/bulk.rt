@@ -38,8 +38,8 @@ pub fn row_15<A: Allocator + Copy>(alloc: A) -> Outcome {
     Ok(checks)
 }
 
-/// For each of the lower bounds 0, 3, 5 and 9, extends a new list with an iterator of five items
-/// whose size hint has this lower bound. Checks the items and the capacity of the list.
+/// Extends new lists with iterators of five items. The lower bounds of the size hints of these
+/// iterators are 0, 3, 5 and 9. Checks the items and the capacity of each list.
 pub fn row_24<A: Allocator + Copy>(alloc: A) -> Outcome {
     let mut checks = Checks::new();
     for (lower, capacity) in [(0, 8), (3, 8), (5, 5), (9, 9)] {
@@ -50,8 +50,9 @@ pub fn row_24<A: Allocator + Copy>(alloc: A) -> Outcome {
     Ok(checks)
 }
 
-// Checks the error of a failed `extend`. Its cause must be `CapacityOverflow`, its field `in_hand`
-// must be `None`, and its iterator must still yield all items.
+// Checks the error of a failed `extend`. The cause must be `CapacityOverflow`. The field `in_hand`
+// must be `None`, which means that no item was taken from the iterator. The iterator must still
+// yield all items.
 fn check_refused<A: Allocator>(checks: &mut Checks, refused: ExtendRefused<i32, Hinted<i32, A>>) {
     let ExtendRefused {
         cause,

@@ -50,7 +50,8 @@ pub fn row_14<A: Allocator + Copy>(alloc: A) -> Outcome {
     Ok(checks)
 }
 
-/// Checks `dedup_by_key` and `dedup`, and a call to `pop` after each of them.
+/// Checks a call to `dedup_by_key` on one list, and a call to `dedup` on another list. Then checks
+/// a call to `pop` on each list.
 pub fn row_34<A: Allocator + Copy>(alloc: A) -> Outcome {
     let mut checks = Checks::new();
     let mut tens = listed(alloc, [10, 20, 21, 30, 20])?;

@@ -1,6 +1,6 @@
-//! Worked examples of `thin_vec!`, and of iterating over, comparing, hashing, writing to and
-//! converting lists. A worked example compares the results of calls with values that were worked
-//! out by hand.
+//! Worked examples of `thin_vec!`, and of calls that iterate over, compare, hash, convert or write
+//! to lists. A worked example compares the results of calls with values that were worked out by
+//! hand.
 use crate::checks::Checks;
 use crate::rows::{Outcome, listed};
 use std::alloc::Allocator;

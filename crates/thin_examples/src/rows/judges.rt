@@ -1,12 +1,14 @@
-//! The judge that the worked example for commands passes to `run`. A judge is a value that makes
-//! decisions in place of a closure: for example, it decides which items `retain` keeps.
+//! The judge that a worked example passes to the function `run`, which carries out commands on a
+//! list. A judge is a value that makes decisions in place of a closure: for example, it decides
+//! which items `retain` keeps.
 ghost use Rattle.std.specs.Ordering.{int_eq};
 ghost use Rattle.std.specs.Prelude.{int_rem, pos};
 
 use thin_runner::judge::Judge;
 
-/// A judge that chooses the even numbers, and treats two numbers as duplicates if they are equal.
-/// It does not change the numbers.
+/// A judge that chooses the even numbers. For `dedup_by`, two numbers are duplicates if they are
+/// equal. For `dedup_by_key`, all numbers are duplicates, because they all have the key 0. The
+/// judge does not change the numbers.
 #[derive(Clone, Copy)]
 pub struct Evens;
 

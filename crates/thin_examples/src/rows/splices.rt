@@ -1,5 +1,5 @@
-//! Worked examples of `splice`, and one of calls on an empty list. A worked example compares the
-//! results of calls with values that were worked out by hand.
+//! Worked examples of `splice`, and a worked example of calls on an empty list. A worked example
+//! compares the results of calls with values that were worked out by hand.
 use crate::checks::Checks;
 use crate::rows::bulk::claiming;
 use crate::rows::{Outcome, listed};
@@ -8,8 +8,8 @@ use std::iter::{empty, once};
 use thin_runner::hinted::Hinted;
 use thin_vec::{SpliceRefused, ThinVec, ThinVecError};
 
-// Replaces two of five items with the three items of an iterator, and checks the items and the
-// capacity of the list. The lower bound of the iterator's size hint is `claim`.
+// Replaces two of five items with the three items of an iterator. The lower bound of the iterator's
+// size hint is `claim`. Checks the items and the capacity of the list afterwards.
 fn check_claimed<A: Allocator + Copy>(
     checks: &mut Checks,
     alloc: A,
@@ -32,9 +32,9 @@ pub fn row_10<A: Allocator + Copy>(alloc: A) -> Outcome {
     Ok(checks)
 }
 
-// Checks the error of a failed `finish`. Its cause must be `CapacityOverflow`, its fields `held`
-// and `in_hand` must contain no item, and its iterator must still yield the item that was not
-// inserted.
+// Checks the error of a failed `finish`. The cause must be `CapacityOverflow`. The fields `held`
+// and `in_hand` must be empty, which means that every item taken from the iterator was inserted.
+// The iterator must still yield its last item.
 fn check_refused<A: Allocator>(
     checks: &mut Checks,
     refused: SpliceRefused<i32, Hinted<i32, A>, A>,
@@ -80,7 +80,7 @@ fn check_edits_of_nothing<A: Allocator + Copy>(
     Ok(())
 }
 
-// Calls `retain` and `dedup_by` on the list, and returns how many times they call their closures.
+// Calls `retain` and `dedup_by` on the list, and returns the number of calls to their closures.
 fn count_questions<A: Allocator>(list: &mut ThinVec<i32, A>) -> u32 {
     let mut calls = 0u32;
     list.retain(|_item| {
@@ -135,8 +135,8 @@ fn check_spliced<A: Allocator + Copy>(
     Ok(list)
 }
 
-// Checks a second `splice` of the same list. The second `splice` yields an item that the first one
-// inserted.
+// Checks a second `splice` of the list that `check_spliced` returned. The second `splice` yields an
+// item that the first one inserted.
 fn check_spliced_again<A: Allocator + Copy>(
     checks: &mut Checks,
     alloc: A,

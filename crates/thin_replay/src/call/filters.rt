@@ -33,9 +33,9 @@ pub fn parse(words: &[&str]) -> Result<Option<Call>, LineError>
     }
 }
 
-// Returns the command with the name `name` if a line with this command consists of the name and
-// three words that describe a judge. Otherwise, returns `None`. A judge makes decisions in place of
-// a closure.
+// Returns `Retain`, `RetainMut`, `DedupBy` or `DedupByKey` if `name` is the name of this command,
+// and `None` otherwise. On a line with such a command, three words follow the name. They describe a
+// judge, which makes decisions in place of a closure.
 fn filter(name: &str) -> Option<Command<u64>>
     ensures filter { IfSome result (IsFilter name.now) }
 {

@@ -1,11 +1,11 @@
--- This file proves the contract of `carry_out`. The proofs use the fact that a run of one command
--- has exactly one reply.
+-- This file proves the contract of `carry_out`, which carries out a single command. The proofs use
+-- the fact that a single command gets exactly one reply.
 use Rattle.std.proofs.Common.{◌≡◌, [], ◌∷◌, ap, arith, ◌++◌, ◌∙◌}
 use Rattle.thin_replay.proofs.RunLemmas.{headline-one, one_reply}
 use Rattle.thin_replay.proofs.carried_out.carry_out.Goals as goal
 
--- There is exactly one reply. So `pop` returns `Some`, and the precondition of the following
--- `unwrap` holds.
+-- The run of the single command has exactly one reply. So `pop` returns `Some`, and the
+-- precondition of the following call to `unwrap` holds.
 pub unwrap-requires : goal.unwrap-requires
 unwrap-requires g c =
     let one : c.push.new.self.items ≡ c.args.command ∷ [] =
@@ -17,7 +17,8 @@ unwrap-requires g c =
           c.in-Ok-run.ensures.ok,
     ))
 
--- The popped reply is the only reply, so the main theorem `Headline` holds for this reply.
+-- The reply that `pop` returns is the only reply of the run. So the main theorem `Headline` holds
+-- for the single command and this reply.
 pub returns-in-Ok-run-clause-ok : goal.returns-in-Ok-run-clause-ok
 returns-in-Ok-run-clause-ok g c =
     let one : c.push.new.self.items ≡ c.args.command ∷ [] =

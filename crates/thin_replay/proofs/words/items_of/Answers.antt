@@ -10,7 +10,7 @@ use Rattle.thin_replay.proofs.words.items_of.Goals as goal
 pub loop-word-init : goal.loop-word-init
 loop-word-init c = rw c.new-items.ensures.items tt
 
--- Each iteration preserves the loop invariant, because it parses the next word and pushes the
+-- Each iteration preserves the loop invariant, because it parses the next word and appends the
 -- resulting number to the `Vec`.
 pub loop-word-preserved : goal.loop-word-preserved
 loop-word-preserved c =

@@ -1,17 +1,17 @@
--- This file proves the contract of `steps_of`. The loop of `steps_of` parses one letter in each
--- iteration.
+-- This file proves the contract of `steps_of`. This function parses the letters of a word as steps,
+-- which are calls to `next` or `next_back`. Each iteration of its loop parses one letter.
 use Rattle.std.proofs.Common.{inr, rules}
 use Rattle.thin_replay.proofs.WordsLemmas.{zip-all, zip-next}
 use Rattle.thin_replay.specs.Words.{IsStep}
 use Rattle.thin_replay.proofs.words.steps_of.Goals as goal
 
 -- The loop invariant holds before the first iteration, because no letter has been parsed yet, and
--- there are no steps yet.
+-- the list of steps is empty.
 pub loop-letter-init : goal.loop-letter-init
 loop-letter-init c = rw c.new-steps.ensures.items tt
 
--- Each iteration preserves the loop invariant, because it parses the next letter and pushes the
--- resulting step.
+-- Each iteration preserves the loop invariant, because it parses the next letter and appends the
+-- resulting step to the list of steps.
 pub loop-letter-preserved : goal.loop-letter-preserved
 loop-letter-preserved c =
     rw c.in_ok-push.ensures.items
@@ -19,8 +19,8 @@ loop-letter-preserved c =
     c.loop-letter.steps.items c.in_ok-step_of.field-0 c.loop-letter-test.true
     c.loop-letter.invariant (search rules))
 
--- After the loop, all letters have been parsed. So there is one step for each letter of the word,
--- in the same order.
+-- After the loop, all letters have been parsed. So the list of steps contains one step for each
+-- letter of the word, in the same order.
 pub returns : goal.returns
 returns c = record {
   steps = inr (rw (← c.as_bytes-letters.ensures.value)

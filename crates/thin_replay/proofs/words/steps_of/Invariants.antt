@@ -1,10 +1,11 @@
 -- This file contains the loop invariant of `steps_of`. This function parses each letter of a word
--- as a step of an iterator.
+-- as a step, which is a call to `next` or `next_back`.
 use Rattle.std.proofs.Common.{take}
 use Rattle.std.specs.List.{AllZip}
 use Rattle.thin_replay.specs.Words.{IsStep}
 use Rattle.thin_replay.proofs.words.steps_of.Given as goal
 
--- There is one step for each letter that has been parsed so far, in the same order.
+-- The list of steps contains one step for each letter that has been parsed so far, in the same
+-- order.
 abbrev pub invariant-loop-letter : goal.invariant-loop-letter
 invariant-loop-letter l = AllZip IsStep (take l.letter-index l.letters) l.steps.items

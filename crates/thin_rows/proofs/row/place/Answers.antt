@@ -1,13 +1,13 @@
--- The columns of the entries are strictly increasing, and the binary search compares them with the
--- given column. So the search finds the index of the column's entry, or the index at which such an
+-- `place` searches for a column in a list of entries whose columns are strictly increasing. So the
+-- binary search returns either the index of the entry of this column, or the index at which such an
 -- entry would be inserted.
 use Rattle.std.proofs.Common.{rules}
 use Rattle.std.proofs.lemmas.List.Sorted.{answers_always}
 use Rattle.thin_rows.proofs.EntriesLemmas.{searched}
 use Rattle.thin_rows.proofs.row.place.Goals as goal
 
--- The search returns the index of the column's entry, or the index at which such an entry would be
--- inserted.
+-- If there is an entry of the given column, the search returns the index of this entry. Otherwise,
+-- the search returns the index at which such an entry would be inserted.
 pub returns : goal.returns
 returns g c =
     let told = c.binary_search_by_key.ensures in

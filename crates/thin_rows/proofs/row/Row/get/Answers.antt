@@ -1,5 +1,6 @@
--- The entries of a row represent a map. If a column has an entry, the value in this entry is the
--- value of the map at this column. Otherwise the map has no value there.
+-- The list of a row's entries represents a map. If `get` finds an entry of the column in the list,
+-- the value of this entry is also the value of the map at this column. If `get` finds no entry, the
+-- map has no value at this column.
 use Rattle.std.proofs.Common.{sym}
 use Rattle.thin_rows.proofs.RowLemmas.{get_at, get_gap}
 use Rattle.thin_rows.proofs.row.Row.get.Goals as goal

@@ -1,6 +1,6 @@
--- `get_mut` searches the stored list for the entry of a column. If the search succeeds, the
--- returned index is also the index of this entry among the entries of the map. Otherwise the map
--- has no value at the column.
+-- `get_mut` searches the stored list for the entry of a column. The map that the list represents
+-- has the same entries in the same order. So if the search succeeds, the returned index is also the
+-- index of this entry in the map. If the search fails, the map has no value at the column.
 use Rattle.std.proofs.Common.{nat_cmp, refl, sym}
 use Rattle.std.specs.FinMap.{entries-from_sorted}
 use Rattle.thin_rows.proofs.RowLemmas.{get_gap}

@@ -1,5 +1,5 @@
--- `set` overwrites the entry of the column, or inserts a new entry. Afterwards, the entries
--- represent the old map with the new value at the column.
+-- `set` overwrites the entry of the column if there is one, and inserts a new entry otherwise.
+-- Afterwards, the entries represent the old map with the new value at the column.
 use Rattle.std.proofs.Common.{inl, inr, ◌≡◌, ◌+◌, sym, ap, ◌∙◌, length, length-set, arith, refl, Some}
 use Rattle.std.proofs.lemmas.Bool.{cases_lt, false≢true}
 use Rattle.std.specs.FinMap.{len}
@@ -64,9 +64,9 @@ returns-in-Err-insert-clause-succeeds g c some =
     rw (← c.self.view_is, get_gap row.items c.self.invariant.rising c.args.column c.in-Err.at gap)
     at some
 
--- If the insertion fails, the cause is `CapacityOverflow` if and only if the growth rule returns
--- `None` when the row needs room for one more entry. The list was full before the call, so its
--- capacity was the number of its entries.
+-- Suppose that `set` cannot insert a new entry. Then the stored list was full before the call, so
+-- its capacity was the number of its entries. The error is `CapacityOverflow` if and only if the
+-- growth rule chooses no capacity for one more entry.
 pub returns-in-Err-insert-clause-overflow : goal.returns-in-Err-insert-clause-overflow
 returns-in-Err-insert-clause-overflow g c =
     let row = c.self.inside.entries in

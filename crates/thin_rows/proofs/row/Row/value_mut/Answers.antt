@@ -1,6 +1,6 @@
--- The caller can change the value of the borrowed entry, but not its column. So a value that is
--- written through the reference becomes the value at this column in the map that the row
--- represents.
+-- `value_mut` lends the value of an entry to the caller. The caller can change this value, but not
+-- the column of the entry. So if the caller writes a new value, the map that the row represents has
+-- the new value at the same column.
 use Rattle.std.proofs.Common.{◌≡◌, Some, nat_cmp, length-set, refl, sym, ap, ◌∙◌}
 use Rattle.std.proofs.lemmas.Option.{get_or_from_slice_get}
 use Rattle.std.specs.FinMap.{entries-from_sorted}
@@ -15,8 +15,8 @@ index_mut-requires g c =
     ) at
     c.requires.place).in_bounds
 
--- The row satisfies its invariant after any value has been written through the reference, because
--- the borrowed entry keeps its column.
+-- The row still satisfies its invariant after the caller has written any value through the returned
+-- reference, because the column of the borrowed entry does not change.
 pub invariant_of-self-lent : goal.invariant_of-self-lent
 invariant_of-self-lent g c w =
     let row = c.self.inside.entries in

@@ -1,5 +1,5 @@
--- `get_mut` borrows one row of the table. Writing this row back unchanged does not change the
--- table.
+-- `get_mut` borrows one row of the table. If this row is written back unchanged, then the table
+-- does not change.
 use Rattle.std.proofs.Common.{◌≡◌, ap, slice_index_or, slice_set, sym, ◌∙◌}
 use Rattle.std.proofs.lemmas.List.{set-get_or}
 use Rattle.std.proofs.lemmas.Option.{get_or_from_slice_get}

@@ -4,9 +4,9 @@ use Rattle.std.proofs.Common.{◌≡◌, ◌+◌, ◌-◌, ◌^◌, ◌<◌, map
 use Rattle.std.specs.FinMap.{len}
 use Rattle.thin_rows.proofs.table.Rows.len.Given as goal
 
--- The number of all entries equals the count plus the number of entries in the rows that have not
--- been visited yet, or this number and this sum are both at least `usize::MAX`. The count fits into
--- a `usize`.
+-- The number of entries of the table equals the count plus the number of entries in the rows that
+-- have not been visited yet. For this comparison, both numbers are capped at `usize::MAX`. The
+-- count fits into a `usize`.
 abbrev pub invariant-loop-row : goal.invariant-loop-row
 invariant-loop-row g l =
     (min (l.count + sum (map (λ row. len row) l.row-iterator.rest.now)) (2 ^ 64 - 1)
