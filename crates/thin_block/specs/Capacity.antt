@@ -1,5 +1,5 @@
--- This file computes the size of a block in bytes, and defines which capacities are small enough
--- for an allocation. In this file, `s` and `a` are the size and the alignment of an item, in bytes.
+-- This file computes the size of a block in bytes, and defines when a block is small enough to be
+-- allocated. In this file, `s` and `a` are the size and the alignment of an item, in bytes.
 use Rattle.std.specs.Prelude.{◌≡◌, ℕ, ◌+◌, ◌*◌, ◌-◌, ◌^◌, ◌&&◌, ◌==◌, Bool, IsTrue, Option, if◌then◌else◌, max, nat_lt}
 use Rattle.std.specs.declared.option.Option.TheVariants.{Some, None}
 use Rattle.std.specs.Int.{next_multiple_of}
@@ -34,8 +34,8 @@ abbrev pub is_small : ℕ → ℕ → ℕ → Bool
 is_small s a c = nat_lt c (2 ^ 63) && nat_lt (block_bytes s a c) (2 ^ 63)
 
 -- `fits s a c` is true if a block for `c` items of size `s` and alignment `a` is small enough to be
--- allocated. Its value is `is_small s a c`, but the prover unfolds `fits` only if a proof asks for
--- it.
+-- allocated. Its value is `is_small s a c`, but the prover does not unfold the definition of `fits`
+-- unless a proof asks for this.
 unfoldable pub fits : ℕ → ℕ → ℕ → Bool
 fits s a c = is_small s a c
 
@@ -43,9 +43,10 @@ fits s a c = is_small s a c
 abbrev pub Fits : RattleType → ℕ → Type 0
 Fits R c = IsTrue (fits (type_size R) (type_align R) c)
 
--- `first s` is the capacity that the rule `Doubling` chooses for the first block of a list, unless
--- the list needs room for more than `first s` items. It is 1 if the size `s` of an item exceeds
--- `usize::MAX / 8` bytes, and 4 otherwise, as in the Rust crate thin-vec.
+-- Suppose that an item takes `s` bytes. Then `first s` is the capacity that the rule `Doubling`
+-- chooses for the first block of a list. (The rule chooses a greater capacity if the list needs
+-- room for more items.) `first s` is 1 if `s` exceeds `usize::MAX / 8`, and 4 otherwise, as in the
+-- Rust crate thin-vec.
 unfoldable pub first : ℕ → ℕ
 first s = if nat_lt (2 ^ 61 - 1) s then 1 else 4
 

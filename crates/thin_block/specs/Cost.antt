@@ -12,9 +12,9 @@ pub record Cost : Type 0 where
   -- The number of items that reallocations have copied. At each reallocation, every item of the
   -- block counts as copied, even if the address of the block does not change.
   pub grown : ℕ
-  -- The number of moves of items into the block or within the block. Putting a clone into the block
-  -- counts as one move, and so does exchanging two items. Taking an item out of the block does not
-  -- count.
+  -- The number of times that an item was moved into the block or within the block. Putting a clone
+  -- into the block counts as one move, and so does exchanging two items. Taking an item out of the
+  -- block does not count.
   pub moves : ℕ
 
 -- `cost_code` encodes a value of the type `Cost` as its three counts.
@@ -28,8 +28,7 @@ cost_code =
 abbrev pub no_cost : Cost
 no_cost = record { blocks = 0; grown = 0; moves = 0 }
 
--- `growing k c` is the cost `c` plus the cost of one granted memory request during which `k` items
--- were copied.
+-- `growing k c` is the cost `c` with one more granted request for memory and `k` more copied items.
 abbrev pub growing : ℕ → Cost → Cost
 growing k c = record { blocks = c.blocks + 1; grown = c.grown + k; moves = c.moves }
 

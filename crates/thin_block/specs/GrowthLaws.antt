@@ -1,6 +1,7 @@
 -- This file proves that the rule `doubling` satisfies the law of growth rules: each new capacity
 -- has room for the wanted items, is at least twice the old capacity, and is not too large. The
--- proof is in `specs` and not in `proofs`, because the impl of `Growth` refers to it.
+-- proof is in `specs` and not in `proofs`, because the impl of `Growth` refers to the lemma
+-- `doubling_law`.
 use Rattle.std.specs.Prelude.{◌≡◌, ℕ, ◌*◌, ◌≤◌, ◌==◌, Bool, true, false, IsTrue, if◌then◌else◌, max, refl}
 use Rattle.std.specs.declared.option.Option.TheVariants.{Some, None}
 use Rattle.std.proofs.Common.{subst, arith}
@@ -19,11 +20,12 @@ pub fitting_is : (s a m n : ℕ) → fitting s a m ≡ Some n → IsTrue (fits s
 unfolding fitting
 fitting_is s a m n e = when_some (fits s a m) m n e
 
--- The capacity that the rule `Doubling` computes is at least twice the old capacity `c`.
+-- Let `c` be the old capacity, `w` the required capacity, and `s` the size of an item. Then the
+-- capacity that the rule `Doubling` computes is at least `2 * c`.
 twice : (s c w : ℕ) → 2 * c ≤ max w (if c == 0 then first s else 2 * c)
 twice s c w = grind (arith, nat_tests)
 
--- The rule `doubling` satisfies the law of growth rules.
+-- The rule `doubling` satisfies `KeepsLaw`, the law of growth rules.
 pub doubling_law : KeepsLaw doubling
 unfolding doubling
 doubling_law s a c w n more word e =

@@ -1,4 +1,4 @@
--- This file defines what a block holds after a mutable borrow (`&mut`) of some of its items has
+-- This file defines what a block contains after a mutable borrow (`&mut`) of some of its items has
 -- ended.
 use Rattle.std.specs.Prelude.{◌≡◌, ℕ, zero, suc, ◌≤◌, List, [], ◌∷◌, length, Option, slice_set}
 use Rattle.std.specs.declared.option.Option.TheVariants.{None, Some}
@@ -54,13 +54,12 @@ module _ {X Z : Type 0} where
   with_items b i ws = with_slots b (over b.slots i ws) (length-over b.slots i ws)
 
 module _ (T A : RattleType) (g : Ghosts A.Denot) (b : MutBor (Block T.Denot A.Denot)) where
-  -- `LendsItem i r` says that `r` is a `&mut` to the item in slot `i` of the block, and that the
-  -- slot holds the final value of `r` after the borrow has ended.
+  -- `LendsItem i r` holds if `r` is a `&mut` to the item in slot `i` of the block, and if the slot
+  -- will hold the final value of `r` after the borrow has ended.
   abbrev pub LendsItem : ℕ → MutBor T.Denot → Fml
   LendsItem i r = Lends (the_row T A g) T b r (with_item b.now i)
 
-  -- `LendsItems i r` says that `r` is a `&mut` to a slice of adjacent items of the block, starting
-  -- at slot `i`. It also says that the slots hold the final items of `r` after the borrow has
-  -- ended.
+  -- `LendsItems i r` holds if `r` is a `&mut` to the items in adjacent slots of the block, starting
+  -- at slot `i`, and if these slots will hold the final items of `r` after the borrow has ended.
   abbrev pub LendsItems : ℕ → MutBor (List T.Denot) → Fml
   LendsItems i r = Lends (the_row T A g) (Array T 0) b r (with_items b.now i)

@@ -1,5 +1,6 @@
--- These modules contain the definitions that the contracts use, the proofs that the growth rules
--- satisfy their law, and the type former of `Block`, which states which values a block contains.
+-- The following modules contain the definitions that contracts use, and the proofs that the growth
+-- rules satisfy their law. They also contain the type former of `Block`, which states which values
+-- a block contains.
 pub mod Capacity
 pub mod Growth
 pub mod GrowthLaws

@@ -1,6 +1,6 @@
--- This file describes what a block owns in memory, and what a `&` to a block lends. In this file,
--- `R` is the type of an item, including its layout. An address consists of an allocation `b` and an
--- offset `o`. No public contract refers to this file.
+-- This file describes the resources that a block owns, and what a `&` to a block gives access to.
+-- In this file, `R` is the type of an item, including its layout. An address consists of an
+-- allocation `b` and an offset `o`. No public contract refers to this file.
 use Rattle.std.specs.Prelude.{◌≡◌, ℕ, zero, suc, ◌+◌, ◌-◌, ◌*◌, List, [], ◌∷◌, length, Bool, true, false, Option}
 use Rattle.std.specs.declared.option.Option.TheVariants.{Some, None}
 use Rattle.std.specs.Int.{div_ceil}
@@ -71,20 +71,21 @@ abbrev pub word_of : Ty → ℕ → Ty
 word_of τ m = ty_struct [] (tcons (ty_array τ m) (tcons (ty_array (ty_int w64) 0) tnil))
 
 -- `words_of R` is `Some (m, k)` if `m` items of the type `R` form one word, and the header is as
--- large as `k` words. If the items form no words, `words_of R` is `None`. Its value depends only on
--- the size of an item.
+-- large as `k` words. If the items form no words, `words_of R` is `None`. This value depends only
+-- on the size of an item.
 abbrev pub words_of : RattleType → Option (ℕ × ℕ)
 words_of R = in_words (size (bare R))
 
--- `asked_for` is the type for which the memory of a block is requested: the allocator provides
--- memory for one value of this type. If the items form words, this type is an array of words, which
--- the allocator can resize in place. Otherwise it is the type of the whole block.
+-- `asked_for w τ c` is the type for which the memory of a block is requested: the allocator
+-- provides memory for one value of this type. The block has `c` slots for items of the type `τ`. If
+-- the items form words, `w` is `Some`, and the type is an array of words, which the allocator can
+-- resize in place. Otherwise it is the type of the whole block.
 abbrev pub asked_for : Option (ℕ × ℕ) → Ty → ℕ → Ty
 asked_for None τ c = whole_of τ c
 asked_for (Some w) τ c = ty_array (word_of τ w.0) (w.1 + div_ceil c w.0)
 
--- `asked R c` is the type for which the memory of a block is requested: the allocator provides
--- memory for one value of this type. The block has `c` slots for items of the type `R`.
+-- `asked R c` is the type for which the memory of a block with `c` slots for items of the type `R`
+-- is requested. The allocator provides memory for one value of this type.
 abbrev pub asked : RattleType → ℕ → Ty
 asked R c = asked_for (words_of R) (bare R) c
 
@@ -110,9 +111,9 @@ parts R c b o = parts_for (bare R) c b o
 abbrev pub way : Ty → ℕ → ℕ → ℕ → Fml
 way τ m b o = fwand (froom (ty_array τ m) b o) (froom (word_of τ m) b o)
 
--- `ways τ m w b o` contains one right for each of `w` adjacent words: the right to convert
--- uninitialized memory for the `m` items of the word into uninitialized memory for the word. The
--- first word is at the offset `o` of the allocation `b`.
+-- `ways τ m w b o` contains `w` rights, one for each of `w` adjacent words. Each of them is the
+-- right to convert uninitialized memory for `m` items of the type `τ` into uninitialized memory for
+-- one word. The first word is at the offset `o` of the allocation `b`.
 abbrev pub ways : Ty → ℕ → ℕ → ℕ → ℕ → Fml
 ways τ m zero b o = ftrue
 ways τ m (suc w) b o = fsep (way τ m b o) (ways τ m w b (o + size (word_of τ m)))
@@ -124,22 +125,24 @@ abbrev pub header_way : Ty → ℕ → ℕ → ℕ → ℕ → Fml
 header_way τ m k b o = fwand (header_room b o) (froom (ty_array (word_of τ m) k) b o)
 
 -- `slots_way τ m w c b o` contains everything that is needed to convert the memory of `c` slots
--- into memory for `w` words: the rights (`ways`) to convert memory for items into memory for words,
--- and the unused memory directly after the last slot. The first slot is at the offset `o` of the
--- allocation `b`.
+-- into memory for `w` words. It consists of the rights `ways` to convert memory for items into
+-- memory for words, and of the unused memory directly after the last slot. The first slot is at the
+-- offset `o` of the allocation `b`.
 abbrev pub slots_way : Ty → ℕ → ℕ → ℕ → ℕ → ℕ → Fml
 slots_way τ m w c b o = fsep (ways τ m w b o) (froom (ty_array τ (w * m - c)) b (o + c * size τ))
 
--- `way_back` contains the right to convert the uninitialized parts of a block back into
--- uninitialized memory for the whole block, including the padding.
+-- `way_back w τ c b o` contains the right to convert the uninitialized parts of a block back into
+-- uninitialized memory for the whole block, including the padding. The block has `c` slots for
+-- items of the type `τ`, and is at the offset `o` of the allocation `b`. `w` says whether and how
+-- the items form words.
 abbrev pub way_back : Option (ℕ × ℕ) → Ty → ℕ → ℕ → ℕ → Fml
 way_back None τ c b o = fwand (parts_for τ c b o) (froom (whole_of τ c) b o)
 way_back (Some w) τ c b o = fsep (header_way τ w.0 w.1 b o)
     (slots_way τ w.0 (div_ceil c w.0) c b (o + 16))
 
--- `backing_for` is the backing of a block, which consists of two rights. `way_back` is the right to
--- convert the parts of the block back into memory for the whole block. `t` is the right to free the
--- block.
+-- `backing_for t w τ c b o` is the backing of a block at the offset `o` of the allocation `b`. The
+-- backing consists of two rights: the right `way_back` to convert the parts of the block back into
+-- memory for the whole block, and the right `t` to free the block.
 abbrev pub backing_for : (Ty → Ptr → Fml) → Option (ℕ × ℕ) → Ty → ℕ → ℕ → ℕ → Fml
 backing_for t w τ c b o = fsep (way_back w τ c b o) (t (asked_for w τ c) (block_ptr b o))
 
@@ -151,7 +154,8 @@ backing t R c b o = backing_for t (words_of R) (bare R) c b o
 
 -- `frame t R n c b o` is a block, except for its slots, at the offset `o` of the allocation `b`. It
 -- consists of the capacity `c` and the length `n` in memory, the fact that the block is small
--- enough to be allocated, and the backing with the right `t` to free the block.
+-- enough to be allocated, and the backing of the block. The backing includes the right `t` to free
+-- the block.
 abbrev pub frame : (Ty → Ptr → Fml) → RattleType → ℕ → ℕ → ℕ → ℕ → Fml
 frame t R n c b o =
     fsep (lies_at usize full_share (block_ptr b o) c)
@@ -159,7 +163,7 @@ frame t R n c b o =
     (fsep (feq Bool (fits_block R c) true) (backing t R c b o)))
 
 -- `block_owns` states what a block owns. A block with an allocation owns its header, its slots, and
--- the right to free the allocation. A block without an allocation owns nothing. It only shares the
+-- the right to free the allocation. A block without an allocation owns no memory. It shares the
 -- static header, whose two words are always 0.
 abbrev pub block_owns : {D : Type 0} → (D → Ty → Ptr → Fml) → (R : RattleType) → Ptr → ℕ
     → List (Option R.Denot) → Option D → Fml
@@ -169,19 +173,22 @@ block_owns t R (block_ptr b o) n xs None = fsep (lent_at usize (block_ptr b o) 0
 block_owns t R (block_ptr b o) n xs (Some a) = fsep (frame (t a) R n (length xs) b o)
     (places R xs b (o + 16))
 
--- `place_lent` is a `&` to the item in a slot, or nothing if the slot is empty.
+-- `place_lent R x p l` is a `&` to the item in the slot `x` at the address `p`. The reference has
+-- the lifetime `l`. If the slot is empty, `place_lent R x p l` contains no reference.
 abbrev pub place_lent : (R : RattleType) → Option R.Denot → Ptr → Lft → Fml
 place_lent R (Some x) p = lent_at R p x
 place_lent R None p = nothing
 
--- `places_lent` contains a `&` to each item in several adjacent slots.
+-- `places_lent R xs b o l` contains a `&` to each item in the adjacent slots `xs`. The first slot
+-- is at the offset `o` of the allocation `b`, and the references have the lifetime `l`.
 abbrev pub places_lent : (R : RattleType) → List (Option R.Denot) → ℕ → ℕ → Lft → Fml
 places_lent R [] b o = nothing
 places_lent R (x ∷ xs) b o = beside (place_lent R x (block_ptr b o))
     (places_lent R xs b (o + type_size R))
 
--- `frame_lent` contains a `&` to the capacity and a `&` to the length of a block. It also contains
--- the fact that the block is small enough to be allocated.
+-- `frame_lent R n c b o l` contains a `&` to the capacity `c` and a `&` to the length `n` of a
+-- block at the offset `o` of the allocation `b`. The references have the lifetime `l`. `frame_lent
+-- R n c b o l` also contains the fact that the block is small enough to be allocated.
 abbrev pub frame_lent : (R : RattleType) → ℕ → ℕ → ℕ → ℕ → Lft → Fml
 frame_lent R n c b o =
     beside (lent_at usize (block_ptr b o) c)

@@ -1,8 +1,8 @@
 -- This file proves that the rule `power_bytes` satisfies the law of growth rules. It also proves
--- that each capacity `c` that the rule chooses for items of at least one byte fills a power of two.
--- This means that for some `j`, the header and `c` items fit into `2 ^ j` bytes, but the header and
--- `c + 1` items do not. The proofs are in `specs` and not in `proofs`, because the impl of `Growth`
--- refers to them.
+-- that blocks for items of at least one byte fill a power of two: if the rule chooses the capacity
+-- `c`, then for some `j`, the header and `c` items fit into `2 ^ j` bytes, but the header and `c +
+-- 1` items do not. The proofs are in `specs` and not in `proofs`, because the impl of `Growth`
+-- refers to the lemma `power_bytes_law`.
 use Rattle.std.specs.Prelude.{◌≡◌, ℕ, zero, suc, ◌+◌, ◌-◌, ◌*◌, ◌/◌, ◌^◌, ◌<◌, ◌≤◌, ◌==◌, nat_le, Bool, true, false, IsTrue, if◌then◌else◌, max, refl}
 use Rattle.std.specs.declared.option.Option.TheVariants.{Some}
 use Rattle.std.specs.Int.{IsPowerOfTwo, IsNextPowerOfTwo}
@@ -23,16 +23,17 @@ below_power : (n : ℕ) → n < 2 ^ n
 below_power zero = omega arith
 below_power (suc n) = omega (arith, below_power n, pow_more 2 n)
 
--- Suppose that `p` is a power of two with `p / 2 < max 1 n`. Suppose also that if `p < n`, then
--- `next` is the least power of two that is at least `n`. Then the least power of two that is at
--- least `n` is `p` if `n <= p`, and `next` otherwise.
+-- Let `t` be the least power of two that is at least `n`. Suppose that `p` is a power of two with
+-- `p / 2 < max 1 n`, and that `next` equals `t` if `p < n`. Then `t` is `p` if `n <= p`, and `next`
+-- otherwise. The value `b` is the result of the test `n <= p`.
 one_step : (b : Bool) (n p next : ℕ) → nat_le n p ≡ b → IsPowerOfTwo p → p / 2 < max 1 n
     → (p < n → IsNextPowerOfTwo n next) → IsNextPowerOfTwo n (if b then p else next)
 one_step true n p next e power half later = (power, leb-true n p e, half)
 one_step false n p next e power half later = later (leb-false n p e)
 
--- Suppose that `p` is a power of two with `p / 2 < max 1 n` and `n <= 2 ^ k * p`. Then
--- `doubled_to k n p` is the least power of two that is at least `n`.
+-- Suppose that `p` is a power of two with `p / 2 < max 1 n` and `n <= 2 ^ k * p`. Then `doubled_to
+-- k n p`, which doubles `p` at most `k` times until the result is at least `n`, is the least power
+-- of two that is at least `n`.
 doubled_is : (k n p : ℕ) → IsPowerOfTwo p → p / 2 < max 1 n → n ≤ 2 ^ k * p
     → IsNextPowerOfTwo n (doubled_to k n p)
 doubled_is zero n p power half enough = (power, omega (arith, enough), half)
@@ -44,7 +45,8 @@ doubled_is (suc k) n p power half enough =
     (λ less. doubled_is k n (2 * p) (power.0 + 1, next) (omega (arith, less))
     (omega (arith, enough, twice)))
 
--- `least_power n` is indeed the least power of two that is at least `n`.
+-- The definition `least_power` is correct: `least_power n` is the least power of two that is at
+-- least `n`.
 pub least_power_is : (n : ℕ) → IsNextPowerOfTwo n (least_power n)
 unfolding least_power
 least_power_is n = doubled_is n n 1 (0, refl) (omega arith) (omega (arith, below_power n))
@@ -74,32 +76,33 @@ pub powers_of_none : (s a c w : ℕ) → s ≡ 0 → power_bytes s a c w ≡ dou
 unfolding power_bytes
 powers_of_none s a c w none = let test : (s == 0) ≡ true = grind (arith, nat_tests) in rw test refl
 
--- If items take at least one byte, `power_bytes` adds the size of the header to the size of
--- `max w (2 * c)` items, and rounds the sum up to a power of two. It chooses the greatest number of
--- items that fit into that many bytes together with the header, or `None` if this capacity is too
--- large.
+-- Suppose that the size `s` of an item is at least 1. Then the rule `power_bytes` computes the
+-- total size of the header and of `max w (2 * c)` items, and rounds it up to a power of two. It
+-- chooses the greatest number of items that fit into this power of two together with the header. If
+-- this number is too large, the result is `None`.
 pub powers_of_some : (s a c w : ℕ) → 0 < s → power_bytes s a c w ≡ fitting s a
     ((least_power (items_offset a + max w (2 * c) * s) - items_offset a) / s)
 unfolding power_bytes
 powers_of_some s a c w some = let test : (s == 0) ≡ false = grind (arith, nat_tests) in rw test refl
 
--- In this module, items take at least one byte, and `power_bytes` chooses the capacity `n`.
+-- In this module, the size `s` of an item is at least 1, and `power_bytes` chooses the capacity
+-- `n`.
 module _ (s a c w n : ℕ) (some : 0 < s) (e : power_bytes s a c w ≡ Some n) where
-  -- `wanted` is the size in bytes of `w` items or of `2 * c` items, whichever is greater.
+  -- `wanted` is the total size in bytes of `max w (2 * c)` items.
   abbrev wanted : ℕ
   wanted = max w (2 * c) * s
 
-  -- `power` is the least power of two that is at least the sum of `wanted` and the number of bytes
-  -- before the first item.
+  -- `power` is the least power of two that is at least `wanted` plus the offset of the first item
+  -- in a block.
   abbrev power : ℕ
   power = least_power (items_offset a + wanted)
 
   -- The capacity `n` is the greatest number of items that fit into `power` bytes together with the
-  -- header, and a block of this capacity is small enough to be allocated.
+  -- header. A block of this capacity is small enough to be allocated.
   named : IsTrue (fits s a ((power - items_offset a) / s)) × ((power - items_offset a) / s ≡ n)
   named = fitting_is s a ((power - items_offset a) / s) n (sym (powers_of_some s a c w some) ∙ e)
 
-  -- A block of `power` bytes has room for the header and for `wanted` more bytes.
+  -- The header and `wanted` further bytes fit into `power` bytes.
   room : items_offset a + wanted ≤ power
   room = (least_power_is (items_offset a + wanted)).1
 
@@ -130,7 +133,7 @@ module _ (s a c w n : ℕ) (some : 0 < s) (e : power_bytes s a c w ≡ Some n) w
         is_full = omega (arith, room, parts, whole, rest, next);
       }
 
--- The rule `power_bytes` satisfies the law of growth rules.
+-- The rule `power_bytes` satisfies `KeepsLaw`, the law of growth rules.
 pub power_bytes_law : KeepsLaw power_bytes
 power_bytes_law s a c w n more word e = elim (eq-zero-or-pos s) [
   | inl none ↦ doubling_law s a c w n more word (sym (powers_of_none s a c w none) ∙ e)

@@ -46,11 +46,12 @@ module _ {T : Type 0} where
   abbrev pub run : ℕ → ℕ → List (Option T) → List (Option T)
   run i k s = take k (drop i s)
 
-  -- `laid i ys s` is the row `s` with the slots `i..i + length ys` replaced with the slots `ys`.
+  -- `laid i ys s` is the row `s` after the slots `i..i + length ys` have been replaced with the
+  -- slots `ys`.
   abbrev pub laid : ℕ → List (Option T) → List (Option T) → List (Option T)
   laid i ys s = take i s ++ (ys ++ drop (i + length ys) s)
 
-  -- `emptied i k s` is the row `s` with the slots `i..i + k` emptied.
+  -- `emptied i k s` is the row `s` after the slots `i..i + k` have been emptied.
   abbrev pub emptied : ℕ → ℕ → List (Option T) → List (Option T)
   emptied i k s = laid i (empty k) s
 

@@ -1,6 +1,6 @@
--- This file describes how memory that holds items becomes memory that holds words. A word is a
--- value of the struct `Words`, which holds `m` items of the type `T`. The const parameter `M` of
--- the struct has the value `m`. No public contract refers to this file.
+-- This file describes how memory for items is converted into memory for words. A word is a value of
+-- the struct `Words`, which holds `m` items of the type `T`. The const parameter `M` of the struct
+-- has the value `m`. No public contract refers to this file.
 use Rattle.std.specs.Prelude.{ℕ, ◌+◌, List, [], ◌∷◌, map}
 use base.Fraction.{full_share}
 use base.Fml.{Fml, ftrue, ffalse, fsep}
@@ -25,16 +25,17 @@ module _ (T M : RattleType) where
   run_at xs b o = fsep (part_at (ArrayAt T M) full_share xs b o) (way (bare T) (value_of M) b o)
 
   -- `runs_at xss b o` contains the items of several adjacent words in memory, starting at the
-  -- offset `o` of the allocation `b`. For each word, it also contains the right to convert memory
-  -- for the items into memory for the word.
+  -- offset `o` of the allocation `b`. Each list in `xss` contains the items of one word. For each
+  -- word, `runs_at xss b o` also contains the right to convert memory for the items into memory for
+  -- the word.
   abbrev pub runs_at : List (List T.Denot) → ℕ → ℕ → Fml
   runs_at [] b o = ftrue
   runs_at (xs ∷ xss) b o = fsep (run_at xs b o)
       (runs_at xss b (o + size (word_of (bare T) (value_of M))))
 
   -- `runs_from xss p` contains the items of several adjacent words in memory, starting at the
-  -- pointer `p`. For each word, it also contains the right to convert memory for the items into
-  -- memory for the word.
+  -- pointer `p`. Each list in `xss` contains the items of one word. For each word, `runs_from xss
+  -- p` also contains the right to convert memory for the items into memory for the word.
   abbrev pub runs_from : List (List T.Denot) → Ptr → Fml
   runs_from xss null_ptr = ffalse
   runs_from xss (block_ptr b o) = runs_at xss b o

@@ -11,15 +11,15 @@ ghost use Rattle.thin_block.specs.Ownership.{block_owns, block_lent, any};
 use std::alloc::Allocator;
 use std::marker::{Model, PhantomData, Send, Sync};
 
-// All blocks without an allocation point to this header. It is never written to.
+// All blocks without an allocation point to this header. No code ever writes to it.
 static NO_BLOCK: Header = Header {
     cap: 0,
     len: 0,
     aligned: [],
 };
 
-// A header holds a capacity and a length. The empty array `aligned` only raises the alignment of
-// the header, so that items of any alignment can follow the header.
+// A header holds a capacity and a length. The empty array `aligned` takes no memory. It raises the
+// alignment of the header, so that items of any alignment can follow the header.
 struct Header {
     cap: usize,
     len: usize,
@@ -53,9 +53,9 @@ impl<T, A: Allocator> Model for Block<T, A> {
     ghost also_shares = { λ b _ κ. block_lent T.row b.at b.len b.slots b.alloc κ };
 }
 
-// A block is the only owner of its allocation. A block without an allocation only shares the static
-// header, which is never written to. So a block is `Send` if its items and its allocator are
-// `Send`.
+// A block is the only owner of its allocation. Blocks without an allocation share the static
+// header, and no code ever writes to this header. So a block is `Send` if its items and its
+// allocator are `Send`.
 unsafe impl<T: Send, A: Allocator + Send> Send for Block<T, A> {}
 
 // Code that uses a `&` to a block only reads the header and the items. So a block is `Sync` if its
@@ -105,7 +105,7 @@ impl<T, A: Allocator> Block<T, A> {
         unsafe { *at }
     }
 
-    /// Sets the stored length to `len` items. No slot changes.
+    /// Sets the stored length to `len` items. The slots do not change.
     pub fn set_len(&mut self, len: usize)
         requires in_bounds { len ≤ length self.old.slots }
         ensures changes { seen self.new ≡ record (seen self.old) { len = len } }

@@ -12,7 +12,7 @@ use thiserror::Error;
 /// The reason why a call on a list failed.
 #[derive(Debug, Clone, Copy, PartialEq, Eq, Error)]
 pub enum ThinVecError {
-    /// The call needs a capacity that is too large, so it did not request memory for this capacity.
+    /// The call needed a capacity that is too large. It did not request memory for this capacity.
     #[error("capacity overflow")]
     CapacityOverflow,
     /// The allocator failed, or cloning an item failed.
@@ -38,8 +38,8 @@ impl From<ThinVecError> for AllocError {
 impl From<ThinVecError> for io::Error {
     ghost from_gives = { λ _ error. error_kind error ≡ Kind.OutOfMemory };
 
-    // Both errors become `ErrorKind::OutOfMemory`, because std has no `ErrorKind` for a capacity
-    // overflow.
+    // Both variants of `ThinVecError` are converted into `ErrorKind::OutOfMemory`, because std has
+    // no `ErrorKind` for a capacity overflow.
     fn from(_cause: ThinVecError) -> io::Error {
         io::Error::from(ErrorKind::OutOfMemory)
     }

@@ -1,8 +1,8 @@
-//! Resizes a block with the methods `grow` and `shrink` of the allocator, which may leave the block
-//! at its address. These methods resize arrays. So the block is converted into an array of words
-//! before the call, and back into a block after the call. A word is a value of 8 or 16 bytes that
-//! consists of one or more items. The conversion is possible only if the items of the block form
-//! whole words.
+//! Resizes a block with the methods `grow` and `shrink` of the allocator. These methods may leave
+//! the block at its address, but they can resize only arrays. So the block is converted into an
+//! array of words before the call, and back into a block after the call. A word is a value of 8 or
+//! 16 bytes that consists of one or more items. The conversion is possible only if the items of the
+//! block form whole words.
 ghost use Rattle.std.specs.Prelude.{◌≡◌, ◌+◌, ◌*◌, ◌/◌, ◌<◌, ◌≤◌, IfErr, IfOk, List, OnErr, OnOk, length};
 ghost use Rattle.std.specs.declared.option.Option.TheVariants.{Some};
 ghost use Rattle.std.specs.Int.{div_ceil};
@@ -21,9 +21,9 @@ use std::alloc::{AllocError, Allocator};
 use std::marker::PhantomData;
 use std::mem::{ManuallyDrop, replace};
 
-// If the items of a block form at least this many words of 8 bytes, the allocator resizes the
-// block, and may leave the items at their address. For fewer words, it is cheaper to allocate a new
-// block.
+// The minimum number of words of 8 bytes for resizing a block in place. If the items of a block
+// form at least `LONG` words, the allocator resizes the block, and may leave the items at their
+// address. If there are fewer words, allocating a new block is cheaper.
 pub(crate) const LONG: usize = 32;
 
 // Resizes an allocation from `held` to `wanted` values of the type `T`. Calls `alloc.grow` if
@@ -107,11 +107,11 @@ impl<T, A: Allocator> Block<T, A> {
     // Returns this block with `cap` slots and the same items. `M` items form a word, and the header
     // is as large as `K` words. The items form `count` words, and `count` is at least `K`.
     //
-    // The items are turned into words, and the last `K` words are stored in the memory of the
-    // header until the allocator returns. So the block starts with an array of `count` words, which
-    // the allocator can grow or shrink. The block has room for `held` words before the call, and
-    // for `wanted` words after the call. The call fails only if the allocator fails, and then
-    // returns the block unchanged.
+    // The function converts the items into words, and stores the last `K` words in the memory of
+    // the header until the allocator returns. In this way, the memory of the block begins with an
+    // array of `count` words, which the allocator can grow or shrink. The block has room for `held`
+    // words before the call to the allocator, and for `wanted` words after this call. The function
+    // fails only if the allocator fails. In this case, it returns the block unchanged.
     fn resize_words<const M: usize, const K: usize>(
         self,
         alloc: &A,

@@ -128,8 +128,8 @@ impl<T, A: Allocator> Block<T, A> {
         ensures err { OnErr result (self.new ≡ self.old) }
         ensures cause { IfErr result (λ cause. cause ≡ ThinVecError.OutOfMemory) }
     {
-        // This call tells the prover that a block of the present capacity is small enough to be
-        // allocated. So a block of the smaller capacity `cap` is small enough, too.
+        // This call tells the prover that a block with the current number of slots is small enough
+        // to be allocated. So a block of the smaller capacity `cap` is also small enough.
         let _whole = self.cap();
         self.resize(alloc, cap)
     }

@@ -84,8 +84,8 @@ impl<T, A: Allocator> Block<T, A> {
         let mut block = self;
         // This call tells the prover that the number of slots is less than `2 ^ 63`.
         let _cap = block.cap();
-        // In each arm whose pattern is a number, LLVM knows the value of `gap`, so it turns the
-        // call in this arm into a `memmove`.
+        // In each arm whose pattern is a number, LLVM knows the value of `gap`, and turns the call
+        // in this arm into a `memmove`.
         match gap {
             1 => block.move_down(to, gap, k),
             2 => block.move_down(to, gap, k),
@@ -145,8 +145,8 @@ impl<T, A: Allocator> Block<T, A> {
         let mut block = self;
         // This call tells the prover that the number of slots is less than `2 ^ 63`.
         let _cap = block.cap();
-        // In each arm whose pattern is a number, LLVM knows the value of `gap`, so it turns the
-        // call in this arm into a `memmove`.
+        // In each arm whose pattern is a number, LLVM knows the value of `gap`, and turns the call
+        // in this arm into a `memmove`.
         match gap {
             1 => block.move_up(from, gap, k),
             2 => block.move_up(from, gap, k),
@@ -186,8 +186,8 @@ impl<T, A: Allocator> Block<T, A> {
     }
 
     // Moves the `k` items that start at slot `low + from` to the slots that start at `low + to`.
-    // `up` says whether the items move to higher slots. All other slots that the items pass or
-    // reach must be empty.
+    // `up` says whether the items move to higher slots. Except for the old slots of the items, all
+    // slots through which or into which the items move must be empty.
     //
     // Both the address of the items and the address of their new slots are computed from the
     // address of the slot `low`. So if `from` and `to` are constants, LLVM sees that the distance
@@ -254,8 +254,9 @@ impl<T, A: Allocator> Block<T, A> {
     }
 
     // Moves the `k` items that start at slot `from` of this block to the slots `to..to + k` of
-    // `to_block`. These slots of `to_block` must be empty. The ghost parameter `cost` contains the
-    // counts of requests, copied items and moves that `to_block` has after the call.
+    // `to_block`. These slots of `to_block` must be empty. The ghost parameter `cost` is the cost
+    // that `to_block` has after the call: the counts of requests for memory, copied items and
+    // moves.
     pub(crate) fn move_run_charging(
         &mut self,
         from: usize,

@@ -1,16 +1,18 @@
 //! Defines the function `slide`, which moves a run of adjacent items within a block even if the old
-//! and the new slots overlap.
+//! slots and the new slots overlap.
 //!
-//! The function does what `std::ptr::copy` does, but does not first compare the two pointers. Such
-//! a comparison is allowed only in the first half of the address space, and an allocator does not
-//! promise where its blocks are. So the caller of `slide` says in which direction the items move.
+//! The function does what `std::ptr::copy` does, but does not first compare the two pointers. In
+//! Rattle, such a comparison is allowed only in the first half of the address space, and an
+//! allocator may place blocks outside of this half. So the caller of `slide` says in which
+//! direction the items move.
 ghost use Rattle.std.specs.Prelude.{ℕ, ◌^◌, ◌<◌, List};
 ghost use Rattle.core.specs.Ptr.{array_size, memory_before_copy, memory_after_copy};
 ghost use types.Logic.{sem};
 ghost use Rattle.thin_block.specs.Shifts.{IsShifted};
 
 // Moves `count` items from `source` to `target`. `up` says whether `target` is above `source`. The
-// ghost number `g.0` is the distance between the two pointers, counted in items.
+// ghost parameter `g` is a pair: the distance between the two pointers, counted in items, and the
+// list of the items.
 pub(crate) unsafe fn slide<T>(source: *const T, target: *mut T, count: usize, up: bool)
     ghost g: { ℕ × List T }
     requires shifted { IsShifted T.row up g.0 source target }

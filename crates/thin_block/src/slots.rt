@@ -30,7 +30,7 @@ impl<T, A: Allocator> Block<T, A> {
     }
 
     /// Moves `value` into slot `i`, which must be empty, and sets the stored length to `len`. Both
-    /// writes use the same pointer, so the compiler does not have to read the pointer twice.
+    /// writes use the same pointer, so the compiled code does not have to read the pointer twice.
     pub fn put_and_store(&mut self, i: usize, value: T, len: usize)
         requires in_bounds { i < length self.old.slots }
         requires empty { slot self.old.slots i ≡ None }
@@ -81,8 +81,9 @@ impl<T, A: Allocator> Block<T, A> {
         }
     }
 
-    /// Takes the item out of slot `i` and returns it. If `j` differs from `i`, also moves the item
-    /// in slot `j` into slot `i`, which counts as one move. Afterwards, slot `j` is empty.
+    /// Takes the item out of slot `i` and returns this item. If `j` differs from `i`, the function
+    /// also moves the item in slot `j` into slot `i`. This counts as one move. Afterwards, slot `j`
+    /// is empty.
     pub fn take_replacing(&mut self, i: usize, j: usize) -> T
         requires first { IsSome (slot self.old.slots i) }
         requires second { IsSome (slot self.old.slots j) }
@@ -152,8 +153,9 @@ impl<T: Copy, A: Allocator> Block<T, A> {
 
 // Fills `row` with copies of `items`, and returns `row`.
 //
-// Up to `FEW` items are copied one by one. For them, a call to `Slots::copy_in` would take longer
-// than the copies, because `Slots::copy_in` first tests whether its source and its target overlap.
+// If there are at most `FEW` items, they are copied one by one. For so few items, a call to
+// `Slots::copy_in` would take longer than the copies, because `Slots::copy_in` first tests whether
+// its source and its target overlap.
 fn copied<T: Copy>(mut row: Slots<T>, items: &[T]) -> Slots<T>
     requires room { slots_len row ≡ length items.now }
     ensures cap { SamePlaces row result }

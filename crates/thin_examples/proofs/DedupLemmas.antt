@@ -1,5 +1,5 @@
--- These lemmas say which items `dedup_by` keeps if its closure first changes the later of two items
--- and then compares the two items.
+-- These lemmas are about calls to `dedup_by` with a closure that first changes the later of two
+-- items and then compares the two items. The lemmas say which items `dedup_by` keeps.
 use Rattle.std.proofs.Common.{◌≡◌, Bool, true, false, List, [], ◌∷◌, ap, map, slice_index_or, slice_set, subst, ◌∙◌}
 use Rattle.std.specs.List.{dedup, dedup_from}
 use Rattle.std.specs.List.Retain.{DedupsFrom, DedupsAll}
@@ -8,8 +8,9 @@ use Rattle.thin_vec.proofs.EditLemmas.{deduped_deduped}
 use Rattle.thin_vec.specs.Edits.Dedup.{IsDedupedBy}
 use Rattle.thin_vec.specs.ThinVec.{Thin}
 
--- The relation `R` describes the calls of the closure. This module assumes that each call replaces
--- the later item `x` with `f x`, leaves the kept item `k` unchanged, and returns `same (f x) k`.
+-- The relation `R` describes the calls of the closure. This module assumes that each call compares
+-- a kept item `k` with a later item `x`, replaces `x` with `f x`, leaves `k` unchanged, and returns
+-- `same (f x) k`.
 module _ {S T : Type 0} (R : S → T → T → Bool → S → T → T → Type 0) (f : T → T)
     (same : T → T → Bool)
     (says : (s : S) (x k : T) (b : Bool) (t : S) (x' k' : T) → R s x k b t x' k'
@@ -19,9 +20,11 @@ module _ {S T : Type 0} (R : S → T → T → Bool → S → T → T → Type 0
   abbrev Kept : T → List T → List T → Type 0
   Kept k xs zs = zs ≡ dedup_from same k (map f xs)
 
-  -- Suppose that the closure has compared the item `x` with the kept item `k` and has returned `b`.
-  -- If `Kept` holds for the result for the items `xs`, which follow `x`, then it also holds for the
-  -- result for `x ∷ xs`.
+  -- This lemma is one step in the proof that `Kept` describes the result of `dedup_by`. Suppose
+  -- that the closure has compared the item `x` with the kept item `k`, and has returned `b`. If `b`
+  -- is true, `x` is removed, and `k` is still the last kept item. Otherwise `f x` is the new last
+  -- kept item. If `Kept` describes the result for the items `xs` after `x`, then it also describes
+  -- the result `zs` for `x` and `xs`.
   one : (b : Bool) (x k x' k' : T) (xs zs : List T) → b ≡ same (f x) k → x' ≡ f x → k' ≡ k
       → MatchBool b (Kept k' xs zs) ((ys : List T) × Kept x' xs ys × (zs ≡ k' ∷ ys))
       → Kept k (x ∷ xs) zs
@@ -34,8 +37,8 @@ module _ {S T : Type 0} (R : S → T → T → Bool → S → T → T → Type 0
       ∙ ap (λ c. cond c (dedup_from same k (map f xs)) (k ∷ dedup_from same (f x) (map f xs)))
       b-is)
 
-  -- Suppose that `dedup_by` keeps the item `k`, and turns the list of `k` and the later items `xs`
-  -- into the list `zs`. Then `Kept k xs zs` holds.
+  -- Suppose that `dedup_by` has kept the item `k`, and that `xs` are the items after `k`. If
+  -- `dedup_by` turns `k` and these items into the list `zs`, then `Kept k xs zs` holds.
   kept_from : (xs : List T) (s : S) (k : T) (zs : List T) → DedupsFrom R s k xs zs → Kept k xs zs
   kept_from [] s k zs h = h
   kept_from (x ∷ xs) s k zs h =
@@ -49,9 +52,10 @@ module _ {S T : Type 0} (R : S → T → T → Bool → S → T → T → Type 0
         | false ↦ λ m. (m.0, kept_from xs h.1 h.2 m.0 m.1, m.2)
       ]) h.5)
 
-  -- Suppose that the items of the list `v` are `xs`, but with `f x` in place of the first item `x`.
-  -- Suppose also that `dedup_by` turns `v` into the list `w`. Then the items of `w` are
-  -- `dedup same (map f xs)`, as if `f` had been applied to every item before the call.
+  -- Let `x` be the first item of the list `xs`. Suppose that the list `v` contains the items `xs`,
+  -- but with `f x` in place of `x`. If `dedup_by` turns `v` into the list `w`, then the items of
+  -- `w` are `dedup same (map f xs)`. The result is the same as if `f` had been applied to every
+  -- item before the call.
   pub deduped_mapped : {A : Type 0} {s : S} {v w : Thin T A} (xs : List T) (x : T)
       → x ≡ slice_index_or xs 0 x → v.items ≡ slice_set xs 0 (f x) → IsDedupedBy R s v w
       → w.items ≡ dedup same (map f xs)

@@ -7,9 +7,10 @@ ghost use Rattle.thin_block.specs.Growth.{doubling, ruled_capacity};
 use crate::growth::{Growth, fitting};
 use crate::sizes::item_size;
 
-/// A growth rule that doubles the capacity, or chooses `first_capacity` if the old capacity is 0.
-/// If the required capacity is greater than this number, the rule chooses the required capacity.
-/// The Rust crate thin-vec uses the same rule.
+/// A growth rule that doubles the capacity. If the old capacity is 0, the rule takes
+/// `first_capacity` instead of twice the old capacity. If the required capacity is greater than the
+/// number computed in this way, the rule chooses the required capacity. The Rust crate thin-vec
+/// uses the same rule.
 pub struct Doubling {}
 
 impl Growth for Doubling {
@@ -30,9 +31,9 @@ impl Growth for Doubling {
     ghost law = { doubling_law };
 }
 
-/// Returns the capacity that `Doubling` chooses for the first block of a list, unless the list
-/// needs room for more items than that. It is 1 for items of more than `usize::MAX / 8` bytes, and
-/// 4 for all other items.
+/// Returns the capacity that `Doubling` chooses for the first block of a list. This capacity is 1
+/// for items of more than `usize::MAX / 8` bytes, and 4 for all other items. If the list needs room
+/// for more items, `Doubling` chooses the required capacity instead.
 pub fn first_capacity<T>() -> usize
     ensures value { result ≡ first (type_size T.row) }
 {
@@ -43,9 +44,9 @@ pub fn first_capacity<T>() -> usize
     }
 }
 
-/// Returns the capacity that a list of capacity `cap` has under `Doubling` after it has reserved
-/// room for `want` items. The result is `cap` if `cap` is at least `want`, and `None` if the new
-/// capacity is too large.
+/// Returns the capacity that a list with the growth rule `Doubling` and the old capacity `cap` has
+/// after the list has reserved room for `want` items. The result is `cap` if `cap` is at least
+/// `want`. It is `None` if the new capacity is too large.
 pub fn next_capacity<T>(cap: usize, want: usize) -> Option<usize>
     ensures value { result ≡ ruled_capacity doubling T.row cap want }
 {

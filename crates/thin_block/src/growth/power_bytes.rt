@@ -11,10 +11,10 @@ use crate::sizes::{HEADER, item_size};
 
 /// A growth rule under which each block fills a number of bytes that is a power of two. The rule
 /// computes the size of a block for the required number of items, or for twice the old capacity if
-/// that is greater. It rounds this size up to a power of two. The new capacity is the greatest
-/// number of items that fit into that many bytes together with the header. If an allocator rounds
-/// requests up to powers of two, a block then wastes less than the size of one item. For items of
-/// size 0, the rule is the same as `Doubling`.
+/// that number is greater. It rounds this size up to a power of two. The new capacity is the
+/// greatest number of items that fit into this power of two together with the header. If an
+/// allocator rounds requests up to powers of two, a block then wastes less than the size of one
+/// item. For items of size 0, the rule is the same as `Doubling`.
 ///
 /// This rule is modeled on a similar rule that the Rust crate thin-vec has for Gecko.
 pub struct PowerBytes {}
@@ -25,9 +25,9 @@ impl Growth for PowerBytes {
 
     ghost rule = { power_bytes };
 
-    // Returns the capacity that the rule chooses, or `None` if it is too large. If items take at
-    // least one byte, there is a power of two `p` such that the header and the chosen number `n` of
-    // items fit into `p` bytes, but the header and `n + 1` items do not.
+    // Returns the capacity that the rule chooses, or `None` if this capacity is too large. If items
+    // take at least one byte, the chosen capacity `n` fills a power of two: for some power of two
+    // `p`, the header and `n` items fit into `p` bytes, but the header and `n + 1` items do not.
     fn next_capacity<T>(cap: usize, want: usize) -> Option<usize>
         requires { cap < want }
         ensures value { result ≡ power_bytes (type_size T.row) (type_align T.row) cap want }
@@ -48,8 +48,8 @@ impl Growth for PowerBytes {
 }
 
 // Returns the least power of two that is at least the size in bytes of a header and `items` items
-// of `size` bytes each. Returns `None` if that power exceeds `2 ^ 63`. In this case, a block for
-// these items is too large to be allocated.
+// of `size` bytes each. Returns `None` if this power of two exceeds `2 ^ 63`. In this case, a block
+// for these items is too large to be allocated.
 fn power_for(items: usize, size: usize) -> Option<usize>
     ensures none { IfNone result (2 ^ 63 < 16 + items * size) }
     ensures value { IfSome result (λ power. power ≡ least_power (16 + items * size)) }

@@ -1,7 +1,8 @@
--- `slide` moves items one by one. If the items are moved up, `slide` begins with the last item.
--- Otherwise, it begins with the first item. The proof is the same as core's proof of `ptr::copy`,
--- but without the test with which `ptr::copy` begins. It assumes the laws of the separation logic
--- (`Logic`).
+-- This file proves the contract of `slide`. The function moves items one by one. If the items are
+-- moved up, it begins with the last item. Otherwise, it begins with the first item. The proof is
+-- like core's proof for `ptr::copy`. The only difference is that `ptr::copy` begins with a test,
+-- and `slide` does not. The proof assumes the laws of separation logic, which the type `Logic`
+-- states.
 use mathlib.Core.Path.{◌≡◌, refl, sym, subst}
 use mathlib.Core.Bool.{Bool, true, false}
 use mathlib.Core.List.{List, [], ◌∷◌}

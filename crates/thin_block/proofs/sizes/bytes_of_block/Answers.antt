@@ -1,5 +1,5 @@
--- If a block of the given capacity is small enough to be allocated, no sum or product in the
--- computation exceeds `usize::MAX`.
+-- Suppose that a block of the given capacity is small enough to be allocated. Then no sum or
+-- product that `bytes_of_block` computes exceeds `usize::MAX`.
 use Rattle.std.proofs.Common.{◌≡◌, ℕ, ◌+◌, ◌*◌, ap, ◌∙◌, arith}
 use Rattle.std.specs.Mem.{type_size}
 use Rattle.std.specs.Align.{type_align}
@@ -11,7 +11,9 @@ use denote.Param.{param}
 use denote.RattleType.{RattleType}
 use Rattle.thin_block.proofs.sizes.bytes_of_block.Goals as goal
 
--- The sum that the code computes is the offset at which the last item ends.
+-- Suppose that a block for `c` items of the type `R` is small enough to be allocated, and that
+-- `size` is the item size, capped at `usize::MAX`. Then the sum `16 + c * size`, which the code
+-- computes, is the offset at which the last item ends.
 summed : (R : RattleType) (c size : ℕ) → Fits R c → size ≡ capped (type_size R)
     → 16 + c * size ≡ items_offset (type_align R) + c * type_size R
 summed R c size fits is =

@@ -1,5 +1,5 @@
--- The function `fits` compares the capacity with a quotient. The comparison is true if and only if
--- the predicate `Fits` holds.
+-- This file proves that the function `fits` returns true if and only if the predicate `Fits` holds.
+-- The function compares the capacity with a quotient.
 use Rattle.std.proofs.Common.{◌≡◌, ℕ, ◌-◌, ◌*◌, ◌/◌, ◌^◌, ◌<◌, true, refl, sym, ap, ◌∙◌, arith, leb}
 use Rattle.std.specs.Mem.{type_size}
 use Rattle.std.specs.Align.{type_align}
@@ -12,7 +12,8 @@ use denote.RattleType.{RattleType}
 use native.Mathlib.Nat.{mul-zero}
 use Rattle.thin_block.proofs.sizes.fits.Goals as goal
 
--- If the item size that the code computes is 0, then `c` items take no bytes.
+-- Let `size` be the size of an item of the type `R`, capped at `usize::MAX`. If `size` is 0, then
+-- `c` items of the type `R` take no bytes.
 nothing : (R : RattleType) (c size : ℕ) → size ≡ capped (type_size R)
     → size ≡ 0 → c * type_size R ≡ 0
 nothing R c size is none =
@@ -51,8 +52,10 @@ pub overflow_sub-result-2 : goal.overflow_sub-result-2
 overflow_sub-result-2 g c = let about = rounded (param 0 g.row.T) 0 in
     let is = c.align_of_block.ensures.value in omega arith
 
--- If `align` is the alignment of a block, then the quotient that the code computes is the same as
--- the quotient in the lemmas `divided` and `dividing`.
+-- Suppose that `align` is the alignment of a block for items of the type `R`. Then two comparisons
+-- of the capacity `c` have the same result: the comparison with the quotient that the code
+-- computes, and the comparison with the quotient in the lemmas `divided` and `dividing` of
+-- `SizesLemmas`.
 same_limit : (R : RattleType) (c size align : ℕ) → align ≡ block_align (type_align R)
     → leb c ((2 ^ 63 - align - 16) / size) ≡ leb c
     ((2 ^ 63 - block_align (type_align R) - 16) / size)

@@ -1,5 +1,6 @@
--- `item_align` satisfies its contract for every item type. The proof assumes the laws of the
--- separation logic (`Logic`).
+-- This file proves the contract of `item_align` for every item type. The function returns the
+-- alignment of an item. The proof assumes the laws of separation logic, which the type `Logic`
+-- states.
 use mathlib.Core.Path.{◌≡◌, refl, sym, subst, ◌∙◌}
 use native.Mathlib.Omega.{arith}
 use mathlib.Core.List.{List, [], ◌∷◌}
@@ -36,7 +37,7 @@ use Rattle.thin_block.specs.contracts.sizes.item_align.Key.{name as #self}
 use Rattle.thin_block.proofs.sizes.item_align.Statement as stated
 use Rattle.thin_block.proofs.sizes.item_align.Code as code
 
--- Proves an `ensures` clause that consists of two facts.
+-- The step `says_both` in this module proves an `ensures` clause that consists of two facts.
 module _ {M : Type 1} {𝓤 : Ura M} {𝓛 : Logic 𝓤} {K : Type 0} {Γ : List (Item 𝓤)} where
   says_both : K → {φ ψ : Type 0} {P : SProp 𝓤} → φ → ψ
       → Step K 𝓛 Γ (prop P) Γ (prop (sep 𝓤 P (sep 𝓤 (fact 𝓤 φ) (fact 𝓤 ψ))))
@@ -46,7 +47,8 @@ module _ {M : Type 1} {𝓤 : Ura M} {𝓛 : Logic 𝓤} {K : Type 0} {Γ : List
         use0 𝓛 (raw (fact 𝓤 φ)) (fact_i 𝓤 φ (emp 𝓤) x) $ done !));
   })
 
--- Every alignment is less than `2 ^ 64`, because it is 1, 2, 4, 8 or 16.
+-- Every alignment is the number of bytes of an integer width `w`: 1, 2, 4, 8 or 16. So every
+-- alignment is less than `2 ^ 64`.
 below : (w : Width) → bytes w < 2 ^ 64
 below w8 = omega arith
 below w16 = omega arith

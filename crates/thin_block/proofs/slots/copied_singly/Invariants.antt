@@ -1,5 +1,6 @@
--- The loop invariant: after `i` iterations, the first `i` places of `row` hold copies of the first
--- `i` items. The value `row` still refers to the same places in memory as before the loop.
+-- This file contains the loop invariant of `copied_singly`. After `i` iterations, the first `i`
+-- places of `row` contain copies of the first `i` items. Moreover, `row` still refers to the same
+-- places in memory as before the loop.
 use Rattle.std.proofs.Common.{◌≡◌, take}
 use Rattle.core.specs.Mem.Slots.{SamePlaces, slots_filled, slots_items}
 use Rattle.core.specs.Mem.Slots.Ownership.{Filled}

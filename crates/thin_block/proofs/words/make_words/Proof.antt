@@ -1,6 +1,7 @@
--- A word is a value of the struct `Words`, which holds one or more items. For each word,
--- `make_words` reads the items of the word, and writes them back as one word at the same address.
--- It begins with the first word. The proof assumes the laws of the separation logic (`Logic`).
+-- This file proves the contract of `make_words`. A word is a value of the struct `Words`, which
+-- holds one or more items. For each word, `make_words` reads the items of the word, and writes them
+-- back as one word at the same address. It begins with the first word. The proof assumes the laws
+-- of separation logic, which the type `Logic` states.
 use mathlib.Core.Path.{◌≡◌, refl, sym, ap, ◌∙◌}
 use mathlib.Core.List.{List, [], ◌∷◌, map}
 use mathlib.Core.WellFounded.InvImage
@@ -85,8 +86,8 @@ module _ (E : El) (m : ℕ) where
     (stay_dropped (plain (λ _. usize)) yes, tt),
   )
 
-  -- A value of this type lists the items of several words. Each inner list contains the items of
-  -- one word.
+  -- A value of the type `Runs` lists the items of several words. Each inner list contains the items
+  -- of one word.
   abbrev Runs : Type 0
   Runs = List (List (el_x E))
 
@@ -100,7 +101,7 @@ module _ (E : El) (m : ℕ) where
   Wr = word_row E.row m
 
   -- If `v` is the machine value of an array of items, then `word_val v` is the machine value of the
-  -- word that these items make.
+  -- word that these items form.
   abbrev word_val : Val → Val
   word_val v = vstruct (vcons v (vcons (vstruct vnil) vnil))
 
@@ -110,8 +111,9 @@ module _ (E : El) (m : ℕ) where
   word_fits : (v : Val) → Fits (ty_array (layout E.row) m) v → Fits (layout Wr) (word_val v)
   word_fits v fits = (both (has_ty (ty_array (layout E.row) m) v) _ fits.0 tt, (fits.1, (tt, tt)))
 
-  -- Converts what an array of the items `xs` owns into what the word of these items owns. If `v` is
-  -- the machine value of the array, then `word_val v` is the machine value of the word.
+  -- Suppose that `v` is the machine value of an array of the items `xs`. Then the resources that
+  -- this array owns can be converted into the resources that the word of these items owns. The
+  -- machine value of this word is `word_val v`.
   word_made : {M : Type 1} {𝓤 : Ura M} (𝓛 : Logic 𝓤) (xs : List (el_x E)) (v : Val)
       → ent 𝓤 (sem 𝓛 (Arr.own_val xs (v ∷ [])))
       (sem 𝓛 (Wr.own_val (word (R E) N xs) (word_val v ∷ [])))
@@ -169,9 +171,9 @@ module _ (E : El) (m : ℕ) {M : Type 1} {𝓤 : Ura M} (𝓛 : Logic 𝓤) (at_
     abbrev To : Fml
     To = Made g o
 
-    -- Suppose that the words made from the items `xss` begin at the offset `at`. Then `Then xss at`
-    -- is the right to join these words with the words before them. The result is the memory of all
-    -- words.
+    -- Suppose that `xss` lists the items of words that begin at the offset `at`. Then `Then xss at`
+    -- is the right to join these words with the words before them. The result of joining them is
+    -- the memory of all words.
     abbrev Then : Runs E m → ℕ → SProp 𝓤
     Then xss at = wand 𝓤 (sem 𝓛 (Made xss at)) (sem 𝓛 To)
 
@@ -185,8 +187,9 @@ module _ (E : El) (m : ℕ) {M : Type 1} {𝓤 : Ura M} (𝓛 : Logic 𝓤) (at_
         feq_i ! (List Val) (vunit ∷ []) (vunit ∷ []) refl $ nothing ! $ nothing ! $ fjoin ! $
         nothing ! $ fjoin ! $ join ! $ move ! (2 ∷ 0 ∷ []) $ join ! $ join ! $ done !
 
-    -- The type of the states of the loop. In each state, `i` words have been made, and `xss` lists
-    -- the items of the words that have not been made yet.
+    -- A value of the type `Left` is a state of the loop. It consists of a number `i`, a list `xss`
+    -- and a proof. The loop has already made `i` words, and `xss` lists the items of the words that
+    -- it has not made yet. The proof says that these are `n` words in total.
     abbrev Left : Type 0
     Left = (i : ℕ) × ((xss : Runs E m) × (i + length xss ≡ n))
 
@@ -251,10 +254,10 @@ module _ (E : El) (m : ℕ) {M : Type 1} {𝓤 : Ura M} (𝓛 : Logic 𝓤) (at_
           sets ! (bin ! (get ! refl) (size_lit ! (record { fits = fs })) (record { fits = fm }))
           refl (tt, record { fits = fm }) $
           sets ! (bin ! (get ! refl) (get ! refl) tt) refl (tt, tt) $ fsplit ! $ fsplit ! $
-          -- The items of the next word have been separated from the items after them. The proof
-          -- context holds, in this order: [the items of the next word; the right to convert the
-          -- memory of these items into memory for the word; the items of the later words; the right
-          -- to join the later words with the words before them; the lifetime tokens].
+          -- The proof has separated the items of the next word from the items after them. The proof
+          -- context now contains, in this order: [the items of the next word; the right to convert
+          -- the memory of these items into memory for the word; the items of the later words; the
+          -- right to join the later words with the words before them; the lifetime tokens].
           use1 𝓛 (exists (λ (v : Val). ‵ (fat full_share σ b at v) ⊛ ‵
           ((Arr E m).own_val xs (v ∷ [])))) (part_out 𝓛 (Arr E m) refl full_share xs b at) $
           pick ! (λ v. split ! $ move ! (1 ∷ []) $

@@ -1,6 +1,6 @@
--- This file defines the type former of `Block`, which states which values a block contains. With
--- it, the prover accepts a type `T` that has a field of the type `Block<T, A>`. A block is
--- determined by the items in its slots, and by other parts that contain no items.
+-- This file defines the type former of `Block`, which states which values a block contains. Because
+-- of this type former, the prover accepts a type `T` that has a field of the type `Block<T, A>`. A
+-- block is determined by the items in its slots and by its other parts, which contain no items.
 use Rattle.std.specs.Prelude.{◌≡◌, ℕ, suc, max, ◌+◌, ◌≤◌, List, [], ◌∷◌, map, length, Option}
 use Rattle.std.specs.declared.option.Option.TheVariants.{Some, None}
 use mathlib.Core.Path.{PathP, refl, sym, ap, ◌∙◌}
@@ -37,17 +37,17 @@ use Rattle.std.specs.Coded.{coded_option}
 use Rattle.thin_block.specs.declared.block.Block.{Block}
 use Rattle.thin_block.specs.contracts.block.Block as C
 
--- `on_slot h x` is the slot `x` with the function `h` applied to its item. An empty slot does not
--- change.
+-- `on_slot h x` is the slot `x` after the function `h` has been applied to its item. An empty slot
+-- remains empty.
 abbrev pub on_slot : {X Y : Type 0} → (X → Y) → Option X → Option Y
 on_slot h None = None
 on_slot h (Some x) = Some (h x)
 
--- This module builds the type former of slots from the type former `g` of items. The former of
--- slots says which values of a type `X` a slot contains.
+-- This module builds the type former of slots from the type former `g` of items. The type former of
+-- slots states which values of a type `X` a slot contains.
 module _ (g : Former {0}) where
   -- `slot_count a n` is `n` plus the number of values in a slot of the shape `a`. The shape of a
-  -- slot is the slot without its values.
+  -- slot is what remains of the slot if its values are left out.
   abbrev pub slot_count : Option g.Shape → Count → Count
   slot_count None n = n
   slot_count (Some a) n = g.count a n
@@ -65,15 +65,15 @@ module _ (g : Former {0}) where
   slot_get X None n v = (None, v)
   slot_get X (Some a) n v = let r : g.Of X × Row X n = g.get X a n v in (Some r.0, r.1)
 
-  -- If the values in the slot `o` are prepended to the row `t` of values, then taking a slot of the
-  -- same shape from the result returns `o` and `t`.
+  -- Suppose that the values in the slot `o` are prepended to the row `t`. Then splitting the
+  -- resulting row with `slot_get` returns `o` and `t` again.
   pub slot_get-put : (X : Type 0) (o : Option (g.Of X)) (n : Count) (t : Row X n)
       → slot_get X (on_slot (g.shape X) o) n (slot_put X o n t) ≡ (o, t)
   slot_get-put X None n t = refl
   slot_get-put X (Some y) n t = λ i. (Some (g.get-put X y n t i).0, (g.get-put X y n t i).1)
 
-  -- If a slot is taken from the row `v` of values, then prepending the values in the slot to the
-  -- other values restores `v`.
+  -- Suppose that `slot_get` splits the row `v` of values into a slot and a shorter row. Then
+  -- prepending the values in the slot to the shorter row restores `v`.
   pub slot_put-get : (X : Type 0) (a : Option g.Shape) (n : Count) (v : Row X (slot_count a n))
       → ◌≡◌ {A = (b : Option g.Shape) × Row X (slot_count b n)} (
         on_slot (g.shape X) (slot_get X a n v).0,
@@ -83,8 +83,8 @@ module _ (g : Former {0}) where
   slot_put-get X None n v = refl
   slot_put-get X (Some a) n v = λ i. (Some (g.put-get X a n v i).0, (g.put-get X a n v i).1)
 
-  -- Taking a slot from a row of values and then applying the function `h` to all values has the
-  -- same result as applying `h` first and then taking the slot.
+  -- Splitting a row of values with `slot_get` and then applying the function `h` to all values has
+  -- the same result as applying `h` first and then splitting the row.
   pub slot_get-map : (X Y : Type 0) (h : X → Y) (a : Option g.Shape) (n : Count)
       (v : Row X (slot_count a n))
       → slot_get Y a n (over h (slot_count a n) v) ≡ (
@@ -111,27 +111,29 @@ module _ (g : Former {0}) where
   }
 
 module _ {g : Former {0}} (w : Weighed g) where
-  -- `slot_weight` computes the depth of a slot. The depth of a filled slot is the depth of its
-  -- item, and the depth of an empty slot is 0.
+  -- `slot_weight X μ x` is the depth of the slot `x`. The depth of a filled slot is the depth of
+  -- its item, and the depth of an empty slot is 0. The function `μ` computes the depth of a value
+  -- of the type `X`.
   abbrev pub slot_weight : (X : Type 0) → (X → ℕ) → Option (g.Of X) → ℕ
   slot_weight X μ None = 0
   slot_weight X μ (Some y) = w.weight X μ y
 
-  -- If the values in a slot are prepended to a row, then the depth of the new row is the maximum of
-  -- the depth of the slot and the depth of the old row.
+  -- If the values in the slot `o` are prepended to the row `t`, then the depth of the new row is
+  -- the maximum of the depth of `o` and the depth of `t`.
   pub slot_puts : (X : Type 0) (μ : X → ℕ) (o : Option (g.Of X)) (n : Count) (t : Row X n)
       → deepest μ (slot_count g (on_slot (g.shape X) o) n) (slot_put g X o n t) ≡ max
       (slot_weight X μ o) (deepest μ n t)
   slot_puts X μ None n t = none_max (deepest μ n t)
   slot_puts X μ (Some y) n t = w.puts X μ y n t
 
-  -- `w_slot` combines the type former of slots with the function that computes the depth of a slot.
+  -- `w_slot` equips the type former of slots with a depth. It contains the function that computes
+  -- the depth of a slot.
   abbrev pub w_slot : Weighed (slot g)
   w_slot = record { weight = slot_weight; puts = slot_puts }
 
 module _ {X Y Z : Type 0} (d : Block X Z) where
-  -- `Fits ys` holds if the number of the slots `ys` is at least the stored length of the block `d`,
-  -- and is 0 if and only if `d` has no allocation.
+  -- `Fits ys` holds if the block `d` may have the slots `ys`. For this, the length of `ys` must be
+  -- at least the stored length of `d`, and `ys` must be empty if and only if `d` has no allocation.
   abbrev pub Fits : List (Option Y) → Type 0
   Fits ys = (d.len ≤ length ys) × (is_some d.alloc ≡ any ys)
 
@@ -148,32 +150,32 @@ module _ {X Y Z : Type 0} (d : Block X Z) where
     sound = sound;
   }
 
-  -- If the length of `ys` is the number of slots of the block `d`, then `Fits ys` holds: the slots
-  -- of `d` may be replaced with `ys`.
+  -- If the length of `ys` is the number of slots of the block `d`, then `Fits ys` holds: the block
+  -- `d` may have the slots `ys`.
   pub fits : (ys : List (Option Y)) → length ys ≡ length d.slots → Fits ys
   fits ys e = (let le = d.sound.0 in omega (arith, e, le), d.sound.1 ∙ sym (any_same d.slots ys e))
 
-  -- If the lists `ys` and `zs` are equal, then each proof of `Fits ys` equals each proof of
-  -- `Fits zs`.
+  -- Suppose that the lists `ys` and `zs` are equal. Then every proof `p` of `Fits ys` equals every
+  -- proof `q` of `Fits zs`.
   pub Fits-along : (ys zs : List (Option Y)) (e : ys ≡ zs) (p : Fits ys) (q : Fits zs)
       → PathP (λ i. Fits (e i)) p q
   Fits-along ys zs e = is_prop→PathP (λ i. Fits (e i))
       (λ i p q j. (le_prop p.0 q.0 j, Coded-set coded_bool _ _ p.1 q.1 j))
 
-  -- If the lists `ys` and `zs` are equal, then the block `d` with the slots `ys` equals the block
-  -- `d` with the slots `zs`.
+  -- Suppose that the lists `ys` and `zs` are equal. Then the block `d` with the slots `ys` equals
+  -- the block `d` with the slots `zs`, whatever the proofs `p` and `q` are.
   abbrev pub holding_along : (ys zs : List (Option Y)) (e : ys ≡ zs) (p : Fits ys) (q : Fits zs)
       → holding ys p ≡ holding zs q
   holding_along ys zs e p q = λ i. holding (e i) (Fits-along ys zs e p q i)
 
--- `mapped h d` is the block `d` with the function `h` applied to each item.
+-- `mapped h d` is the block `d` after the function `h` has been applied to each of its items.
 abbrev pub mapped : {X Y Z : Type 0} → (X → Y) → Block X Z → Block Y Z
 mapped h d = holding d (map (on_slot h) d.slots)
     (fits d (map (on_slot h) d.slots) (length-map d.slots (on_slot h)))
 
 module _ (g : Former {0}) (Z : Type 0) where
-  -- Suppose that `a` is a list of slot shapes. If a slot of each of these shapes is taken from a
-  -- row of values, then the number of these slots is the length of `a`.
+  -- Suppose that the values in a row are split into slots, and that `a` lists the shapes of these
+  -- slots. Then the number of these slots is the length of `a`.
   pub length_got : (X : Type 0) (a : List (Option g.Shape)) (n : Count)
       (v : Row X (list_count (slot g) a n)) → length (list_get (slot g) X a n v).0 ≡ length a
   length_got X [] n v = refl
@@ -187,8 +189,8 @@ module _ (g : Former {0}) (Z : Type 0) where
   got X a n v = let r : List (Option (g.Of X)) × Row X n = list_get (slot g) X a.slots n v in
       (holding a r.0 (fits a r.0 (length_got X a.slots n v)), r.1)
 
-  -- If the values in the block `d` are prepended to the row `t` of values, then taking a block of
-  -- the same shape from the result returns `d` and `t`.
+  -- Suppose that the values in the block `d` are prepended to the row `t`. Then splitting the
+  -- resulting row with `got` returns `d` and `t` again.
   pub got-put : (X : Type 0) (d : Block (g.Of X) Z) (n : Count) (t : Row X n)
       → got X (mapped (g.shape X) d) n ((list (slot g)).put X d.slots n t) ≡ (d, t)
   got-put X d n t = λ i. (
@@ -197,8 +199,8 @@ module _ (g : Former {0}) (Z : Type 0) where
     ((list (slot g)).get-put X d.slots n t i).1,
   )
 
-  -- If a block is taken from the row `v` of values, then prepending the values in the block to the
-  -- other values restores `v`.
+  -- Suppose that `got` splits the row `v` of values into a block and a shorter row. Then prepending
+  -- the values in the block to the shorter row restores `v`.
   pub put-got : (X : Type 0) (a : Block g.Shape Z) (n : Count)
       (v : Row X (list_count (slot g) a.slots n))
       → ◌≡◌ {A = (b : Block g.Shape Z) × Row X (list_count (slot g) b.slots n)} (
@@ -212,8 +214,8 @@ module _ (g : Former {0}) (Z : Type 0) where
     ((list (slot g)).put-get X a.slots n v i).1,
   )
 
-  -- Taking a block from a row of values and then applying the function `h` to all values has the
-  -- same result as applying `h` first and then taking the block.
+  -- Splitting a row of values with `got` and then applying the function `h` to all values has the
+  -- same result as applying `h` first and then splitting the row.
   pub got-map : (X Y : Type 0) (h : X → Y) (a : Block g.Shape Z) (n : Count)
       (v : Row X (list_count (slot g) a.slots n))
       → got Y a n (over h (list_count (slot g) a.slots n) v)
@@ -241,16 +243,16 @@ module _ (g : Former {0}) (Z : Type 0) where
     get-map = got-map;
   }
 
--- `the_weighed` combines the type former of blocks with the function that computes the depth of a
--- block. The depth of a block is the depth of its deepest item.
+-- `the_weighed` equips the type former of blocks with a depth. It contains the function that
+-- computes the depth of a block. The depth of a block is the depth of its deepest item.
 abbrev pub the_weighed : {g : Former {0}} → Weighed g → (Z : Type 0) → Weighed (the_former g Z)
 the_weighed w Z = record {
   weight = λ X μ d. most (slot_weight w X μ) d.slots;
   puts = λ X μ d. List-puts (w_slot w) X μ d.slots;
 }
 
--- `the_empty Z z` is a block without slots and without an allocation. Its item type `⊥` has no
--- values.
+-- `the_empty Z z` is a block without slots and without an allocation. Its allocator has the type
+-- `Z`, and its items have the type `⊥`, which has no values. The argument `z` is not used.
 abbrev pub the_empty : (Z : Type 0) → Z → Block ⊥ Z
 the_empty Z z = record {
   at = null_ptr;
@@ -263,8 +265,8 @@ the_empty Z z = record {
   sound = (omega arith, refl);
 }
 
--- The type former `this` states that each item contains exactly one value, namely itself. So the
--- values in a row of slots are the items in these slots.
+-- According to the type former `this`, each item contains exactly one value, which is the item
+-- itself. So the values in the slots `xs` are the items in these slots, in order.
 pub items_listed : (X : Type 0) (xs : List (Option X))
     → listed _ (children (list (slot this)) X xs) ≡ items_in xs
 items_listed X [] = refl
@@ -275,14 +277,15 @@ items_listed X (Some x ∷ xs) = ap (λ l. x ∷ l) (items_listed X xs)
 abbrev pub the_items : (Z X : Type 0) → Block X Z → List X
 the_items Z X d = items_in d.slots
 
--- The type former `this` states that each item contains exactly one value, namely itself. So the
--- values in the block `d` are its items.
+-- According to the type former `this`, each item contains exactly one value, which is the item
+-- itself. So the values in the block `d` are the items of `d`, in order.
 pub the_items_listed : (Z X : Type 0) (d : Block X Z)
     → listed _ (children (the_former this Z) X d) ≡ the_items Z X d
 the_items_listed Z X d = items_listed X d.slots
 
--- If the function `h` does not change the encoding of any item, then mapping `h` over a list does
--- not change the encoding of the list. The proofs for `ThinVec` use this lemma.
+-- Suppose that the encoding of `h x` equals the encoding of `x` for every item `x`. Then mapping
+-- `h` over a list does not change the encoding of the list. The proofs for `ThinVec` use this
+-- lemma.
 pub codes_of : {X Y : Type 0} (c : X → Gv) (c' : Y → Gv) (h : X → Y) → ((x : X) → c' (h x) ≡ c x)
     → (xs : List X) → code_l c' (map h xs) ≡ code_l c xs
 codes_of = codes_placed
@@ -298,18 +301,18 @@ second : {a b c : Gv} → a ≡ b → gcons c a ≡ gcons c b
 second {c = c} e = λ i. gcons c (e i)
 
 module _ (R R' : RattleType) (h : R.Denot → R'.Denot) (a : Alike R R' h) where
-  -- By the assumption `Alike R R' h`, the item types `R` and `R'` have the same size.
+  -- The assumption `Alike R R' h` implies that the item types `R` and `R'` have the same size.
   abbrev width : type_size R' ≡ type_size R
   width = λ i. size (lone (a.mir_same i))
 
-  -- If each item owns the same memory as its image under the function `h`, then each slot owns the
-  -- same memory as its image.
+  -- Suppose that each item `y` owns the same memory as the item `h y`. Then applying `h` to the
+  -- item in the slot `x` does not change which memory the slot owns.
   place_placed : (x : Option R.Denot) (b o : ℕ) → place R' (on_slot h x) b o ≡ place R x b o
   place_placed None b o = λ i. room_for (raw (lone (a.mir_same i))) (block_ptr b o)
   place_placed (Some x) b o = lies_placed R R' h a full_share (block_ptr b o) x
 
-  -- If each item owns the same memory as its image under the function `h`, then each row of slots
-  -- owns the same memory as its image.
+  -- Suppose that each item `y` owns the same memory as the item `h y`. Then applying `h` to the
+  -- items in the slots `xs` does not change which memory these slots own.
   places_placed : (xs : List (Option R.Denot)) (b o : ℕ)
       → places R' (map (on_slot h) xs) b o ≡ places R xs b o
   places_placed [] b o = refl
@@ -317,8 +320,8 @@ module _ (R R' : RattleType) (h : R.Denot → R'.Denot) (a : Alike R R' h) where
       (λ i. fsep (place_placed x b o i) (places R' (map (on_slot h) xs) b (o + width i)))
       ∙ ap (fsep (place R x b o)) (places_placed xs b (o + type_size R))
 
-  -- If each item owns the same memory as its image under the function `h`, then each block owns the
-  -- same memory as its image.
+  -- Suppose that each item `y` owns the same memory as the item `h y`. Then applying `h` to the
+  -- items of a block does not change which memory the block owns.
   pub block_placed : {D : Type 0} (t : D → Ty → Ptr → Fml) (p : Ptr) (n : ℕ)
       (xs : List (Option R.Denot)) (w : Option D) → block_owns t R' p n (map (on_slot h) xs)
       w ≡ block_owns t R p n xs w
@@ -328,17 +331,16 @@ module _ (R R' : RattleType) (h : R.Denot → R'.Denot) (a : Alike R R' h) where
       λ i. fsep (frame (t w) (record R { mir = a.mir_same i }) n (length-map xs (on_slot h) i) b o)
       (places_placed xs b (o + 16) i)
 
-  -- Suppose that a `&` to an item always lends the same memory as a `&` to the image of the item
-  -- under the function `h`. Then a `&` to a slot lends the same memory as a `&` to the image of the
-  -- slot.
+  -- Suppose that for every item `y`, a `&` to `y` lends the same memory as a `&` to `h y`. Then
+  -- applying `h` to the item in the slot `x` does not change what a `&` to the slot lends.
   place_lent_placed : (x : Option R.Denot) (p : Ptr)
       → place_lent R' (on_slot h x) p ≡ place_lent R x p
   place_lent_placed None p = refl
   place_lent_placed (Some x) p = lent_at_placed R R' h a p x
 
-  -- Suppose that a `&` to an item always lends the same memory as a `&` to the image of the item
-  -- under the function `h`. Then a `&` to each slot in a row lends the same memory as a `&` to the
-  -- image of the slot.
+  -- Suppose that for every item `y`, a `&` to `y` lends the same memory as a `&` to `h y`. Then
+  -- applying `h` to the items in the slots `xs` does not change what a `&` to each of these slots
+  -- lends.
   places_lent_placed : (xs : List (Option R.Denot)) (b o : ℕ) → places_lent R' (map (on_slot h) xs)
       b o ≡ places_lent R xs b o
   places_lent_placed [] b o = refl
@@ -347,9 +349,8 @@ module _ (R R' : RattleType) (h : R.Denot → R'.Denot) (a : Alike R R' h) where
       (places_lent R' (map (on_slot h) xs) b (o + width i)))
       ∙ ap (beside (place_lent R x (block_ptr b o))) (places_lent_placed xs b (o + type_size R))
 
-  -- Suppose that a `&` to an item always lends the same memory as a `&` to the image of the item
-  -- under the function `h`. Then a `&` to a block lends the same memory as a `&` to the image of
-  -- the block.
+  -- Suppose that for every item `y`, a `&` to `y` lends the same memory as a `&` to `h y`. Then
+  -- applying `h` to the items of a block does not change what a `&` to the block lends.
   pub block_lent_placed : {D : Type 0} (p : Ptr) (n : ℕ) (xs : List (Option R.Denot)) (w : Option D)
       → block_lent R' p n (map (on_slot h) xs) w ≡ block_lent R p n xs w
   block_lent_placed null_ptr n xs w = refl
@@ -359,8 +360,10 @@ module _ (R R' : RattleType) (h : R.Denot → R'.Denot) (a : Alike R R' h) where
       (places_lent_placed xs b (o + 16) i)
 
 module _ (A : RattleType) (G : Ghosts A.Denot) (R R' : RattleType) (h : R.Denot → R'.Denot) where
-  -- If each item owns the same memory as its image under the function `h`, then each block of such
-  -- items owns the same memory as its image under `h`.
+  -- Suppose that applying the function `h` to an item changes neither the memory that the item owns
+  -- nor the memory that a `&` to the item lends. Then the same is true of a block: applying `h` to
+  -- all its items changes neither the memory that the block owns nor the memory that a `&` to the
+  -- block lends.
   pub the_places : Alike R R' h → Alike (C.the_row R A G) (C.the_row R' A G)
       ((the_former this A.Denot).map R.Denot R'.Denot h)
   the_places a = record {

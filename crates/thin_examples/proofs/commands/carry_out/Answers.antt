@@ -1,6 +1,6 @@
--- If `carry_out` succeeds, then no reply reports a failed call. In this case, the main theorem of
--- the crate `thin_runner` states that the items of the list after the call are the result of a fold
--- over the commands.
+-- If `carry_out` succeeds, then no reply reports a failed call. In this case, the items of the list
+-- after the call are the result of a fold over the commands. This follows from the main theorem of
+-- the crate `thin_runner`.
 use Rattle.std.proofs.Common.{◌≡◌, Result, Ok, Err, List, [], All, OnOk, subst, ◌∙◌, ap, ◌++◌, fold}
 use Rattle.thin_vec.specs.List.Clones.{ClonesEqual}
 use Rattle.thin_vec.specs.ThinVec.{Thin}
@@ -12,8 +12,9 @@ use Rattle.thin_runner.specs.declared.command.Command.{Command}
 use Rattle.thin_runner.specs.declared.command.Reply.{Reply}
 use Rattle.thin_examples.proofs.commands.carry_out.Goals as goal
 
--- If no reply to a run of commands reports a failed call, and every clone equals its original, then
--- the items after the run are `fold (items_after here) old.items commands`.
+-- Suppose that no reply to the commands reports a failed call, and that every clone equals its
+-- original. If the commands turn the list `old` into the list `new`, then the items of `new` are
+-- `fold (items_after here) old.items commands`.
 carried : {T A G J E : Type 0} (here : Setting T A J) (old new : Thin T A)
     (commands : List (Command T A G)) (before after seen : List (Reply T A G))
     (result : Result (Unit {0}) E) → ClonesEqual here.clones → before ≡ [] → seen ≡ after

@@ -1,5 +1,6 @@
--- A keeper decides for each item of a list whether to keep it. The closure that `keep_by` passes to
--- `retain_mut` returns this decision. So the list keeps exactly the items that the keeper keeps.
+-- For each item of a list, a keeper decides whether the list keeps the item. The closure that
+-- `keep_by` passes to `retain_mut` returns this decision. So the list keeps exactly the items that
+-- the keeper keeps.
 use Rattle.std.proofs.Common.{rules}
 use Rattle.thin_examples.proofs.KeeperLemmas.{retained-by}
 use Rattle.thin_examples.proofs.filtering.keep_by.Goals as goal

@@ -1,5 +1,6 @@
--- A `&` to a block lends the capacity, the length and the items in the slots, as if there were a
--- separate `&` to each of them. The proof assumes the laws of the separation logic (`Logic`).
+-- This file proves that a `&` to a block lends the capacity, the length and the items in the slots,
+-- as if there were a separate `&` to each of them. The proof assumes the laws of separation logic,
+-- which the type `Logic` states.
 use mathlib.Core.List.{List, [], ◌∷◌, ◌++◌, not-mem-nil}
 use Prim.Native.Nat.{ℕ, ◌+◌}
 use mathlib.Core.Bool.{Bool, true}
@@ -71,7 +72,9 @@ module _ (R : RattleType) (L : RowLaws R) where
 module _ {M : Type 1} {𝓤 : Ura M} (𝓛 : Logic 𝓤) where
   open 𝓛 use {H, A}
 
-  -- What is lent for the lifetime `'static` can also be lent for any lifetime `l`.
+  -- Suppose that `t l` describes what is lent for the lifetime `l`, and that `t` satisfies the laws
+  -- of shared references (`ShrLaws`). Then the owner of `t []`, which is lent for the lifetime
+  -- `'static`, can lend `t l` for any lifetime `l`.
   Lends-kept : (t : Lft → Fml) → ShrLaws t → (l : Lft) → Lends 𝓛 (t []) t l
   Lends-kept t L l κ ts inc sp =
       let P : Fml = t [] in

@@ -1,5 +1,6 @@
--- `charge_as` does nothing at run time. It only sets the recorded cost of the block, which is ghost
--- state. The proof assumes the laws of the separation logic (`Logic`).
+-- This file proves the contract of `charge_as`. At run time, `charge_as` does nothing. It only sets
+-- the recorded cost of the block, and this cost is ghost state. The proof assumes the laws of
+-- separation logic, which the type `Logic` states.
 use Rattle.std.proofs.Common.{ℕ, ◌∷◌, [], ◌++◌, refl}
 use mir.Val.{vptr, vunit}
 use mir.MapTy.{inst_fn}

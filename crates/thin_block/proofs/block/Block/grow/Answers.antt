@@ -1,11 +1,11 @@
--- If `grow` succeeds, it adds empty slots after the old slots.
+-- This file proves that `grow`, if it succeeds, adds empty slots after the old slots.
 use Rattle.std.proofs.Common.{arith}
 use Rattle.thin_block.proofs.BlockLemmas.{slots-are}
 use Rattle.thin_block.proofs.SlotsLemmas.{packed-grown}
 use Rattle.thin_block.proofs.Outcomes.{on-ok}
 use Rattle.thin_block.proofs.block.Block.grow.Goals as goal
 
--- If `grow` succeeds, the slots of the block are the old slots, followed by empty slots.
+-- If `grow` succeeds, the new list of slots consists of the old slots, followed by empty slots.
 pub returns-clause-ok : goal.returns-clause-ok
 returns-clause-ok g c =
     let larger = c.requires.larger in

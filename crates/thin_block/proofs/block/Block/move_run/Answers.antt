@@ -1,4 +1,4 @@
--- Moving items within a block does not change the number of slots.
+-- This file proves that moving items within a block does not change the number of slots.
 use Rattle.std.proofs.Common.{length, ap, ◌∙◌}
 use Rattle.thin_block.proofs.SlotsLemmas.{length-moved}
 use Rattle.thin_block.proofs.block.Block.move_run.Goals as goal

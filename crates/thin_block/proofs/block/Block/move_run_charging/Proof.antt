@@ -1,6 +1,7 @@
--- `move_run_charging` copies items from `self` to empty slots of `to_block`. The proof separates
--- the affected slots from the other slots of the two blocks, and puts all slots back together
--- afterwards. It assumes the laws of the separation logic (`Logic`).
+-- This file proves the contract of `move_run_charging`, which moves items from `self` to empty
+-- slots of `to_block`. The proof separates the affected slots from the other slots of the two
+-- blocks, and joins the slots of each block again at the end. The proof assumes the laws of
+-- separation logic, which the type `Logic` states.
 use Rattle.std.proofs.Common.{◌≡◌, ℕ, Some, None, ◌+◌, ◌*◌, ◌^◌, ◌<◌, ◌≤◌, List, ◌∷◌, [], ◌++◌, length, refl, sym, ap, subst, ◌∙◌, arith, w64}
 use lib.Dec.{T as Holds}
 use lib.ListN.{length-map, length-replicate}
@@ -143,9 +144,10 @@ move_run_charging_spec 𝓤 𝓛 𝓜 𝓡 wired T A LT LA g d dd met md =
     let En : Env 𝓤 H = env fn.locals l in
     block_opens E Y ! tt x rb ro (λ b o at fits. move ! (6 ∷ 7 ∷ 8 ∷ []) $
     block_opens E Y ! tt y sb so (λ b' o' at' fits'.
-    -- Both blocks have been split into their parts. The proof context holds, in this order: [the
-    -- header, the slots, the pointer and the open borrow of `to_block`; the same entries for
-    -- `self`; the lifetime tokens of `T` and `A`].
+    -- The proof has split both blocks into their parts. The proof context now contains, in this
+    -- order: [the header, the slots, the memory that stores the pointer, the open borrow and two
+    -- ghost resources of `to_block`; the same six entries for `self`; the lifetime tokens of `T`
+    -- and `A`].
     let src : ℕ = from * s + (o + 16) in
     let dst : ℕ = to * s + (o' + 16) in
     let light : k * s < 2 ^ 63 = reach (R E) k (length x.slots) fits (omega arith) in
@@ -166,11 +168,11 @@ move_run_charging_spec 𝓤 𝓛 𝓜 𝓡 wired T A LT LA g d dd met md =
     (run_out E 𝓛 b (o + 16) x.slots from k source (full xs) items.1) $ split ! $
     use1 𝓛 (‵ (part_at (Array (R E) k) full_share xs b src)) (to_items E 𝓛 b k xs src long) $
     move ! (0 ∷ 2 ∷ []) $ move ! (14 ∷ []) $ split ! $ move ! (2 ∷ 3 ∷ 0 ∷ []) $
-    -- The slots of the items and the slots to which they will be moved have been separated from the
-    -- other slots. The proof context holds, in this order: [the items; the empty slots; the
+    -- The proof has separated the items in `self` and their new slots in `to_block` from all other
+    -- slots. The proof context now contains, in this order: [the items; the empty new slots; the
     -- lifetime tokens of `T` and `A`; the other slots of `self`; the other slots of `to_block`; the
-    -- header, the pointer and the open borrow of `to_block`; the header, the pointer and the open
-    -- borrow of `self`].
+    -- header, the memory that stores the pointer, the open borrow and two ghost resources of
+    -- `to_block`; the same five entries for `self`].
     let G = Copies T 𝓛 𝓜.mem 𝓡.returns in
     let y₀ : G.Ghost = at_copies T 𝓛 𝓜.mem 𝓡.returns κ₂ q₂ b src b' dst k xs in
     use3 𝓛 (raw (G.pre y₀)) (Copies-goes T 𝓛 𝓜.mem 𝓡.returns κ₂ q₂ b src b' dst k xs lives fk light)
@@ -186,10 +188,11 @@ move_run_charging_spec 𝓤 𝓛 𝓜 𝓡 wired T A LT LA g d dd met md =
     lands_last ! refl (subst (λ (u : Val). Holds (has_ty ty_unit u) × WT u) (sym e) (tt, tt)) $
     exec ! 𝓣.C 𝓣.Λ En (after 3 fn.body) (at_ret En Post) $
     sets ! (of_opd ! (unit_lit !)) refl (tt, tt) $
-    -- The items have been copied. The proof context holds, in this order: [the items at their new
-    -- address; the memory at their old address; the lifetime tokens of `T` and `A`; the other slots
-    -- of `self`; the other slots of `to_block`; the header, the pointer and the open borrow of
-    -- `to_block`; the header, the pointer and the open borrow of `self`].
+    -- The items have been copied to their new address. The proof context now contains, in this
+    -- order: [the items at their new address; the memory at their old address; the lifetime tokens
+    -- of `T` and `A`; the other slots of `self`; the other slots of `to_block`; the header, the
+    -- memory that stores the pointer, the open borrow and two ghost resources of `to_block`; the
+    -- same five entries for `self`].
     let laid_to : List (Option T.Denot) = laid to (full xs) y.slots in
     let long_full : length (full xs) ≡ k = length-map xs Some ∙ long in
     let long_to : length laid_to ≡ length y.slots =
@@ -201,10 +204,11 @@ move_run_charging_spec 𝓤 𝓛 𝓜 𝓡 wired T A LT LA g d dd met md =
     move ! (5 ∷ 0 ∷ 6 ∷ 7 ∷ 8 ∷ 9 ∷ []) $
     rewrite ! 0 (λ (n : ℕ). ‵ (header (t E Y) (R E) y.len n y.alloc b' o')) (sym long_to) refl $
     block_closes E Y ! tt y' b' o' sb so at' $
-    -- The borrow of `to_block` has been closed. The proof context holds, in this order: [the
-    -- current value and the borrow of `to_block`; the lifetime token of this borrow; the memory at
-    -- the old address of the items; the lifetime tokens of `T` and `A`; the other slots of `self`;
-    -- the header, the pointer and the open borrow of `self`].
+    -- The proof has closed the borrow of `to_block`. The proof context now contains, in this order:
+    -- [a ghost resource that records the current value of `to_block`; the borrow of `to_block`; the
+    -- lifetime token of this borrow; the memory at the old address of the items; the lifetime
+    -- tokens of `T` and `A`; the other slots of `self`; the header, the memory that stores the
+    -- pointer, the open borrow and two ghost resources of `self`].
     let left : List (Option T.Denot) = emptied from k x.slots in
     let long_empty : length (empty {T = T.Denot} k) ≡ k = length-replicate k None in
     let long_left : length left ≡ length x.slots =
@@ -216,10 +220,10 @@ move_run_charging_spec 𝓤 𝓛 𝓜 𝓡 wired T A LT LA g d dd met md =
     move ! (6 ∷ 0 ∷ 7 ∷ 8 ∷ 9 ∷ 10 ∷ []) $
     rewrite ! 0 (λ (n : ℕ). ‵ (header (t E Y) (R E) x.len n x.alloc b o)) (sym long_left) refl $
     block_closes E Y ! tt x' b o rb ro at $
-    -- The borrow of `self` has been closed too. The proof context holds, in this order: [the
-    -- current value and the borrow of `self`; the lifetime token of this borrow; the current value
-    -- and the borrow of `to_block`; the lifetime token of this borrow; the lifetime tokens of `T`
-    -- and `A`].
+    -- The proof has also closed the borrow of `self`. The proof context now contains, in this
+    -- order: [a ghost resource that records the current value of `self`; the borrow of `self`; the
+    -- lifetime token of this borrow; the same three entries for `to_block`; the lifetime tokens of
+    -- `T` and `A`].
     returns ! (look_at ! 0 refl) $ free_all ! refl $
     feq_i ! (List Val) vss.0 (vptr rb ro ∷ []) are.0.0 $ fjoin3 ! $ move ! (2 ∷ 3 ∷ []) $
     feq_i ! (List Val) vss.1.1.0 (vptr sb so ∷ []) are.1.1.0.0 $ fjoin3 ! $

@@ -1,4 +1,5 @@
--- The precondition of `move_run_charging` holds because `move_run_to` has the same precondition.
+-- `move_run_to` calls `move_run_charging`. The precondition of this call holds, because
+-- `move_run_to` has the same precondition.
 use Rattle.std.proofs.Common.{rules}
 use Rattle.thin_block.proofs.block.Block.move_run_to.Goals as goal
 

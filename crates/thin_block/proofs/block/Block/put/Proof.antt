@@ -1,5 +1,6 @@
--- `put` writes an item to an empty slot. The proof separates this slot from the other slots, and
--- puts all slots back together afterwards. It assumes the laws of the separation logic (`Logic`).
+-- This file proves the contract of `put`, which writes an item to an empty slot. The proof
+-- separates this slot from the other slots, and joins all slots again at the end. The proof assumes
+-- the laws of separation logic, which the type `Logic` states.
 use Rattle.std.proofs.Common.{◌≡◌, ℕ, Some, None, ◌+◌, ◌*◌, ◌<◌, List, ◌∷◌, [], ◌++◌, length, refl, arith, w64}
 use lib.ListN.{set, length-set, get_or}
 use mir.Val.{Val, vint, vunit}
@@ -51,10 +52,11 @@ put_spec 𝓤 𝓛 𝓜 𝓡 wired T A LT LA g d dd met md =
     let here : ℕ = i * sz E + (o + 16) in
     takes_slot E ! b (o + 16) x.slots i within empty $
     use1 𝓛 (‵ (froom (layout T) b here)) (𝓛.laws.raw-room (layout T) b here) $
-    -- The empty slot has been separated from the other slots. The proof context holds, in this
-    -- order: [memory for the item; the other slots; the header; the memory that holds the block's
-    -- pointer; three entries for the open borrow of the block, which include the lifetime token of
-    -- the borrow; the other lifetime tokens; what the item owns].
+    -- The proof has separated the empty slot from the other slots. The proof context now contains,
+    -- in this order: [memory for the item; the other slots; the header; the memory that stores the
+    -- block's pointer; the open borrow of the block, together with its lifetime token; two ghost
+    -- resources that record the value of the block; the other lifetime tokens; the resources that
+    -- the item owns].
     sets ! (of_opd ! (get ! refl)) refl good $
     assigns_last ! (of_opd ! (get ! refl)) (through ! refl (stop !)) (init ! 0 refl good) $
     continues ! 𝓜 𝓡 fn l 2 ((walk_of 𝓛 En₀ hs c).post z) $

@@ -1,5 +1,5 @@
--- The slots from which `remake` moves items are filled, and the old block is empty when `remake`
--- frees it.
+-- This file proves two facts about `remake`. The slots from which `remake` moves items are filled.
+-- When `remake` frees the old block, all slots of this block are empty.
 use Rattle.std.proofs.Common.{◌≡◌, ℕ, length, List, None, sym, ap, ◌∙◌, arith}
 use Rattle.std.specs.Prelude.{Option}
 use Rattle.std.proofs.lemmas.List.{length-replicate}
@@ -8,8 +8,8 @@ use Rattle.thin_block.proofs.SlotsLemmas.{packed-filled, packed-le, packed-empti
 use Rattle.thin_block.proofs.block.Block.remake.Goals as goal
 use Rattle.thin_block.proofs.block.Block.remake.Goals.{then-len-gt0, else-len-gt0}
 
--- The precondition of `move_run_charging` holds because the items fill the first slots of the old
--- block, and all slots of the new block are empty.
+-- The precondition of the call to `move_run_charging` holds, because the items fill the first slots
+-- of the old block, and all slots of the new block are empty.
 pub move_run_charging-requires : goal.move_run_charging-requires
 move_run_charging-requires g c κs within =
     let old = c.args.self.now.slots in

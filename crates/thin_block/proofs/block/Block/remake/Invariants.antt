@@ -1,9 +1,10 @@
--- The ghost argument of `move_run_charging` is the recorded cost of the new block (requests for
--- memory, copied items and moves) after the items of the old block have been moved to it.
+-- This file contains the ghost argument with which `remake` calls `move_run_charging`. This
+-- argument is the recorded cost (requests for memory, copied items and moves) that the new block
+-- has after the items of the old block have been moved to the new block.
 use Rattle.thin_block.specs.Cost.{growing}
 use Rattle.thin_block.proofs.block.Block.remake.Given as goal
 
--- The recorded cost of the old block (requests for memory, copied items and moves), plus one
--- request for memory and one copy of each item.
+-- The ghost argument for `move_run_charging` is the recorded cost of the old block (requests for
+-- memory, copied items and moves), plus one request for memory and one copy of each item.
 abbrev pub ghost-move_run_charging : goal.ghost-move_run_charging
 ghost-move_run_charging g a = growing a.k a.self.now.cost

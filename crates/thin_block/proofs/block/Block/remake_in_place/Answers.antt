@@ -1,13 +1,14 @@
--- A block of the new capacity takes a number of words that fits into a `usize`.
+-- This file proves that the size of a block of the new capacity, counted in words, does not exceed
+-- `usize::MAX`.
 use Rattle.std.proofs.Common.{arith}
 use Rattle.thin_block.proofs.SizesLemmas.{opened, fits_tells}
 use Rattle.thin_block.proofs.WordsLemmas.{words_told}
 use denote.Param.{param}
 use Rattle.thin_block.proofs.block.Block.remake_in_place.Goals as goal
 
--- Adding the words of the header to the words of the slots does not overflow. The header takes one
--- or two words. The number of words of the slots is at most the new capacity, which is less than
--- `2 ^ 63`.
+-- The sum of the number of header words and the number of slot words does not overflow. The header
+-- has one or two words. The number of slot words is at most the new capacity, and the new capacity
+-- is less than `2 ^ 63`.
 pub overflow_add-wanted : goal.overflow_add-wanted
 overflow_add-wanted g c =
     let T = param 0 g.row.T in

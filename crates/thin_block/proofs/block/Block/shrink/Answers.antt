@@ -1,4 +1,5 @@
--- If `shrink` succeeds, the block keeps only its first `cap` slots.
+-- This file proves that the block keeps its first `cap` slots, and no other slots, if `shrink`
+-- succeeds.
 use Rattle.std.proofs.Common.{arith}
 use denote.Param.{param}
 use Rattle.thin_block.proofs.BlockLemmas.{slots-are}
@@ -15,7 +16,7 @@ resize-requires-clause-fits g c =
     let whole = c.cap-whole.ensures.value in
     fits-less (param 0 g.row.T) c.args.cap c.cap-whole.result c.cap-whole.ensures.fits (omega arith)
 
--- If `shrink` succeeds, the slots of the block are the first `cap` slots of the old block.
+-- If `shrink` succeeds, the new list of slots consists of the first `cap` slots of the old block.
 pub returns-clause-ok : goal.returns-clause-ok
 returns-clause-ok g c =
     let smaller = c.requires.smaller in

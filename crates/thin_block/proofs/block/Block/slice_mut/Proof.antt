@@ -1,6 +1,7 @@
--- `slice_mut` lends the items in adjacent slots as a slice, which may be empty. The proof separates
--- these slots from the other slots, and shows that the block is complete again after the borrow has
--- ended. It assumes the laws of the separation logic (`Logic`).
+-- This file proves the contract of `slice_mut`, which returns the items in adjacent slots as a
+-- mutable slice. The slice may be empty. The proof separates these slots from the other slots. It
+-- also shows that all slots can be joined again after the borrow of the slice has ended. The proof
+-- assumes the laws of separation logic, which the type `Logic` states.
 use Rattle.std.proofs.Common.{◌≡◌, ℕ, Some, ◌+◌, ◌-◌, ◌*◌, ◌^◌, ◌<◌, ◌≤◌, List, ◌∷◌, [], ◌++◌, length, refl, sym, ap, subst, ◌∙◌, arith, w64}
 use lib.ListN.{length-map}
 use mir.Syntax.{named}
@@ -83,10 +84,10 @@ slice_mut_spec 𝓤 𝓛 𝓜 𝓡 wired T A LT LA g d dd met md =
     (‵ (places (R E) (full xs) b here) ⊛ ‵ (around E 𝓛 b (o + 16) x.slots i k))
     (run_out E 𝓛 b (o + 16) x.slots i k (omega arith) (full xs) items.1) $ split ! $
     use1 𝓛 (‵ (cells (mem (R E)) xs b here)) (to_cells E 𝓛 b xs here) $
-    -- The items of the slice have been separated from the other slots. The proof context holds, in
-    -- this order: [the items; the other slots; the header; the memory that holds the block's
-    -- pointer; three entries for the open borrow of the block, which include the lifetime token of
-    -- the borrow; the other lifetime tokens].
+    -- The proof has separated the items of the slice from the other slots. The proof context now
+    -- contains, in this order: [the items; the other slots; the header; the memory that stores the
+    -- block's pointer; the open borrow of the block, together with its lifetime token; two ghost
+    -- resources that record the value of the block; the other lifetime tokens].
     let Rest : Fml = fsep (around E 𝓛 b (o + 16) x.slots i k)
     (Waiting E Y 𝓛 x b o r.ref_ptr.0 r.ref_ptr.1 at) in
     let Back : List T.Denot → Type 1 =
@@ -107,9 +108,10 @@ slice_mut_spec 𝓤 𝓛 𝓜 𝓡 wired T A LT LA g d dd met md =
     b here γ xs small (sem 𝓛 Rest)
     back ((Br E Y).coded.code x) ((Br E Y).coded.code x)) $
     await ! tt $ pick ! (λ γ'. split3 ! $ returns ! (look_at ! 0 refl) $ free_all ! refl $
-    -- The items have been lent, and the function is about to return. The proof context holds, in
-    -- this order: [the `&mut` to the items; the lifetime token of this `&mut`; what holds after
-    -- this `&mut` has ended; the other lifetime tokens].
+    -- The function has lent the items, and is about to return. The proof context now contains, in
+    -- this order: [the `&mut` to the items; the lifetime token of this `&mut`; the rule that
+    -- determines the final value of the block from the final value of this `&mut`; the other
+    -- lifetime tokens].
     rewrite ! 0 (λ (n : ℕ). ‵
     ((MutSlice (named 0) κ (R E)).own_val
     (record { ref_ptr = (b, here); ghost_name = γ'; now = xs }) (slice_val (b, here) n ∷ [])))

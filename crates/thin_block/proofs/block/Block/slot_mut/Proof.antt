@@ -1,6 +1,7 @@
--- `slot_mut` lends the item in a filled slot. The proof separates this slot from the other slots,
--- and shows that the block is complete again after the borrow has ended. It assumes the laws of the
--- separation logic (`Logic`).
+-- This file proves the contract of `slot_mut`, which returns a `&mut` to the item in a filled slot.
+-- The proof separates this slot from the other slots. It also shows that all slots can be joined
+-- again after the borrow of the item has ended. The proof assumes the laws of separation logic,
+-- which the type `Logic` states.
 use Rattle.std.proofs.Common.{◌≡◌, ℕ, Some, None, ◌+◌, ◌*◌, ◌<◌, ◌∷◌, [], ◌++◌, length, refl, arith, w64}
 use lib.ListN.{get_or}
 use mir.Syntax.{named}
@@ -50,10 +51,10 @@ slot_mut_spec 𝓤 𝓛 𝓜 𝓡 wired T A LT LA g d dd met md =
     slot_found E ! b o i fm refl ((tt, tt), (tt, tt)) $
     let here : ℕ = i * sz E + (o + 16) in
     takes_slot E ! b (o + 16) x.slots i within item.1 $
-    -- The filled slot has been separated from the other slots. The proof context holds, in this
-    -- order: [the item; the other slots; the header; the memory that holds the block's pointer;
-    -- three entries for the open borrow of the block, which include the lifetime token of the
-    -- borrow; the other lifetime tokens].
+    -- The proof has separated the filled slot from the other slots. The proof context now contains,
+    -- in this order: [the item; the other slots; the header; the memory that stores the block's
+    -- pointer; the open borrow of the block, together with its lifetime token; two ghost resources
+    -- that record the value of the block; the other lifetime tokens].
     sets_last ! (addr ! (through ! refl (stop !))) refl (tt, tt) $
     continues ! 𝓜 𝓡 fn l 2 ((walk_of 𝓛 En₀ hs c).post z) $
     sets ! (of_opd ! (get ! refl)) refl (tt, tt) $
@@ -71,9 +72,10 @@ slot_mut_spec 𝓤 𝓛 𝓜 𝓡 wired T A LT LA g d dd met md =
     (item_back E Y 𝓛 x b o r.ref_ptr.0 r.ref_ptr.1 at i within)
     ((Br E Y).coded.code x) ((Br E Y).coded.code x) value) $
     await ! tt $ pick ! (λ γ'. split3 ! $ returns ! (look_at ! 0 refl) $ free_all ! refl $
-    -- The item has been lent, and the function is about to return. The proof context holds, in this
-    -- order: [the `&mut` to the item; the lifetime token of this `&mut`; what holds after this
-    -- `&mut` has ended; the other lifetime tokens].
+    -- The function has lent the item, and is about to return. The proof context now contains, in
+    -- this order: [the `&mut` to the item; the lifetime token of this `&mut`; the rule that
+    -- determines the final value of the block from the final value of this `&mut`; the other
+    -- lifetime tokens].
     use0 𝓛 (raw (fact 𝓤 (get_or x.slots i None ≡ Some value)))
     (fact_i 𝓤 (get_or x.slots i None ≡ Some value) (emp 𝓤) item.1) $
     move ! (3 ∷ 0 ∷ []) $ join ! $

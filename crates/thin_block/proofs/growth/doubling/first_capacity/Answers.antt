@@ -1,5 +1,6 @@
--- The code compares the item size with a bound after capping the size at `usize::MAX`. The capped
--- size exceeds the bound if and only if the real size exceeds the bound.
+-- This file proves the contract of `first_capacity`. The code caps the item size at `usize::MAX`
+-- before it compares the size with a bound. The capped size exceeds the bound if and only if the
+-- real size exceeds the bound.
 use Rattle.std.proofs.Common.{arith}
 use Rattle.std.specs.Mem.{type_size}
 use Rattle.thin_block.proofs.SizesLemmas.{first_one, first_many}

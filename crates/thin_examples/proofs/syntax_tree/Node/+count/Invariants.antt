@@ -3,8 +3,8 @@ use Rattle.std.proofs.Common.{◌≡◌, ◌+◌, ◌-◌, ◌^◌, ◌<◌, map
 use Rattle.thin_examples.specs.SyntaxTree.{node_count}
 use Rattle.thin_examples.proofs.syntax_tree.Node.+count.Given as goal
 
--- The node count of this node is the count so far plus the node counts of the children that have
--- not been visited yet. This equation holds after both of its sides have been capped at `u64::MAX`.
+-- Let `c` be the count so far plus the node counts of the children that have not been visited yet.
+-- If `c` and the node count of this node are both capped at `u64::MAX`, then they are equal.
 -- Moreover, the count so far is less than `2 ^ 64`.
 abbrev pub invariant-loop-child : goal.invariant-loop-child
 invariant-loop-child l =

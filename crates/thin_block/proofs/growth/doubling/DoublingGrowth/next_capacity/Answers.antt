@@ -1,5 +1,7 @@
--- `next_capacity` returns the capacity that the rule `doubling` chooses. If the code and the rule
--- compute different capacities, then a block of either capacity is too large to be allocated.
+-- This file proves that `next_capacity` returns the result of the rule `doubling`. The code caps
+-- twice the old capacity at `usize::MAX`, but the rule does not. If the resulting capacities
+-- differ, then blocks of both capacities are too large to be allocated, and both the code and the
+-- rule return `None`.
 use Rattle.std.proofs.Common.{◌≡◌, ℕ, ◌*◌, ◌-◌, ◌^◌, ◌∙◌, ap, min}
 use Rattle.std.specs.Mem.{type_size}
 use Rattle.std.specs.Align.{type_align}

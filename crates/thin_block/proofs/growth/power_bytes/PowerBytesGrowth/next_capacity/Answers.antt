@@ -1,5 +1,6 @@
--- `next_capacity` returns the capacity that the rule `power_bytes` chooses. If the code and the
--- rule compute different capacities, then a block of either capacity is too large to be allocated.
+-- This file proves that `next_capacity` returns the result of the rule `power_bytes`. The code caps
+-- sizes and capacities at `usize::MAX`, but the rule does not. If this makes a difference, then the
+-- new block would be too large to be allocated, and both the code and the rule return `None`.
 use Rattle.std.proofs.Common.{◌≡◌, ◌+◌, ◌*◌, ◌^◌, ◌<◌, ◌≤◌, ◌∙◌, ap, max, subst, sym}
 use Rattle.std.specs.Mem.{type_size}
 use Rattle.std.specs.Align.{type_align}
