@@ -17,15 +17,16 @@ use Rattle.thin_vec.specs.declared.edits.extract_if.Extracting.{Extracting}
 use Rattle.thin_vec.specs.declared.edits.holder.Holder.{Holder}
 use Rattle.thin_vec.specs.declared.edits.holder.Holds.{Ghosts as HoldsGhosts}
 
--- Section: `dedup_by` and `dedup_by_key`
+-- The following lemmas are about `dedup_by` and `dedup_by_key`.
 
 -- In this module, `R` describes the calls to a closure that compares two items. For each call, `R`
 -- relates the old state of the closure, the two items, the result, the new state, and the two items
 -- after the call.
 module _ {S T : Type 0} (R : S → T → T → Bool → S → T → T → Type 0) where
-  -- Suppose that the items `xs` follow the kept item `k`. Each item of `xs` was compared with the
-  -- last item kept before it, and `ys` is the list of all kept items, including `k`. Then std's
-  -- `DedupsFrom` holds: if the duplicates are removed from `k ∷ xs`, then `ys` remains.
+  -- Suppose that the items `xs` follow the kept item `k`, and that each item of `xs` was compared
+  -- with the last item kept before it. Suppose also that `ys` is the list of all kept items,
+  -- including `k`. Then std's `DedupsFrom` holds: `ys` is what remains of `k ∷ xs` if the
+  -- duplicates are removed.
   dedups_from : (xs : List T) (s : S) (k : T) (stays : List Bool) (ys : List T) (t : S)
       → AskedLast R s k xs stays ys t → DedupsFrom R s k xs ys
   dedups_from [] s k stays ys t h = h.1
@@ -46,24 +47,24 @@ module _ {S T : Type 0} (R : S → T → T → Bool → S → T → T → Type 0
   )
 
   -- Suppose that each item of the list `xs`, except the first, was compared with the last item kept
-  -- before it, and that `ys` is the list of the kept items. Then std's `DedupsAll` holds: if the
-  -- duplicates are removed from `xs`, then `ys` remains.
+  -- before it, and that `ys` is the list of the kept items. Then std's `DedupsAll` holds: `ys` is
+  -- what remains of `xs` if the duplicates are removed.
   dedups_all : (xs : List T) (s : S) (stays : List Bool) (ys : List T) (t : S)
       → AskedPairs R s xs stays ys t → DedupsAll R s xs ys
   dedups_all [] s stays ys t h = h.1
   dedups_all (x ∷ xs) s stays ys t h = dedups_from xs s x stays ys t h
 
   -- If `dedup_by` or `dedup_by_key` turned the list `v` into the list `w`, then std's `IsDeduped`
-  -- holds: the items of `w` remain if the duplicates are removed from the items of `v`. Lemmas
-  -- about `IsDeduped` are in the file `lemmas/Fn` of std's proofs.
+  -- holds: `w.items` is what remains of `v.items` if the duplicates are removed. Lemmas about
+  -- `IsDeduped` are in the file `lemmas/Fn` of std's proofs.
   pub deduped_deduped : {A : Type 0} (s : S) (v w : Thin T A) → IsDedupedBy R s v w
       → IsDeduped R s v.items w.items
   deduped_deduped s v w h =
       record { told = dedups_all v.items s h.1.stays w.items h.0 h.1.asked }
 
-  -- Suppose that the closure changes neither an item nor its own state. Suppose also that it
-  -- returns `same x y` if it compares an item `x` with the last kept item `y`. If `dedup_by` with
-  -- this closure turned the list `v` into the list `w`, then `w.items` is `dedup same v.items`.
+  -- Suppose that the closure changes neither an item nor its own state. Suppose also that its
+  -- result for an item `x` and the last kept item `y` is `same x y`. If `dedup_by` with this
+  -- closure turned the list `v` into the list `w`, then `w.items` is `dedup same v.items`.
   pub deduped_dedup : {A : Type 0} (same : T → T → Bool) {s : S} {v w : Thin T A}
       → ((x y : T) (b : Bool) (t : S) (x' y' : T) → R s x y b t x' y'
       → (b ≡ same x y) × (t ≡ s) × (x' ≡ x) × (y' ≡ y))
@@ -71,16 +72,17 @@ module _ {S T : Type 0} (R : S → T → T → Bool → S → T → T → Type 0
   deduped_dedup same {s} {v} {w} says h =
       dedup_same R same s says v.items w.items (deduped_deduped s v w h)
 
--- Section: `extract_if`
+-- The following definitions and lemmas are about `extract_if`.
 
 module _ {T : Type 0} (test : T → Bool) where
   -- `others xs` is the list of the items of `xs` that do not pass `test`.
   abbrev pub others : List T → List T
   others xs = filter (λ x. not (test x)) xs
 
-  -- `Parts` describes one call to `next`. The call tests the items of the list `xs`, in order,
-  -- until an item passes the test. `item` is this item, or `None` if no item passes. The items
-  -- `kept` were tested and did not pass, and the items `rest` were not tested.
+  -- `Parts xs item kept rest` describes a call to `next` on an `ExtractIf`. The call tests the
+  -- items of the list `xs`, in order, until an item passes the test. `item` is this item, or `None`
+  -- if no item passes. The items `kept` were tested and did not pass, and the items `rest` were not
+  -- tested.
   pub record Parts (xs : List T) (item : Option T) (kept rest : List T) : Type 0 where
     pub gone : filter test xs ≡ option_to_list item ++ filter test rest
     pub stay : others xs ≡ kept ++ others rest
@@ -93,8 +95,8 @@ module _ {T : Type 0} (test : T → Bool) where
   module _ {S : Type 0} (R : S → T → Bool → S → T → Type 0)
       (says : (s : S) (x : T) (b : Bool) (t : S) (y : T) → R s x b t y
       → (b ≡ test x) × (y ≡ x)) where
-    -- This is the induction step of the lemma `parts`: if `parts` holds for the list `xs`, then it
-    -- also holds for the list `x ∷ xs`.
+    -- This is the induction step of the lemma `parts`: if the lemma holds for the list `xs`, then
+    -- it also holds for the list `x ∷ xs`.
     part : (x : T) (xs : List T) (item : Option T) (t u : S) (y : T) (kept rest : List T)
         (b : Bool) → b ≡ test x → y ≡ x
         → ((ks : List T) → ExtractsNext R u xs item t ks rest → Parts xs item ks rest)
@@ -120,8 +122,10 @@ module _ {T : Type 0} (test : T → Bool) where
           ended = then.ended;
         }
 
-    -- Suppose that `xs` is the list of the untested items before a call to `next`. If the closure
-    -- changes no item and always returns the result of `test`, then `Parts` describes this call.
+    -- Suppose that a call to `next` on an `ExtractIf` tests items of the list `xs`. If the closure
+    -- changes no item and always returns the result of `test`, then `Parts` describes this call:
+    -- `item` is the first item of `xs` that passes `test`, or `None`. The items `kept` before it do
+    -- not pass, and the items `rest` after it were not tested.
     pub parts : (s : S) (xs : List T) (item : Option T) (t : S) (kept rest : List T)
         → ExtractsNext R s xs item t kept rest → Parts xs item kept rest
     parts s [] item t kept rest e = record {

@@ -29,8 +29,8 @@ none_some : {A B : Type 0} (x : A) → None ≡ Some x → B
 none_some x e = cc
 
 -- Suppose that `named` is the capacity that a call needs, or `None` if this capacity is too large.
--- By `IsCause`, the error `cause` of the call is `CapacityOverflow` only if `named` is `None`. So
--- if `named` is `Some n`, then `cause` is `OutOfMemory`.
+-- The premise `IsCause` says that the error `cause` of the call is `CapacityOverflow` only if
+-- `named` is `None`. So if `named` is `Some n`, then `cause` is `OutOfMemory`.
 cause-named : (named : Option ℕ) (n : ℕ) (cause : ThinVecError) → named ≡ Some n
     → IsCause named cause → cause ≡ OutOfMemory
 cause-named named n OutOfMemory here told = refl

@@ -1,5 +1,6 @@
--- These lemmas state what the block of a list contains after each operation on the block. The items
--- of a list fill its block from slot 0 onward, without a gap. All later slots are empty.
+-- The block of a list contains slots, and each slot holds an item or is empty. The items of the
+-- list fill the slots from slot 0 onward, without a gap. All later slots are empty. These lemmas
+-- state what the block contains after each operation on it.
 use Rattle.std.proofs.Common.{◌≡◌, ◌≢◌, ℕ, zero, suc, ◌+◌, ◌-◌, ◌<◌, ◌≤◌, List, [], ◌∷◌, ◌++◌, length, take, drop, Option, Some, None, refl, sym, ap, ◌∙◌, arith, get_or, length-append, append_assoc}
 use Rattle.std.proofs.lemmas.List.{length-replicate, length-map, take-append-drop, replicate-append-replicate, set_at, get_or_append_left, get_or-map, map_push, append-nil, length-take-le, drop_more, length_push, get_or-set_other}
 use Rattle.std.proofs.Math.Seq.{drop-length, take-append_seam}
@@ -59,7 +60,8 @@ module _ {T : Type 0} where
   full-same xs ys e = sym (items-full-alone xs) ∙ (ap items_in e ∙ items-full-alone ys)
 
   -- If `i` is less than the length of `xs`, then slot `i` of `full xs ++ s` holds the item at index
-  -- `i` of `xs`. This item is `get_or xs i d`. The default value `d` of `get_or` is not used here.
+  -- `i` of `xs`. This item is `get_or xs i d`. The value `d` is the default for an index beyond the
+  -- end of `xs`, so it does not matter here.
   pub slot-full : (xs : List T) (s : List (Option T)) (i : ℕ) (d : T) → i < length xs
       → slot (full xs ++ s) i ≡ Some (get_or xs i d)
   slot-full xs s i d h =
@@ -82,8 +84,9 @@ module _ {T : Type 0} where
       (sym (map_push (λ (x : T). Some x) xs v))
       ∙ ap (λ (n : ℕ). full (xs ++ v ∷ []) ++ replicate n None) m)))
 
-  -- Suppose that `i` is less than the length of `xs`. If slot `i` of `full xs ++ s` is emptied,
-  -- then all other slots remain unchanged.
+  -- Suppose that `i` is less than the length of `xs`, and that slot `i` of `full xs ++ s` is
+  -- emptied. Then all other slots remain unchanged. They hold the first `i` items of `xs` before
+  -- slot `i`, and the later items of `xs`, followed by the slots `s`, after slot `i`.
   pub full-take : (xs : List T) (s : List (Option T)) (i : ℕ) (d : T) → i < length xs
       → set (full xs ++ s) i None ≡ full (take i xs) ++ (None ∷ (full (drop (suc i) xs) ++ s))
   full-take [] s i d h = absurd (omega arith)
@@ -139,9 +142,10 @@ module _ {T A : Type 0} where
     pub items : items_in b.slots ≡ xs
     pub cap : length b.slots ≡ c
 
-  -- Suppose that the slots of the block `b` are `front xs c`, that its stored length is the length
-  -- of `xs`, and that its memory came from the allocator `a`. Then `b` is the block of a list with
-  -- the items `xs` and the capacity `c`.
+  -- Suppose that the slots of the block `b` are `front xs c`: the slots of at most `c` items `xs`,
+  -- followed by empty slots up to the capacity `c`. Suppose also that the stored length of `b` is
+  -- the length of `xs`, and that the memory of `b` came from the allocator `a`. Then `b` is the
+  -- block of a list with the items `xs` and the capacity `c`.
   pub settled : (b : Block T A) (a : A) (xs : List T) (c : ℕ) → b.slots ≡ front xs c
       → b.len ≡ length xs → length xs ≤ c → IsFrom b.alloc a → Settled b a xs c
   settled b a xs c e n h f =
@@ -160,10 +164,10 @@ module _ {T A : Type 0} where
         cap = l;
       }
 
-  -- Suppose that the block of the list `v` is replaced with the block `b'`, which has `c` slots,
-  -- the items `xs` and the cost `k`. Then contracts describe the new list as `v` with the capacity
-  -- `c`, the items `xs` and the cost `k`. The premise `w ≡ v` says that `w` and `v` are the same
-  -- list.
+  -- Suppose that the block of the list `v` is replaced with the block `b'`. If `b'` has `c` slots,
+  -- the items `xs` and the cost `k`, then contracts describe the new list as `v` with the capacity
+  -- `c`, the items `xs` and the cost `k`. The premise `w ≡ v` says that `w` is the same list as
+  -- `v`.
   pub thin_of-becomes : {w v : Thin T A} → w ≡ v → (b' : Block T A) {xs : List T} {c : ℕ} {k : Cost}
       → length b'.slots ≡ c → items_in b'.slots ≡ xs → b'.cost ≡ k
       → thin_of b' w.alloc ≡ record v { items = xs; capacity = c; cost = k }
@@ -174,10 +178,10 @@ module _ {T A : Type 0} where
     cost = cost i;
   }
 
-  -- Suppose that the block of the list `v` is replaced with the block `b'`, which has the items
-  -- `xs`, the cost `k` and the same number of slots as the old block. Then contracts describe the
-  -- new list as `v` with the items `xs` and the cost `k`. The premise `w ≡ v` says that `w` and `v`
-  -- are the same list.
+  -- Suppose that the block of the list `v` is replaced with the block `b'`, which has the same
+  -- number of slots as the old block. If `b'` has the items `xs` and the cost `k`, then contracts
+  -- describe the new list as `v` with the items `xs` and the cost `k`. The premise `w ≡ v` says
+  -- that `w` is the same list as `v`.
   pub thin_of-keeps : {w v : Thin T A} → w ≡ v → (b' : Block T A) {xs : List T} {k : Cost}
       → length b'.slots ≡ w.capacity → items_in b'.slots ≡ xs → b'.cost ≡ k
       → thin_of b' w.alloc ≡ record v { items = xs; cost = k }

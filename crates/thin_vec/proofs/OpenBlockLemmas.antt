@@ -58,8 +58,8 @@ module _ {T : Type 0} where
       (replicate-append-replicate g 1 None)
 
 module _ {T A : Type 0} where
-  -- `Found h v` holds if `h` is a valid open block, and contracts describe `h` as `v`. An open
-  -- block is the block of a list during an edit.
+  -- An open block is the block of a list during an edit. `Found h v` holds if `h` is a valid open
+  -- block, and `v` is the open block `h` as it appears in contracts.
   pub record Found (h : Inside T A) (v : Open T A) : Type 0 where
     pub lies : IsOpen h
     pub view : open_of h ≡ v
@@ -93,8 +93,9 @@ module _ {T A : Type 0} where
   past_rest v = empty v.gap_after ++ past_after v
 
   module _ (h : Inside T A) (v : Open T A) (s : Shows h v) where
-    -- The slots of the open block `h` are, in this order: `to_rest v` (the slots before the middle
-    -- items), the slots of the middle items, and `past_rest v` (the slots after the middle items).
+    -- Suppose that `v` describes the layout of the open block `h`. Then the slots of `h` are, in
+    -- this order: `to_rest v` (the slots before the middle items), the slots of the middle items,
+    -- and `past_rest v` (the slots after the middle items).
     pub by_rest : h.block.slots ≡ to_rest v ++ (full v.rest ++ past_rest v)
     by_rest = s.row ∙ sym
         (append_assoc (full v.front) (empty v.gap) (full v.rest ++ past_rest v))
@@ -141,11 +142,13 @@ module _ {T A : Type 0} where
       s.gap_after,
     )
 
-    -- `reach v` is the index directly after the slots of the tail items. It is equal to `h.len`.
+    -- An open block is the block of a list during an edit. It holds front items, middle items and
+    -- tail items, with gaps of empty slots between these groups. `reach v` is the index directly
+    -- after the slots of the tail items of the open block `v`. This index is equal to `h.len`.
     pub reached : reach v ≡ h.len
     reached = omega (arith, s.front, s.gap, s.rest, s.gap_after, s.tail)
 
-    -- The open block `h` has `v.capacity` slots.
+    -- The number of slots of the open block `h` is `v.capacity`.
     shown-cap : length h.block.slots ≡ v.capacity
     shown-cap =
         omega (
@@ -161,8 +164,7 @@ module _ {T A : Type 0} where
           s.room,
         )
 
-    -- The items in the slots of the open block `h` before index `front_end` are its front items
-    -- `v.front`.
+    -- The items in the slots `0..front_end` of the open block `h` are its front items `v.front`.
     shown-front : items_in (take h.front_end h.block.slots) ≡ v.front
     shown-front =
         ap items_in (ap (take h.front_end) s.row
@@ -195,8 +197,8 @@ module _ {T A : Type 0} where
         ∙ items-front v.tail (length v.tail + (v.capacity - reach v))
 
     -- Suppose that the slots and the indices of the open block `h` have the layout that `v`
-    -- describes. If `h` and `v` also have the same allocator and the same cost, then `h` is a valid
-    -- open block, and contracts describe `h` as `v`.
+    -- describes, and that `h` and `v` have the same allocator and the same cost. Then `Found h v`
+    -- holds: `h` is a valid open block, and contracts describe it as `v`.
     pub found : h.block.alloc ≡ v.alloc → h.block.cost ≡ v.cost → Found h v
     found alloc cost =
         let gap : h.rest_start - h.front_end ≡ v.gap = omega (arith, s.gap) in
@@ -473,9 +475,9 @@ module _ {T A : Type 0} where
     abbrev all-after : List T
     all-after = (open_of h).rest ++ (open_of h).tail
 
-    -- Suppose that there is no gap before the tail items. Then the block begins with the slots of
-    -- the front items and the empty slots of the first gap. The rest of the block consists of the
-    -- slots of `all-after` (the middle items and the tail items) and the empty slots at the end.
+    -- Suppose that there is no gap before the tail items. Then the slots of the block are, in this
+    -- order: the slots of the front items, the empty slots of the first gap, the slots of
+    -- `all-after` (the middle items and the tail items), and the empty slots at the end.
     side-by-side : (open_of h).gap_after ≡ 0 → h.block.slots ≡ full (open_of h).front
         ++ (empty (open_of h).gap ++ (full all-after ++ past_tail (open_of h)))
     side-by-side none =
@@ -568,8 +570,9 @@ module _ {T A : Type 0} where
         ∙ (ap (λ (r : List (Option T)). r ++ past_tail w) (sym (full-append w.front all-after))
         ∙ ap (λ (k : ℕ). full (items_of w) ++ empty k) left)))
 
-  -- In this module, the block `b` of a list becomes an open block. The items `start..end` of the
-  -- list become the middle items of this open block.
+  -- An open block is the block of a list during an edit. In this module, the block `b` of a list
+  -- becomes an open block. The items `start..end` of the list become the middle items of this open
+  -- block.
   module _ (b : Block T A) (a : A) (start end : ℕ) (t : IsThin b a) (order : start ≤ end)
       (within : end ≤ length (items_in b.slots)) where
     -- `opened len` is the block `b` as an open block without gaps. Its middle items are in the
@@ -653,8 +656,9 @@ module _ {T A : Type 0} where
           len = h.len;
         }
 
-    -- Contracts describe the open block `filled` as `filled-seen`. The items `xs` are its last
-    -- front items, and its first gap is shorter than the first gap of `h` by `length xs` slots.
+    -- Contracts describe the open block `filled` as `filled-seen`. Its front items are the front
+    -- items of `h`, followed by the items `xs`. Its first gap is `length xs` slots shorter than the
+    -- first gap of `h`.
     abbrev pub filled-seen : Open T A
     filled-seen =
         let v : Open T A = open_of h in
@@ -757,7 +761,7 @@ module _ {T A : Type 0} where
         (ap (λ (k : ℕ). empty k) (sym all)
         ∙ sym (replicate-append-replicate count (v.capacity - reach v - count) None))
 
-    -- The first `count` slots after the tail items are empty.
+    -- The `count` slots directly after the tail items of the open block `h` are empty.
     pub spare-empty : (j : ℕ) → h.len ≤ j → j < h.len + count → slot h.block.slots j ≡ None
     spare-empty j low high =
         let v : Open T A = open_of h in

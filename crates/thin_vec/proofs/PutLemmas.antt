@@ -1,7 +1,7 @@
 -- These lemmas are about loops that put items into the empty slots of a block. Some of the lemmas
--- bound the number of items that an iterator yields to such a loop. Other lemmas state what the
--- slots contain while the items of a `Vec` are moved into them one by one, beginning with the last
--- item.
+-- are about loops that take the items from an iterator, and bound the number of these items. Other
+-- lemmas are about a loop that moves the items of a `Vec` into the slots one by one, beginning with
+-- the last item. They state what the slots contain during this loop.
 use Rattle.std.proofs.Common.{◌≡◌, ℕ, ◌+◌, ◌<◌, ◌≤◌, List, [], ◌∷◌, ◌++◌, length, take, drop, Option, Some, None, sym, ap, ◌∙◌, append_assoc, arith, get_or, length-append}
 use Rattle.std.proofs.lemmas.List.{append-nil, length-take-le, length_push, set_at, take_more}
 use lib.ListN.{set}
@@ -14,8 +14,8 @@ use Rattle.thin_vec.specs.declared.put.Filled.{Filled}
 
 module _ {S X : Type 0} {steps : S → Option X → S → Type 0} {can : S → Type 0}
     {remaining : S → Count} {s : S} {f : Filled S} where
-  -- `IsFilledBy` states that items of an iterator were put into `room` empty slots. If it holds,
-  -- then at most `room` items were put into these slots.
+  -- `IsFilledBy` describes a loop that moves items of an iterator into `room` empty slots. If it
+  -- holds, then the loop has moved at most `room` items into these slots.
   pub filled-fits : {room : ℕ} (by : IsFilledBy steps can remaining room s f)
       → length by.items ≤ room
   filled-fits {room} by = go f.ended by.full by.short
@@ -25,8 +25,8 @@ module _ {S X : Type 0} {steps : S → Option X → S → Type 0} {can : S → T
       go true full short = omega (arith, short refl)
       go false full short = omega (arith, full refl)
 
-  -- `IsFilledBy` states that items of an iterator were put into a number of empty slots. If it
-  -- holds for `m` slots, and `m` equals `n`, then it also holds for `n` slots.
+  -- `IsFilledBy` describes a loop that moves items of an iterator into a given number of empty
+  -- slots. If it holds for `m` slots, and `m` equals `n`, then it also holds for `n` slots.
   abbrev pub filled-room : {m n : ℕ} → m ≡ n → IsFilledBy steps can remaining m s f
       → IsFilledBy steps can remaining n s f
   filled-room same by = record {

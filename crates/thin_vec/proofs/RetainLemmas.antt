@@ -15,12 +15,13 @@ use Rattle.thin_vec.specs.Open.{Open}
 use Rattle.thin_vec.specs.ThinVec.{Thin}
 use Rattle.thin_vec.specs.OpenBlock.Sift.{Advances, IsAskedAt, IsSifted, AskedUpTo, Sifts, Stops}
 
--- Adding `b` moves and then `a` moves to a cost is the same as adding `b + a` moves.
+-- A cost counts moves of items, among other things. Adding `b` moves and then `a` moves to a cost
+-- is the same as adding `b + a` moves.
 pub moving-more : (a b : ℕ) (c : Cost) → moving a (moving b c) ≡ moving (b + a) c
 moving-more a b c = let e : c.moves + b + a ≡ c.moves + (b + a) = omega arith in
     λ i. record { blocks = c.blocks; grown = c.grown; moves = e i }
 
--- Adding zero moves to a cost does not change it.
+-- A cost counts moves of items, among other things. Adding zero moves to a cost does not change it.
 pub moving-none : (c : Cost) → moving 0 c ≡ c
 moving-none c = let e : c.moves + 0 ≡ c.moves = omega arith in
     λ i. record { blocks = c.blocks; grown = c.grown; moves = e i }
@@ -63,8 +64,9 @@ none-left [] none = refl
 none-left (x ∷ xs) none = absurd (none (omega arith))
 
 module _ {T : Type 0} where
-  -- A verdict says whether an item is kept. The items that the verdicts `a ++ b` keep are the items
-  -- that `a` keeps, followed by the items that `b` keeps.
+  -- A verdict says whether an item is kept, and `left_at true a` is the list of the items that the
+  -- verdicts `a` keep. The items that the verdicts `a ++ b` keep are the items that `a` keeps,
+  -- followed by the items that `b` keeps.
   pub left_at-append : (a b : Verdicts T) → left_at true (a ++ b) ≡ left_at true a ++ left_at true b
   left_at-append [] b = refl
   left_at-append ((true, x) ∷ a) b = ap (λ (l : List T). x ∷ l) (left_at-append a b)
@@ -78,20 +80,21 @@ module _ {T : Type 0} where
   trues-append ((true, x) ∷ a) b = let e = trues-append a b in omega arith
   trues-append ((false, x) ∷ a) b = trues-append a b
 
-  -- `stay xs` is the list of verdicts of a test that keeps every item. If such a test leaves the
-  -- items as `xs`, then `xs` is the list of the kept items.
+  -- `stay xs` is a list of verdicts that keep every item. The list `xs` contains the items as the
+  -- tests left them. So the list of the kept items is `xs`.
   pub left_at-stay : (xs : List T) → left_at true (stay xs) ≡ xs
   left_at-stay [] = refl
   left_at-stay (x ∷ xs) = ap (λ (l : List T). x ∷ l) (left_at-stay xs)
 
-  -- If the tests keep all items of `xs`, then the number of kept items is the length of `xs`.
+  -- `stay xs` is a list of verdicts that keep all items `xs`. So the number of items that these
+  -- verdicts keep is the length of `xs`.
   pub trues-stay : (xs : List T) → trues (flags_of (stay xs)) ≡ length xs
   trues-stay [] = refl
   trues-stay (x ∷ xs) = ap suc (trues-stay xs)
 
-  -- If a test keeps all items of `xs`, then none of these items is moved down, because only items
-  -- after the first removed item are moved down. So the number of moved items depends only on the
-  -- verdicts `a` on the items after `xs`.
+  -- Only items after the first removed item are moved down. So if the tests keep all items `xs` at
+  -- the start of a list, then none of the items `xs` is moved down. The number of moved items
+  -- depends only on `a`, the verdicts on the items after `xs`.
   pub moved_down-stay : (xs : List T) (a : Verdicts T) → moved_down (flags_of (stay xs ++ a))
       ≡ moved_down (flags_of a)
   moved_down-stay [] a = refl
@@ -157,7 +160,8 @@ module _ {S T : Type 0} (R : S → T → Bool → S → T → Type 0) where
       }
 
   module _ (k m : ℕ) (s : S) (xs : List T) (t : S) (ys : List T) (h : Stays k m s xs t ys) where
-    -- `asked-part` is the list of all items before index `m`, as they are after the tests.
+    -- `asked-part` is the list of all items before index `m`. The items that were tested are in
+    -- this list as the tests left them.
     abbrev asked-part : List T
     asked-part = h.before ++ h.left
 
@@ -169,8 +173,9 @@ module _ {S T : Type 0} (R : S → T → Bool → S → T → Type 0) where
     parted : ys ≡ asked-part ++ h.more
     parted = h.now ∙ sym (append_assoc h.before h.left h.more)
 
-    -- Suppose that the next test, `a`, tests the item at index `m`. Then the items before index `m`
-    -- are `asked-part`, and the item at index `m` is the first item that was untested before `a`.
+    -- Suppose that the next test, `a`, tests the item at index `m`. Then `asked-part` is the list
+    -- of the items before this item. The list `h.more` contains the items that had not been tested
+    -- before `a`. Its first item is the item that `a` tests.
     next-parts : (b : Bool) (u : S) (zs : List T) (a : IsAskedAt R m t ys b u zs)
         → (a.before ≡ asked-part) × (h.more ≡ a.item ∷ a.after)
     next-parts b u zs a =
@@ -187,8 +192,8 @@ module _ {S T : Type 0} (R : S → T → Bool → S → T → Type 0) where
     next-now b u zs a = a.now ∙ (ap (λ (l : List T). l ++ a.left ∷ a.after) (next-parts b u zs a).0
         ∙ append_assoc h.before h.left (a.left ∷ a.after))
 
-    -- If `Stays` holds up to index `m`, and the test keeps the item at index `m`, then `Stays`
-    -- holds up to index `m + 1`.
+    -- If `Stays` holds for the items `k..m`, and the test of the item at index `m` decides to keep
+    -- this item, then `Stays` holds for the items `k..m + 1`.
     pub stays-more : (u : S) (zs : List T) → IsAskedAt R m t ys true u zs
         → Stays k (m + 1) s xs u zs
     stays-more u zs a =
@@ -212,8 +217,8 @@ module _ {S T : Type 0} (R : S → T → Bool → S → T → Type 0) where
         }
 
     -- Suppose that the items `k..m` were tested and kept. If the test of the item at index `m`
-    -- decides to remove this item, then `AskedUpTo` holds: the item at index `m` is the first item
-    -- to be removed.
+    -- decides to remove this item, then `AskedUpTo` holds: the tests stopped at the item at index
+    -- `m`, because it is the first item to be removed.
     pub stays-goes : (u : S) (zs : List T) → IsAskedAt R m t ys false u zs
         → AskedUpTo R k m s xs u zs
     stays-goes u zs a =
@@ -266,8 +271,8 @@ module _ {S T : Type 0} (R : S → T → Bool → S → T → Type 0) where
         length-append h.before (h.left ∷ h.after),
       )
 
-  -- If the tests keep all items of the list `xs`, then the list `ys` after the tests has the same
-  -- length as `xs`.
+  -- Suppose that a closure tested all items of the list `xs`, and that all of them are kept. Then
+  -- the list `ys` of the items after the tests has the same length as `xs`.
   stay-count : (xs : List T) (s t : S) (ys : List T) → Asked R s xs (stay ys) t
       → length xs ≡ length ys
   stay-count [] s t [] h = refl
@@ -277,13 +282,16 @@ module _ {S T : Type 0} (R : S → T → Bool → S → T → Type 0) where
       ap suc (stay-count xs h.2 t ys
       (subst (λ (a : Verdicts T). Asked R h.2 xs a t) (sym (cons-tail h.6)) h.5))
 
-  -- If the tests stop at an item to be removed, or at the end of the list, then the number of items
-  -- does not change.
+  -- A closure tests the items of a list until it decides to remove an item, or until the end of the
+  -- list. Suppose that `b` is the list of the items after the kept items, and that the last test
+  -- turned `b` into `e`. Then `e` has the same length as `b`.
   stop-count : (u : S) (b : List T) (t : S) (e : List T) → Stops R u b t e → length e ≡ length b
   stop-count u [] t e h = ap length h.0
   stop-count u (x ∷ b) t e h = ap length h.2
 
-  -- Testing the items up to the first item to be removed does not change the number of items.
+  -- Suppose that a closure tested the items of the list `xs` from index `k` onward, up to the first
+  -- item to be removed. Then the list `ys` of the items after the tests has the same length as
+  -- `xs`.
   pub runs-count : (k m : ℕ) (s : S) (xs : List T) (t : S) (ys : List T) → AskedUpTo R k m s xs t ys
       → length ys ≡ length xs
   runs-count k m s xs t ys r =
@@ -363,12 +371,13 @@ module _ {S T : Type 0} (R : S → T → Bool → S → T → Type 0) where
     pub count : trues (flags_of verdicts) ≡ m
 
   module _ (m : ℕ) (s : S) (xs : List T) (t : S) (ys : List T) (r : AskedUpTo R 0 m s xs t ys) where
-    -- `r.before` is the list of the items before the first tested item. It is empty because the
-    -- tests began at index 0.
+    -- The premise `r` describes the tests of the items of `xs`, and `r.before` is the list of the
+    -- items before the first tested item. This list is empty, because the tests began at index 0.
     run-none : r.before ≡ []
     run-none = nil_from_length r.before r.place
 
-    -- The number of kept items is `m`.
+    -- `r.left` is the list of the kept items, as the closure left them. The number of kept items is
+    -- `m`.
     run-long : length r.left ≡ m
     run-long = omega (arith, r.reached)
 
@@ -429,14 +438,15 @@ module _ {S T : Type 0} (R : S → T → Bool → S → T → Type 0) where
               );
         }
 
-    -- Suppose that `b` is the list of the items after the kept items, and that this list is empty
-    -- after the tests. Then `b` was also empty before the tests, and the state of the closure has
-    -- not changed since the last kept item was tested.
+    -- Suppose that `b` is the list of the items after the kept items, and that `e` is this list
+    -- after the tests. If `e` is empty, then `b` was also empty, so no test took place after the
+    -- test of the last kept item. The state `t` after the tests is then equal to the state `u`
+    -- after that test.
     pub stop-ends : (u : S) (b e : List T) → Stops R u b t e → e ≡ [] → (b ≡ []) × (t ≡ u)
     stop-ends u [] e h k = (refl, h.1)
     stop-ends u (x ∷ b) e h k = absurd (cons-not-nil (sym h.2 ∙ k))
 
-    -- If no item follows the kept items, then all items were tested and kept.
+    -- If no item follows the `m` kept items in the list `ys`, then all items were tested and kept.
     pub part-ends : drop m ys ≡ [] → Part m s xs t (take m ys) []
     part-ends k =
         let g = stop-ends r.between r.after r.end r.stops (sym run-end ∙ k) in
@@ -449,13 +459,14 @@ module _ {S T : Type 0} (R : S → T → Bool → S → T → Type 0) where
           count = trues-stay r.left ∙ run-long;
         }
 
-  -- Section: open blocks
+  -- The following definitions and lemmas are about open blocks. An open block is the block of a
+  -- list during an edit.
 
   module _ {A : Type 0} (v w : Open T A) where
-    -- Suppose that the first middle items of the open block `v` were tested in order, and that `m`
-    -- of them were kept. Suppose also that the kept items were moved to the end of the front items,
-    -- at the cost of one move each. Then `Sifts` relates `v` to the open block `w` after these
-    -- moves.
+    -- `Sifts` describes a stage in which middle items of an open block are tested in order. The
+    -- kept items are moved to the end of the front items, at the cost of one move each, and the
+    -- other tested items are removed. Suppose that such a stage keeps `m` items and turns the open
+    -- block `v` into the open block `w`, which has a gap. Then `Sifts` relates `v` to `w`.
     pub sifts-of : (m : ℕ) (s t : S) (kept : List T) → Part m s v.rest t kept w.rest
         → 0 < w.gap → w ≡ record v {
           front = v.front ++ kept;
@@ -478,9 +489,10 @@ module _ {S T : Type 0} (R : S → T → Bool → S → T → Type 0) where
           });
         }
 
-  -- In this module, the open block `v` has a gap of empty slots before its middle items. The middle
-  -- items were tested in order, until the closure decided to remove an item or no item was left.
-  -- The open block after these tests is `w`.
+  -- An open block is the block of a list during an edit. It holds front items, middle items and
+  -- tail items, with gaps of empty slots between these groups. In this module, the open block `v`
+  -- has a gap before its middle items. The middle items were tested in order, until the closure
+  -- decided to remove an item or no item was left. The open block after these tests is `w`.
   module _ {A : Type 0} (s t : S) (v w : Open T A) (gap : 0 < v.gap)
       (h : Advances R s v t w) where
     -- `kept` is the list of the tested items that are kept, as the closure left them.
@@ -492,8 +504,8 @@ module _ {S T : Type 0} (R : S → T → Bool → S → T → Type 0) where
     moved = ap (λ u. u.cost) h.now ∙ moving-after v.gap h.count v.cost gap
 
     -- Suppose that after the tests, the last tested item `value` is removed from the open block
-    -- `w`. Then `Sifts` relates the open block `v` before the tests to the open block `z`, which is
-    -- `w` without `value`.
+    -- `w`. Then `Sifts`, which describes a stage of tests and removals, relates the open block `v`
+    -- before the tests to the open block `z`, which is `w` without `value`.
     pub advanced-goes : (value : T) (z : Open T A) → w.rest ≡ value ∷ z.rest
         → z ≡ record w { rest = z.rest; gap = w.gap + 1 } → Sifts R s v t z
     advanced-goes value z rest same =
@@ -505,7 +517,8 @@ module _ {S T : Type 0} (R : S → T → Bool → S → T → Type 0) where
         { gap = sym (ap (λ u. u.gap) same) i; rest = z.rest; cost = moved i }))
 
     -- If the open block `w` after the tests has no middle items, then the tests found no item to be
-    -- removed, and `Sifts` relates `v` to `w`.
+    -- removed. In this case, `Sifts`, which describes a stage of tests and removals, relates the
+    -- open block `v` before the tests to `w`.
     pub advanced-ends : w.rest ≡ [] → Sifts R s v t w
     advanced-ends none =
         sifts-of v w h.count s t kept
@@ -523,7 +536,8 @@ module _ {S T : Type 0} (R : S → T → Bool → S → T → Type 0) where
       runs-count 0 h.count s v.rest t h.left h.run,
     )
 
-  -- Before the first test, `Sifts` relates an open block with a gap of empty slots to itself.
+  -- `Sifts` describes a stage of tests and removals, which turns one open block into another.
+  -- Before the first test, it relates an open block `v` with a gap of empty slots to `v` itself.
   pub sifts-start : {A : Type 0} (s : S) (v : Open T A) → 0 < v.gap → Sifts R s v s v
   sifts-start s v gap =
       record {
@@ -536,7 +550,8 @@ module _ {S T : Type 0} (R : S → T → Bool → S → T → Type 0) where
             { front = sym (append-nil v.front) i; cost = sym (moving-none v.cost) i };
       }
 
-  -- `Sifts` is transitive: if it relates `v` to `w`, and `w` to `z`, then it relates `v` to `z`.
+  -- `Sifts` describes a stage of tests and removals, which turns one open block into another. It is
+  -- transitive: if it relates `v` to `w`, and `w` to `z`, then it relates `v` to `z`.
   pub sifts-then : {A : Type 0} {s t u : S} {v w z : Open T A} → Sifts R s v t w
       → Sifts R t w u z → Sifts R s v u z
   sifts-then {s = s} {t} {u} {v} {w} {z} h k =
@@ -567,15 +582,16 @@ module _ {S T : Type 0} (R : S → T → Bool → S → T → Type 0) where
   module _ {A : Type 0} (v w : Open T A) (m : ℕ) (s t : S) (ys : List T)
       (run : AskedUpTo R 0 m s v.rest t ys) where
     -- `Passed` holds if the front items of the open block `w` are the front items of the open block
-    -- `v`, followed by the kept items. Apart from the front items, `w` may differ from `v` only in
-    -- the gap and the middle items. The cost is the same, because the kept items were not moved.
+    -- `v`, followed by the `m` kept items. Apart from the front items, `w` may differ from `v` only
+    -- in the gap and the middle items. The cost is the same, because the kept items were not moved.
     abbrev Passed : Type 0
     Passed = w ≡ record v
         { front = v.front ++ take m ys; gap = w.gap; rest = w.rest }
 
-    -- Suppose that `value`, the first item after the kept items, was removed, and that all later
-    -- items were then tested. Then `IsSifted` relates the open block `v` before all tests to the
-    -- open block `z` after them.
+    -- `IsSifted` describes tests of all middle items of an open block, and the removal of the items
+    -- that are not kept. Suppose that `value`, the first item after the `m` kept items, was
+    -- removed, and that all later items were then tested. Then `IsSifted` relates the open block
+    -- `v` before all tests to the open block `z` after them.
     pub sifted-goes : (value : T) (u : S) (z : Open T A) → Passed → drop m ys ≡ value ∷ w.rest
         → Sifts R t w u z → z.rest ≡ [] → IsSifted R s v u z
     unfolding part-goes
@@ -612,8 +628,9 @@ module _ {S T : Type 0} (R : S → T → Bool → S → T → Type 0) where
               }));
         }
 
-    -- If the tests found no item to be removed, then all items were kept, and `IsSifted` relates
-    -- the open block `v` before the tests to the open block `w` after them.
+    -- `IsSifted` describes tests of all middle items of an open block, and the removal of the items
+    -- that are not kept. If the tests found no item to be removed, then all items were kept, and
+    -- `IsSifted` relates the open block `v` before the tests to the open block `w` after them.
     pub sifted-ends : Passed → drop m ys ≡ [] → w.rest ≡ [] → IsSifted R s v t w
     unfolding part-ends
     sifted-ends p k none =
@@ -687,9 +704,10 @@ module _ {S T : Type 0} (R : S → T → Bool → S → Type 0) where
       let left : y ≡ x = ap (λ (p : Bool × T). p.1) same ∙ h.4.1 in
       (ap suc rest.0, (h.2, answer, rest.1), first b y x a xs left rest.2)
     where
-      -- This is the induction step of the lemma `told`. Suppose that the kept items of `xs` are the
-      -- items whose flag is true, and that the test left the item `x` unchanged. Then the kept
-      -- items of `x ∷ xs` are also the items whose flag is true.
+      -- This is the induction step of the lemma `told`. Suppose that the items that the verdicts
+      -- `a` keep are the items of `xs` whose flag is true. Suppose also that the test left the item
+      -- `x` unchanged, so `y` is equal to `x`. Then the same statement holds for `x ∷ xs`, with the
+      -- flag `b` for `x`.
       first : (b : Bool) (y x : T) (a : Verdicts T) (xs : List T) → y ≡ x
           → left_at true a ≡ items_where_true (flags_of a) xs
           → left_at true ((b, y) ∷ a) ≡ items_where_true (b ∷ flags_of a) (x ∷ xs)
@@ -716,7 +734,8 @@ module _ {S T : Type 0} (R : S → T → Bool → S → Type 0) where
       (retained_filtered s v w h)
 
 module _ {S T : Type 0} (R : S → T → Bool → S → T → Type 0) where
-  -- The number of kept items is at most the number of tested items.
+  -- Suppose that a closure tested all items of the list `xs`. Then the number of kept items is at
+  -- most the length of `xs`.
   pub few-left : (xs : List T) (s t : S) (a : Verdicts T) → Asked R s xs a t
       → length (left_at true a) ≤ length xs
   few-left [] s t a h =

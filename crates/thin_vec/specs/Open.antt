@@ -7,7 +7,7 @@ use Rattle.thin_block.specs.Cost.{Cost, cost_code, moving}
 use Rattle.thin_block.specs.Slots.{empty, full}
 
 -- A value of the type `Open` describes an open block in contracts. An open block is the block of a
--- list during an edit.
+-- list while a method such as `retain` or `drain` works on the list.
 pub record Open (T A : Type 0) : Type 0 where
   -- The front items: the items before the edited range, and the items that have been kept or
   -- inserted so far.
@@ -87,7 +87,7 @@ module _ {T A : Type 0} where
   cost_closed v = if v.gap == 0 then v.cost else moving (length v.rest + length v.tail) v.cost
 
   -- `cost_drained v` is the recorded cost of the open block `v` after its middle items have been
-  -- removed and its tail items have been moved down to the front. If there is at least one slot
-  -- between the front and the tail, each tail item counts as one move.
+  -- removed, and its tail items have been moved down to follow the front directly. If there is at
+  -- least one slot between the front and the tail of `v`, each tail item counts as one move.
   abbrev pub cost_drained : Open T A → Cost
   cost_drained v = if range_len v == 0 then v.cost else moving (length v.tail) v.cost

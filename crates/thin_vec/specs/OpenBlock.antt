@@ -9,7 +9,7 @@ use Rattle.thin_vec.specs.Open.{Open, row_of}
 use Rattle.thin_vec.specs.declared.open_block.OpenBlock.TheInside.{Inside}
 
 module _ {T A : Type 0} where
-  -- `open_of h` is the open block `h` as it appears in contracts.
+  -- `open_of h` is the value of the type `Open` that describes the open block `h` in contracts.
   abbrev pub open_of : Inside T A → Open T A
   open_of h =
       record {
@@ -23,9 +23,9 @@ module _ {T A : Type 0} where
         cost = h.block.cost;
       }
 
-  -- `Shows h v` states that the open block `h` has the layout that `v` describes. The slots of `h`
-  -- contain the parts of `v` in order, and the indices that are stored in `h` say where each part
-  -- begins and ends. The number of slots is at least the index at which the last part ends.
+  -- `Shows h v` states that the value `v` describes the open block `h`. The slots of `h` contain
+  -- the parts of `v` in order, and the indices that are stored in `h` say where each part begins
+  -- and ends. The number of slots is at least the index at which the last part ends.
   pub record Shows (h : Inside T A) (v : Open T A) : Type 0 where
     pub row : h.block.slots ≡ row_of v
     pub front : length v.front ≡ h.front_end

@@ -14,18 +14,21 @@ Gives steps s xs false t = Yields steps s xs t
 
 -- `IsFilledBy steps can remaining room s f` describes a loop that moves items of the iterator `s`
 -- into `room` empty slots. The loop ends when all slots are full or when the iterator returns
--- `None`. The result `f` of the loop contains the rest of the iterator.
+-- `None`. The result `f` of the loop contains the rest of the iterator, and says whether the
+-- iterator has ended. Here, `steps` describes a single call to `next`, `can x` states that `next`
+-- may be called on the iterator `x`, and `remaining x` is an upper bound on the number of items
+-- that `x` still yields.
 pub record IsFilledBy {S X : Type 0} (steps : S → Option X → S → Type 0) (can : S → Type 0)
     (remaining : S → Count) (room : ℕ) (s : S) (f : Filled S) : Type 0 where
   -- These items were put into the slots, in the order in which the iterator yielded them.
   pub items : List X
   pub gave : Gives steps s items f.ended f.rest
-  -- If the iterator has not ended, all slots are full. If it has ended, at least one slot is still
-  -- empty.
+  -- If the iterator has not ended (`f.ended` is false), all slots are full. If it has ended, at
+  -- least one slot is still empty.
   pub full : f.ended ≡ false → length items ≡ room
   pub short : f.ended ≡ true → length items < room
-  -- If the iterator has not ended, `next` may be called on the rest of the iterator, and the upper
-  -- bound on the number of items that the rest yields is finite. The clause `nearer` adds that the
-  -- loop has decreased this bound by at least the number of items that it moved.
+  -- Suppose that the iterator has not ended. Then `next` may be called on the rest of the iterator,
+  -- and the upper bound on the number of items that the rest yields is finite. The loop has
+  -- decreased this upper bound by at least the number of items that it moved.
   pub asked : f.ended ≡ false → can f.rest × IsFinite (remaining f.rest)
   pub nearer : f.ended ≡ false → length items + size (remaining f.rest) ≤ size (remaining s)

@@ -25,8 +25,8 @@ abbrev tail_of : List Bool → List Bool
 tail_of [] = []
 tail_of (b ∷ bs) = bs
 
--- The function `is_some` returns the flag of a slot, which says whether the slot is filled. For a
--- row of `m` empty slots, the list of the flags is `replicate m false`.
+-- The function `is_some` returns true for a filled slot and false for an empty slot. If it is
+-- applied to each slot of a row of `m` empty slots, the results are `replicate m false`.
 none_shape : (X : Type 0) (m : ℕ) → map is_some (let none : List (Option X) = empty m in
     none) ≡ replicate m false
 none_shape X zero = refl

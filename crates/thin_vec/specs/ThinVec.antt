@@ -39,7 +39,8 @@ module _ {T A : Type 0} where
     pub packed : IsPacked b.slots b.len
     pub from : IsFrom b.alloc a
 
-  -- `thin_of b a` describes, in contracts, the list with the block `b` and the allocator `a`.
+  -- `thin_of b a` is the value of the type `Thin` that describes the list with the block `b` and
+  -- the allocator `a` in contracts.
   abbrev pub thin_of : Block T A → A → Thin T A
   thin_of b a = record {
     items = items_in b.slots;
@@ -83,14 +84,15 @@ module _ {T A : Type 0} where
   exact_for R v k = exact_capacity R v.capacity (length v.items + k)
 
   -- `cost_at v c` is the recorded cost of the list `v` after a call that sets its capacity to `c`.
-  -- If the capacity changes, the cost includes one more reallocation, which copies all items.
+  -- If the capacity changes, the cost includes one more request for memory, and each item counts as
+  -- copied once more.
   abbrev pub cost_at : Thin T A → ℕ → Cost
   cost_at v c = if c == v.capacity then v.cost else growing (length v.items) v.cost
 
   -- `cost_shrunk_to v c` is the recorded cost of the list `v` after a call that shrinks its
   -- capacity to `c`. If the capacity does not change, the cost does not change. Otherwise, if `c`
   -- is 0, the call frees the block, and the cost is 0. In all other cases, the cost includes one
-  -- more reallocation, which copies all items.
+  -- more reallocation, and each item counts as copied once more.
   abbrev pub cost_shrunk_to : Thin T A → ℕ → Cost
   cost_shrunk_to v c = if c == v.capacity then v.cost else
       (if c == 0 then no_cost else growing (length v.items) v.cost)
@@ -100,9 +102,9 @@ module _ {T A : Type 0} where
   abbrev pub cost_shrunk : Thin T A → Cost
   cost_shrunk v = cost_shrunk_to v (length v.items)
 
--- `IsCause named cause` relates the error `cause` of a call to `named`, the capacity that the call
--- needs. If this capacity is too large, `named` is `None`. The statement is: if the error is
--- `CapacityOverflow`, then `named` is `None`.
+-- `IsCause named cause` states that a call fails with the error `CapacityOverflow` only if the
+-- capacity that the call needs is too large. Here, `cause` is the error of the call. The value
+-- `named` is the capacity that the call needs, or `None` if this capacity is too large.
 abbrev pub IsCause : Option ℕ → ThinVecError → Type 0
 IsCause named cause = cause ≡ CapacityOverflow → named ≡ None
 

@@ -1,5 +1,5 @@
 -- A type may contain itself through a generic type: for example, a tree may contain a list of
--- trees. The prover accepts such a type only if the generic type has a type former. This is a
--- definition that says which values a value of the generic type contains. This directory has one
--- file for each source file that declares a type with a type former.
+-- trees. The prover accepts such a type only if the generic type has a type former. A type former
+-- is a definition that says which values a value of the generic type contains. This directory has
+-- one file for each source file that declares a type with a type former.
 pub mod list

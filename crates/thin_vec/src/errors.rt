@@ -1,5 +1,5 @@
-//! The errors of calls that take an argument by value. Each error returns to the caller those parts
-//! of the argument that the call did not use.
+//! The errors of calls that take an argument by value. If such a call fails, the error holds the
+//! parts of the argument that the call did not use. So the caller owns these parts again.
 ghost use Rattle.std.specs.Prelude.{◌≡◌};
 ghost use Rattle.std.specs.IoError.{error_kind};
 ghost use Rattle.std.specs.declared.io.ErrorKind.TheVariants as Kind;
@@ -26,9 +26,9 @@ pub struct Rejected<S> {
 pub struct ExtendRefused<T, I> {
     /// The reason why the call failed.
     pub cause: ThinVecError,
-    /// The last item that was taken from the iterator. The list had no room for this item. If the
-    /// call could not even reserve room for the lower bound of the size hint, no item was taken,
-    /// and `in_hand` is `None`.
+    /// The last item that was taken from the iterator. The list was full, and could not grow to
+    /// hold this item. If the call could not even reserve room for the lower bound of the size
+    /// hint, no item was taken, and `in_hand` is `None`.
     pub in_hand: Option<T>,
     /// The rest of the iterator, which yields the items that have not been taken yet.
     pub rest: I,
@@ -42,9 +42,9 @@ pub struct CollectRefused<T, I, A: Allocator = Global> {
     pub list: ThinVec<T, A>,
     /// The reason why the call failed.
     pub cause: ThinVecError,
-    /// The last item that was taken from the iterator. The list had no room for this item. If the
-    /// call could not even make a block for the lower bound of the size hint, no item was taken,
-    /// and `in_hand` is `None`.
+    /// The last item that was taken from the iterator. The list was full, and could not grow to
+    /// hold this item. If the call could not even allocate the first block, whose capacity is the
+    /// lower bound of the size hint, no item was taken, and `in_hand` is `None`.
     pub in_hand: Option<T>,
     /// The rest of the iterator, which yields the items that have not been taken yet.
     pub rest: I,
@@ -59,8 +59,8 @@ pub struct SpliceRefused<T, I, A: Allocator = Global> {
     /// vector uses the allocator that was passed to `finish`.
     pub held: Vec<T, A>,
     /// The last item that was taken from the iterator, after the items in `held`. There was no room
-    /// for this item. If the call failed because it could not reserve room in the list, either for
-    /// the lower bound of the size hint or for the items in `held`, `in_hand` is `None`.
+    /// for this item. `in_hand` is `None` if the call failed because it could not reserve room in
+    /// the list, either for the lower bound of the size hint or for the items in `held`.
     pub in_hand: Option<T>,
     /// The rest of the iterator, which yields the items that have not been taken yet. If `held` is
     /// not empty and `in_hand` is `None`, the iterator has returned `None`, and `next` must not be
@@ -145,8 +145,8 @@ impl<S: Drop> From<Rejected<S>> for io::Error {
 impl<T: Drop, I: Drop> From<ExtendRefused<T, I>> for io::Error {
     ghost from_gives = { λ _ error. error_kind error ≡ Kind.OutOfMemory };
 
-    // Drops all fields of the old error. The kind of the new error is always `OutOfMemory`, even if
-    // the cause was `CapacityOverflow`.
+    // Drops all fields of the old error. The kind of the new error is `OutOfMemory`, even if the
+    // cause was `CapacityOverflow`, because std has no `ErrorKind` for a capacity overflow.
     fn from(_refused: ExtendRefused<T, I>) -> io::Error {
         io::Error::from(ErrorKind::OutOfMemory)
     }
@@ -155,8 +155,8 @@ impl<T: Drop, I: Drop> From<ExtendRefused<T, I>> for io::Error {
 impl<T: Drop, I: Drop, A: Allocator> From<CollectRefused<T, I, A>> for io::Error {
     ghost from_gives = { λ _ error. error_kind error ≡ Kind.OutOfMemory };
 
-    // Drops all fields of the old error. The kind of the new error is always `OutOfMemory`, even if
-    // the cause was `CapacityOverflow`.
+    // Drops all fields of the old error. The kind of the new error is `OutOfMemory`, even if the
+    // cause was `CapacityOverflow`, because std has no `ErrorKind` for a capacity overflow.
     fn from(_refused: CollectRefused<T, I, A>) -> io::Error {
         io::Error::from(ErrorKind::OutOfMemory)
     }
@@ -165,8 +165,8 @@ impl<T: Drop, I: Drop, A: Allocator> From<CollectRefused<T, I, A>> for io::Error
 impl<T: Drop, I: Drop, A: Allocator> From<SpliceRefused<T, I, A>> for io::Error {
     ghost from_gives = { λ _ error. error_kind error ≡ Kind.OutOfMemory };
 
-    // Drops all fields of the old error. The kind of the new error is always `OutOfMemory`, even if
-    // the cause was `CapacityOverflow`.
+    // Drops all fields of the old error. The kind of the new error is `OutOfMemory`, even if the
+    // cause was `CapacityOverflow`, because std has no `ErrorKind` for a capacity overflow.
     fn from(_refused: SpliceRefused<T, I, A>) -> io::Error {
         io::Error::from(ErrorKind::OutOfMemory)
     }

@@ -67,9 +67,10 @@ fn second_splice_undoes_the_first(rt: HostRuntime) {
     }
 }
 
-// Asserts that `refused`, the error of a failed call to `finish`, has the contents `wanted`. The
-// tuple `wanted` contains, in this order: the cause, the items in the field `held`, the item in the
-// field `in_hand`, and the items that the iterator `rest` still yields.
+// Asserts that `refused`, the error of a failed call to `finish`, has the expected contents. The
+// tuple `wanted` lists these contents, in this order: the cause of the failure, the items in the
+// vector `held`, the item in the option `in_hand`, and the items that the iterator `rest` still
+// yields. All four are fields of the error.
 fn assert_refused<A: Allocator>(
     rt: &impl Abort,
     refused: SpliceRefused<i32, Claims<'_>, A>,
@@ -89,9 +90,10 @@ fn assert_refused<A: Allocator>(
     assert_same(rt, rest.next(), None);
 }
 
-// Tries to replace a range of a list with the items of `iter`, and asserts that this fails. Then
-// asserts that the list has the items and the capacity in the pair `left`. Finally, asserts that
-// the error has the contents in `wanted`.
+// Makes a list of the items `items`, tries to replace its range `range` with the items of `iter`,
+// and asserts that this fails. Then asserts that the list has the items and the capacity in the
+// pair `left`. Finally, asserts that the error has the contents `wanted`, which `assert_refused`
+// describes.
 fn assert_range_refused<A: Allocator + Copy>(
     rt: &impl Abort,
     alloc: A,

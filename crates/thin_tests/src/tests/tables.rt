@@ -14,7 +14,8 @@ use std::process::Abort;
 use thin_rows::{Rows, ThinVecError};
 use thin_testing::Refusing;
 
-// Asserts that the table has a row with index `row`. Many methods of the table require this.
+// Asserts that the table has a row with index `row`. Many methods of the table have this
+// precondition.
 fn assert_row<V, A: Allocator>(rt: &impl Abort, table: &Rows<V, A>, row: usize)
     ensures in_bounds { row < length table.now }
 {
@@ -83,8 +84,8 @@ fn with_rows_returns_the_cause(rt: HostRuntime) {
     }
 }
 
-// Sets a value in row 0 four times. Each value counts its drops, and the fourth value replaces the
-// second value.
+// Sets four values in row 0, in the columns 3, 1, 2 and 1. Each value counts its drops. The fourth
+// value replaces the second value, because both are set in column 1.
 fn set_counted<'a>(rt: &impl Abort, table: &mut Rows<Counted<'a>>, drops: &'a Cell<u32>) {
     for column in [3, 1, 2, 1] {
         assert_row(rt, table, 0);

@@ -7,8 +7,8 @@ use std::mem::size_of;
 use thin_block::Block;
 use thin_vec::{Growth, ThinVec};
 
-/// Returns the sizes in bytes of a `Block`, of a list with the global allocator, and of a `Vec`
-/// with the global allocator.
+/// Returns three sizes in bytes: the size of a `Block` (the pointer inside a list), the size of a
+/// list with the global allocator, and the size of a `Vec` with the global allocator.
 pub fn widths<T, A: Allocator, G: Growth>() -> (usize, usize, usize)
     ensures block { result.0 ≡ 8 }
     ensures list { result.1 ≡ 8 }

@@ -7,7 +7,7 @@ ghost use Rattle.std.specs.Prelude.{◌≡◌, ◌*◌, ◌^◌, ◌<◌, [], �
 use std::alloc::Allocator;
 use thin_vec::{ThinVec, ThinVecError, thin_vec};
 
-/// Makes a list of three items of any type. The contract states no condition on the size of an
+/// Makes a list of three items of any type. The contract has no precondition about the size of an
 /// item.
 pub fn three<T: Drop, A: Allocator>(
     alloc: A,

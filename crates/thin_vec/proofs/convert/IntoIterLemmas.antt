@@ -36,8 +36,8 @@ module _ {T : Type 0} where
       (replicate-append-replicate start 1 None))
 
   -- Suppose that the slots are, in this order: `start` empty slots, the items `xs`, the item `x`,
-  -- and `k` empty slots. Then this list of slots can be split directly before the slot of `x`. The
-  -- part before it is `empty start ++ full xs`.
+  -- and `k` empty slots. Then this list of slots consists of `empty start ++ full xs`, followed by
+  -- the slot of `x` and the `k` empty slots.
   row-last : (start k : ℕ) (xs : List T) (x : T) → empty start ++ (full (xs ++ x ∷ []) ++ empty k)
       ≡ (empty start ++ full xs) ++ (Some x ∷ empty k)
   row-last start k xs x =
@@ -131,7 +131,8 @@ module _ {T A : Type 0} where
         cap = l;
       }
 
-  -- In the block of an iterator, the index `end` is at most the number of slots.
+  -- In the block of an iterator, `end` is the index directly after the slots of the items that have
+  -- not been yielded yet. This index is at most the number of slots.
   pub walked-room : (b : Block T A) (a : A) (start end : ℕ)
       → IsWalked b a start end → end ≤ length b.slots
   walked-room b a start end t =
@@ -147,7 +148,8 @@ module _ {T A : Type 0} where
         length-full xs,
       )
 
-  -- In the block of an iterator, each slot in the range `start..end` holds an item.
+  -- The items that an iterator has not yielded yet are in the slots `start..end` of its block. Each
+  -- slot in this range holds an item.
   pub walked-filled : (b : Block T A) (a : A) (start end i : ℕ) → IsWalked b a start end → start ≤ i
       → i < end → IsSome (slot b.slots i)
   walked-filled b a start end i t low high =
@@ -159,7 +161,8 @@ module _ {T A : Type 0} where
       low ∙ slot-get xs after (i - start) within))
       (get-some xs (i - start) within)
 
-  -- If the slots `start..end` hold exactly the items `ys`, then the items of the iterator are `ys`.
+  -- If the slots `start..end` of the block `b` of an iterator hold exactly the items `ys`, then
+  -- `ys` is the list of the items that have not been yielded yet.
   pub walked-run : (b : Block T A) (a : A) (start end : ℕ) (ys : List T) → IsWalked b a start end
       → full ys ≡ slice_range b.slots start end → ys ≡ items_in b.slots
   walked-run b a start end ys t run =
@@ -220,24 +223,28 @@ module _ {T A : Type 0} where
         (omega (arith, t.len, ap length (first e).0)) (walked-room b a start end t)
         (from-same b b' a t.from (ap (λ v. v.alloc) w))
 
-    -- `most` is the list of all items except the last one.
+    -- `most` is the list of all items that have not been yielded yet, except the last of these
+    -- items.
     abbrev most : List T
     most = take (end - 1 - start) xs
 
-    -- The items are `most`, followed by the last item.
+    -- The list `xs` of the items that have not been yielded yet is `most`, followed by the last
+    -- item.
     whole : xs ≡ most ++ get_or xs (end - 1 - start) v ∷ []
     whole = split-last xs (end - 1 - start) v (omega (arith, t.len))
 
-    -- The last item is in slot `end - 1`.
+    -- The last item that has not been yielded yet is in slot `end - 1`, directly after the items
+    -- `most`.
     place : start + length most ≡ end - 1
     place = omega (arith, t.len, length-take-le (end - 1 - start) xs (omega (arith, t.len)))
 
-    -- The slots of `b` are, in this order: the empty slots before the items, the items `most`, the
-    -- last item, and the empty slots after it.
+    -- The slots of the block `b` are, in this order: `start` empty slots, the slots of the items
+    -- `most`, the slot of the last item, and the `gap` empty slots after it.
     row : b.slots ≡ empty start ++ (full (most ++ get_or xs (end - 1 - start) v ∷ []) ++ empty gap)
     row = t.row ∙ ap (λ (ys : List T). empty start ++ (full ys ++ empty gap)) whole
 
-    -- If slot `end - 1` holds `v`, then `v` is the last item.
+    -- If slot `end - 1` of the block `b` holds `v`, then `v` is the last item that has not been
+    -- yielded yet.
     pub last-item : slot b.slots (end - 1) ≡ Some v → xs ≡ most ++ v ∷ []
     last-item e =
         let is : Some (get_or xs (end - 1 - start) v) ≡ Some v =

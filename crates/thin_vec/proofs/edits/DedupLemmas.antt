@@ -21,8 +21,8 @@ use Rattle.thin_vec.proofs.OpenBlockLemmas.{last-of}
 abbrev OnPairs : Type 0 → Type 0 → Type 1
 OnPairs S T = S → T → T → Bool → S → T → T → Type 0
 
--- If two lists with the last items `x` and `y` are equal, then `x` and `y` are equal, and the lists
--- without their last items are equal.
+-- If the lists `a ++ x ∷ []` and `b ++ y ∷ []` are equal, then their last items `x` and `y` are
+-- equal, and the lists `a` and `b` are equal.
 last-same : {X : Type 0} (a b : List X) (x y : X) → a ++ x ∷ [] ≡ b ++ y ∷ [] → (a ≡ b) × (x ≡ y)
 last-same [] [] x y e = (refl, cons-head e)
 last-same [] (z ∷ b) x y e = let n = ap length e in absurd (omega (arith, n, length_push b y))
@@ -82,24 +82,25 @@ module _ {S T : Type 0} (R : OnPairs S T) where
       by-answer h.0 _ _ (0 < length ys) (λ m. last-some xs h.3 t h.2 h.4 ys m)
       (λ m. omega (arith, ap length m.2)) h.7
 
-  -- If the item `x` is tested against the kept item `k` and is removed, then only `k` is kept, as
-  -- the test left it.
+  -- If the item `x` is tested against the kept item `k` and is removed, then only `k` is kept. `k'`
+  -- is the item `k` as the test left it.
   pub last-goes : (s t : S) (k x x' k' : T) → R s x k true t x' k'
       → AskedLast R s k (x ∷ []) (false ∷ []) (k' ∷ []) t
   last-goes s t k x x' k' h = (true, x', k', t, [], h, refl, (refl, refl, refl))
 
-  -- If the item `x` is tested against the kept item `k` and is kept, then both items are kept, as
-  -- the test left them.
+  -- If the item `x` is tested against the kept item `k` and is kept, then both items are kept. `k'`
+  -- and `x'` are the items `k` and `x` as the test left them.
   pub last-stays : (s t : S) (k x x' k' : T) → R s x k false t x' k'
       → AskedLast R s k (x ∷ []) (true ∷ []) (k' ∷ x' ∷ []) t
   last-stays s t k x x' k' h = (false, x', k', t, [], h, refl, (x' ∷ [], (refl, refl, refl), refl))
 
   -- In this module, the items `zs` were tested after the kept item `l`. The tests changed the state
-  -- of the closure from `t` to `u`.
+  -- of the closure from `t` to `u`, and `ws` is the list of the kept items, including `l`.
   module _ (t u : S) (l : T) (g : List Bool) (ws zs : List T) (m : AskedLast R t l zs g ws u) where
-    -- Suppose that the tests of the items `xs` changed the state of the closure from `s` to `t`,
-    -- and that `l` was then the last kept item. If the tests of `zs` changed the state from `t` to
-    -- `u`, then the tests of `xs ++ zs` changed it from `s` to `u`.
+    -- Suppose that the tests of the items `xs` after the kept item `k` changed the state of the
+    -- closure from `s` to `t`, and that the kept items were then `pre`, followed by `l`. If the
+    -- tests of `zs` changed the state from `t` to `u`, then the tests of `xs ++ zs` changed the
+    -- state from `s` to `u`, and the kept items are `pre ++ ws`.
     last-append : (xs : List T) (s : S) (k : T) (f : List Bool) (pre : List T)
         → AskedLast R s k xs f (pre ++ l ∷ []) t → AskedLast R s k (xs ++ zs) (f ++ g) (pre ++ ws) u
     last-append [] s k f pre h =
@@ -162,15 +163,15 @@ module _ {S T : Type 0} (R : OnPairs S T) where
       }
 
   module _ (m : ℕ) (s : S) (xs : List T) (t : S) (ys : List T) (h : PairStays m s xs t ys) where
-    -- `NextPair` states that the next test, `a`, compared the first untested item with the last
-    -- kept item.
+    -- `NextPair` describes the next test, `a`. It states that `a` compared the first untested item,
+    -- `a.later`, with the last kept item, `h.last`.
     pub record NextPair (b : Bool) (u : S) (zs : List T)
         (a : IsPairAskedAt R m t ys b u zs) : Type 0 where
       pub front : a.before ≡ h.pre
       pub last : a.kept ≡ h.last
       pub after : h.after ≡ a.later ∷ a.after
 
-    -- If the next test, `a`, compared the item at index `m` with the item before it, then
+    -- Suppose that the next test, `a`, compared the item at index `m` with the item before it. Then
     -- `NextPair` holds: `a` compared the first untested item with the last kept item.
     next-pair : (b : Bool) (u : S) (zs : List T) (a : IsPairAskedAt R m t ys b u zs)
         → NextPair b u zs a
@@ -310,28 +311,31 @@ module _ {S T : Type 0} (R : OnPairs S T) where
     run-count f none e =
         omega (arith, ap trues e, trues-join (all-stay r.more) f, trues-all r.more, none, r.kept)
 
-  -- Section: open blocks
+  -- The following definitions and lemmas are about open blocks. An open block is the block of a
+  -- list during an edit.
 
   module _ {A : Type 0} (v w : Open T A) where
-    -- `Moved front cost` holds if the open block `w` has the front items `front` and the cost
-    -- `cost`, and otherwise differs from the open block `v` at most in the gap and the middle
-    -- items.
+    -- An open block is the block of a list during an edit. It holds front items, middle items and
+    -- tail items, with gaps of empty slots between these groups. `Moved front cost` holds if the
+    -- open block `w` has the front items `front` and the cost `cost`, and otherwise differs from
+    -- the open block `v` at most in the gap and the middle items.
     abbrev Moved : List T → Cost → Type 0
     Moved front cost = w ≡ record v
         { front = front; gap = w.gap; rest = w.rest; cost = cost }
 
-    -- Suppose that the front items `f` and `f'` are equal, and that the costs `k` and `k'` are
-    -- equal. Then the open block with `f` and `k` is equal to the open block with `f'` and `k'`.
+    -- If `f` equals `f'` and `k` equals `k'`, then the open block with the front items `f` and the
+    -- cost `k` is equal to the open block with the front items `f'` and the cost `k'`.
     moved : {f f' : List T} {k k' : Cost} → f ≡ f' → k ≡ k'
         → record v { front = f; gap = w.gap; rest = w.rest; cost = k }
         ≡ record v { front = f'; gap = w.gap; rest = w.rest; cost = k' }
     moved e n = λ i. record v { front = e i; gap = w.gap; rest = w.rest; cost = n i }
 
     module _ (s t : S) where
-      -- Suppose that the first middle items, `done`, were tested, and that `first` was the last
-      -- front item before the tests. Suppose also that the kept items of `done` were moved to the
-      -- end of the front items, at the cost of one move each. Then `Dedups` relates the open block
-      -- `v` before the tests to the open block `w` after these moves.
+      -- `Dedups` describes a stage in which duplicates are removed from the middle items of an open
+      -- block. The middle items are tested in order. The kept items are moved to the end of the
+      -- front items, at the cost of one move each, and the other tested items are removed. Suppose
+      -- that such a stage tests the items `done`, that `first` is the last front item before it,
+      -- and that it turns the open block `v` into `w`. Then `Dedups` relates `v` to `w`.
       dedups-of : (before : List T) (first : T) (done : List T) (stays : List Bool) (kept : List T)
           → v.front ≡ before ++ first ∷ [] → v.rest ≡ done ++ w.rest
           → AskedLast R s first done stays kept t → 0 < w.gap
@@ -350,8 +354,9 @@ module _ {S T : Type 0} (R : OnPairs S T) where
             now = now;
           }
 
-    -- If the first middle item `x` was tested and removed, then `Dedups` relates the open block `v`
-    -- before this test to the open block `w` after the removal.
+    -- `Dedups` describes a stage in which duplicates are removed from the middle items of an open
+    -- block. If the first middle item `x` was tested and removed, then `Dedups` relates the open
+    -- block `v` before this test to the open block `w` after the removal.
     pub dedups-goes : {s t : S} (x y : T) (front : List T)
         → IsLastAsked R s x v.front true t y front → v.rest ≡ x ∷ w.rest → 0 < w.gap
         → Moved front v.cost → Dedups R s v t w
@@ -360,9 +365,10 @@ module _ {S T : Type 0} (R : OnPairs S T) where
         (last-goes s t a.kept x y a.kept_left a.asked) gap
         (now ∙ moved (λ i. a.now i) (sym (moving-none v.cost)))
 
-    -- Suppose that the first middle item `x` was tested and kept, and that it was moved to the end
-    -- of the front items at the cost of one move. Then `Dedups` relates the open block `v` before
-    -- this test to the open block `w` after this move.
+    -- `Dedups` describes a stage in which duplicates are removed from the middle items of an open
+    -- block. Suppose that the first middle item `x` was tested and kept, and that it was moved to
+    -- the end of the front items at the cost of one move. Then `Dedups` relates the open block `v`
+    -- before this test to the open block `w` after this move.
     pub dedups-stays : {s t : S} (x y : T) (front : List T)
         → IsLastAsked R s x v.front false t y front → v.rest ≡ x ∷ w.rest
         → 0 < w.gap → Moved (front ++ y ∷ []) (moving 1 v.cost) → Dedups R s v t w
@@ -376,16 +382,17 @@ module _ {S T : Type 0} (R : OnPairs S T) where
         (a : IsLastAsked R s x v.front false t y front) (b : Bool)
         (n : IsNextAsked R t y ys b u z zs) (whole : v.rest ≡ x ∷ ys) where
       -- Suppose that the first middle item was tested and kept, and that the second middle item was
-      -- then tested. After these tests, the last two front items are `a.kept_left`, which was the
-      -- last front item before the tests, and `z`, which was the first middle item. Both items are
-      -- as the tests left them.
+      -- then tested. `z` is the first middle item as these two tests left it, and is now the last
+      -- front item. The front item before `z` is `a.kept_left`, the old last front item as the
+      -- tests left it.
       two-front : (front ++ z ∷ [] ≡ a.before ++ a.kept_left ∷ z ∷ [])
       two-front = ap (λ (l : List T). l ++ z ∷ []) a.now
           ∙ append_assoc a.before (a.kept_left ∷ []) (z ∷ [])
 
-      -- Suppose that the first middle item was kept, and that the second middle item was tested and
-      -- removed. Then `Dedups` relates the open block `v` before these two tests to the open block
-      -- `w` after them.
+      -- Suppose that the first middle item was tested, kept and moved to the end of the front
+      -- items. Suppose also that the second middle item was then tested and removed. Then `Dedups`,
+      -- which describes a stage of the removal of duplicates, relates the open block `v` before
+      -- these two tests to the open block `w` after them.
       pub dedups-two : b ≡ true → (value : T) → zs ≡ value ∷ w.rest → 0 < w.gap
           → Moved (front ++ z ∷ []) (moving 1 v.cost) → Dedups R s v u w
       dedups-two e value rest gap now =
@@ -399,9 +406,10 @@ module _ {S T : Type 0} (R : OnPairs S T) where
           (a.kept_left ∷ z ∷ []) a.was (whole ∙ ap (λ (l : List T). x ∷ l)
           (n.was ∙ ap (λ (l : List T). n.later ∷ l) same)) asked gap (now ∙ moved two-front refl)
 
-      -- Suppose that the first `m + 1` middle items were tested and kept. Suppose also that the
-      -- next middle item, if there is one, was tested and removed. Then `Dedups` relates the open
-      -- block `v` before these tests to the open block `w` after them.
+      -- Suppose that the first `m + 1` middle items were tested, kept and moved to the end of the
+      -- front items. Suppose also that the next middle item, if there is one, was tested and
+      -- removed. Then `Dedups`, which describes a stage of the removal of duplicates, relates the
+      -- open block `v` before these tests to the open block `w` after them.
       pub dedups-run : b ≡ false → (m : ℕ) (q : S) (ws : List T) (r : PairsAskedUpTo R m u zs q ws)
           → r.after ≡ w.rest → suc (trues r.stays) ≡ m
           → 0 < w.gap → Moved ((front ++ z ∷ []) ++ take m ws) (moving m (moving 1 v.cost))
@@ -430,8 +438,9 @@ module _ {S T : Type 0} (R : OnPairs S T) where
           ∙ append_assoc a.before (a.kept_left ∷ z ∷ []) r.left)
           (moving-more m 1 v.cost ∙ ap (λ (k : ℕ). moving k v.cost) paid))
 
-  -- If the open block `v` has a gap and at least one front item, then `Dedups` relates `v` to
-  -- itself. This is the situation before the first test.
+  -- `Dedups` describes a stage of the removal of duplicates, which turns one open block into
+  -- another. Before the first test, it relates an open block `v` to `v` itself if `v` has a gap of
+  -- empty slots and at least one front item.
   pub dedups-start : {A : Type 0} (s : S) (v : Open T A) → 0 < length v.front
       → 0 < v.gap → Dedups R s v s v
   dedups-start s v some gap =
@@ -449,7 +458,9 @@ module _ {S T : Type 0} (R : OnPairs S T) where
         now = λ i. record v { front = p.2 i; cost = sym (moving-none v.cost) i };
       }
 
-  -- `Dedups` is transitive: if it relates `v` to `w`, and `w` to `z`, then it relates `v` to `z`.
+  -- `Dedups` describes a stage of the removal of duplicates, which turns one open block into
+  -- another. It is transitive: if it relates `v` to `w`, and `w` to `z`, then it relates `v` to
+  -- `z`.
   pub dedups-then : {A : Type 0} {s t u : S} {v w z : Open T A} → Dedups R s v t w
       → Dedups R t w u z → Dedups R s v u z
   dedups-then {s = s} {t} {u} {v} {w} {z} h k =
@@ -487,15 +498,17 @@ module _ {S T : Type 0} (R : OnPairs S T) where
 
   module _ {A : Type 0} (v w : Open T A) (m : ℕ) (s t : S) (ys : List T)
       (r : PairsAskedUpTo R m s v.rest t ys) where
-    -- `RunPassed` states that the front items of the open block `w` are exactly the kept items, as
-    -- the tests left them. Apart from the front items, `w` may differ from the open block `v` only
-    -- in the gap and the middle items.
+    -- `RunPassed` states that the front items of the open block `w` are exactly the `m` kept items,
+    -- as the tests left them. Apart from the front items, `w` may differ from the open block `v`
+    -- only in the gap and the middle items. The cost is the same, because the kept items were not
+    -- moved.
     abbrev RunPassed : Type 0
     RunPassed = Moved v w (take m ys) v.cost
 
-    -- Suppose that the first item after the kept items was removed, and that all later items were
-    -- then tested. Then `IsDeduped` relates the open block `v` before all tests to the open block
-    -- `z` after them.
+    -- `IsDeduped` describes the removal of all duplicates from an open block. Suppose that `value`,
+    -- the first item after the `m` kept items, was removed, and that all later items were then
+    -- tested. Then `IsDeduped` relates the open block `v` before all tests to the open block `z`
+    -- after them.
     pub deduped-goes : (value : T) (u : S) (z : Open T A) → RunPassed → drop m ys ≡ value ∷ w.rest
         → Dedups R t w u z → z.rest ≡ [] → IsDeduped R s v u z
     deduped-goes value u z p k h none =
@@ -528,8 +541,9 @@ module _ {S T : Type 0} (R : OnPairs S T) where
           });
         }
 
-    -- If the tests found no item to be removed, then all items were kept, and `IsDeduped` relates
-    -- the open block `v` before the tests to the open block `w` after them.
+    -- `IsDeduped` describes the removal of all duplicates from an open block. If the tests found no
+    -- item to be removed, then all items were kept, and `IsDeduped` relates the open block `v`
+    -- before the tests to the open block `w` after them.
     pub deduped-ends : RunPassed → drop m ys ≡ [] → w.rest ≡ [] → IsDeduped R s v t w
     deduped-ends p k none =
         let g = run-ends m s v.rest t ys r k in
@@ -628,7 +642,7 @@ module _ {S T : Type 0} (E : T → T → Bool) where
       ]
       h.5.0 h.6 h.7
 
-  -- Suppose that the function `E` tested the items of the list `xs` after the first item. Then the
+  -- Suppose that the function `E` tested all items of the list `xs` except the first. Then the
   -- flags `f`, which say which of these items are kept, are `unlike E xs`. The list `ys` of the
   -- kept items, including the first item, is `dedup E xs`.
   pub pairs-compare : (xs : List T) (s t : S) (f : List Bool) (ys : List T)

@@ -50,12 +50,14 @@ module _ {F T : Type 0} (R : F → T → Bool → F → T → Type 0) where
     abbrev J : S → T → Bool → S → T → Type 0
     J s x b t y = R (of s) x (not b) (of t) y
 
-    -- In this module, the items of the list `after` are tested next, and the test is in the state
-    -- `between`. The closure returns true for the first item of `after`, unless `after` is empty.
+    -- In this module, the test is in the state `between`, and the list `after` contains the items
+    -- that have not been tested yet. The closure returns true for the first item of `after`, unless
+    -- `after` is empty.
     module _ (between : S) (after : List T) (item : Option T) (t : F) (rest : List T)
         (e : ExtractsNext R (of between) after item t [] rest) where
-      -- Suppose that the test keeps all items of the list `run`. Then the first item of `after` is
-      -- extracted from the list `run ++ after`. If `after` is empty, then no item is extracted.
+      -- Suppose that the test keeps all items of the list `run`. Then a call to `next` that tests
+      -- the list `run ++ after` extracts the first item of `after`. If `after` is empty, then this
+      -- call extracts no item.
       picked-after : (s : S) (run left : List T) → Asked J s run (stay left) between
           → ExtractsNext R (of s) (run ++ after) item t left rest
       picked-after s [] [] a =
@@ -90,8 +92,8 @@ module _ {F T : Type 0} (R : F → T → Bool → F → T → Type 0) where
 
     module _ (m : ℕ) (s : S) (xs : List T) (t : S) (ys : List T)
         (h : AskedUpTo J 0 m s xs t ys) where
-      -- `h.before` is the list of the items before the first tested item. It is empty because the
-      -- tests began at index 0.
+      -- The premise `h` describes the tests of the items of `xs`, and `h.before` is the list of the
+      -- items before the first tested item. This list is empty, because the tests began at index 0.
       none-before : h.before ≡ []
       none-before = nil_from_length h.before h.place
 
@@ -106,7 +108,8 @@ module _ {F T : Type 0} (R : F → T → Bool → F → T → Type 0) where
       now : ys ≡ h.left ++ h.end
       now = h.now ∙ ap (λ (l : List T). l ++ (h.left ++ h.end)) none-before
 
-      -- The number of kept items is `m`.
+      -- `h.left` is the list of the kept items, as the closure left them. The number of kept items
+      -- is `m`.
       reached : length h.left ≡ m
       reached = omega (arith, h.reached)
 
@@ -124,9 +127,9 @@ module _ {F T : Type 0} (R : F → T → Bool → F → T → Type 0) where
       pub picked-room : m ≤ length ys
       picked-room = omega (arith, reached, ap length now, length-append h.left h.end)
 
-      -- Suppose that the tests kept the first `m` items of the list `xs`. If the extraction from
-      -- the later items results in `item`, then the extraction from the whole list `xs` also
-      -- results in `item`.
+      -- Suppose that the tests kept the first `m` items of the list `xs`. If `item` is extracted
+      -- from the later items, then `item` is also extracted from the whole list `xs`. (`item` is
+      -- `None` if no item is extracted.)
       whole : (item : Option T) (rest : List T) → ExtractsNext R (of h.between) h.after item (of t)
           [] rest → ExtractsNext R (of s) xs item (of t) (take m ys) rest
       whole item rest e =
@@ -150,9 +153,9 @@ module _ {F T : Type 0} (R : F → T → Bool → F → T → Type 0) where
           whole (Some v) zs (stops-at-item h.between t h.after h.end v zs
           h.stops (sym end-is ∙ some))
 
--- Suppose that the list `xs` contains at least `k` items. Then moving `k` items across a gap costs
--- the same as moving the items `take k xs` across it. If the gap is empty, then no item is moved,
--- and the cost does not change.
+-- Suppose that the list `xs` contains at least `k` items, so `take k xs` has the length `k`. Then
+-- moving `k` items across a gap costs the same as moving the items `take k xs` across it. If the
+-- gap is empty, then no item is moved, and the cost does not change.
 pub cost-of : {T : Type 0} (gap : ℕ) (cost : Cost) (k : ℕ) (xs : List T) → k ≤ length xs
     → (if gap == 0 then cost else moving k cost)
     ≡ (if gap == 0 then cost else moving (length (take k xs)) cost)

@@ -65,8 +65,9 @@ module _ {S T A : Type 0} {steps : S → Option T → S → Type 0} {can : S →
     pub filled-long : length w.items ≡ length v.front + length v.tail + length p.0.items
     filled-long = omega (arith, ap length p.1.items, between-length v p.0.items)
 
-    -- If the gap was filled and the iterator has not ended yet, then `IsReached` holds for the list
-    -- and the inserted items.
+    -- Suppose that items of an iterator were put into the gap, and that the iterator has not ended
+    -- yet, so the gap is full. Then `IsReached`, which describes such a state during a call to
+    -- `finish`, holds for the list `w` and the inserted items.
     pub filled-reached : f.ended ≡ false
         → IsReached steps can remaining v s w p.0.items f.end f.rest
     filled-reached more = record {
@@ -85,18 +86,20 @@ module _ {S T A : Type 0} {steps : S → Option T → S → Type 0} {can : S →
     filled-drains done = (f.rest, subst (λ b. Gives steps s p.0.items b f.rest) done p.0.gave)
 
     module _ (rule : Rule) (R : RattleType) (n : ℕ) (left : Count) where
-      -- `HasTaken` describes how a list changed when items of an iterator were added. If closing
-      -- the gap moved old items at most `n` times in total, then `HasTaken` holds with the bound
-      -- `n` on these moves.
+      -- `HasTaken` describes how adding items of an iterator changed a list, and bounds the number
+      -- of moves of old items. If closing the gap moved old items at most `n` times in total, then
+      -- `HasTaken` holds with the bound `n`. It relates the list of the old items, `left_of v a`,
+      -- to the new list `w`.
       pub filled-taken : p.1.cost.0 ≤ n → HasTaken rule R (left_of v a) w n left
       filled-taken few =
           taken-spare rule R (left_of v a) w (length p.0.items) p.1.cost.0 n left p.1.cost.1
           p.1.capacity (omega (arith, filled-long, length-append v.front v.tail)) few p.1.alloc
 
-      -- Suppose that a gap was opened in the list `u`, that items of an iterator were put into it,
-      -- and that it was then closed. If opening and closing the gap moved old items at most `n`
-      -- times in total, then `HasTaken` relates `u` to the new list `w`, with the bound `n` on
-      -- these moves.
+      -- Suppose that a gap was opened in the list `u` before index `at`, that items of an iterator
+      -- were put into it, and that it was then closed. Suppose also that `n` is at least the number
+      -- of moves of old items when the gap was closed, plus the number of items of `u` from index
+      -- `at` onward. Then `HasTaken` relates `u` to the new list `w`: it describes how adding the
+      -- items changed the list, and states that old items were moved at most `n` times.
       pub wide-taken : (u : Thin T A) (at count : ℕ) → IsWide v u at count → a ≡ u.alloc
           → p.1.cost.0 + (length u.items - at) ≤ n → HasTaken rule R u w n left
       wide-taken u at count wide from few =
@@ -135,10 +138,10 @@ module _ {S T A : Type 0} {steps : S → Option T → S → Type 0} {can : S →
       nearer = p.nearer;
     }
 
-    -- `HasTaken` includes a bound on the moves of old items. Suppose that it holds for the steps of
-    -- `finish` before the list `u` was reached, with the bound `m`, and for the later steps, with
-    -- the bound `n`. Then it holds for all steps together, with each bound `k` that is at least `m
-    -- + n`.
+    -- `HasTaken` describes how adding items changed a list, and bounds the number of moves of old
+    -- items. Suppose that it holds with the bound `m` for the steps of `finish` before the list `u`
+    -- was reached, and with the bound `n` for the later steps. If `m + n ≤ k`, then it holds with
+    -- the bound `k` for all steps together.
     pub reached-taken : (rule : Rule) (R : RattleType) → KeepsLaw rule → (a : A) (w : Thin T A)
         (m n k : ℕ) → m + n ≤ k → HasTaken rule R (left_of v a) u m (remaining s)
         → HasTaken rule R u w n (remaining t) → HasTaken rule R (left_of v a) w k (remaining s)
@@ -149,10 +152,10 @@ module _ {S T A : Type 0} {steps : S → Option T → S → Type 0} {can : S →
         (λ fit same. omega (arith, fit, same, ap length p.items, long, left, p.nearer))
         before now
 
-    -- `IsExtended` describes which capacity a list has after items were added. Suppose that the
-    -- steps of `finish` before the list `u` was reached did not change the capacity. If the later
-    -- steps satisfy `IsExtended` with the new capacity `d`, then all steps together also satisfy it
-    -- with `d`.
+    -- `IsExtended` states which capacity a list may have after items were added. Suppose that the
+    -- steps of `finish` before the list `u` was reached did not change the capacity. If
+    -- `IsExtended` holds for the later steps with the new capacity `d`, then it also holds for all
+    -- steps together with `d`.
     pub reached-extended : (rule : Rule) (R : RattleType) (a : A) (d n : ℕ)
         → u.capacity ≡ v.capacity → IsExtended rule R u d n (remaining t)
         → IsExtended rule R (left_of v a) d n (remaining s)
@@ -192,9 +195,10 @@ module _ {S T A : Type 0} {steps : S → Option T → S → Type 0} {can : S →
         }
 
   module _ {rule : Rule} {R : RattleType} (v : Open T A) (a : A) (s : S) (w : Thin T A) where
-    -- Suppose that `finish` returned `Ok` and placed all items that the iterator yields. If
-    -- `HasTaken` and `IsExtended` hold for the new list, then `IsFinished`, which describes the
-    -- whole call, also holds.
+    -- Suppose that `finish` returned `Ok` and placed all items that the iterator yields. Suppose
+    -- also that the new list `w` satisfies `HasTaken`, which is mainly about its cost, and
+    -- `IsExtended`, which is about its capacity. Then `IsFinished`, which describes the whole call,
+    -- also holds.
     pub finished-ok : (x : Unit {0})
         → (xs : List T) × Drains steps s xs × (w.items ≡ with_between v xs)
         → HasTaken rule R (left_of v a) w (2 * length v.tail) (remaining s)
@@ -212,9 +216,10 @@ module _ {S T A : Type 0} {steps : S → Option T → S → Type 0} {can : S →
       cause = tt;
     }
 
-    -- Suppose that `finish` first placed the items `xs`, and that at least one tail item follows
-    -- them. If the rest of the call returns `r` and satisfies the premises of this lemma, then
-    -- `IsFinished`, which describes a whole call to `finish`, holds with the result `r`.
+    -- Suppose that a call to `finish` first placed the items `xs`, and that at least one tail item
+    -- follows them. The other premises describe the rest of the call, which returned `r`, and the
+    -- cost and the capacity of the new list `w`. Then `IsFinished`, which describes a whole call to
+    -- `finish`, holds with the result `r`.
     pub finished-from : {t : S} {u : Thin T A} {xs : List T} {end : ℕ}
         (r : Result (Unit {0}) (SpliceRefused T S A))
         → IsReached steps can remaining v s u xs end t → 0 < length v.tail

@@ -20,9 +20,9 @@ use Rattle.thin_vec.proofs.edits.SpliceLemmas.{moving-add, moving-zero}
 use Rattle.thin_vec.proofs.OpenBlockLemmas.{Found, found, past_tail, reached}
 use Rattle.thin_vec.proofs.ListLemmas.{length-empty, length-full}
 
--- Suppose that the items `xs` are clones of the items `ss`, and that the items `ys` are clones of
--- the items `ts`. Then the items `xs ++ ys` are clones of the items `ss ++ ts`. The relation `R`
--- says which items are clones of each other.
+-- The relation `R` says which items are clones of each other. Suppose that the items `xs` are
+-- clones of the items `ss`, in the same order, and that the items `ys` are clones of the items
+-- `ts`. Then the items `xs ++ ys` are clones of the items `ss ++ ts`.
 pub all_zip-append : {X : Type 0} (R : X → X → Type 0) (ss ts xs ys : List X) → AllZip R ss xs
     → AllZip R ts ys → AllZip R (ss ++ ts) (xs ++ ys)
 all_zip-append R [] ts [] ys e h = h
@@ -260,8 +260,8 @@ at-most-le {n} {m} {c} {d} h le = record {
   cost = h.cost;
 }
 
--- Suppose that the cost `d` is either the cost `c` or the cost `c` plus `n` moves, as the flag `b`
--- says. Then at most `n` moves turn `c` into `d`.
+-- Suppose that the cost `d` is the cost `c` if the flag `b` is true, and otherwise the cost `c`
+-- plus `n` moves. Then at most `n` moves turn `c` into `d`.
 pub at-most-if : (b : Bool) (n : ℕ) (c d : Cost) → d ≡ (if b then c else moving n c)
     → MovesAtMost n c d
 at-most-if true n c d is = record { moves = 0; few = omega arith; cost = is ∙ moving-zero c }
@@ -272,8 +272,8 @@ pub if-le : (b : Bool) (k n : ℕ) → k + (if b then 0 else n) ≤ k + n
 if-le true k n = omega arith
 if-le false k n = omega arith
 
--- `IsParted` describes how `k` clones replace a range of `r` items. The first `k1` clones replace
--- old items of the range, and the other `k2` clones need additional slots.
+-- `IsParted k r k1 k2` describes how `k` clones replace a range of `r` items. The first `k1` clones
+-- take the places of old items of the range, and the other `k2` clones need additional slots.
 pub record IsParted (k r k1 k2 : ℕ) : Type 0 where
   -- `k1` is the smaller of the number of clones and the length of the range.
   pub first : k1 ≡ min k r
@@ -281,9 +281,10 @@ pub record IsParted (k r k1 k2 : ℕ) : Type 0 where
   pub all : k1 + k2 ≡ k
 
 -- Suppose that `k` clones replace a range of `r` items, and that `t` items follow the range. The
--- first `k1` clones are appended to the list and then moved into the range. The other `k2` clones
--- are inserted directly after the range. This takes `min k r` more moves than a replacement of the
--- range with `k` items that already exist.
+-- first `k1` clones are appended to the list, and are later moved into the range. The other `k2`
+-- clones are inserted directly after the range, so `u` items then follow the range. (They replace
+-- an empty range, whose length is `z`.) All these steps together take `min k r` more moves than a
+-- replacement of the range with `k` items that already exist.
 pub cloning-moves : {k r k1 k2 : ℕ} → IsParted k r k1 k2 → (t : ℕ) {z u : ℕ} → z ≡ 0 → u ≡ t + k2
     → ((k2 + (if eqb k2 z then 0 else t)) + k1) + (k1 + (if eqb k1 r then 0 else u))
     ≡ (k + (if eqb k r then 0 else t)) + min k r

@@ -27,8 +27,9 @@ module _ {T : Type 0} (clones : T → T → Type 0) where
     pub slots : s' ≡ laid i (full copies) s
 
   -- `IsClonedList v w` states what std's `Clone` guarantees about a clone `w` of the list `v`. The
-  -- list `w` contains a clone of each item of `v`, has the same allocator as `v`, and has exactly
-  -- one slot for each item.
+  -- list `w` consists of clones of the items of `v`, in the same order. It has the same allocator
+  -- as `v`, and its capacity is exactly the number of items. Its recorded cost is the cost of a new
+  -- list of this capacity, plus one move for each item.
   abbrev pub IsClonedList : {A : Type 0} → Thin T A → Thin T A → Type 0
   IsClonedList v w =
       AllZip clones v.items w.items × (length w.items ≡ length v.items)
@@ -46,9 +47,9 @@ pub record AppendsRepeats {T : Type 0} (clones : T → T → Type 0) (x : T) (n 
   pub items : ys ≡ xs ++ copies
 
 -- `IsResized clones xs n x ys` states that the list `ys` is a possible result of resizing the list
--- `xs` to the length `n`. If `xs` has at least `n` items, `ys` contains the first `n` items of
--- `xs`. Otherwise, `ys` contains all items of `xs`, then clones of `x`, and finally `x` itself. The
--- parameter `clones` says which items are clones of `x`.
+-- `xs` to the length `n`. If `xs` has at least `n` items, `ys` consists of the first `n` items of
+-- `xs`. Otherwise, `ys` consists of all items of `xs`, then clones of `x`, and finally `x` itself,
+-- so that it has `n` items in total. The parameter `clones` says which items are clones of `x`.
 pub record IsResized {T : Type 0} (clones : T → T → Type 0) (xs : List T) (n : ℕ) (x : T)
     (ys : List T) : Type 0 where
   pub shorter : n ≤ length xs → ys ≡ take n xs
@@ -57,10 +58,10 @@ pub record IsResized {T : Type 0} (clones : T → T → Type 0) (xs : List T) (n
   pub len : length ys ≡ n
 
 -- `StopsAtClone infallible sources before after` describes a call that clones the items of
--- `sources` in order, and stops because cloning one item fails. This item has the index `at` in
--- `sources`, and does not satisfy `infallible`. (`infallible x` states that cloning `x` cannot
--- fail.) Each clone that was made before counts as one move: the cost `after` is the cost `before`
--- plus `at` moves.
+-- `sources` in order, until cloning an item fails. Here, `infallible x` states that cloning `x`
+-- cannot fail. Let `at` be the index of the item whose clone failed. This item does not satisfy
+-- `infallible`. Before the failure, the call made `at` clones, and each of them counts as one move.
+-- So if the cost was `before` when the call began, the cost `after` is `before` plus `at` moves.
 pub record StopsAtClone {T : Type 0} (infallible : T → Type 0) (sources : List T)
     (before after : Cost) : Type 0 where
   pub at : ℕ
@@ -68,10 +69,11 @@ pub record StopsAtClone {T : Type 0} (infallible : T → Type 0) (sources : List
   pub fallible : HoldsAt (λ x. ¬ (infallible x)) sources at
   pub cost : after ≡ moving at before
 
--- `CostsUpToClone infallible sources v w` describes the cost of a call that cloned items of
--- `sources` into a list, but failed because cloning one item failed. The call changed the list from
--- `v` to `w`. The cost of the call is one move for each clone that was made before the failure, and
--- one reallocation if the capacity changed.
+-- `CostsUpToClone infallible sources v w` describes the cost of a call that cloned the items of
+-- `sources` into a list in order, until cloning an item failed. The call changed the list from `v`
+-- to `w`. The cost of the call is one move for each clone that was made before the failure, and one
+-- request for memory if the capacity changed. Such a request also counts each item of `v` as
+-- copied. (`infallible x` states that cloning `x` cannot fail.)
 abbrev pub CostsUpToClone : {T A : Type 0} → (T → Type 0) → List T → Thin T A → Thin T A → Type 0
 CostsUpToClone infallible sources v w =
     StopsAtClone infallible sources (cost_at v w.capacity) w.cost

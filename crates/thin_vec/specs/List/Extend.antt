@@ -1,6 +1,7 @@
 -- The definitions in this file describe calls that add the items of an iterator to a list, such as
 -- std's `Vec::extend`. In this file, `v` is the list before the call, `w` is the list after the
--- call, and `R` is the type of the items. The iterator may yield at most `left` more items.
+-- call, and `R` is the type of the items. The number `left` is an upper bound on the number of
+-- items that the iterator may still yield.
 use Rattle.std.specs.Prelude.{◌≡◌, ◌↔◌, ◌⊎◌, ℕ, ◌+◌, ◌<◌, ◌≤◌, IsSome, List, ◌++◌, Option, length}
 use Rattle.std.specs.Iterator.{Count, IsFinite, Yields, size}
 use Rattle.std.specs.Iterator.SizeHint.{IsWithinCount}
@@ -16,77 +17,80 @@ use Rattle.thin_vec.specs.declared.errors.CollectRefused.{CollectRefused}
 use Rattle.thin_vec.specs.declared.errors.ExtendRefused.{ExtendRefused}
 
 -- `PausedAfter steps can remaining s ys t` states that calls to `next` on the iterator `s` yielded
--- the items `ys` and changed the iterator to `t`. Here, `steps` describes a single call to `next`.
--- Also, `next` may be called on `t` again (`can`), and the upper bound `remaining t` on the number
--- of items that `t` still yields is finite.
+-- the items `ys` and changed the iterator to `t`. It also states that `next` may be called on `t`
+-- again, and that the number of items that `t` still yields has a finite upper bound. Here, `steps`
+-- describes a single call to `next`, `can x` states that `next` may be called on the iterator `x`,
+-- and `remaining x` is the upper bound for `x`.
 pub record PausedAfter {S X : Type 0} (steps : S → Option X → S → Type 0) (can : S → Type 0)
     (remaining : S → Count) (s : S) (ys : List X) (t : S) : Type 0 where
   pub gave : Yields steps s ys t
   pub can_next : can t
   pub finite : IsFinite (remaining t)
 
--- `IsLoose rule R c d` compares an old capacity `c` with a new capacity `d`. It holds if `d` is
--- `c`, or if `d >= n` for some capacity `n` that the growth rule may choose when a block of
--- capacity `c` has to grow. Each growth at least doubles the capacity. So `d` is either `c` or at
--- least `2 * c`.
+-- `IsLoose rule R c d` compares an old capacity `c` with a new capacity `d` of a list of items of
+-- the type `R`. It holds in two cases. In the first case, `d` equals `c`. In the second case, `d`
+-- is at least `n`, where `n` is a capacity that the growth rule `rule` chooses when a block of
+-- capacity `c` has to grow. A growth rule at least doubles the capacity. So in the second case, `d`
+-- is at least `2 * c`.
 abbrev pub IsLoose : Rule → RattleType → ℕ → ℕ → Type 0
 IsLoose rule R c d =
     (d ≡ c) ⊎ ((w : ℕ) × (n : ℕ) × (c < w) × (ruled_capacity rule R c w ≡ Some n) × (n ≤ d))
 
--- `IsRuled rule R d n` holds if the growth rule can choose the capacity `d` for at most `n` items.
--- More exactly, there are numbers `e < w <= n` such that the rule chooses `d` if a block of
--- capacity `e` needs room for `w` items of the type `R`. (With the rule `Doubling`, `d` is then at
--- most 4 or at most `2 * n`.)
+-- `IsRuled rule R d n` states that the growth rule `rule` may choose the capacity `d` when a list
+-- needs room for at most `n` items of the type `R`. More exactly, there are numbers `e` and `w`
+-- with `e < w <= n` such that the rule chooses `d` if a block of capacity `e` needs room for `w`
+-- items. (With the rule `Doubling`, `d` is then at most 4 or at most `2 * n`.)
 abbrev pub IsRuled : Rule → RattleType → ℕ → ℕ → Type 0
 IsRuled rule R d n = (e w : ℕ) × (e < w) × (w ≤ n) × (ruled_capacity rule R e w ≡ Some d)
 
 -- `IsKeptOrRuled rule R c d n` compares an old capacity `c` with a new capacity `d`. It holds if
--- the two capacities are equal, or if `d` is a capacity that the growth rule can choose for at most
--- `n` items of the type `R` (`IsRuled`).
+-- the two capacities are equal, or if the growth rule `rule` may choose `d` when a list needs room
+-- for at most `n` items of the type `R` (`IsRuled`).
 abbrev pub IsKeptOrRuled : Rule → RattleType → ℕ → ℕ → ℕ → Type 0
 IsKeptOrRuled rule R c d n = (d ≡ c) ⊎ IsRuled rule R d n
 
--- `IsExtended rule R v d n left` states which capacity `d` a list may have after items of an
--- iterator were added to the list `v`. The new list has `n` items, and the iterator could yield at
--- most `left` items. There are two cases. In the first case, `d` is the old capacity, or a capacity
--- that the growth rule can choose for at most `n` items (`IsKeptOrRuled`). In the second case, `d`
--- is the capacity after room for `h` more items was reserved in `v`. Here, `h` is a possible lower
--- bound of the iterator's size hint.
+-- `IsExtended rule R v d n left` states that a list may have the capacity `d` after items of an
+-- iterator were added to the list `v`. After the call, the list has `n` items of the type `R`. The
+-- iterator could yield at most `left` items. There are two cases. In the first case, `d` is the old
+-- capacity, or a capacity that the growth rule `rule` may choose when a list needs room for at most
+-- `n` items (`IsKeptOrRuled`). In the second case, `d` is the capacity of `v` after the call
+-- `reserve(h)`, where `h` is a possible lower bound in the size hint of the iterator.
 abbrev pub IsExtended : {T A : Type 0} → Rule → RattleType → Thin T A → ℕ → ℕ → Count → Type 0
 IsExtended rule R v d n left =
     IsKeptOrRuled rule R v.capacity d n
     ⊎ ((h : ℕ) × IsWithinCount h left × (capacity_for rule R v h ≡ Some d))
 
--- `IsCollected rule R d n left` states which capacity `d` a new list of `n` items may have if its
--- items come from an iterator that could yield at most `left` items. There are two cases. In the
--- first case, `d` is a capacity that the growth rule can choose for at most `n` items (`IsRuled`).
--- In the second case, `d` is the capacity of a new block with room for exactly `h` items. Here, `h`
--- is a possible lower bound of the iterator's size hint.
+-- `IsCollected rule R d n left` states that a new list of `n` items of the type `R` may have the
+-- capacity `d`. The items come from an iterator that could yield at most `left` items. There are
+-- two cases. In the first case, the growth rule `rule` may choose `d` when a list needs room for at
+-- most `n` items (`IsRuled`). In the second case, the list was made with room for exactly `d`
+-- items, and `d` is a possible lower bound in the size hint of the iterator.
 abbrev pub IsCollected : Rule → RattleType → ℕ → ℕ → Count → Type 0
 IsCollected rule R d n left =
     IsRuled rule R d n ⊎ ((h : ℕ) × IsWithinCount h left × (exact_capacity R 0 h ≡ Some d))
 
 module _ {T A : Type 0} where
-  -- These clauses state which capacity a list may have after items of an iterator were added to it.
-  -- The call changed the list from `v` to `w`, and the iterator could yield at most `left` items.
-  -- `rule` is the growth rule of the list, and `R` is the type of the items.
+  -- `GrowsFor rule R v w left` states which capacity a list may have after items of an iterator
+  -- were added to it. The call changed the list from `v` to `w`, and the iterator could yield at
+  -- most `left` items. `rule` is the growth rule of the list, and `R` is the type of the items.
   pub record GrowsFor (rule : Rule) (R : RattleType) (v w : Thin T A) (left : Count) : Type 0 where
     -- If `v` has room for all items that the iterator may yield, the capacity does not change.
     pub had_room : HasRoomFor v (size left) → w.capacity ≡ v.capacity
-    -- Either the capacity does not change, or the new capacity is at least as large as a capacity
-    -- that the growth rule may choose when the old block has to grow. So if the capacity changes,
-    -- it at least doubles.
+    -- There are two cases. In the first case, the capacity does not change. In the second case, the
+    -- new capacity is at least a capacity that the growth rule chooses when a block of the old
+    -- capacity has to grow. A growth rule at least doubles the capacity. So in the second case, the
+    -- capacity at least doubles.
     pub loose : IsLoose rule R v.capacity w.capacity
     -- There are three cases. In the first case, the capacity does not change. In the second case,
-    -- the growth rule chooses the new capacity for at most `length w.items` items. In the third
-    -- case, the growth rule chooses the new capacity for `h` more items, where `h` is a possible
-    -- lower bound of the iterator's size hint.
+    -- the new capacity is one that the growth rule may choose when a list needs room for at most
+    -- `length w.items` items. In the third case, the new capacity is the capacity of `v` after the
+    -- call `reserve(h)`, where `h` is a possible lower bound in the size hint of the iterator.
     pub ruled : IsExtended rule R v w.capacity (length w.items) left
 
-  -- These clauses bound the recorded cost (requests for memory, copied items and moves) of a call
-  -- that added items to a list and changed the list from `v` to `w`. Each added item counts as one
-  -- move, and the old items of `v` are moved at most `n` times in total. Some clauses are written
-  -- with sums on both sides, because subtraction of natural numbers stops at 0.
+  -- `CostsAdding v w n` bounds the recorded cost of a call that added items to a list and changed
+  -- the list from `v` to `w`. The cost counts requests for memory, copied items and moves. Each
+  -- added item counts as one move, and the old items of `v` are moved at most `n` times in total.
+  -- Some clauses have sums on both sides, because subtraction of natural numbers stops at 0.
   pub record CostsAdding (v w : Thin T A) (n : ℕ) : Type 0 where
     pub least : v.cost.moves + length w.items ≤ w.cost.moves + length v.items
     pub moves : w.cost.moves + length v.items ≤ v.cost.moves + n + length w.items
@@ -94,29 +98,31 @@ module _ {T A : Type 0} where
     -- copied any item.
     pub kept : w.capacity ≡ v.capacity → (w.cost.blocks ≡ v.cost.blocks)
         × (w.cost.grown ≡ v.cost.grown)
-    -- If the capacity grew, the call made at least one request for memory, and each item of `v`
-    -- counts as copied at least once.
+    -- If the capacity grew, the call made at least one request for memory. In this case, each item
+    -- of `v` was counted as copied at least once (`cost.grown`).
     pub grown : v.capacity < w.capacity → (v.cost.blocks < w.cost.blocks)
         × (v.cost.grown + length v.items ≤ w.cost.grown)
     -- The number of items that were copied while the list grew is at most the number of slots by
     -- which the capacity grew.
     pub copied : w.cost.grown + v.capacity ≤ v.cost.grown + w.capacity
 
-  -- These clauses describe a new list `w` that was made from the items of an iterator. The list has
-  -- the allocator `a` and the growth rule `rule`, and `R` is the type of its items. The iterator
-  -- could yield at most `left` items.
+  -- `IsCollectedList rule R a w left` describes a new list `w` that was made from the items of an
+  -- iterator. The list has the allocator `a` and the growth rule `rule`, and `R` is the type of its
+  -- items. The iterator could yield at most `left` items.
   pub record IsCollectedList (rule : Rule) (R : RattleType) (a : A) (w : Thin T A) (left : Count)
       : Type 0 where
     -- If the iterator cannot yield any item, the list has the capacity 0.
     pub none : size left ≡ 0 → w.capacity ≡ 0
-    -- There are two cases. In the first case, the growth rule chooses the capacity for at most
-    -- `length w.items` items. In the second case, the list is made with room for exactly `h` items,
-    -- where `h` is a possible lower bound of the iterator's size hint.
+    -- There are two cases. In the first case, the capacity is one that the growth rule may choose
+    -- when a list needs room for at most `length w.items` items. In the second case, the list was
+    -- made with room for exactly `h` items, where `h` is a possible lower bound in the size hint of
+    -- the iterator.
     pub ruled : IsCollected rule R w.capacity (length w.items) left
     -- Each item was moved exactly once.
     pub moves : w.cost.moves ≡ length w.items
-    -- The list has the allocator `a`, its cost is within the bound `IsCheap`, and its length and
-    -- its capacity are within the limits of `IsWithin`.
+    -- The list has the allocator `a`. Its cost is bounded: the numbers of requests for memory and
+    -- of copied items are small compared with its capacity (`IsCheap`). Its length is at most its
+    -- capacity, and its block is small enough to be allocated (`IsWithin`).
     pub made : IsMade R a w
 
   -- `Extends rule R v xs w` states what std's `Extend` guarantees about a call that appended the
@@ -137,40 +143,45 @@ module _ {T A : Type 0} where
       × IsWithin R v
 
   -- `FailsAtHint rule R w left cause` states that a call failed because it could not reserve room
-  -- for `h` more items in the list `w`. Here, `h` is the lower bound of the size hint of an
-  -- iterator that yields at most `left` items. The error `cause` is `CapacityOverflow` if and only
-  -- if the growth rule `rule` chooses no capacity for `h` more items.
+  -- for `h` more items of the type `R` in the list `w`. Here, `h` is a possible lower bound in the
+  -- size hint of an iterator that yields at most `left` items. The list has no room for `h` more
+  -- items. The error `cause` is `CapacityOverflow` if and only if the growth rule `rule` chooses no
+  -- capacity for `h` more items.
   abbrev pub FailsAtHint : Rule → RattleType → Thin T A → Count → ThinVecError → Type 0
   FailsAtHint rule R w left cause =
       (h : ℕ) × IsWithinCount h left × ¬ (HasRoomFor w h)
       × ((cause ≡ CapacityOverflow) ↔ (capacity_for rule R w h ≡ None))
 
-  -- These clauses say why a call to `extend` failed with the error `error`. `w` is the list after
-  -- the call. The rest of the iterator, which the error contains, may yield at most `left` items.
+  -- `IsExtendCause rule R w left error` states why a call to `extend` failed with the error
+  -- `error`. `rule` is the growth rule, `R` is the type of the items, and `w` is the list after the
+  -- call. The rest of the iterator, which the error contains, may yield at most `left` items.
   pub record IsExtendCause {S : Type 0} (rule : Rule) (R : RattleType) (w : Thin T A)
       (left : Count) (error : ExtendRefused T S) : Type 0 where
-    -- If the field `in_hand` of the error is `Some`, it contains an item that the iterator yielded,
-    -- but that was not added to the list. In this case, the cause is `CapacityOverflow` if and only
-    -- if the growth rule chooses no capacity for one more item.
+    -- Suppose that the field `in_hand` of the error contains an item. Then the iterator yielded
+    -- this item, but the call could not add the item to the list. In this case, the cause is
+    -- `CapacityOverflow` if and only if the growth rule chooses no capacity for one more item.
     pub by_push : IsSome error.in_hand
         → (error.cause ≡ CapacityOverflow) ↔ (capacity_for rule R w 1 ≡ None)
-    -- If the field `in_hand` of the error is `None`, the call could not reserve room for `h` items,
-    -- where `h` is the lower bound of the iterator's size hint.
+    -- If the field `in_hand` of the error is `None`, the call could not reserve room for `h` more
+    -- items, where `h` is a possible lower bound in the size hint of the iterator. In this case,
+    -- the cause is `CapacityOverflow` if and only if the growth rule chooses no capacity for `h`
+    -- more items.
     pub by_hint : error.in_hand ≡ None → FailsAtHint rule R w left error.cause
 
-  -- These clauses say why a call to `from_iter` failed with the error `error`. The rest of the
-  -- iterator, which the error contains, may yield at most `left` items.
+  -- `IsCollectCause rule R left error` states why a call to `from_iter` failed with the error
+  -- `error`. `rule` is the growth rule, and `R` is the type of the items. The rest of the iterator,
+  -- which the error contains, may yield at most `left` items.
   pub record IsCollectCause {S : Type 0} (rule : Rule) (R : RattleType) (left : Count)
       (error : CollectRefused T S A) : Type 0 where
-    -- If the field `in_hand` of the error is `Some`, it contains an item that the iterator yielded,
-    -- but that was not added to the list. In this case, the cause is `CapacityOverflow` if and only
-    -- if the growth rule chooses no capacity for one more item.
+    -- Suppose that the field `in_hand` of the error contains an item. Then the iterator yielded
+    -- this item, but the call could not add the item to the list. In this case, the cause is
+    -- `CapacityOverflow` if and only if the growth rule chooses no capacity for one more item.
     pub by_push : IsSome error.in_hand
         → (error.cause ≡ CapacityOverflow) ↔ (capacity_for rule R error.list 1 ≡ None)
     -- If the field `in_hand` of the error is `None`, the call failed because it could not allocate
-    -- a block of capacity `h`, where `h` is the lower bound of the iterator's size hint. In this
-    -- case, `h` is not 0, and the cause is `CapacityOverflow` if and only if a block of capacity
-    -- `h` would be too large.
+    -- a block of capacity `h`, where `h` is a possible lower bound in the size hint of the
+    -- iterator. In this case, `h` is not 0, and the cause is `CapacityOverflow` if and only if a
+    -- block of capacity `h` would be too large.
     pub by_hint : error.in_hand ≡ None
         → (h : ℕ) × IsWithinCount h left × (0 < h)
         × ((error.cause ≡ CapacityOverflow) ↔ (exact_capacity R 0 h ≡ None))

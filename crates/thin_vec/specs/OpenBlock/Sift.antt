@@ -23,9 +23,9 @@ module _ {S T : Type 0} (R : S → T → Bool → S → T → Type 0) where
     pub now : ys ≡ before ++ left ∷ after
 
   -- `Stops s xs t ys` describes two cases. If the list `xs` is empty, no test takes place, so `ys`
-  -- is empty and `t` is `s`. Otherwise, the test decided to remove the first item of `xs`. The test
-  -- changed its own state from `s` to `t`. It may also have changed the item, and `ys` is the list
-  -- after this change.
+  -- is empty and `t` is `s`. Otherwise, the first item of `xs` was tested, and it is to be removed.
+  -- In this case, the test changed its own state from `s` to `t`. It may also have changed the
+  -- item, and `ys` is the list after this change.
   abbrev pub Stops : S → List T → S → List T → Type 0
   Stops s [] t ys = (ys ≡ []) × (t ≡ s)
   Stops s (x ∷ xs) t ys = (y : T) × R s x false t y × (ys ≡ y ∷ xs)
@@ -49,13 +49,14 @@ module _ {S T : Type 0} (R : S → T → Bool → S → T → Type 0) where
     pub stops : Stops between after t end
     pub now : ys ≡ before ++ (left ++ end)
 
-  -- `Advances s v t w` describes a search for the next item to remove, which changed an open block
-  -- from `v` to `w`. The untested items (the middle items of `v`) were tested in order, up to the
-  -- first item that is to be removed. The items that were tested before this item are kept, and are
-  -- now at the end of the front. If `v` has empty slots between its front and its middle items,
-  -- each of these items counts as one move. The item to remove is the first middle item of `w`. If
-  -- there is no such item, the middle run of `w` is empty. The test changed its state from `s` to
-  -- `t`.
+  -- `Advances s v t w` states that the middle items of an open block were searched for the next
+  -- item to remove, and that this changed the block from `v` to `w`. (The middle items are the
+  -- items that have not been tested yet.) The middle items of `v` were tested in order, up to the
+  -- first item that is to be removed. All items before this item are kept, and are now at the end
+  -- of the front, which is the first part of the block. If `v` has empty slots between its front
+  -- and its middle items, each of the kept items counts as one move. The item to remove is the
+  -- first middle item of `w`. If there is no item to remove, `w` has no middle items. The test
+  -- changed its state from `s` to `t`.
   pub record Advances {A : Type 0} (s : S) (v : Open T A) (t : S) (w : Open T A) : Type 0 where
     pub count : ℕ
     pub left : List T
@@ -66,10 +67,12 @@ module _ {S T : Type 0} (R : S → T → Bool → S → T → Type 0) where
       cost = if v.gap == 0 then v.cost else moving count v.cost;
     }
 
-  -- `Sifts s v t w` describes one stage of the removal of items. This stage changed an open block
-  -- from `v` to `w`. Some of the untested items (the middle items of `v`) were tested in order. The
-  -- kept items were moved to the end of the front, at the cost of one move each. The other tested
-  -- items were removed. The test changed its state from `s` to `t`.
+  -- `Sifts s v t w` states that some or all middle items of an open block were tested, and that
+  -- this changed the block from `v` to `w`. (The middle items are the items that have not been
+  -- tested yet.) The items were tested in order, starting with the first middle item of `v`. Each
+  -- kept item was moved to the end of the front, which is the first part of the block, and counts
+  -- as one move. The other tested items were removed. In `w`, there is at least one empty slot
+  -- after the front. The test changed its state from `s` to `t`.
   pub record Sifts {A : Type 0} (s : S) (v : Open T A) (t : S) (w : Open T A) : Type 0 where
     pub done : List T
     pub verdicts : Verdicts T
@@ -83,10 +86,11 @@ module _ {S T : Type 0} (R : S → T → Bool → S → T → Type 0) where
       cost = moving (trues (flags_of verdicts)) v.cost;
     }
 
-  -- `IsSifted s v t w` states that all middle items of the open block `v` were tested in order, and
-  -- that this changed the block to `w`. The kept items were added to the end of the front, and the
-  -- other tested items were removed. So the middle run of `w` is empty. Each kept item that follows
-  -- the first removed item counts as one move. The test changed its state from `s` to `t`.
+  -- `IsSifted s v t w` states that all middle items of an open block were tested in order, and that
+  -- this changed the block from `v` to `w`. (The middle items are the items that have not been
+  -- tested yet.) The kept items were added to the end of the front, which is the first part of the
+  -- block. The other middle items were removed, so `w` has no middle items. Each kept item that
+  -- follows the first removed item counts as one move. The test changed its state from `s` to `t`.
   pub record IsSifted {A : Type 0} (s : S) (v : Open T A) (t : S) (w : Open T A) : Type 0 where
     pub verdicts : Verdicts T
     pub asked : Asked R s v.rest verdicts t

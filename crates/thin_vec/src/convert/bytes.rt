@@ -1,4 +1,5 @@
-//! Methods of lists of bytes: `from_str`, and the implementation of std's trait `Write`.
+//! The method `from_str` of lists of bytes, and the implementation of std's trait `Write` for lists
+//! of bytes.
 ghost use Rattle.std.specs.Prelude.{◌≡◌, ◌+◌, ◌++◌, IfErr, IfOk, IsErr, IsOk, None, OnErr, OnOk, Some, length};
 ghost use Rattle.std.specs.Borrow.{u8};
 ghost use Rattle.std.specs.IoError.{error_kind};

@@ -20,9 +20,9 @@ impl<T, A: Allocator> ThinVec<T, A> {
     /// `N`. An empty array needs no allocation.
     ///
     /// Like every array, `items` must occupy fewer than 2^63 bytes. If `T` is a concrete type, the
-    /// checker proves this without help. A caller that is generic in `T` needs the precondition
-    /// `N * type_size T.row < 2 ^ 63`. (`type_size` is defined in `Rattle.std.specs.Mem`.) The
-    /// macro `thin_vec!` has no such condition.
+    /// prover proves this without help. A caller that is generic in `T` needs the precondition `N *
+    /// type_size T.row < 2 ^ 63`. (`type_size` is defined in `Rattle.std.specs.Mem`.) The macro
+    /// `thin_vec!` has no such condition.
     ///
     /// # Errors
     ///

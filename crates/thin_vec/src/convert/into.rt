@@ -85,7 +85,7 @@ impl<T, A: Allocator, G: Growth> ThinVec<T, A, G> {
     /// allocation of the list. The call allocates nothing.
     ///
     /// Like every array, the result must occupy fewer than 2^63 bytes. If `T` is a concrete type,
-    /// the checker proves this without help. A caller that is generic in `T` needs the precondition
+    /// the prover proves this without help. A caller that is generic in `T` needs the precondition
     /// `N * type_size T.row < 2 ^ 63`. (`type_size` is defined in `Rattle.std.specs.Mem`.) The
     /// methods `into_vec` and `into_iter` have no such condition.
     ///

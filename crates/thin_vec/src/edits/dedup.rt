@@ -1,5 +1,5 @@
 //! The methods `dedup`, `dedup_by` and `dedup_by_key`. They compare each item with the last item
-//! that was kept before it, and remove the item if it is a duplicate of that item.
+//! that was kept before it, and remove each item that is a duplicate of this kept item.
 ghost use Rattle.std.specs.Prelude.{◌≡◌, ◌+◌, ◌<◌, ◌≤◌, length};
 ghost use Rattle.std.specs.Fn.{CalledAtPairMut, ComparesKeys};
 ghost use Rattle.std.specs.List.{dedup};
@@ -37,7 +37,7 @@ impl<T: Drop, A: Allocator, G: Growth> ThinVec<T, A, G> {
     }
 
     // Tests each item except the first, in order, against the last item that was kept before it.
-    // Drops the items that the test removes.
+    // Removes and drops each item that the test finds to be a duplicate.
     fn dedup_those<J: PairTest<T>>(&mut self, test: &mut J)
         requires ready { J.ready test.old }
         ensures deduped { IsDedupedTo J.tests test.old self.old self.new test.new }
@@ -101,19 +101,19 @@ impl<T: PartialEq + Drop, A: Allocator, G: Growth> ThinVec<T, A, G> {
     }
 }
 
-// The test that `dedup_by` uses: the later of two items is removed if the closure `same` returns
+// The test that `dedup_by` uses. The later of two items is removed if the closure `same` returns
 // true.
 struct Deduping<F> {
     same: F,
 }
 
-// The test that `dedup_by_key` uses: the later of two items is removed if the closure `key` returns
+// The test that `dedup_by_key` uses. The later of two items is removed if the closure `key` returns
 // equal keys for both items.
 struct Keying<F> {
     key: F,
 }
 
-// The test that `dedup` uses: the later of two items is removed if the two items are equal.
+// The test that `dedup` uses. The later of two items is removed if the two items are equal.
 struct Comparing {}
 
 impl<T, F: FnMut(&mut T, &mut T) -> bool> PairTest<T> for Deduping<F> {

@@ -69,8 +69,8 @@ impl<T: Drop, A: Allocator, G: Growth> ThinVec<T, A, G> {
     /// leaked, the list stays empty.
     ///
     /// Neither the call nor the drop allocates memory, and neither can fail. The call moves no
-    /// item. The drop moves each item after the range once. If the range is empty, it moves no
-    /// item.
+    /// item. The drop moves each item after the range once. If the range is empty, the drop moves
+    /// no item, either.
     pub fn drain(&mut self, start: usize, end: usize) -> Drain<'_, T, A, G>
         requires start_le_end { start ≤ end }
         requires in_bounds { end ≤ length self.old.items }

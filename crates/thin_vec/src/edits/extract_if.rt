@@ -51,7 +51,7 @@ pub struct Extracting<T, F, A: Allocator> {
     ghost adjacent: { block.gap_after ≡ 0 },
 }
 
-/// The test that an `ExtractIf` uses: an item is removed if the closure `pick` returns true.
+/// The test that an `ExtractIf` uses. An item is removed if the closure `pick` returns true.
 pub struct Picks<F> {
     pick: F,
 }
@@ -145,8 +145,8 @@ impl<T: Drop, A: Allocator, G: Growth> ThinVec<T, A, G> {
         ensures gone { extract_gone result ≡ 0 }
         ensures callee { extract_callee result ≡ pick }
 
-        // The `ExtractIf` borrows this list. It keeps the list's capacity, allocator and recorded
-        // cost.
+        // The `ExtractIf` borrows this list. It keeps the capacity, the allocator and the recorded
+        // cost that the list had before the call.
         ensures same_reference { extract_lender result ≡ self.entry.ghost_name }
         ensures capacity { extract_capacity result ≡ self.old.capacity }
         ensures alloc { extract_alloc result ≡ self.old.alloc }
@@ -178,9 +178,9 @@ impl<'a, T, F, A: Allocator, G: Growth> ExtractIf<'a, T, F, A, G> {
 impl<'a, T, F: FnMut(&mut T) -> bool, A: Allocator, G: Growth> ExtractIf<'a, T, F, A, G> {
     ghost use Rattle.thin_vec.specs.Edits.ExtractIf.{ExtractSteps, extract_callee};
 
-    /// Calls the closure with the items that have not been tested yet, in order, until it returns
-    /// true for one of them. Then removes that item and returns it. If the closure returns false
-    /// for all these items, this call and each later call return `None`.
+    /// Tests the items that have not been tested yet, in order, until the closure returns true for
+    /// one of them. Then removes that item and returns it. If the closure returns false for all
+    /// these items, this call and each later call return `None`.
     pub fn next(&mut self) -> Option<T>
         requires callable { F.IsAlwaysCallable (extract_callee self.old) }
         ensures steps { ExtractSteps (CalledAtMut F.FnMut) self.old result self.new }

@@ -3,8 +3,8 @@
 //! more items, where `n` is the lower bound of the iterator's size hint, and fills this room. Last,
 //! `insert_held` collects the remaining items in a vector, and moves them into the list.
 //!
-//! The steps are inlined into `finish`. So the list and the iterator need not be passed through
-//! memory from one step to the next.
+//! The steps are inlined into `finish`. So the list and the iterator need not be stored in memory
+//! between two steps.
 ghost use Rattle.std.specs.Prelude.{◌≡◌, ◌+◌, ◌-◌, ◌*◌, ◌<◌, ◌≤◌, [], ◌++◌, ◌∷◌, IfErr, IfOk, IsOk, IsSome, List, MatchOption, None, OnErr, OnOk, OnSome, Some, drop, false, length, take, ℕ};
 ghost use Rattle.std.specs.Iterator.{Drains, IsFinite, Yields, YieldsThen, size};
 ghost use Rattle.std.specs.Iterator.SizeHint.{IsWithinCount};
@@ -76,8 +76,8 @@ impl<T, A: Allocator, G: Growth> ThinVec<T, A, G> {
         ensures cause { IfErr result
             (λ rejected. FailsAtHint G.rule T.row self.new (I.remaining iter) rejected.cause) }
 
-        // In every case, each item from index `at` onward moves at most twice. If the iterator
-        // fills the reserved room, each of these items moves at most once.
+        // In every case, each item from index `at` onward moves at most twice. If the call succeeds
+        // and fills the whole gap, each of these items moves at most once.
         ensures taken { HasTaken G.rule T.row self.old self.new
             (2 * (length self.old.items - at)) (I.remaining iter) }
         ensures taken_full { IfOk result (λ filled. filled.ended ≡ false
@@ -192,7 +192,7 @@ impl<T: Drop, A: Allocator, G: Growth> ThinVec<T, A, G> {
         requires gap_after { block.gap_after ≡ 0 }
         requires from { IsFrom block.alloc self.old.alloc }
 
-        // `next` may be called on `iter`, which yields a finite number of items.
+        // `next` may be called on `iter`, and `iter` yields a finite number of items.
         requires can_next { I.can_next iter }
         requires finite { IsFinite (I.remaining iter) }
 
@@ -241,7 +241,7 @@ impl<T: Drop, A: Allocator, G: Growth> ThinVec<T, A, G> {
         requires gap_after { block.gap_after ≡ 0 }
         requires from { IsFrom block.alloc self.old.alloc }
 
-        // `next` may be called on `iter`, which yields a finite number of items.
+        // `next` may be called on `iter`, and `iter` yields a finite number of items.
         requires can_next { I.can_next iter }
         requires finite { IsFinite (I.remaining iter) }
 

@@ -1,10 +1,10 @@
 //! The trait `Holds`, through which `Drain`, `ExtractIf` and `Splice` own the block of a list.
 //!
-//! Each of these structs has two fields that matter here: a `&mut` reference to the list, and the
-//! block of the list. The block contains a raw pointer. If a struct declares one field with a raw
-//! pointer and another field with a `&mut` reference, the contract of its `drop` cannot describe
-//! the value behind the `&mut` after the call. So the type of the field for the block is a type
-//! parameter with the bound `Holds`, which hides the raw pointer.
+//! Each of these structs has a field with a `&mut` reference to the list, and another field with
+//! the block of the list. The block contains a raw pointer. If a struct declares both a field with
+//! a raw pointer and a field with a `&mut` reference, the contract of its `drop` cannot describe
+//! the value behind the reference after the call. So the type of the field for the block is a type
+//! parameter with the bound `Holds`. This type parameter hides the raw pointer.
 ghost use Rattle.std.specs.Prelude.{◌≡◌};
 
 /// A trait for types whose values contain exactly one inner value. Such a value can be converted
@@ -13,8 +13,8 @@ pub trait Holds {
     /// The type of the inner value.
     type Inner;
 
-    /// Maps a value of the implementing type, which is called a holder, to the inner value that it
-    /// contains.
+    /// Maps a holder to the inner value that it contains. A holder is a value of the implementing
+    /// type.
     ghost inner: { Self → Self.Inner };
 
     /// Converts the holder into its inner value, and returns the inner value. The caller then owns

@@ -184,8 +184,8 @@ impl<T: Drop, A: Allocator, G: Growth> ThinVec<T, A, G> {
     }
 
     // Drops the items `start..end`, and moves the last `count` items of the list into the slots of
-    // this range. If some of these slots are not filled, the other items after the range are moved
-    // down to close the gap.
+    // this range. If `count` is less than the length of the range, some of these slots stay empty.
+    // In this case, the other items after the range are moved down to close the gap.
     fn replace_by_last(&mut self, start: usize, end: usize, count: usize)
         requires start_le_end { start ≤ end }
         requires few { count ≤ end - start }

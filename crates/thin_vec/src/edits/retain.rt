@@ -69,13 +69,13 @@ impl<T: Drop, A: Allocator, G: Growth> ThinVec<T, A, G> {
     }
 }
 
-// The test that `retain` uses: an item is kept if the closure `keep` returns true. The closure
+// The test that `retain` uses. An item is kept if the closure `keep` returns true. The closure
 // cannot write to the item.
 struct Looking<F> {
     keep: F,
 }
 
-// The test that `retain_mut` uses: an item is kept if the closure `keep` returns true. The closure
+// The test that `retain_mut` uses. An item is kept if the closure `keep` returns true. The closure
 // may write to the item.
 struct Writing<F> {
     keep: F,

@@ -61,7 +61,7 @@ impl<T, A: Allocator, G: Growth> ThinVec<T, A, G> {
         ensures iter { splice_iter result ≡ iter }
 
         // The `Splice` owns the items before the range and the items after the range. It keeps the
-        // list's capacity, allocator and recorded cost.
+        // capacity, the allocator and the recorded cost that the list had before the call.
         ensures front { (splice_block result).front ≡ take start self.old.items }
         ensures tail { (splice_block result).tail ≡ drop end self.old.items }
         ensures capacity { (splice_block result).capacity ≡ self.old.capacity }
@@ -137,9 +137,9 @@ impl<
     ///
     /// 1. It moves items of the iterator into the slots of the range. If the iterator ends before
     ///    these slots are filled, the items after the range are moved down to close the gap.
-    /// 2. It calls `size_hint` on the iterator once, and makes room for the number of items that
-    ///    the lower bound states, directly before the items after the range. Then it fills this
-    ///    room with items of the iterator.
+    /// 2. It calls `size_hint` on the iterator once. If the lower bound is `n`, it makes room for
+    ///    `n` items directly before the items after the range. Then it fills this room with items
+    ///    of the iterator.
     /// 3. It collects the remaining items in a vector that uses `alloc`, reserves room for them in
     ///    the list, and moves them into this room.
     ///
@@ -162,7 +162,8 @@ impl<
     ///
     /// On failure, no item is lost. The list keeps the items that were placed in it. The error
     /// holds the items that were taken from the iterator later, first in `held` and then in
-    /// `in_hand`. There are five cases. In cases 1 and 2, no item follows the range.
+    /// `in_hand`. There are five cases. In cases 1 and 2, no item follows the range. In cases 3, 4
+    /// and 5, items follow the range.
     ///
     /// | | What failed | `held` | `in_hand` | `rest` yields |
     /// |---|---|---|---|---|
@@ -187,9 +188,9 @@ impl<
         requires finite { IsFinite (I.remaining (splice_iter self)) }
 
         // On success, the list contains the items before the range, then the items `xs` of the
-        // iterator, and then the items after the range (`splice_replaced`). The first field of the
-        // `Splice`, `self.exit.0`, is the reference to the list. So `self.exit.0.now` is the list
-        // after the call.
+        // iterator, and then the items after the range (`splice_replaced`). In this clause,
+        // `self.exit.0` is the first field of the `Splice`, which is the reference to the list. So
+        // `self.exit.0.now` is the list after the call.
         ensures items { OnOk result ((xs : List T) × Drains I.next_gives (splice_iter self.entry) xs
             × (self.exit.0.now.items ≡ splice_replaced self.entry xs)) }
         ensures runs { OnOk result (WholeRun I.next_gives (splice_iter self.entry)

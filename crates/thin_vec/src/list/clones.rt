@@ -274,8 +274,8 @@ impl<T: Clone, A: Allocator, G: Growth> ThinVec<T, A, G> {
         requires room { HasRoomFor self.old (end - start) }
         requires within { IsWithin T.row self.old }
 
-        // The call appends clones of the first `result` items of the range. The range contains `end
-        // - start` items, so `result` is not greater than this number.
+        // The call appends clones of the first `result` items of the range `start..end`. So
+        // `result` is at most the length of this range.
         ensures in_bounds { result ≤ end - start }
         ensures items { AppendsClones T.is_clone self.old.items self.new.items
             (take result (slice_range self.old.items start end)) }

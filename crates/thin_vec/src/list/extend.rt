@@ -23,10 +23,10 @@ impl<T, A: Allocator, G: Growth> ThinVec<T, A, G> {
     /// Appends the items that `iter` yields before its first `None`. After this `None`, `next` is
     /// not called again.
     ///
-    /// First, the call asks `iter` for its size hint, once, and reserves room for the number of
-    /// items that the lower bound states. Then it moves items into the spare capacity, and pushes
-    /// each further item. So the call cannot fail if there is room for all items that the iterator
-    /// may yield.
+    /// First, the call asks `iter` for its size hint, once, and reserves room for `n` more items,
+    /// where `n` is the lower bound. Then it moves items into the spare capacity, and pushes each
+    /// further item. So the call cannot fail if there is room for all items that the iterator may
+    /// yield.
     ///
     /// # Errors
     ///
@@ -138,7 +138,7 @@ impl<T, A: Allocator, G: Growth> ThinVec<T, A, G> {
     }
 
     // Moves items of `iter` into the spare capacity until the list is full or `iter` ends. If the
-    // list is full, takes one more item from `iter`. Returns two values: the iterator, and this
+    // list is full, takes one more item from `iter`. Returns the rest of the iterator, and this
     // further item if there is one.
     fn extend_reserved<I: Iterator<Item = T>>(&mut self, iter: I) -> (I, Option<T>)
         requires can_next { I.can_next iter }
@@ -153,9 +153,10 @@ impl<T, A: Allocator, G: Growth> ThinVec<T, A, G> {
           cost = moving (length self.new.items - length self.old.items) self.old.cost;
         } }
 
-        // If the call returns an item, the list is full, and `next` may be called on the returned
-        // iterator. In this case, the upper bound on the number of items that the iterator may
-        // still yield has decreased by more than the number of appended items.
+        // Suppose that the call returns an item. Then the list is full, and `next` may be called on
+        // the returned iterator. The upper bound on the number of items that the iterator may still
+        // yield has decreased by more than the number of appended items, because the returned item
+        // was also taken.
         ensures full { OnSome result.1 (length self.new.items ≡ self.new.capacity) }
         ensures rest { OnSome result.1 (I.can_next result.0 × IsFinite (I.remaining result.0)) }
         ensures nearer { OnSome result.1

@@ -9,8 +9,8 @@ use std::process::Abort;
 use thin_testing::Refusing;
 use thin_vec::{Growth, ThinVec};
 
-/// Asserts that the two values are equal. The contract does not state this, so the prover learns
-/// nothing about the values from the call.
+/// Asserts that the two values are equal. The contract of this function says nothing about the
+/// values, so the prover learns nothing about them from a call.
 pub fn assert_same<T: PartialEq + Debug + Drop>(rt: &impl Abort, value: T, wanted: T) {
     assert_eq!(rt; value, wanted);
 }
