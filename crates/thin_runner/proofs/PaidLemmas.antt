@@ -1,7 +1,8 @@
--- A list is cheap (`IsCheap`) if its growth has copied few items and requested memory rarely. These
--- lemmas are about a sequence of commands that contains neither `ReserveExact` nor `ShrinkToFit`. A
--- list that is cheap before these commands is also cheap after them. During these commands, growth
--- copies at most as many items as the capacity increases.
+-- A command is a value that describes a call to a method of a list. A list is cheap (`IsCheap`) if
+-- its growth has copied few items and has requested memory rarely. These lemmas are about a
+-- sequence of commands that contains neither `ReserveExact` nor `ShrinkToFit`. If a list is cheap
+-- before these commands, then it is also cheap after them. The number of items that growth copies
+-- during these commands is at most the increase of the capacity.
 use Rattle.std.proofs.Common.{◌≡◌, ℕ, suc, ◌+◌, ◌-◌, ◌^◌, ◌<◌, ◌≤◌, List, [], ◌∷◌, ◌++◌, Some, None, length, arith, ap, sym, subst, ◌∙◌, refl, inl, inr}
 use Rattle.std.proofs.lemmas.Bool.{cases_lt}
 use Rattle.std.proofs.lemmas.List.{length-append, length-set, length_push, length-drop, length-take}
@@ -30,9 +31,10 @@ use Rattle.thin_runner.specs.declared.command.Command.TheVariants.{Push, Pop, In
 use Rattle.thin_runner.specs.declared.command.Reply.{Reply}
 use Rattle.thin_runner.specs.declared.command.Reply.TheVariants.{Answers, Done, Item, List as Made, Other, Returned, Refused, Stopped, OutOfRange}
 
--- `IsCheapAt c k` bounds the numbers of blocks and copied items in the cost `k` of a list of
--- capacity `c`. If the cost `k'` has the same two numbers as `k`, and `IsCheapAt c k` holds, then
--- `IsCheapAt c k'` also holds.
+-- `IsCheapAt c k` holds if a list of capacity `c` and cost `k` is cheap. It limits two numbers in
+-- the cost `k`: the number of requests for memory (`blocks`), and the number of items that growth
+-- copied (`grown`). If `IsCheapAt c k` holds, and the cost `k'` contains the same two numbers as
+-- `k`, then `IsCheapAt c k'` also holds.
 cheap-same : (c : ℕ) (k k' : Cost) → k'.blocks ≡ k.blocks → k'.grown ≡ k.grown
     → IsCheapAt c k → IsCheapAt c k'
 cheap-same c k k' blocks grown h = record {
@@ -54,14 +56,13 @@ pub record IsPaid {T A : Type 0} (v w : Thin T A) : Type 0 where
   pub room : length w.items ≤ w.capacity
 
 module _ {T A : Type 0} where
-  -- A list that does not change satisfies `IsPaid`. That is, if the items of `v` fit into its
-  -- capacity, then `IsPaid v v` holds.
+  -- `IsPaid v v` holds if the items of `v` fit into its capacity. So a list that does not change
+  -- satisfies `IsPaid`.
   pub none-paid : (v : Thin T A) → length v.items ≤ v.capacity → IsPaid v v
   none-paid v room = record { cheap = λ c. c; copied = omega arith; room = room }
 
-  -- `IsPaid v w` states that the change from the list `v` to the list `w` has cost little. If this
-  -- holds for two changes in a row, from `v` to `u` and from `u` to `w`, then it holds for both
-  -- together.
+  -- `IsPaid v w` states that turning the list `v` into the list `w` has cost little. If `IsPaid v
+  -- u` and `IsPaid u w` hold, then `IsPaid v w` also holds.
   pub join-paid : {v u w : Thin T A} → IsPaid v u → IsPaid u w → IsPaid v w
   join-paid p q = record {
     cheap = λ c. q.cheap (p.cheap c);
@@ -70,15 +71,16 @@ module _ {T A : Type 0} where
   }
 
 module _ {T A : Type 0} (v w : Thin T A) (room : length v.items ≤ v.capacity) where
-  -- This lemma is about a call that does not change the list `v`, so that `w` equals `v`. If the
-  -- items of `v` fit into its capacity, then `IsPaid v w` holds.
+  -- Suppose that a call does not change the list `v`, so that the list `w` after the call equals
+  -- `v`. If the items of `v` fit into its capacity, then `IsPaid v w` holds.
   same-paid : w ≡ v → IsPaid v w
   same-paid e = subst (IsPaid v) (sym e) (none-paid v room)
 
-  -- This lemma is about a call that adds no items and does not change the capacity. Suppose that
-  -- the list `w` after the call equals `u`, and that `u` has the same capacity as `v` and no more
-  -- items than `v`. Suppose also that the costs of `u` and `v` contain the same numbers of blocks
-  -- and copied items. If the items of `v` fit into its capacity, then `IsPaid v w` holds.
+  -- Suppose that a call turns the list `v` into `w`, and that `w` equals a list `u` with the
+  -- following properties. The list `u` has the same capacity as `v`, and no more items than `v`.
+  -- The numbers `blocks` and `grown` in its cost equal those in the cost of `v`. (They count the
+  -- requests for memory, and the items that growth copied.) If the items of `v` fit into its
+  -- capacity, then `IsPaid v w` holds.
   kept-paid : (u : Thin T A) → w ≡ u → u.capacity ≡ v.capacity
       → u.cost.blocks ≡ v.cost.blocks → u.cost.grown ≡ v.cost.grown
       → length u.items ≤ length v.items → IsPaid v w
@@ -93,11 +95,11 @@ module _ {T A : Type 0} (v w : Thin T A) (room : length v.items ≤ v.capacity) 
 
 module _ {T A J : Type 0} (here : Setting T A J) (law : KeepsLaw here.rule) (v w : Thin T A)
     (room : length v.items ≤ v.capacity) where
-  -- This lemma is about a call that reserves room for `n` more items and adds at most `n` items.
-  -- Suppose that the list `w` after the call has the capacity that the growth rule requires.
-  -- Suppose also that the numbers of blocks and copied items in its cost are those of `cost_at v
-  -- w.capacity`, which is the cost of `v` after this growth. If the items of `v` fit into its
-  -- capacity, then `IsPaid v w` holds.
+  -- Suppose that a call turns the list `v` into `w`, reserves room for `n` more items, and adds at
+  -- most `n` items. Suppose also that the growth rule determined the capacity of `w`
+  -- (`capacity_for`), and that the numbers `blocks` and `grown` in the cost of `w` equal those in
+  -- `cost_at v w.capacity`. This is the cost of the list `v` after its capacity was changed to
+  -- `w.capacity`. If the items of `v` fit into its capacity, then `IsPaid v w` holds.
   ruled-paid : (u : Thin T A) (n : ℕ) → capacity_for here.rule here.R v n ≡ Some w.capacity
       → w ≡ u → u.cost.blocks ≡ (cost_at v w.capacity).blocks
       → u.cost.grown ≡ (cost_at v w.capacity).grown
@@ -120,10 +122,10 @@ module _ {T A J : Type 0} (here : Setting T A J) (law : KeepsLaw here.rule) (v w
         ];
       }
 
-  -- Suppose that a call that clones items fails, and that the list is `v` before the call and `w`
-  -- after it. (The call fails if there is no room for `n` more items, or if one of the items
-  -- `sources` cannot be cloned.) If the items of `v` fit into its capacity, then `IsPaid v w`
-  -- holds.
+  -- Suppose that a call turns the list `v` into `w`, and fails with `cause`. The call needs room
+  -- for `n` more items, and clones the items `sources`. It fails if there is not enough room, or if
+  -- one of these items cannot be cloned. If the items of `v` fit into its capacity, then `IsPaid v
+  -- w` holds.
   refused-paid : (n : ℕ) (sources : List T) (cause : ThinVecError)
       → RefusesClone here v n sources cause w → IsPaid v w
   refused-paid n sources cause r = stopped r.2
@@ -262,9 +264,9 @@ module _ {T A G J : Type 0} (here : Setting T A J) (law : KeepsLaw here.rule) wh
   step-paid v w (Splice i j steps xs lower) (Refused cause) keeps room s = same-paid v w room s.1.2
   step-paid v w command reply keeps room s = absurd s.1
 
-  -- Suppose that a run turns the list `v` into `w`, and that no command of the run is
-  -- `ReserveExact` or `ShrinkToFit`. If the items of `v` fit into its capacity, then `IsPaid v w`
-  -- holds.
+  -- A run is a sequence of commands with their replies. Suppose that a run turns the list `v` into
+  -- `w`, and that no command of the run is `ReserveExact` or `ShrinkToFit`. If the items of `v` fit
+  -- into its capacity, then `IsPaid v w` holds.
   pub runs-paid : (v w : Thin T A) (commands : List (Command T A G)) (replies : List (Reply T A G))
       → All KeepsCheap commands → length v.items ≤ v.capacity → Runs here v commands replies w
       → IsPaid v w

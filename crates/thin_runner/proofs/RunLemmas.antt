@@ -21,9 +21,9 @@ module _ {T A G : Type 0} (count : Command T A G → Reply T A G → ℕ) where
 
 module _ {T A G J : Type 0} (here : Setting T A J) where
   -- `HasRun` describes the state in the middle of a run. The list `left` contains the commands that
-  -- have not run yet, which are the last ones of `commands`. The commands before them have turned
-  -- the list `old` into `new`. Their replies were appended to the list `before` of replies, which
-  -- became `after`.
+  -- have not been carried out yet, which are the last ones of `commands`. The other commands have
+  -- turned the list `old` into `new`. Their replies were appended to the replies in `before`, which
+  -- results in the list `after`.
   pub record HasRun (old : Thin T A) (commands left : List (Command T A G))
       (before after : List (Reply T A G)) (new : Thin T A) : Type 0 where
     pub done : List (Command T A G)
@@ -61,10 +61,10 @@ module _ {T A G J : Type 0} (here : Setting T A J) where
   -- In this module, `command` turns the list `mid` into `new`, and its reply is `reply`.
   module _ (mid new : Thin T A) (command : Command T A G) (reply : Reply T A G)
       (stepped : Steps here mid command reply new) where
-    -- Suppose that `HasRun` holds for the list `mid`, and that `command` is the next command of the
-    -- run. If `command` turns `mid` into `new`, then `HasRun` holds for the list `new`. The list of
-    -- the commands that are left then begins after `command`, and the reply to `command` has been
-    -- appended to the replies.
+    -- Suppose that `HasRun` holds for the list `mid`, and that `command` is the first command in
+    -- `left`. If `command` turns `mid` into `new`, then `HasRun` holds for the list `new`. In this
+    -- state, `left'` contains the commands that follow `command` in `left`, and `after'` contains
+    -- the replies in `after` and the reply to `command`.
     pub HasRun-push : {old : Thin T A} {commands left left' : List (Command T A G)}
         {before after after' : List (Reply T A G)} → HasRun old commands left before after mid
         → left ≡ command ∷ left' → after' ≡ after ++ reply ∷ []
@@ -82,9 +82,9 @@ module _ {T A G J : Type 0} (here : Setting T A J) where
         }
 
   -- In this module, `Holds n v` is a statement about a number `n` and a list `v`, and `Only` is a
-  -- condition on commands. Suppose that `Holds n v` is true, and that a command that satisfies
-  -- `Only` turns `v` into `w` and gets the reply `reply`. Then `Holds (n + count command reply) w`
-  -- is true.
+  -- condition on commands. The module assumes the following about each command. Suppose that `Holds
+  -- n v` is true, and that a command turns `v` into `w` and gets the reply `reply`. If the command
+  -- satisfies `Only`, then `Holds (n + count command reply) w` is true.
   module _ (Holds : ℕ → Thin T A → Type 0) (Only : Command T A G → Type 0)
       (count : Command T A G → Reply T A G → ℕ)
       (step : (n : ℕ) (v w : Thin T A) (command : Command T A G) (reply : Reply T A G)

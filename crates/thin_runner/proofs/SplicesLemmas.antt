@@ -48,16 +48,20 @@ no-items (x ∷ xs) none = absurd (omega (arith, none))
 
 module _ {T A : Type 0} (s : Hinted T A) (placed : List T)
     (error : SpliceRefused T (Hinted T A) A) where
-  -- `Broke` states that a call to `finish` failed with `error`. Before it failed, the call had
-  -- moved the items `placed` from the iterator `s` to the list.
+  -- `Broke` states that a call to `finish` on a `Splice` failed with `error`. The iterator of the
+  -- splice was `s` before the call. Before the failure, the call moved the items `placed` from this
+  -- iterator into the list.
   abbrev pub Broke : Type 0
   Broke = Stopped (HintedSteps {T = T} {A = A}) (can_next-default (Hinted T A) T) hinted_count s
       placed error
 
-  -- Suppose that `finish` failed with `error`. Each item that the iterator `s` had before the call
-  -- is now in one of four places. The items are, in order: the items `placed`, which are in the
-  -- list; the items in `error.held`; the item in `error.in_hand`, if there is one; and the items
-  -- that are left in `error.rest`.
+  -- Suppose that `finish` failed with `error`. The items that the iterator `s` had before the call
+  -- are, in order:
+  --
+  -- - the items `placed`, which are in the list now
+  -- - the items in `error.held`
+  -- - the item in `error.in_hand`, if there is one
+  -- - the items that are left in the iterator `error.rest`
   pub stopped-items : Broke → hinted_items s ≡ placed
       ++ (error.held.items ++ (option_to_list error.in_hand ++ hinted_items error.rest))
   stopped-items (inl gave) =
@@ -92,8 +96,9 @@ module _ {T A : Type 0} (s : Hinted T A) (placed : List T)
 
 module _ {T A : Type 0} (old : Thin T A) (a b : ℕ) where
   -- An open block is a block that was taken out of its list, and that may have a gap between its
-  -- items. `IsOpened block alloc` holds if `block` is the open block of the list `old` during a
-  -- splice that replaces the items `a..b`, and if `alloc` is the allocator of `old`.
+  -- items. Suppose that a splice replaces the items `a..b` of the list `old`. Then `IsOpened block
+  -- alloc` holds if `block` is the open block of this splice, and `alloc` is the allocator of
+  -- `old`. The front and the tail of the block are the items of `old` before and after the range.
   pub record IsOpened (block : Open T A) (alloc : A) : Type 0 where
     pub front : block.front ≡ take a old.items
     pub tail : block.tail ≡ drop b old.items
@@ -102,8 +107,8 @@ module _ {T A : Type 0} (old : Thin T A) (a b : ℕ) where
     pub cost : block.cost ≡ old.cost
 
   module _ (block : Open T A) (alloc : A) (is : IsOpened block alloc) where
-    -- `left_of block alloc` is the list of the items before and after the range that the splice
-    -- replaces. It equals `cut old a b`, which is the list `old` without the items `a..b`.
+    -- `left_of block alloc` is the list of the items in the front and in the tail of the open
+    -- block. It equals `cut old a b`, which is the list `old` without the items `a..b`.
     pub left-is : left_of block alloc ≡ cut old a b
     left-is = λ i. record {
       items = is.front i ++ is.tail i;
@@ -127,10 +132,11 @@ module _ {T A : Type 0} (old : Thin T A) (a b : ℕ) where
         subst (λ (v : Thin T A). CostsAdding v new (2 * (length old.items - b))) left-is
         (subst (λ (n : ℕ). CostsAdding (left_of block alloc) new (2 * n)) tail-count cost)
 
-    -- `IsExtended` says which capacities a list may have after it was extended. The list `left_of
-    -- block alloc` equals `cut old a b`. So if the limit `left` equals `at_most most`, then
-    -- `IsExtended` for the list `left_of block alloc` and the limit `left` implies `IsExtended` for
-    -- the list `cut old a b` and the limit `at_most most`.
+    -- `IsExtended` states which capacity a list may have after it was extended with the items of an
+    -- iterator. A limit bounds the number of items that the iterator could yield. Suppose that
+    -- `IsExtended` holds for the list `left_of block alloc` and the limit `left`, and that `left`
+    -- equals `at_most most`. Then `IsExtended` also holds for the limit `at_most most` and the list
+    -- `cut old a b`, which equals `left_of block alloc`.
     pub ruled : (rule : Rule) (R : RattleType) (new : Thin T A) (most : ℕ) (left : Count)
         → left ≡ at_most most
         → IsExtended rule R (left_of block alloc) new.capacity (length new.items) left
@@ -141,9 +147,9 @@ module _ {T A : Type 0} (old : Thin T A) (a b : ℕ) where
         subst (λ (n : Count). of (cut old a b) n) count
         (subst (λ (v : Thin T A). of v left) left-is is_ruled)
 
-    -- The list `left_of block alloc` equals `cut old a b`. So if `cut old a b` has room for `most`
-    -- more items, and `size` equals `most`, then `left_of block alloc` has room for `size` more
-    -- items.
+    -- Suppose that the list `cut old a b` has room for `most` more items, and that `size` equals
+    -- `most`. Then the list `left_of block alloc`, which equals `cut old a b`, has room for `size`
+    -- more items.
     pub room-left : (most size : ℕ) → size ≡ most → HasRoomFor (cut old a b) most
         → HasRoomFor (left_of block alloc) size
     room-left most size count room =
@@ -154,15 +160,16 @@ module _ {T A : Type 0} (old : Thin T A) (a b : ℕ) where
 -- resulting list. If one of them holds for a list, then it also holds for every list that equals
 -- it.
 module _ {T A : Type 0} {rule : Rule} {R : RattleType} {old v w : Thin T A} {a b : ℕ} where
-  -- `Replaces` states that a splice changed the list `old` to a given list. If this is true of the
-  -- list `v`, and `v` equals `w`, then it is also true of `w`.
+  -- `Replaces` states that a splice turned the list `old` into another list. If `Replaces` holds
+  -- for the resulting list `v`, and `v` equals `w`, then `Replaces` also holds for `w`.
   pub replaces-of : {placed : List T} {most : ℕ} → v ≡ w → Replaces rule R old a b placed most v
       → Replaces rule R old a b placed most w
   replaces-of {placed} {most} same =
       subst (λ (u : Thin T A). Replaces rule R old a b placed most u) same
 
-  -- `StopsBetween` states that a splice failed, and changed the list `old` to a given list. If this
-  -- is true of the list `v`, and `v` equals `w`, then it is also true of `w`.
+  -- `StopsBetween` states that a splice failed and turned the list `old` into another list. If
+  -- `StopsBetween` holds for the resulting list `v`, and `v` equals `w`, then `StopsBetween` also
+  -- holds for `w`.
   pub stops-of : {xs held : List T} {lower : ℕ} {cause : ThinVecError} {in_hand : Option T}
       {rest : Hinted T A} → v ≡ w
       → StopsBetween rule R old a b xs held lower cause in_hand rest v
@@ -177,15 +184,15 @@ module _ {T A : Type 0} (old : Thin T A) where
   pub cut-end : cut old (length old.items) (length old.items) ≡ old
   cut-end = λ i. record old { items = take-append-drop (length old.items) old.items i }
 
-  -- The list `old` without the empty range at its end equals `old`. So if it has room for `most`
-  -- more items, then `old` also has room for `most` more items.
+  -- The list `old` without the empty range at its end equals `old`. So if the list without this
+  -- range has room for `most` more items, then `old` also has room for `most` more items.
   room-end : (most : ℕ) → HasRoomFor (cut old (length old.items) (length old.items)) most
       → HasRoomFor old most
   room-end most = subst (λ (v : Thin T A). HasRoomFor v most) cut-end
 
-  -- Suppose that `most` items can replace the empty range at the end of the list without new memory
-  -- (`HasPlacesFor`). Then `most` is 0, or the list has room for `most` more items. If each of
-  -- these two cases implies the statement `P`, then `P` holds.
+  -- Suppose that `most` items can replace the empty range at the end of the list `old` without new
+  -- memory (`HasPlacesFor`). Then `most` is 0, or `old` has room for `most` more items. So if a
+  -- statement `P` holds in each of these two cases, then `P` holds.
   pub places-end : (P : Type 0) (most : ℕ) → (most ≡ 0 → P) → (HasRoomFor old most → P)
       → HasPlacesFor old (length old.items) (length old.items) most → P
   places-end P most none fits (inl few) = none (omega (arith, few))

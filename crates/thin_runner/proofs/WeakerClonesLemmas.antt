@@ -24,9 +24,10 @@ module _ {T : Type 0} (clones like : T → T → Type 0)
   zip-weaker (x ∷ xs) (y ∷ ys) z = (weaker x y z.0, zip-weaker xs ys z.1)
   zip-weaker xs ys z = absurd z
 
-  -- Suppose that the relation `like` is weaker than `clones`. If resizing the list `xs` to the
-  -- length `n` with clones of `x` may result in `ys`, then this is still possible if `like` decides
-  -- which values are clones of `x`.
+  -- Suppose that the relation `like` is weaker than `clones`: every clone that `clones` allows is
+  -- also allowed by `like`. Suppose also that resizing the list `xs` to the length `n` with clones
+  -- of `x` may result in `ys` according to `clones`. Then `ys` is also a possible result according
+  -- to `like`.
   resized-weaker : (xs ys : List T) (n : ℕ) (x : T) → IsResized clones xs n x ys
       → IsResized like xs n x ys
   resized-weaker xs ys n x r = record {
@@ -37,9 +38,10 @@ module _ {T : Type 0} (clones like : T → T → Type 0)
 
 module _ {T A G J : Type 0} (here : Setting T A J) (like : T → T → Type 0)
     (weaker : (x y : T) → here.clones x y → like x y) where
-  -- Suppose that the relation `like` is weaker than the clone relation of the setting `here`. Then
-  -- every step that is possible with the clone relation of `here` is also possible with the clone
-  -- relation `like`.
+  -- A setting contains the values that all commands of a run share, such as the clone relation.
+  -- Suppose that the relation `like` is weaker than the clone relation of the setting `here`: it
+  -- allows at least the same clones. Then every step that is possible with the clone relation of
+  -- `here` is also possible with the clone relation `like`.
   pub step-weaker : (old new : Thin T A) (command : Command T A G) (reply : Reply T A G)
       → Steps here old command reply new
       → Steps (record here { clones = like }) old command reply new
@@ -52,9 +54,10 @@ module _ {T A G J : Type 0} (here : Setting T A J) (like : T → T → Type 0)
       (s.0, (zip-weaker here.clones like weaker old.items copy.items s.1.0, s.1.1, s.1.2))
   step-weaker old new command reply s = s
 
-  -- Suppose that the relation `like` is weaker than the clone relation of the setting `here`. Then
-  -- every run that is possible with the clone relation of `here` is also possible with the clone
-  -- relation `like`.
+  -- A run is a sequence of commands with their replies. Suppose that the relation `like` is weaker
+  -- than the clone relation of the setting `here`: it allows at least the same clones. Then every
+  -- run that is possible with the clone relation of `here` is also possible with the clone relation
+  -- `like`.
   pub run-weaker : (old new : Thin T A) (commands : List (Command T A G))
       (replies : List (Reply T A G)) → Runs here old commands replies new
       → Runs (record here { clones = like }) old commands replies new
@@ -67,7 +70,7 @@ module _ {T A G J : Type 0} (here : Setting T A J) (like : T → T → Type 0)
 -- In this module, each clone equals its source.
 module _ {T A G J : Type 0} (here : Setting T A J) (equal : ClonesEqual here.clones) where
   -- Every run that is possible with the clone relation of `here` is also possible with equality as
-  -- the clone relation. Its lists and its replies are the same.
+  -- the clone relation. The lists and the replies of the run are the same with both relations.
   pub run-equal : (old new : Thin T A) (commands : List (Command T A G))
       (replies : List (Reply T A G)) → Runs here old commands replies new
       → Runs (record here { clones = λ x y. y ≡ x }) old commands replies new

@@ -14,9 +14,9 @@ use Rattle.thin_runner.specs.declared.command.Command.{Command}
 use Rattle.thin_runner.specs.declared.command.Reply.{Reply}
 
 module _ {T A G J : Type 0} (here : Setting T A J) where
-  -- `Headline` states the main theorem about one run. The run carried out `commands`, which turned
-  -- the list `old` into `new`. Its replies were appended to the list `before` of replies, which
-  -- became `after`.
+  -- `Headline` states the main theorem about one run, which is a sequence of commands with their
+  -- replies. The run carried out `commands`, and turned the list `old` into `new`. Its replies were
+  -- appended to the replies in `before`, which results in the list `after`.
   pub record Headline (old : Thin T A) (commands : List (Command T A G))
       (before after : List (Reply T A G)) (new : Thin T A) : Type 0 where
     -- `replies` contains the replies to the commands of the run. They were appended to the replies
@@ -24,15 +24,15 @@ module _ {T A G J : Type 0} (here : Setting T A J) where
     pub replies : List (Reply T A G)
     pub appended : after ≡ before ++ replies
     -- Suppose that each clone equals its source, and that no call failed. Then two functions on
-    -- plain lists of items predict the run. Applying `items_after` for each command, in order,
-    -- computes the final items. Applying `reply_to` to each command and to the items before it
-    -- computes the replies. (More exactly, `reply_to` computes the part of each reply that `seen`
-    -- extracts.)
+    -- plain lists of items predict the run. The final items are the result of applying
+    -- `items_after` for each command, in order. The reply to a command is the result of applying
+    -- `reply_to` to the command and to the items that the list has before this command. (More
+    -- exactly, `reply_to` computes the part of each reply that `seen` extracts.)
     pub plain : ClonesEqual here.clones → All IsGranted replies
         → (new.items ≡ fold (items_after here) old.items commands)
         × (map seen replies ≡ scan (items_after here) (reply_to here) old.items commands)
-    -- Even if calls failed, the predicate `Runs` allows the result of the run: the replies, and the
-    -- items, the capacity and the cost of the list `new`.
+    -- The predicate `Runs` allows the result of the run, even if calls failed. `Runs` says which
+    -- replies are possible, and which items, capacity and cost the list `new` may have.
     pub allowed : Runs here old commands replies new
     -- The items of the list `new` fit into its capacity. An allocation with this capacity does not
     -- exceed the size limit for allocations.

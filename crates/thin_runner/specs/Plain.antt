@@ -14,16 +14,17 @@ use Rattle.thin_runner.specs.declared.command.Reply.{Reply}
 use Rattle.thin_runner.specs.declared.command.Reply.TheVariants.{Answers, Done, Item, List as Made, Other, OutOfRange}
 use Rattle.thin_runner.specs.declared.command.Step.TheVariants.{Front}
 
--- Suppose that a command does not fail. Then the main theorem determines a part of its reply, which
--- is a value of the type `Seen`. For the reply `Answers`, this part is the list of the results in
--- its vector. For any other reply, it is the whole reply.
+-- Suppose that a command does not fail. Then the main theorem determines a part of its reply. This
+-- part is a value of the type `Seen`. For the reply `Answers`, it is the list of the results in the
+-- vector of the reply. For any other reply, it is the whole reply.
 pub data Seen (T A G : Type 0) : Type 0 where
   says : Reply T A G → Seen T A G
   yields : List (Option T) → Seen T A G
 
 module _ {T A G : Type 0} where
-  -- `seen reply` extracts the part of the reply that the main theorem determines. For the reply
-  -- `Answers`, it extracts the results, but not the vector that contains them.
+  -- `seen reply` is the part of the reply that the main theorem determines. For the reply
+  -- `Answers`, it is the list of the results, without the vector that contains them. For any other
+  -- reply, it is the whole reply.
   abbrev pub seen : Reply T A G → Seen T A G
   seen (Answers answers) = yields answers.items
   seen reply = says reply
@@ -42,8 +43,9 @@ module _ {T A G : Type 0} where
   in_range xs command = true
 
 module _ {T A G J : Type 0} (here : Setting T A J) where
-  -- Suppose that a command runs on a list with the items `xs`, is in range, and does not fail. Then
-  -- `granted xs command` is a pair. It contains the reply and the items after the command.
+  -- Suppose that a command runs on a list with the items `xs` and does not fail, and that its index
+  -- or range is in bounds. Then `granted xs command` is a pair. It contains the reply, as a value
+  -- of the type `Seen`, and the items after the command.
   abbrev pub granted : List T → Command T A G → Seen T A G × List T
   granted xs (Push v) = (says Done, xs ++ v ∷ [])
   granted xs Pop = let last = length xs - 1 in (says (Item (slice_get xs last)), take last xs)
@@ -79,8 +81,9 @@ module _ {T A G J : Type 0} (here : Setting T A J) where
   granted xs command = (says Done, left_at true (unwrap_or (answered here xs command) []))
 
   -- Suppose that a command runs on a list with the items `xs` and does not fail. Then `plain_step
-  -- xs command` is a pair. It contains the reply and the items after the command. If the command is
-  -- out of range, the reply returns the command, and the items do not change.
+  -- xs command` is a pair. It contains the reply, as a value of the type `Seen`, and the items
+  -- after the command. If the index or the range of the command is out of bounds, the reply is
+  -- `OutOfRange`, and the items do not change.
   abbrev pub plain_step : List T → Command T A G → Seen T A G × List T
   plain_step xs command =
       if in_range xs command then granted xs command else (says (OutOfRange command), xs)

@@ -45,9 +45,9 @@ module _ {T A G J : Type 0} (here : Setting T A J) where
 
   -- `may_move xs command reply` is an upper bound on the number of items that the command moves.
   -- The command runs on a list with the items `xs`, and its reply is `reply`. Items that growth
-  -- copies are not counted. For a command that tests items and removes some of them, the bound is
-  -- the number of kept items that are moved to another index. A command that fails partway may move
-  -- fewer items than the bound.
+  -- copies are not counted. A command such as `Retain` tests items and removes some of them. For
+  -- such a command, the bound is the number of kept items that are moved to another index. If a
+  -- command fails partway, it may move fewer items than the bound.
   abbrev pub may_move : List T → Command T A G → Reply T A G → ℕ
   may_move xs command (OutOfRange back) = 0
   may_move xs (Push v) Done = 1

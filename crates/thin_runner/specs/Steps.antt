@@ -37,7 +37,7 @@ module _ {T A G : Type 0} where
 
 module _ {T A G J : Type 0} (here : Setting T A J) where
   -- `Does old command reply new` holds if the command may turn the list `old` into `new` and get
-  -- this reply. The command must be in range.
+  -- this reply. The definition assumes that the index or the range of the command is in bounds.
   abbrev pub Does : Thin T A → Command T A G → Reply T A G → Thin T A → Type 0
   Does old (Push v) Done new = Grows here old 1 (old.items ++ v ∷ []) 1 new
   Does old (Push v) (Returned w cause) new =
@@ -124,8 +124,8 @@ module _ {T A G J : Type 0} (here : Setting T A J) where
   Does old command reply new = ⊥
 
   -- `Steps old command reply new` holds if the command may turn the list `old` into `new` and get
-  -- this reply. If the command is out of range, the reply returns the command, and the list does
-  -- not change.
+  -- this reply. If the index or the range of the command is out of bounds, the reply is
+  -- `OutOfRange` and contains the command, and the list does not change.
   abbrev pub Steps : Thin T A → Command T A G → Reply T A G → Thin T A → Type 0
   Steps old command (OutOfRange back) new =
       (back ≡ command) × ¬ (IsInRange old.items command) × (new ≡ old)

@@ -12,8 +12,9 @@ use std::vec::IntoIter;
 /// its size hint never changes.
 ///
 /// This lower bound may exceed the number of items that are left. But the contract of `size_hint`
-/// does not allow a lower bound above the ghost value `remaining`. For this reason, `remaining` is
-/// the sum of the number of items that are left and the lower bound.
+/// requires a lower bound that is at most the value `remaining`, which exists only in contracts.
+/// For this reason, `remaining` is the sum of the number of items that are left and the lower
+/// bound.
 #[derive(Drop)]
 pub struct Hinted<T, A: Allocator = Global> {
     items: IntoIter<T, A>,

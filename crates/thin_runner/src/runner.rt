@@ -36,8 +36,8 @@ fn is_in_range<T, A: Allocator, G: Growth>(
 /// returned.
 ///
 /// If the index or the range of the command is out of bounds, the list does not change, and the
-/// reply returns the command. The lists and vectors that the command makes use the allocator
-/// `alloc`. A command that asks the judge gets its own copy of `judge`.
+/// reply is `OutOfRange`, which contains the command. The lists and vectors that the command makes
+/// use the allocator `alloc`. A command that asks the judge gets its own copy of `judge`.
 pub fn step<T: Clone + Eq, A: Allocator + Copy, G: Growth, J: Judge<T>>(
     alloc: A,
     list: &mut ThinVec<T, A, G>,
@@ -118,9 +118,9 @@ pub fn run<T: Clone + Eq, A: Allocator + Copy, G: Growth, J: Judge<T>>(
         × (vec_capacity replies.new ≡ vec_capacity replies.old)) }
     ensures cause { IfErr result (λ cause. cause ≡ ThinVecError.OutOfMemory) }
 {
-    // The proof needs this call, but the program does not. The contract of `capacity` states that
-    // the items of the list fit into its capacity. The proof of the clause `ok` uses this fact
-    // about the list before the first command.
+    // The program does not use the result of this call, but the proof uses the contract of
+    // `capacity`. It states that the items of the list fit into its capacity. The proof of the
+    // clause `ok` needs this fact about the list before the first command.
     let _capacity = list.capacity();
     match replies.reserve(commands.len()) {
         Ok(()) => (),
@@ -133,8 +133,9 @@ pub fn run<T: Clone + Eq, A: Allocator + Copy, G: Growth, J: Judge<T>>(
             Err(_refused) => unreachable!(),
         }
     }
-    // The proof needs this call, but the program does not. The field `within` of `Headline` follows
-    // from the contract of `capacity`, but not from the contract of `step`.
+    // The program does not use the result of this call, but the proof uses the contract of
+    // `capacity`. The field `within` of `Headline` follows from this contract, but not from the
+    // contract of `step`.
     let _end = list.capacity();
     Ok(())
 }

@@ -9,8 +9,9 @@ mod splices;
 use std::marker::PhantomData;
 
 /// Contains the values that a command may need in addition to its list: the allocator for new lists
-/// and vectors, and the judge that was passed to `run` or `step`. The record `Setting` in the
-/// folder `specs` also has the fields `alloc` and `judge`, with the same values.
+/// and vectors, and the judge that was passed to `run` or `step`. Contracts use the record
+/// `Setting` in the folder `specs`, which also has the fields `alloc` and `judge`, with the same
+/// values.
 #[derive(Drop)]
 pub(crate) struct Setting<T, A, G, J> {
     pub(crate) alloc: A,

@@ -1,8 +1,8 @@
 //! Defines the traits through which the workloads access lists. A workload is a task whose running
 //! time is measured.
 //!
-//! Unless the comment of a method says otherwise, the method calls the list's method of the same
-//! name. A method that returns a `Result` fails if there is no room for the items.
+//! Each method calls the list's method of the same name, unless its comment says otherwise. A
+//! method that returns a `Result` fails if there is no room for the items.
 mod kit;
 mod thin;
 
@@ -12,9 +12,9 @@ use std::alloc::{AllocError, Global};
 use std::io::Write;
 pub use thin::Thin;
 
-/// A kind of list: either `ThinVec`, or the `Vec` of Rattle's library. Each associated type is this
-/// kind of list with a certain type of items. The only exception is `Cells`, which is the type of a
-/// table.
+/// A kind of list: either `ThinVec`, or the `Vec` of Rattle's library. Each associated type is a
+/// list of this kind, with a certain type of items. For example, `Numbers` is a list of `u64`, and
+/// `Strings` is a list of `String`. The only exception is `Cells`, which is the type of a table.
 pub trait Family {
     type Numbers: Numbers;
 
@@ -112,7 +112,8 @@ pub trait Numbers: List<u64> {
     fn split_and_append(&mut self, alloc: Global) -> Result<(), AllocError>;
 
     /// Drains the items from `start` up to, but not including, `end`. Mixes each drained item into
-    /// `sum`, and returns the new sum. Does nothing if this range is out of bounds.
+    /// `sum` with the function `mixed`, and returns the new sum. If this range is out of bounds,
+    /// drains nothing and returns `sum`.
     fn drain_range(&mut self, start: usize, end: usize, sum: u64) -> u64;
 
     /// Replaces the items from `start` up to, but not including, `end`, using `splice`. The new
@@ -144,12 +145,12 @@ pub trait Numbers: List<u64> {
     /// Calls `dedup_by_key`. The key of a number is half of the number, rounded down.
     fn dedup_halves(&mut self);
 
-    /// Extracts the items that `P` picks, using `extract_if`. Mixes each extracted item into `sum`,
-    /// and returns the new sum.
+    /// Extracts the items that `P` picks, using `extract_if`. Mixes each extracted item into `sum`
+    /// with the function `mixed`, and returns the new sum.
     fn extract<P: Pick>(&mut self, sum: u64) -> u64;
 
-    /// Consumes the list from the front, using `into_iter`. Mixes each item into `sum`, and returns
-    /// the new sum.
+    /// Consumes the list from the front, using `into_iter`. Mixes each item into `sum` with the
+    /// function `mixed`, and returns the new sum.
     fn walk(self, sum: u64) -> u64;
 }
 

@@ -1,5 +1,6 @@
 //! Runs workloads, which are tasks whose running time is measured. Each line of the input names one
-//! workload. The program runs this workload and prints the sum that it computes.
+//! workload. The program runs this workload and prints the sum that it computes. If a call of the
+//! workload fails, the program prints `refused`. If the line is invalid, it prints `no workload`.
 #![tactic(auto)]
 
 mod lists;

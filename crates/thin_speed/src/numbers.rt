@@ -5,12 +5,13 @@ ghost use Rattle.std.specs.Iterator.{at_most};
 
 use std::alloc::{AllocError, Global};
 
-/// The sum that a workload computes, or the error of the call that failed. If a workload computes
-/// equal sums with two kinds of lists, then it did the same work with both.
+/// The sum that a workload computes, or the error of the call that failed. The sum is a checksum of
+/// the work. If a workload computes equal sums with two kinds of lists, then it most likely did the
+/// same work with both.
 pub type Outcome = Result<u64, AllocError>;
 
-/// Mixes `number` into the sum `sum`, and returns the new sum. The sum depends on the order in
-/// which numbers are mixed into it.
+/// Computes a new sum from the sum `sum` and `number`, and returns it. In this way, `number` is
+/// mixed into the sum. The sum depends on the order in which numbers are mixed into it.
 pub fn mixed(sum: u64, number: u64) -> u64 {
     sum.wrapping_mul(31).wrapping_add(number)
 }
@@ -23,8 +24,8 @@ pub trait Item: Drop {
     fn number(&self) -> u64;
 }
 
-/// Returns the length of `items`, plus the number that the method `number` computes from the middle
-/// item. If `items` is empty, returns 0.
+/// Returns the sum of two numbers. The first is the length of `items`. The second is the number
+/// that the method `number` computes from the middle item. If `items` is empty, returns 0.
 pub fn seen<T: Item>(items: &[T]) -> u64 {
     let middle = match items.get(items.len() / 2) {
         Some(item) => item.number(),
@@ -104,7 +105,7 @@ impl Item for String {
     }
 }
 
-/// A rule that makes the items of a list, each one from its index.
+/// A rule that makes the items of a list. It makes each item from the index of the item.
 pub trait Source<T: Drop> {
     /// Makes the item at index `number` of a list.
     ///
@@ -114,7 +115,8 @@ pub trait Source<T: Drop> {
     fn item(alloc: Global, number: usize) -> Result<T, AllocError>;
 }
 
-/// A source of the items 0, 1, 2 and so on. Each number is truncated to the width of the item type.
+/// A rule (`Source`) that makes the items 0, 1, 2 and so on. Each number is truncated to the width
+/// of the item type.
 pub struct InTurn;
 
 impl Source<u8> for InTurn {
@@ -152,7 +154,8 @@ impl Source<u64> for InTurn {
     }
 }
 
-/// A source that makes each item from its index. The item at index `i` is `i ^ 5`.
+/// A rule (`Source`) that makes the item `i ^ 5` at each index `i`. Here, `^` is the bitwise
+/// exclusive or.
 pub struct Turned;
 
 impl Source<u64> for Turned {
@@ -162,7 +165,7 @@ impl Source<u64> for Turned {
     }
 }
 
-/// A source that makes each number twice: 0, 0, 1, 1, 2, 2 and so on.
+/// A rule (`Source`) that makes each number twice: 0, 0, 1, 1, 2, 2 and so on.
 pub struct Pairs;
 
 impl Source<u64> for Pairs {
@@ -197,7 +200,7 @@ impl Source<Wide> for Wides {
     }
 }
 
-/// A source that makes a new string for each item. All these strings have the same text.
+/// A rule (`Source`) that makes a new string for each item. All these strings have the same text.
 pub struct Words;
 
 impl Source<String> for Words {

@@ -1,4 +1,5 @@
-//! The workloads. Each workload can run on any kind of list.
+//! Defines the workloads, which are tasks whose running time is measured. Each workload can run on
+//! any kind of list.
 mod editing;
 mod filtering;
 mod growing;

@@ -1,6 +1,7 @@
--- These lemmas are about calls to `refuses`. If the caller has a shared reference to the counts of
--- the allocator, then the precondition of the call holds. The call returns a Boolean. The lemmas
--- assume the laws of the separation logic (`Logic`).
+-- The function `refuses` returns whether the allocator `Refusing` refuses a request. These lemmas
+-- are about calls to this function. If the caller has a shared reference to the counts of the
+-- allocator, then the precondition of the call holds. The call returns a Boolean. The lemmas assume
+-- the laws of the separation logic (`Logic`).
 use Rattle.std.proofs.Common.{◌≡◌, ℕ, Bool, List, [], ◌∷◌, refl, ap}
 use seplogic.Ra.Ura.{Ura}
 use mir.Val.{Val, vbool, vptr}
@@ -32,8 +33,8 @@ module _ {M : Type 1} {𝓤 : Ura M} (𝓛 : Logic 𝓤) (at_mem : Memory → SP
 
   -- `at_asks κ q c k` contains the ghost arguments for a call to `refuses`. Ghost arguments exist
   -- only in the proof. The call passes a shared reference to the counts. Here, `κ` is the lifetime
-  -- of the reference, `c` is the address of the counts, and `k` is their value. A token proves that
-  -- `κ` has not ended, and `q` is the caller's share of this token.
+  -- of the reference, `c` is the address of the counts, and `k` is their value. The caller has a
+  -- share `q` of a token, which proves that `κ` has not ended.
   abbrev pub at_asks : Lft → Share → ℕ × ℕ → Row.Denot → Asks.Ghost
   at_asks κ q c k = (
     (
@@ -60,8 +61,8 @@ module _ {M : Type 1} {𝓤 : Ura M} (𝓛 : Logic 𝓤) (at_mem : Memory → SP
       nothing ! $ move ! (1 ∷ []) $ fjoin ! $ nothing ! $ move ! (2 ∷ []) $ join ! $ join ! $
       nothing ! $ move ! (1 ∷ []) $ done !
 
-  -- A call to `refuses` returns a Boolean. It also returns the caller's token, which proves that
-  -- the lifetime `κ` has not ended. (The token exists only in the proof.)
+  -- After a call to `refuses`, the returned value `v` is a Boolean. The caller also has its token
+  -- again, which proves that the lifetime `κ` has not ended. (The token exists only in the proof.)
   pub Asks-gives : (v : Val) → ent 𝓤 ((Asks 𝓛 at_mem run).post (at_asks 𝓛 at_mem run κ q c k) v)
       (H.⇛ (ex 𝓤 (λ (y : Bool). guard 𝓤 (v ≡ vbool y) (A.lft κ q))))
   Asks-gives v =

@@ -1,6 +1,7 @@
--- These lemmas are about calls to `granted` and `returned`. If the caller has a shared reference to
--- the counts of the allocator, then the preconditions of both functions hold. Both functions return
--- the unit value. The lemmas assume the laws of the separation logic (`Logic`).
+-- The functions `granted` and `returned` count the blocks of the allocator `Refusing`. These lemmas
+-- are about calls to these functions. If the caller has a shared reference to the counts of the
+-- allocator, then the preconditions of both functions hold. Both functions return the unit value.
+-- The lemmas assume the laws of the separation logic (`Logic`).
 use Rattle.std.proofs.Common.{◌≡◌, ℕ, List, [], ◌∷◌, refl, ap}
 use seplogic.Ra.Ura.{Ura}
 use mir.Val.{Val, vunit, vptr}
@@ -36,11 +37,11 @@ module _ {M : Type 1} {𝓤 : Ura M} (𝓛 : Logic 𝓤) (at_mem : Memory → SP
   abbrev pub Returned : Contract 𝓤
   Returned = triple_of 𝓛 RE.signature (RE.spec 𝓛 at_mem run)
 
-  -- `at_granted κ q c k y v` contains the ghost arguments for a call to `granted` with the answer
-  -- `y`. The machine value of this answer is `v`. Ghost arguments exist only in the proof. The call
-  -- also passes a shared reference to the counts. Here, `κ` is the lifetime of the reference, `c`
-  -- is the address of the counts, and `k` is their value. A token proves that `κ` has not ended,
-  -- and `q` is the caller's share of this token.
+  -- `at_granted κ q c k y v` contains the ghost arguments for a call to `granted`. Ghost arguments
+  -- exist only in the proof. The call passes the answer `y`, whose machine value is `v`. It also
+  -- passes a shared reference to the counts. Here, `κ` is the lifetime of the reference, `c` is the
+  -- address of the counts, and `k` is their value. The caller has a share `q` of a token, which
+  -- proves that `κ` has not ended.
   abbrev pub at_granted : Lft → Share → ℕ × ℕ → Row.Denot → Answer.Denot → Val → Granted.Ghost
   at_granted κ q c k y v = (
     (
@@ -55,8 +56,8 @@ module _ {M : Type 1} {𝓤 : Ura M} (𝓛 : Logic 𝓤) (at_mem : Memory → SP
 
   -- `at_returned κ q c k` contains the ghost arguments for a call to `returned`. Ghost arguments
   -- exist only in the proof. The call passes a shared reference to the counts. Here, `κ` is the
-  -- lifetime of the reference, `c` is the address of the counts, and `k` is their value. A token
-  -- proves that `κ` has not ended, and `q` is the caller's share of this token.
+  -- lifetime of the reference, `c` is the address of the counts, and `k` is their value. The caller
+  -- has a share `q` of a token, which proves that `κ` has not ended.
   abbrev pub at_returned : Lft → Share → ℕ × ℕ → Row.Denot → Returned.Ghost
   at_returned κ q c k =
       (((κ, tt), (q, tt), tt, (record { ref_ptr = c; now = k }, tt), (vptr c.0 c.1 ∷ [], tt)), tt)
@@ -79,8 +80,9 @@ module _ {M : Type 1} {𝓤 : Ura M} (𝓛 : Logic 𝓤) (at_mem : Memory → SP
       move ! (1 ∷ []) $ fjoin ! $
       nothing ! $ move ! (2 ∷ []) $ join ! $ join ! $ nothing ! $ move ! (1 ∷ []) $ done !
 
-  -- A call to `granted` returns the unit value. It also returns the caller's token, which proves
-  -- that the lifetime `κ` has not ended. (The token exists only in the proof.)
+  -- After a call to `granted`, the returned value `v` is the unit value. The caller also has its
+  -- token again, which proves that the lifetime `κ` has not ended. (The token exists only in the
+  -- proof.)
   pub Granted-gives : (y : Answer.Denot) (w v : Val)
       → ent 𝓤 ((Granted 𝓛 at_mem run).post (at_granted 𝓛 at_mem run κ q c k y w) v)
       (H.⇛ (guard 𝓤 (v ≡ vunit) (A.lft κ q)))
@@ -104,8 +106,9 @@ module _ {M : Type 1} {𝓤 : Ura M} (𝓛 : Logic 𝓤) (at_mem : Memory → SP
       nothing ! $ move ! (1 ∷ []) $ fjoin ! $ nothing ! $ move ! (2 ∷ []) $ join ! $ join ! $
       nothing ! $ move ! (1 ∷ []) $ done !
 
-  -- A call to `returned` returns the unit value. It also returns the caller's token, which proves
-  -- that the lifetime `κ` has not ended. (The token exists only in the proof.)
+  -- After a call to `returned`, the value `v` that the call returned is the unit value. The caller
+  -- also has its token again, which proves that the lifetime `κ` has not ended. (The token exists
+  -- only in the proof.)
   pub Returned-gives : (v : Val)
       → ent 𝓤 ((Returned 𝓛 at_mem run).post (at_returned 𝓛 at_mem run κ q c k) v)
       (H.⇛ (guard 𝓤 (v ≡ vunit) (A.lft κ q)))

@@ -1,6 +1,6 @@
 -- This file defines growth rules that multiply the capacity. It also proves that these rules
 -- satisfy `KeepsLaw`, the law that every growth rule must satisfy. The proofs are in the folder
--- `specs` and not in `proofs`, because the impls of `Growth` refer to them.
+-- `specs` and not in `proofs`, because the implementations of `Growth` refer to them.
 use Rattle.std.specs.Prelude.{◌≡◌, ℕ, ◌*◌, ◌≤◌, Bool, true, false, IsTrue, if◌then◌else◌, max, refl}
 use Rattle.std.specs.declared.option.Option.TheVariants.{Some, None}
 use Rattle.std.proofs.Common.{mul-le-mul_right, subst, arith}
@@ -27,9 +27,9 @@ when_some : (b : Bool) (m n : ℕ) → (if b then Some m else None) ≡ Some n �
 when_some true m n e = (refl, cc)
 when_some false m n e = cc
 
--- `fitting s a m` is `Some m` if a block of capacity `m` is small enough to be allocated, and
--- `None` otherwise. (The items have the size `s` and the alignment `a`.) So if `fitting s a m` is
--- `Some n`, then the block is small enough, and `m` equals `n`.
+-- `fitting s a m` is `Some m` if a block of capacity `m` is small enough to be allocated.
+-- Otherwise, it is `None`. Here, the items have the size `s` and the alignment `a`. So if `fitting
+-- s a m` equals `Some n`, then the block is small enough, and `m` equals `n`.
 fitting_is : (s a m n : ℕ) → fitting s a m ≡ Some n → IsTrue (fits s a m) × (m ≡ n)
 unfolding fitting
 fitting_is s a m n e = when_some (fits s a m) m n e

@@ -1,6 +1,6 @@
-//! For each growth rule, defines a function that computes the same capacities. Tests use these
-//! functions to compute the capacities that they expect. Unlike the growth rule itself, such a
-//! function also returns capacities that are too large to be allocated.
+//! For each growth rule, defines a function that computes the same capacities as the rule. Tests
+//! use this function to compute the capacities that they expect. If a capacity is too large to be
+//! allocated, the rule returns `None`, but the function still returns the capacity.
 use crate::multiples::{Fourfold, Threefold};
 use thin_vec::{Doubling, Growth, PowerBytes};
 
@@ -22,9 +22,9 @@ impl Ruled for Doubling {
 }
 
 impl Ruled for PowerBytes {
-    // Returns how many items fit into an allocation after a header of 16 bytes. The size of the
-    // allocation in bytes is the smallest power of two with room for the header and for `max(want,
-    // 2 * capacity)` items. If `size` is 0, the result is the same as for `Doubling`.
+    // Computes the size of the allocation, and returns how many items fit into it after a header of
+    // 16 bytes. The size in bytes is the smallest power of two with room for the header and for
+    // `max(want, 2 * capacity)` items. If `size` is 0, the result is the same as for `Doubling`.
     fn expected_capacity(size: usize, capacity: usize, want: usize) -> usize {
         if size == 0 {
             return Doubling::expected_capacity(size, capacity, want);

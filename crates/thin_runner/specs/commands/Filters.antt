@@ -25,9 +25,10 @@ module _ {T J : Type 0} (ask : J → T → Bool × T × J) where
   asked j [] = []
   asked j (x ∷ xs) = let a = ask j x in (a.0, a.1) ∷ asked a.2 xs
 
+  -- The function `ask` tests one item, and says whether an `ExtractIf` extracts this item.
   -- `extracting j k xs` is the list of the verdicts on the items `xs` after `k` calls to `next` on
-  -- an `ExtractIf`. The judge is in the state `j` before the first call. After `k` items have been
-  -- extracted, the remaining items are kept without a test.
+  -- the `ExtractIf`. The judge is in the state `j` before the first call. After `k` items have been
+  -- extracted, the remaining items are not tested, and are kept.
   abbrev pub extracting : J → ℕ → List T → Verdicts T
   extracting j zero xs = stay xs
   extracting j (suc k) [] = []
@@ -35,11 +36,12 @@ module _ {T J : Type 0} (ask : J → T → Bool × T × J) where
       let a = ask j x in (not a.0, a.1) ∷ extracting a.2 (if a.0 then k else suc k) xs
 
 module _ {T J : Type 0} (same : J → T → T → Bool × T × T × J) where
-  -- `asked_last j k xs` describes how `dedup_by` compares items. The first item of `xs` is compared
-  -- with `k`, and each other item is compared with the last item kept before it. If the judge
-  -- decides that the two items are the same, the later item is removed. The judge is in the state
-  -- `j` before the first comparison. The result contains the item `k` as it is after its
-  -- comparisons, and the verdicts on the items of `xs`.
+  -- `asked_last j k xs` describes how `dedup_by` compares the items `xs`. The item `k` is the last
+  -- item that was kept before `xs`. Each item of `xs` is compared with the last item that was kept
+  -- before it, so the first item is compared with `k`. If the judge decides that the two items are
+  -- the same, the later item is removed. The judge is in the state `j` before the first comparison.
+  -- The result contains the item `k` as it is after its comparisons, and the verdicts on the items
+  -- of `xs`.
   abbrev pub asked_last : J → T → List T → T × Verdicts T
   asked_last j k [] = (k, [])
   asked_last j k (x ∷ xs) =
@@ -68,8 +70,10 @@ module _ {T : Type 0} where
 
 module _ {T A G J : Type 0} (here : Setting T A J) where
   -- If the command is `Retain`, `RetainMut`, `Dedup`, `DedupBy` or `DedupByKey`, then `answered xs
-  -- command` is the list of its verdicts on the items `xs`. For any other command, it is `None`.
-  -- `Retain` does not write to the items, and `Dedup` does not ask the judge.
+  -- command` is the list of its verdicts on the items `xs`. For any other command, `answered xs
+  -- command` is `None`. The verdicts of `Retain` contain the items unchanged, because `Retain` does
+  -- not write to them. The verdicts of `Dedup` do not depend on the judge, because `Dedup` does not
+  -- ask it.
   abbrev pub answered : List T → Command T A G → Option (Verdicts T)
   answered xs Retain =
       Some (asked (λ j x. let a = here.judging.look j x in (a.0, x, a.1)) here.judge xs)

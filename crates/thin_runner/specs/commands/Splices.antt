@@ -20,9 +20,10 @@ module _ {T A : Type 0} (old : Thin T A) (a b : ℕ) where
   abbrev pub cut : Thin T A
   cut = record old { items = remove_range old.items a b }
 
-  -- `HasPlacesFor most` holds if `most` items can replace the range `a..b` without new memory. This
-  -- is the case if the range has at least `most` items. It is also the case if no item follows the
-  -- range, and the list without the range has room for `most` more items.
+  -- `HasPlacesFor most` holds if `most` items can replace the items `a..b` without new memory.
+  -- There are two such cases. In the first case, the range `a..b` has at least `most` items. In the
+  -- second case, no item follows the range, and the list has room for `most` more items after the
+  -- range has been removed.
   abbrev pub HasPlacesFor : ℕ → Type 0
   HasPlacesFor most = (most ≤ b - a) ⊎ ((b ≡ length old.items) × HasRoomFor cut most)
 
@@ -30,9 +31,9 @@ module _ {T A : Type 0} (rule : Rule) (R : RattleType) (old : Thin T A) (a b : �
   -- `Replaces placed most new` holds if a call may replace the items `a..b` of the list `old` with
   -- the items `placed`, so that the list becomes `new`. The iterator could yield at most `most`
   -- items. Each placed item counts as one move. Each item after the range counts as at most two
-  -- moves. If the capacity changed, then the growth rule chose the new capacity. The rule chose it
-  -- either for at most the final number of items, or for a size hint with a lower bound of at most
-  -- `most`.
+  -- moves. If the capacity changed, then the growth rule chose the new capacity. There are two
+  -- cases. In the first case, the rule chose the capacity for at most as many items as `new` has.
+  -- In the second case, it chose the capacity for a size hint with a lower bound of at most `most`.
   pub record Replaces (placed : List T) (most : ℕ) (new : Thin T A) : Type 0 where
     pub items : new.items ≡ (take a old.items ++ placed) ++ drop b old.items
     pub capacity : IsLoose rule R old.capacity new.capacity
@@ -43,10 +44,10 @@ module _ {T A : Type 0} (rule : Rule) (R : RattleType) (old : Thin T A) (a b : �
     pub cheap : IsCheap old → IsCheap new
     pub alloc : new.alloc ≡ old.alloc
 
-  -- `StopsBetween` describes a splice or a call to `extend` that failed with `cause` and left the
-  -- list `new`. The iterator had the items `xs`. Before the failure, the call put some of these
-  -- items into the list (perhaps none). The field `placed` contains them. All other items are in
-  -- `held`, in `in_hand`, or in `rest`.
+  -- `StopsBetween` describes a splice, or a call to `extend`, that failed with `cause` and turned
+  -- the list `old` into `new`. The iterator had the items `xs`. Before the failure, the call put
+  -- some of these items into the list (perhaps none). The field `placed` contains these items. All
+  -- other items of the iterator are in `held`, in `in_hand`, or in `rest`.
   pub record StopsBetween (xs held : List T) (lower : ℕ) (cause : ThinVecError)
       (in_hand : Option T) (rest : Hinted T A) (new : Thin T A) : Type 0 where
     pub placed : List T
@@ -54,24 +55,25 @@ module _ {T A : Type 0} (rule : Rule) (R : RattleType) (old : Thin T A) (a b : �
     pub claim : rest.lower ≡ lower
     pub filled : Replaces placed (lower + length xs) new
     pub no_room : ¬ (HasPlacesFor old a b (lower + length xs))
-    -- Suppose that `held` is empty, and that `in_hand` is `None`. Then the call failed because the
-    -- list could not get room for `h` more items. Here, `h` is a possible lower bound of the size
-    -- hint of `rest`. The cause is `CapacityOverflow` if and only if the growth rule chooses no
-    -- capacity for `h` more items.
+    -- Suppose that `held` is empty, and that `in_hand` is `None`. Then the call failed because it
+    -- could not reserve room for `h` more items in the list `new`, where `h` is a possible lower
+    -- bound of the size hint of `rest`. That is, `h` is at most the sum of `rest.lower` and the
+    -- number of items that are left in `rest`. The cause is `CapacityOverflow` if and only if the
+    -- growth rule chooses no capacity for `h` more items.
     pub by_hint : held ≡ [] → in_hand ≡ None
         → FailsAtHint rule R new (at_most (rest.lower + length (into_iter_items rest.items))) cause
-    -- If `held` contains items and `in_hand` is `None`, then the growth rule decides the cause. The
-    -- cause is `CapacityOverflow` if and only if the rule chooses no capacity that has room for the
-    -- items in `held`, in addition to the items of the list.
+    -- Suppose that `held` contains items, and that `in_hand` is `None`. Then the cause is
+    -- `CapacityOverflow` if and only if the growth rule chooses no capacity that has room for both
+    -- the items of the list `new` and the items in `held`.
     pub by_held : 0 < length held → in_hand ≡ None
         → (cause ≡ CapacityOverflow) ↔ (capacity_for rule R new (length held) ≡ None)
     -- If `in_hand` contains an item, and the list `old` has items after the range, then the cause
-    -- is `OutOfMemory`. The call failed because there was not enough memory to store the item in
-    -- `held`.
+    -- is `OutOfMemory`. In this case, the call failed because there was not enough memory to put
+    -- the item into the vector `held`.
     pub by_in_hand : b < length old.items → IsSome in_hand → cause ≡ OutOfMemory
-    -- If `in_hand` contains an item, and no item follows the range, then the growth rule decides
-    -- the cause. The cause is `CapacityOverflow` if and only if the rule chooses no capacity for
-    -- one more item.
+    -- Suppose that `in_hand` contains an item, and that no item of `old` follows the range. Then
+    -- the cause is `CapacityOverflow` if and only if the growth rule chooses no capacity for one
+    -- more item.
     pub by_push : b ≡ length old.items → IsSome in_hand
         → (cause ≡ CapacityOverflow) ↔ (capacity_for rule R new 1 ≡ None)
     -- If `held` contains items and `in_hand` is `None`, then the iterator has ended: `rest` has no
@@ -80,8 +82,8 @@ module _ {T A : Type 0} (rule : Rule) (R : RattleType) (old : Thin T A) (a b : �
     -- If the list `old` has items after the range `a..b`, then the call placed at least as many
     -- items as the range had.
     pub range : b < length old.items → b - a ≤ length placed
-    -- If no item follows the range, then `held` is empty. If, in addition, `in_hand` contains an
-    -- item, then the list `new` is full.
+    -- If no item follows the range, then `held` is empty. If `in_hand` also contains an item, then
+    -- the list `new` is full: its length equals its capacity.
     pub at_end : b ≡ length old.items → (held ≡ [])
         × (IsSome in_hand → length new.items ≡ new.capacity)
     -- If no item follows the range, and `in_hand` is `None`, then the call placed no item. The list

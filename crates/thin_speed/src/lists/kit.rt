@@ -5,7 +5,7 @@ use crate::numbers::{Count, Outcome, Pick, Triple, Unhinted, Wide, mixed};
 use std::alloc::{AllocError, Global};
 use std::collections::BTreeMap;
 
-/// Selects the `Vec` of Rattle's library as the kind of list on which a workload runs.
+/// A type that selects the `Vec` of Rattle's library as the kind of list on which a workload runs.
 pub struct Kit;
 
 impl Family for Kit {

@@ -6,7 +6,7 @@ use std::alloc::{AllocError, Global};
 use thin_rows::Rows;
 use thin_vec::ThinVec;
 
-/// Selects `ThinVec` as the kind of list on which a workload runs.
+/// A type that selects `ThinVec` as the kind of list on which a workload runs.
 pub struct Thin;
 
 impl Family for Thin {

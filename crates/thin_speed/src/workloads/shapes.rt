@@ -8,8 +8,9 @@ pub trait Work<L, T> {
     /// Does the work once, and returns the new sum. Some implementations mix the items that they
     /// remove into `sum`. The other implementations return `sum` unchanged.
     ///
-    /// The meaning of `number` depends on the caller. `refilled` passes the length of the list.
-    /// `repeated` passes the number of times that the work has already been done.
+    /// The meaning of `number` depends on the caller. The function `refilled` passes the length of
+    /// the list. The function `repeated` passes the number of times that the work has already been
+    /// done.
     ///
     /// # Errors
     ///

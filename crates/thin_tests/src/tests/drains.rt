@@ -44,9 +44,9 @@ pub fn drain_first<T: Drop, A: Allocator, G: Growth>(
     drain.next()
 }
 
-/// Moves the items `start..end` of `list` to the end of `other` with one call to `extend`. This
-/// call takes the `Drain` by value, so no contract states which items `list` has afterwards. A test
-/// checks these items.
+/// Moves the items `start..end` of `list` to the end of `other` with one call to `extend`. No
+/// contract states which items `list` has afterwards, because this call takes the `Drain` by value.
+/// A test checks these items.
 pub fn extend_by_range(
     list: &mut ThinVec<u32, Global>,
     start: usize,

@@ -47,8 +47,8 @@ const REPORT: &str =
     row 36 ok\nrow 40 ok\nrow 41 ok\n\
     35 rows ok\n";
 
-// These constants are the exit codes of the program, as `{:?}` prints them. Printing an `ExitCode`
-// is the only way to read its value.
+// These constants are the texts that `{:?}` prints for the exit codes of the program. Printing an
+// `ExitCode` is the only way to read its value.
 const EVERY_ROW_OK: &str = "ExitCode(unix_exit_status(0))";
 
 const ROW_FAILED: &str = "ExitCode(unix_exit_status(1))";
@@ -183,8 +183,8 @@ fn assert_row<R: Abort>(rt: &R, alloc: Global, outcome: Outcome, line: &str, sta
     assert!(rt; text.as_str() == line, "not {line}");
 }
 
-// Returns the counter of a worked example that has compared one value. The value was the expected
-// one if `right` is true.
+// Returns the counter of a worked example that has compared one value. If `right` is true, the
+// value was the expected one. Otherwise, it was wrong.
 fn checks_of_one_value(right: bool) -> Checks {
     let mut checks = Checks::new();
     checks.is(right);

@@ -10,9 +10,9 @@ use thin_vec::{ThinVec, thin_vec};
 
 // Each line is about one worked example. It contains the number of the example, the number of
 // values that it compares, and the number of requests for memory that it makes. These numbers were
-// counted by hand, so they reveal an example that compares too few values. For example 35, the test
-// does not check the number of requests, and the line contains 0. The reason is that `format!` of
-// Rattle's library makes some of these requests.
+// counted by hand, so they reveal an example that compares too few values. The line of example 35
+// contains 0 instead of the number of requests, which the test does not check. The reason is that
+// `format!` of Rattle's library makes some of these requests.
 const COUNTS: &str = "\
     1: 5, 0\n\
     2: 12, 2\n\

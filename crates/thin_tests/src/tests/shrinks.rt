@@ -5,8 +5,8 @@ use std::alloc::Global;
 use std::process::Abort;
 use thin_vec::ThinVec;
 
-// Asserts that `has_capacity` returns `owns_block`, which is true if the list should have an
-// allocation.
+// Asserts that `has_capacity` returns `owns_block`. The caller passes true if the list should have
+// an allocation, and false otherwise.
 fn assert_owns_block<T>(rt: &impl Abort, list: &ThinVec<T>, owns_block: bool) {
     assert_same(rt, list.has_capacity(), owns_block);
 }

@@ -1,6 +1,8 @@
--- Each arm of the `match` in `step` calls the method that carries out its command. The contract of
--- the method has a clause `allowed` about the pattern of the arm. In the arm, `command` equals this
--- pattern. So the clause `allowed` of `step`, which is about `command`, follows.
+-- `Steps` states how a command may change a list, and which replies it may get. Each arm of the
+-- `match` in `step` calls the method that carries out a command. The clause `allowed` of this
+-- method states `Steps` for the command that the pattern of the arm describes. In the arm,
+-- `command` equals this pattern. So the clause `allowed` of `step`, which states `Steps` for
+-- `command`, follows.
 use Rattle.thin_runner.proofs.runner.step.Goals as goal
 
 pub returns-in-Push : goal.returns-in-Push

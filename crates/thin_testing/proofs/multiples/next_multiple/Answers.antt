@@ -1,6 +1,6 @@
--- If `cap * times` exceeds `usize::MAX`, the code computes with the capacity `usize::MAX` instead.
--- Blocks of these two capacities are both too large to be allocated, so the function returns `None`
--- in both cases.
+-- `next_multiple` multiplies `cap` by `times`. If the product exceeds `usize::MAX`, the function
+-- continues with `usize::MAX` instead of the product. Blocks of these two capacities are both too
+-- large to be allocated, so the result is `None` in both cases.
 use Rattle.std.proofs.Common.{◌≡◌, ℕ, ◌-◌, ◌*◌, ◌≤◌, ◌^◌, Some, inl, inr, max, min, mul_comm, refl, sym, ap, ◌∙◌, arith}
 use Rattle.std.proofs.lemmas.Bool.{cases_lt, false≢true}
 use Rattle.std.specs.Mem.{type_size}

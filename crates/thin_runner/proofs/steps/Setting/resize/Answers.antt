@@ -1,5 +1,5 @@
--- `Steps` states what the command `Resize` may do and which replies it may get. These statements
--- follow from the contract of `resize`, both on success and on failure.
+-- `Steps` states how the command `Resize` may change a list, and which replies it may get. The
+-- contract of `resize` implies this statement, both on success and on failure.
 use Rattle.std.proofs.Common.{rules}
 use Rattle.thin_runner.proofs.steps.Setting.resize.Goals as goal
 

@@ -1,5 +1,5 @@
--- `Steps` states what the command `SplitOff` may do and which replies it may get. These statements
--- follow from the contract of `split_off`, both on success and on failure.
+-- `Steps` states how the command `SplitOff` may change a list, and which replies it may get. The
+-- contract of `split_off` implies this statement, both on success and on failure.
 use Rattle.std.proofs.Common.{rules, arith}
 use Rattle.std.proofs.lemmas.Grind.{common_steps}
 use Rattle.thin_runner.proofs.steps.Setting.split_off.Goals as goal

@@ -1,6 +1,6 @@
 -- The function `build` makes a tree of `Vec`s. It terminates, because it calls itself only with a
--- smaller depth. The loop invariant states that the depth is greater than 0, so it can be decreased
--- by 1.
+-- smaller depth. These calls are in a loop. The loop invariant states that the depth is greater
+-- than 0, so subtracting 1 from it does not overflow.
 use Rattle.std.proofs.Common.{◌<◌}
 use Rattle.thin_speed.proofs.lists.kit.+build.Given as goal
 

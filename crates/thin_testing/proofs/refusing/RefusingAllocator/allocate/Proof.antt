@@ -107,8 +107,8 @@ module _ (Z : Al) {M : Type 1} {𝓤 : Ura M} (𝓛 : Logic 𝓤) (at_mem : Memo
     abbrev Post : Val → SProp 𝓤
     Post = (walk_of 𝓛 (ended Z) (stayed Z) held).post bound
 
-    -- If `allocate` returns an error, its postcondition holds. The reason for the error may be that
-    -- the request was refused, or that the inner allocator failed.
+    -- Suppose that `allocate` returns an error, either because the request was refused or because
+    -- the inner allocator failed. Then the postcondition of `allocate` holds.
     refused : Sq 𝓛 (‵ (flft κ₁ q₁) ∷ (‵ (flft κ₂ q₂) ⊛ ‵ ftrue) ∷ [])
         (prop (Post (answer_val false 0 0)))
     refused =
@@ -139,9 +139,10 @@ module _ (Z : Al) {M : Type 1} {𝓤 : Ura M} (𝓛 : Logic 𝓤) (at_mem : Memo
         fsplit ! $ use1 𝓛 (‵ (hidden_shr Row κ₁ r.now.counts c.0 c.1)) (id⊢ 𝓤 _) $
         shr_dup ! Row the_row_laws.shr_laws r.now.counts c.0 c.1 κ₁ $
         keep ! (0 ∷ 7 ∷ 3 ∷ 8 ∷ 1 ∷ []) $
-        -- At this point, the proof has the following resources, in this order: [the shared counts;
-        -- the token of the lifetime `κ₁`; the inner allocator; the token of the lifetime `κ₂`; a
-        -- copy of the shared counts]. The next step enters the body of `allocate`.
+        -- At this point, the proof has five resources, in this order: the shared reference to the
+        -- counts, the token of the lifetime `κ₁`, the inner allocator, the token of the lifetime
+        -- `κ₂`, and a copy of the shared reference to the counts. The next step enters the body of
+        -- `allocate`.
         enter ! 𝓣.C 𝓣.Λ (here Z) vs _ $
         alloc_all ! (λ l. pass_all ! refl
         ((tt, tt), ((tt, record { fits = fn }), ((tt, record { fits = fa }), tt))) $

@@ -132,12 +132,14 @@ module _ (Z : Al) (X : RattleType) {M : Type 1} {𝓤 : Ura M} (𝓛 : Logic �
     c = (r.ref_ptr.0, r.ref_ptr.1 + up 8 (up (align (α Z)) 0 + size (α Z)))
 
     -- `left b o y` describes the block that the caller owns after a call to `grow` with the result
-    -- `y`. Before the call, this block was at the offset `o` of the allocation `b`.
+    -- `y`. If `y` is `Ok`, this is the block at the address that `y` contains. If `y` is an error,
+    -- it is still the old block, which is at the offset `o` of the allocation `b`.
     abbrev left : ℕ → ℕ → Answer.Denot → Fml
     left b o = left_by Z X (Grows X) 𝓛 at_mem run κ κT q qT p r.now.inner b o len old new xs
 
-    -- The postcondition of `grow` holds for every result, no matter whether the request was refused
-    -- or passed on to the inner allocator.
+    -- If the caller owns the block that `left` describes and the tokens of the three lifetimes,
+    -- then the postcondition of `grow` holds for every result. This is the case no matter whether
+    -- the request was refused or passed on to the inner allocator.
     ends : (b o : ℕ) (y : Bool) (b' o' : ℕ)
         → Sq 𝓛 (‵ (left b o (result_of y b' o')) ∷ ‵ (flft κ q) ∷ ‵ (flft κT qT) ∷ ‵ (flft ρ s)
         ∷ []) (prop (Post (block_ptr b o) (answer_val y b' o')))
@@ -148,9 +150,8 @@ module _ (Z : Al) (X : RattleType) {M : Type 1} {𝓤 : Ura M} (𝓛 : Logic �
         use0 𝓛 (‵ (Answer.own_val (result_of y b' o') (answer_val y b' o' ∷ [])))
         (result_own 𝓛 y b' o') $ nothing ! $ nothing ! $ fjoin ! $ nothing ! $ fjoin ! $
         nothing ! $ fjoin ! $ nothing ! $ fjoin ! $ nothing ! $ fjoin ! $ join ! $
-        -- These steps combine the following resources into the postcondition of `grow`: [the
-        -- result; the block; the token of the lifetime `κ`; the token of the lifetime `κT`; the
-        -- token of the lifetime `ρ`].
+        -- These steps combine five resources into the postcondition of `grow`. The resources are
+        -- the result, the block, and the tokens of the lifetimes `κ`, `κT` and `ρ`.
         nothing ! $ move ! (4 ∷ 0 ∷ []) $ join ! $ move ! (4 ∷ 0 ∷ []) $ join ! $
         move ! (3 ∷ 0 ∷ []) $ join ! $ join ! $ done !
 
@@ -178,9 +179,10 @@ module _ (Z : Al) (X : RattleType) {M : Type 1} {𝓤 : Ura M} (𝓛 : Logic �
         use1 𝓛 (‵ (seen Z κ p h)) (id⊢ 𝓤 _) $ move ! (1 ∷ []) $ fsplit ! $
         use1 𝓛 (‵ (hidden_shr Row κ r.now.counts c.0 c.1)) (id⊢ 𝓤 _) $
         keep ! (0 ∷ 8 ∷ 2 ∷ 10 ∷ 6 ∷ 9 ∷ []) $
-        -- At this point, the proof has the following resources, in this order: [the shared counts;
-        -- the token of the lifetime `κ`; the inner allocator; the block; the token of the lifetime
-        -- `κT`; the token of the lifetime `ρ`]. The next step enters the body of `grow`.
+        -- At this point, the proof has six resources, in this order: the shared reference to the
+        -- counts, the token of the lifetime `κ`, the inner allocator, the block, the token of the
+        -- lifetime `κT`, and the token of the lifetime `ρ`. The next step enters the body of
+        -- `grow`.
         enter ! 𝓣.C 𝓣.Λ (here Z X) (vs x) _ $
         alloc_all ! (λ l. pass_all ! refl (
           (tt, tt),
