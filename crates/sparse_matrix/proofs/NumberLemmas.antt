@@ -57,8 +57,8 @@ at_row f g h i here rows k l = elim (cases_eq k i) [
 ]
 
 module _ (t : Table ℕ) (i j : ℕ) where
-  -- If the table `t` has a row `i`, and `v` is written at row `i` and column `j`, then the number
-  -- there is `v`, and all other numbers are unchanged.
+  -- Suppose that the table `t` has a row `i`. If `v` is written at row `i` and column `j`, then the
+  -- number at this place is `v`, and all other numbers are unchanged.
   pub number-with_value : (v : ℕ) → i < length t → (k l : ℕ)
       → number_at (with_value t i j v) k l ≡ (if k == i && l == j then v else number_at t k l)
   number-with_value v inside =
@@ -67,8 +67,9 @@ module _ (t : Table ℕ) (i j : ℕ) where
       (λ k l other. ap (λ o. unwrap_or o 0) (columns_unchanged t i j k l v other))
       (λ k l other. ap (λ o. unwrap_or o 0) (rows_unchanged t i j k l v other))
 
-  -- Suppose that `v` is 0. If the entry at row `i` and column `j` of the table `t` is removed, then
-  -- the number at this place is `v`, and all other numbers are unchanged.
+  -- If the entry at row `i` and column `j` of the table `t` is removed, then the number at this
+  -- place is 0, and all other numbers are unchanged. In the statement, the variable `v` stands for
+  -- this 0.
   pub number-without_value : (v : ℕ) → v ≡ 0 → (k l : ℕ)
       → number_at (without_value t i j) k l ≡ (if k == i && l == j then v else number_at t k l)
   number-without_value v zero =
@@ -77,14 +78,15 @@ module _ (t : Table ℕ) (i j : ℕ) where
       (λ k l other. ap (λ o. unwrap_or o 0) (columns_left t i j k l other))
       (λ k l other. ap (λ o. unwrap_or o 0) (rows_left t i j k l other))
 
--- If `x < n` and `y < n`, then `(if b then x else y) < n`.
+-- If both `x` and `y` are less than `n`, then `if b then x else y` is less than `n`, whatever the
+-- boolean `b` is.
 either_below : (b : Bool) (x y n : ℕ) → x < n → y < n → (if b then x else y) < n
 either_below true x y n first second = first
 either_below false x y n first second = second
 
--- Suppose that the table `u` has the same numbers as the table `t`, except that its number at row
--- `i` and column `j` is `v`. If `v` and all numbers of `t` are less than `2 ^ 64`, then so are all
--- numbers of `u`.
+-- Suppose that the table `u` contains the number `v` at row `i` and column `j`, and the same
+-- numbers as the table `t` everywhere else. If `v` and all numbers of `t` are less than `2 ^ 64`,
+-- then all numbers of `u` are less than `2 ^ 64`, too.
 pub still_small : (t u : Table ℕ) (i j v : ℕ) → v < 2 ^ 64
     → ((k l : ℕ) → number_at t k l < 2 ^ 64)
     → ((k l : ℕ) → number_at u k l ≡ (if k == i && l == j then v else number_at t k l))
@@ -92,9 +94,10 @@ pub still_small : (t u : Table ℕ) (i j v : ℕ) → v < 2 ^ 64
 still_small t u i j v fits small told k l =
     rw (told k l) (either_below (k == i && l == j) v (number_at t k l) (2 ^ 64) fits (small k l))
 
--- Suppose that a call either writes `v` at row `i` and column `j` of the table `t`, or fails and
--- changes nothing. Suppose also that `t` has a row `i`, and that `u` is the table after the call.
--- If `v` and all numbers of `t` are less than `2 ^ 64`, then so are all numbers of `u`.
+-- Suppose that a call with the result `result` turns the table `t`, which has a row `i`, into the
+-- table `u`. If the call succeeds, it writes `v` at row `i` and column `j`. If it fails, it changes
+-- nothing. If `v` and all numbers of `t` are less than `2 ^ 64`, then, in both cases, all numbers
+-- of `u` are less than `2 ^ 64`, too.
 pub small_if_written : {X E : Type 0} (result : Result X E) (t u : Table ℕ) (i j v : ℕ)
     → i < length t → v < 2 ^ 64 → ((k l : ℕ) → number_at t k l < 2 ^ 64)
     → OnOk result (u ≡ with_value t i j v) → OnErr result (u ≡ t)

@@ -1,5 +1,5 @@
 -- A sum over the entries of a sparse row equals the sum over all columns, because a column without
--- an entry adds 0.
+-- an entry contributes 0 to the sum.
 use Rattle.std.proofs.Common.{◌≡◌, ◌≢◌, ℕ, zero, suc, ◌+◌, ◌*◌, ◌<◌, Bool, true, false, cond, ◌&&◌, T, List, [], ◌∷◌, Some, None, inl, inr, Ordering, Less, Equal, Greater, is_eq, is_lt, length, map, sum, sum_by, nat_cmp, ap, arith, refl, sym, ◌∙◌}
 use Rattle.std.specs.Cmp.{nat_cmp_total, tied_itself}
 use Rattle.std.specs.FinMap as columns
@@ -68,7 +68,7 @@ module _ (f : ℕ → ℕ) where
 
   -- Suppose that the columns of the entries are strictly increasing and less than `n`. Then the sum
   -- of `x * f c` over all entries `(c, x)` equals the sum of `term entries j` over all columns `j`
-  -- less than `n`, where a column without an entry adds 0.
+  -- less than `n`. For a column `j` without an entry, `term entries j` is 0.
   entries_sum : (entries : List (ℕ × ℕ)) (n : ℕ) → T (is_sorted nat_cmp entries)
       → ((k : ℕ) → k < length entries → (slice_index_or entries k (0, 0)).0 < n)
       → sum_by (λ e. e.1 * f e.0) entries ≡ sum_below n (term entries)
@@ -97,9 +97,10 @@ module _ (f : ℕ → ℕ) where
           ∙ (let nothing : term entries e.0 ≡ 0 * f e.0 = ap (λ o. unwrap_or o 0 * f e.0) none in
           omega (arith, nothing))
 
--- Suppose that all entries of `row` are in columns less than `n`. If the number in each column `j`
--- is multiplied by `f j`, then the sum of the products for the columns that have an entry equals
--- the sum of the products for all columns less than `n`.
+-- Suppose that `entries` is the list of the entries of `row`, and that all of them are in columns
+-- less than `n`. Then the sum of `x * f c` over all entries `(c, x)` equals a sum over all columns
+-- `j` less than `n`. In this second sum, `f j` is multiplied by the number in column `j`, or by 0
+-- if column `j` has no entry.
 pub row_sum : (f : ℕ → ℕ) (row : Columns ℕ) (n : ℕ) (entries : List (ℕ × ℕ))
     → entries ≡ columns.entries row
     → ((k : ℕ) → k < length entries → (slice_index_or entries k (0, 0)).0 < n)

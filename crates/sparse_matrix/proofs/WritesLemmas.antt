@@ -12,9 +12,10 @@ use Rattle.thin_rows.proofs.TableLemmas.{in_order, is_listed, listed}
 never : {P : Type 0} {x : ℕ} → None ≡ Some x → P
 never e = cc
 
--- In this module, a loop writes the entries of `row` into a matrix. Before the loop, the matrix
--- contains the number `old j` at the place where an entry of column `j` is written. If the number
--- `v` is written at a place with the number `u`, then the new number at this place is `write u v`.
+-- In this module, a loop writes the entries of `row` into a matrix. For each column `j`, the matrix
+-- has one place to which an entry of this column is written. Before the loop, this place contains
+-- the number `old j`. If a place contains the number `u`, and the number `v` is written there, then
+-- the place contains the number `write u v` afterward.
 module _ (write : ℕ → ℕ → ℕ) (row : Columns ℕ) (old : ℕ → ℕ) where
   abbrev column : ℕ → ℕ
   column k = (slice_index_or (columns.entries row) k (0, 0)).0
@@ -22,8 +23,8 @@ module _ (write : ℕ → ℕ → ℕ) (row : Columns ℕ) (old : ℕ → ℕ) w
   abbrev number : ℕ → ℕ
   number k = (slice_index_or (columns.entries row) k (0, 0)).1
 
-  -- `IsWritten n now` holds if, after the first `n` entries of the row have been written, the
-  -- number at each column `j` is `now j`.
+  -- `IsWritten n now` holds if, for each column `j`, `now j` is the number at column `j` after the
+  -- first `n` entries of the row have been written.
   pub record IsWritten (n : ℕ) (now : ℕ → ℕ) : Type 0 where
     pub done : (k : ℕ) → k < n → now (column k) ≡ write (old (column k)) (number k)
     pub left : (j : ℕ) → ((k : ℕ) → k < n → column k ≢ j) → now j ≡ old j
@@ -32,9 +33,10 @@ module _ (write : ℕ → ℕ → ℕ) (row : Columns ℕ) (old : ℕ → ℕ) w
   pub none_written : IsWritten 0 old
   none_written = record { done = λ k less. absurd (omega arith); left = λ j none. refl }
 
-  -- Suppose that `IsWritten n now` holds, and that writing the entry at index `n` turns `now` into
-  -- `next` and changes only the number at the column of this entry. Then `IsWritten (n + 1) next`
-  -- holds.
+  -- Suppose that `IsWritten n now` holds: for each column `j`, `now j` is the number at column `j`
+  -- after the first `n` entries have been written. Writing the entry at index `n` changes only the
+  -- number at the column of this entry. If `next j` is the number at each column `j` after this
+  -- write, then `IsWritten (n + 1) next` holds.
   pub one_more : (n : ℕ) (now next : ℕ → ℕ) → n < length (columns.entries row) → IsWritten n now
       → next (column n) ≡ write (now (column n)) (number n)
       → ((j : ℕ) → j ≢ column n → next j ≡ now j) → IsWritten (n + 1) next
@@ -52,10 +54,11 @@ module _ (write : ℕ → ℕ → ℕ) (row : Columns ℕ) (old : ℕ → ℕ) w
         ∙ h.left j (λ k less. none k (omega (arith, less)));
   }
 
-  -- Suppose that `entries` is the list of the entries of `row`, and that `IsWritten n now` holds.
-  -- If writing the entry at index `n` turns `now` into `next` and changes only the number at the
-  -- column of this entry, then `IsWritten (n + 1) next` holds. The lemma `one_more` states the same
-  -- without the variable `entries`.
+  -- This lemma restates the lemma `one_more` with a variable `entries` for the list of the entries
+  -- of `row`. Suppose that `IsWritten n now` holds: for each column `j`, `now j` is the number at
+  -- column `j` after the first `n` entries have been written. Writing the entry at index `n`
+  -- changes only the number at the column of this entry. If `next j` is the number at each column
+  -- `j` after this write, then `IsWritten (n + 1) next` holds.
   pub next_written : (entries : List (ℕ × ℕ)) → entries ≡ columns.entries row → (n : ℕ)
       (now next : ℕ → ℕ) → n < length entries → IsWritten n now
       → next (slice_index_or entries n (0, 0)).0
@@ -64,9 +67,10 @@ module _ (write : ℕ → ℕ → ℕ) (row : Columns ℕ) (old : ℕ → ℕ) w
       → IsWritten (n + 1) next
   next_written entries is = rw is one_more
 
-  -- Suppose that all entries of the row have been written, and that `write (old j) 0` is `old j`.
-  -- Let `v` be the number of the row at column `j`, or 0 if the row has no entry there. Then the
-  -- number at column `j` of the matrix is now `write (old j) v`.
+  -- Suppose that all `n` entries of the row have been written, and that `now j` is the number at
+  -- each column `j` after this. Suppose also that writing 0 at column `j` would change nothing:
+  -- `write (old j) 0` is `old j`. Then `now j` is `write (old j) v`, where `v` is the number of the
+  -- row in column `j`, or 0 if the row has no entry in this column.
   pub all_written : (n : ℕ) (now : ℕ → ℕ) → n ≡ length (columns.entries row) → IsWritten n now
       → (j : ℕ) → write (old j) 0 ≡ old j
       → now j ≡ write (old j) (unwrap_or (columns.get row j) 0)

@@ -126,8 +126,8 @@ impl<A: Allocator> Matrix<A> {
         Ok(())
     }
 
-    // Adds the numbers in a row of `other` to the numbers in the same row of this matrix. If the
-    // call fails, some of the numbers may have been added.
+    // Adds the numbers in row `row` of `other` to the numbers in the same row of this matrix. If
+    // the call fails, some of the numbers may already have been added.
     fn add_row(&mut self, row: usize, other: &Matrix<A>) -> Result<(), ThinVecError>
         requires row_in_bounds { row < length self.old.numbers }
         requires other_row_in_bounds { row < length other.now.numbers }
@@ -146,8 +146,8 @@ impl<A: Allocator> Matrix<A> {
     }
 
     // Writes the numbers in row `column` of `other` to column `column` of this matrix. Before the
-    // call, all numbers in this column must be 0. If the call fails, some of the numbers may have
-    // been written.
+    // call, all numbers in this column must be 0. If the call fails, some of the numbers may
+    // already have been written.
     fn set_column(&mut self, column: usize, other: &Matrix<A>) -> Result<(), ThinVecError>
         requires column_in_bounds { column < self.old.columns }
         requires row_in_bounds { column < length other.now.numbers }

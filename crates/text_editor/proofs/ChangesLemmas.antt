@@ -7,9 +7,8 @@ use Rattle.std.specs.List.{replace_range}
 use Rattle.text_editor.specs.Changes.{AllFit, FitAlong, Fits, changed, texts_along, texts_of}
 use Rattle.text_editor.specs.declared.change.Change.{Change}
 
--- The next lemmas are about one change, `change`. It turns the text `text` into the text `new`. The
--- range of the change is within `text`, and `n` is the number of characters that the change
--- inserts.
+-- The next lemmas are about a change `change`, which turns the text `text` into the text `new`. The
+-- range of the change is within `text`, and the change inserts `n` characters.
 module _ (change : Change) (n : ℕ) (text new : List ℕ) (fits : Fits change text)
     (count : n ≡ length change.characters.items) (made : new ≡ changed change text) where
   -- The change begins at index `change.start`, which is at most the length of `text`. So the part
@@ -30,8 +29,8 @@ module _ (change : Change) (n : ℕ) (text new : List ℕ) (fits : Fits change t
         length-append front change.characters.items,
       )
 
-  -- Suppose that `old` consists of the characters that the change removed from `text`. Then
-  -- replacing the inserted characters with `old` turns `new` back into `text`.
+  -- Suppose that `old` consists of the characters that the change removed from `text`. If the
+  -- inserted characters in `new` are replaced with `old`, then the result is `text` again.
   pub takes_back : (old : List ℕ) → old ≡ slice_range text change.start change.end
       → text ≡ replace_range new change.start (change.start + n) old
   takes_back old is =
@@ -61,8 +60,8 @@ module _ (changes rest : List Change) (change : Change) (text after : List ℕ)
   turned = ap (λ (cs : List Change). reverse cs) is ∙ reverse-append rest (change ∷ [])
 
   -- `texts_of` applies the last change in the list `changes` first. This change turns `text` into
-  -- `after`, so `after` is the first resulting text. The other changes are `rest`, so the further
-  -- resulting texts are `texts_of rest after`.
+  -- `after`, so `after` is the first resulting text. The other changes, which are the list `rest`,
+  -- then result in the texts `texts_of rest after`.
   pub texts_of-last : texts_of changes text ≡ after ∷ texts_of rest after
   texts_of-last =
       ap (λ (cs : List Change). texts_along cs text) turned

@@ -1,4 +1,5 @@
--- These definitions say which texts a list of changes produces, and when changes fit a text.
+-- These definitions say which texts result from a list of changes, and when the changes of a list
+-- fit a text. A change fits a text if the range of the change is within the text.
 use Rattle.std.specs.Prelude.{ℕ, ◌≤◌, List, [], ◌∷◌, length, reverse}
 use Rattle.std.specs.List.{replace_range}
 use Rattle.text_editor.specs.declared.change.Change.{Change}
@@ -26,9 +27,9 @@ abbrev pub FitAlong : List Change → List ℕ → Type 0
 FitAlong [] text = Unit {0}
 FitAlong (change ∷ changes) text = Fits change text × FitAlong changes (changed change text)
 
--- `texts_of changes text` applies `changes` to `text` one after another, from the last change in
--- the list to the first. It contains the resulting text after each change, in the order in which
--- the changes are applied.
+-- Suppose that `changes` are applied to `text` one after another, from the last change in the list
+-- to the first. `texts_of changes text` is the list of the texts after each change, in the order in
+-- which the changes are applied.
 abbrev pub texts_of : List Change → List ℕ → List (List ℕ)
 texts_of changes text = texts_along (reverse changes) text
 

@@ -1,8 +1,8 @@
--- These lemmas are for proofs about function bodies. Some of them symbolically execute code that
--- computes the address of a slot. The others separate the memory of one or two slots from the
--- memory of the other slots. All of them assume the laws of the separation logic (`Logic`).
+-- These lemmas are steps of proofs about function bodies. Some steps symbolically execute code that
+-- computes the address of a slot. The other steps separate the memory of one or two slots from the
+-- memory of the other slots. All lemmas assume the laws of the separation logic (`Logic`).
 --
--- - `its_ptr` reads the pointer of the block.
+-- - `its_ptr` evaluates an operand that reads the pointer of a block.
 -- - `slot_found` executes the statements that compute `(p.add(HEADER_WORDS) as *mut T).add(i)`.
 -- - `moves_on` executes the statements that compute `p.add(i)`.
 -- - `takes_slot` separates one slot from the other slots.
@@ -40,8 +40,9 @@ near E xs i fits le = let low = reach (R E) i (length xs) fits le in omega arith
 
 module _ (E : El) (Y : Al) {M : Type 1} {𝓤 : Ura M} {𝓛 : Logic 𝓤} {K : Type 0}
     {Γ : List (Item 𝓤)} {h s : Item 𝓤} where
-  -- Evaluates an operand that reads the pointer of a block. The operand accesses the block through
-  -- a reference.
+  -- Symbolically evaluates an operand that reads the pointer of a block through a reference. The
+  -- local variable `p` holds the reference. The value of the operand is the pointer to the offset
+  -- `o` of the allocation `b`.
   pub its_ptr : K → {Ev : Env 𝓤 𝓛.H} {p b o rb ro : ℕ} {q : Share}
       → at 𝓛 p (h ∷ s ∷ ‵
       (cell_at full_share (Br E Y).mir (block_val (block_ptr b o) ∷ []) rb ro) ∷ Γ)
@@ -70,13 +71,14 @@ module _ {M : Type 1} {𝓤 : Ura M} (𝓛 : Logic 𝓤) (Ev : Env 𝓤 𝓛.H) 
   Takes p v = T (has_ty (spot_of 𝓤 H Ev p).0 v)
 
   module _ (Γ : List (Item 𝓤)) (E : El) (b o i p₃ p₄ : ℕ) where
-    -- `far` is the proof context `Γ` after the product of `i` and the item size has been stored in
-    -- the local variable `p₃`.
+    -- The computation of `p.add(i)` first stores the product of `i` and the item size in the local
+    -- variable `p₃`. `far` is the proof context `Γ` after this statement.
     abbrev far : List (Item 𝓤)
     far = set 𝓛 p₃ (holds p₃ (vint w64 (i * sz E))) Γ
 
-    -- `gone` is the proof context `Γ` after `p.add(i)` has been computed. The local variable `p₃`
-    -- then holds the product of `i` and the item size, and `p₄` holds the address of item `i`.
+    -- `gone` is the proof context `Γ` after `p.add(i)` has been computed. In `gone`, the local
+    -- variable `p₃` holds the product of `i` and the item size, and the local variable `p₄` holds
+    -- the address of item `i`.
     abbrev pub gone : List (Item 𝓤)
     gone = set 𝓛 p₄ (holds p₄ (vptr b (i * sz E + o))) far
 
@@ -88,20 +90,22 @@ module _ {M : Type 1} {𝓤 : Ura M} (𝓛 : Logic 𝓤) (Ev : Env 𝓤 𝓛.H) 
     goes_by p pᵢ = at 𝓛 pᵢ Γ ∷ at 𝓛 p₃ Γ ∷ at 𝓛 p far ∷ at 𝓛 p₃ far ∷ at 𝓛 p₄ far ∷ []
 
     -- `goes_with p pᵢ` lists the entries of the proof context that the computation of `p.add(i)`
-    -- needs. They state which values the local variables hold, and to which variables the code may
-    -- assign a value. The lemma `moves_on` requires that `goes_by p pᵢ` equals this list.
+    -- needs. They state which values the local variables hold, and to which local variables the
+    -- code may assign a value. The lemma `moves_on` requires that the entries in `goes_by p pᵢ`,
+    -- which the proof context contains, are these entries.
     abbrev pub goes_with : ℕ → ℕ → List (Item 𝓤)
     goes_with p pᵢ = holds pᵢ (vint w64 i) ∷ free p₃ Γ ∷ holds p (vptr b o)
         ∷ holds p₃ (vint w64 (i * sz E)) ∷ free p₄ far ∷ []
 
   module _ (Γ : List (Item 𝓤)) (E : El) (b o i p₁ p₂ : ℕ) where
-    -- `first` is the proof context `Γ` after the address of the first slot has been stored in the
-    -- local variable `p₁`.
+    -- Four statements compute the address of a slot. The first statement stores the address of the
+    -- first slot in the local variable `p₁`. `first` is the proof context `Γ` after this statement.
     abbrev first : List (Item 𝓤)
     first = set 𝓛 p₁ (holds p₁ (vptr b (o + 16))) Γ
 
-    -- `turned` is the proof context `Γ` after the address of the first slot has been stored in the
-    -- local variables `p₁` and `p₂`.
+    -- Four statements compute the address of a slot. The first two statements store the address of
+    -- the first slot in the local variables `p₁` and `p₂`. `turned` is the proof context `Γ` after
+    -- these two statements.
     abbrev pub turned : List (Item 𝓤)
     turned = set 𝓛 p₂ (holds p₂ (vptr b (o + 16))) first
 
@@ -115,8 +119,9 @@ module _ {M : Type 1} {𝓤 : Ura M} (𝓛 : Logic 𝓤) (Ev : Env 𝓤 𝓛.H) 
 
     -- Four statements compute the address of a slot. `needs p₃ p₄ p pᵢ` lists the entries of the
     -- proof context that these statements need. The entries state which values the local variables
-    -- hold, and to which variables the code may assign a value. The lemma `slot_found` requires
-    -- that `meets p₃ p₄ p pᵢ` equals this list.
+    -- hold, and to which local variables the code may assign a value. The lemma `slot_found`
+    -- requires that the entries in `meets p₃ p₄ p pᵢ`, which the proof context contains, are these
+    -- entries.
     abbrev pub needs : ℕ → ℕ → ℕ → ℕ → List (Item 𝓤)
     needs p₃ p₄ p pᵢ = holds p (vptr b o) ∷ free p₁ Γ ∷ holds p₁ (vptr b (o + 16)) ∷ free p₂ first
         ∷ goes_with turned E b (o + 16) i p₃ p₄ p₂ pᵢ
@@ -185,8 +190,8 @@ module _ (E : El) {M : Type 1} {𝓤 : Ura M} {𝓛 : Logic 𝓤} {K : Type 0} {
       rewrite k 0 (λ (x : Slot E). ‵ (slot_place (R E) x b (i * sz E + o))) e refl $ rest)
 
 module _ (E : El) {M : Type 1} (𝓤 : Ura M) where
-  -- `Bits b o v` says that the memory at the offset `o` of the allocation `b` holds the machine
-  -- value `v` of an item.
+  -- `Bits b o v` says that the memory at the offset `o` of the allocation `b` holds `v`, which is
+  -- the machine value of an item.
   abbrev Bits : ℕ → ℕ → Val → Item 𝓤
   Bits b o v = ‵ (fat full_share (elτ E) b o v)
 

@@ -6,14 +6,14 @@ use Rattle.std.specs.Prelude.{Option}
 use Rattle.thin_block.specs.Block.{Seen}
 
 module _ {T A : Type 0} where
-  -- If the records `v` and `w` are equal, and `s` is the list of slots of `w`, then `v` equals the
-  -- record `w` with its field `slots` set to `s`.
+  -- Suppose that the records `v` and `w` are equal, and that the field `slots` of `w` is the list
+  -- `s`. Then `v` equals the record `w` with its field `slots` set to `s`.
   pub slots-are : {v w : Seen T A} {s : List (Option T)} → v ≡ w → w.slots ≡ s
       → v ≡ record w { slots = s }
   slots-are {w = w} e h = e ∙ ap (λ (s : List (Option T)). record w { slots = s }) h
 
-  -- If `w` is the record `v` with its field `len` set to `n`, and `v` equals `u`, then `w` is the
-  -- record `u` with its field `len` set to `n`.
+  -- Suppose that the records `v` and `u` are equal. If `w` is the record `v` with its field `len`
+  -- set to `n`, then `w` is also the record `u` with its field `len` set to `n`.
   pub then-len : {u v w : Seen T A} {n : ℕ} → w ≡ record v { len = n } → v ≡ u
       → w ≡ record u { len = n }
   then-len {n = n} e h = e ∙ ap (λ (v : Seen T A). record v { len = n }) h

@@ -15,20 +15,24 @@ use Rattle.thin_block.specs.Capacity.{fits, first, Fits}
 use Rattle.thin_block.specs.Growth.{Rule, KeepsLaw, doubling, exact_capacity, fitting, ruled_capacity}
 use Rattle.thin_block.proofs.SizesLemmas.{opened, closed, fits_none, fits_tells, fits_yes, rounded}
 
--- If the capacity `c` suffices for `w` items, then `ruled_capacity rule R c w` is `Some c`.
+-- `ruled_capacity rule R c w` is the capacity of a block after it has reserved room for `w` items
+-- under the growth rule `rule`. If the old capacity `c` suffices for `w` items, then the capacity
+-- does not change: the result is `Some c`.
 pub ruled-same : (rule : Rule) (R : RattleType) (c w : ℕ) → w ≤ c
     → ruled_capacity rule R c w ≡ Some c
 unfolding ruled_capacity
 ruled-same rule R c w enough = rw (le-leb w c enough) refl
 
--- If `c < w` and `w` exceeds `usize::MAX`, then `ruled_capacity rule R c w` is `None`.
+-- Suppose that the old capacity `c` is less than the required capacity `w`. If `w` exceeds
+-- `usize::MAX`, then `ruled_capacity rule R c w` is `None`: there is no new capacity.
 pub ruled-overflow : (rule : Rule) (R : RattleType) (c w : ℕ) → c < w → 2 ^ 64 ≤ w
     → ruled_capacity rule R c w ≡ None
 unfolding ruled_capacity
 ruled-overflow rule R c w more high = rw (lt-leb w c more) (rw (le-ltb w (2 ^ 64) high) refl)
 
--- If `c < w` and `w` fits into a `usize`, then `ruled_capacity rule R c w` is the result of the
--- growth rule `rule`.
+-- Suppose that the old capacity `c` is less than the required capacity `w`. If `w` fits into a
+-- `usize`, then `ruled_capacity rule R c w` is the result of the growth rule `rule` for `c` and
+-- `w`.
 pub ruled-rule : (rule : Rule) (R : RattleType) (c w : ℕ) → c < w → w < 2 ^ 64
     → ruled_capacity rule R c w ≡ rule (type_size R) (type_align R) c w
 unfolding ruled_capacity
@@ -99,9 +103,9 @@ small_fits R c few small =
     let about = rounded R 0 in
     closed R c (fits_yes R c (omega arith) (omega (arith, about.most)))
 
--- Suppose that the old capacity is 0, and that a block needs room for at least 1 and at most 4
--- items. If each item takes less than `2 ^ 31` bytes, then the rule `doubling` chooses the capacity
--- 4.
+-- Suppose that a block with the capacity `c` needs room for `w` items, and that each item takes
+-- less than `2 ^ 31` bytes. If `c` is 0, and `w` is at least 1 and at most 4, then the rule
+-- `doubling` chooses the capacity 4.
 pub doubling_first : (R : RattleType) (c w : ℕ) → c ≡ 0 → 0 < w → w ≤ 4 → type_size R < 2 ^ 31
     → ruled_capacity doubling R c w ≡ Some 4
 unfolding doubling fitting first
@@ -126,13 +130,16 @@ doubling_next R c w some more enough few small =
     subst (Fits R) (sym twice) (small_fits R (2 * c) (omega arith) small) in
     ruled-rule doubling R c w more (omega arith) ∙ (rw fit (ap Some twice))
 
--- If the capacity `c` suffices for `w` items, then `exact_capacity R c w` is `Some c`.
+-- `exact_capacity R c w` is the capacity of a block after it has reserved room for exactly `w`
+-- items of type `R`. If the old capacity `c` suffices for `w` items, then the capacity does not
+-- change: the result is `Some c`.
 pub exact-same : (R : RattleType) (c w : ℕ) → w ≤ c → exact_capacity R c w ≡ Some c
 unfolding exact_capacity
 exact-same R c w enough = rw (le-leb w c enough) refl
 
--- If `c < w` and a block of capacity `w` is small enough to be allocated, then
--- `exact_capacity R c w` is `Some w`.
+-- Suppose that the old capacity `c` is less than the required capacity `w`. If a block of capacity
+-- `w` is small enough to be allocated, then `exact_capacity R c w` is `Some w`: the new capacity is
+-- exactly `w`.
 pub exact-fits : (R : RattleType) (c w : ℕ) → c < w → Fits R w → exact_capacity R c w ≡ Some w
 unfolding exact_capacity fitting
 exact-fits R c w more fit = rw (lt-leb w c more, fit) refl
@@ -148,24 +155,27 @@ pub fitting_none : (R : RattleType) (n : ℕ) → (Fits R n → ⊥)
 unfolding fitting
 fitting_none R n never = no_answer (fits (type_size R) (type_align R) n) n never
 
--- If `c < w` and a block of capacity `w` is too large to be allocated, then `exact_capacity R c w`
--- is `None`.
+-- Suppose that the old capacity `c` is less than the required capacity `w`. If a block of capacity
+-- `w` is too large to be allocated, then `exact_capacity R c w` is `None`: there is no new
+-- capacity.
 pub exact-overflow : (R : RattleType) (c w : ℕ) → c < w → (Fits R w → ⊥)
     → exact_capacity R c w ≡ None
 unfolding exact_capacity
 exact-overflow R c w more never = rw (lt-leb w c more) (fitting_none R w never)
 
--- If a block of capacity `w` is too large to be allocated, then `exact_capacity R 0 w` is `None`.
+-- Suppose that the old capacity is 0. If a block of capacity `w` is too large to be allocated, then
+-- `exact_capacity R 0 w` is `None`: there is no new capacity.
 pub exact-none : (R : RattleType) (w : ℕ) → (Fits R w → ⊥) → exact_capacity R 0 w ≡ None
 exact-none R zero never = absurd (never (fits-none R))
 exact-none R (suc w) never = exact-overflow R 0 (suc w) (omega arith) never
 
--- If `c < w` and `w` exceeds `usize::MAX`, then `exact_capacity R c w` is `None`.
+-- Suppose that the old capacity `c` is less than the required capacity `w`. If `w` exceeds
+-- `usize::MAX`, then `exact_capacity R c w` is `None`: there is no new capacity.
 pub exact-past : (R : RattleType) (c w : ℕ) → c < w → 2 ^ 64 ≤ w → exact_capacity R c w ≡ None
 exact-past R c w more high =
     exact-overflow R c w more (λ fit. let small = fits-small R w fit in absurd (omega arith))
 
--- These two lemmas assume that the item types `R` and `S` have the same size and the same
+-- The next two lemmas assume that the item types `R` and `S` have the same size and the same
 -- alignment.
 module _ (R S : RattleType) (c w : ℕ) (size : type_size R ≡ type_size S)
     (align : type_align R ≡ type_align S) where

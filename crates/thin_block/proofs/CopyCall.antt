@@ -56,8 +56,9 @@ module _ (E : El) (g : Ghosts (el_x E)) (d : Dict) {M : Type 1} {𝓤 : Ura M} (
     Slice = (ShrSlice (named 0) κ₀ (copied 0 E.row)).own_val s (shr_slice_vals s)
 
     -- A call of the function `copied` copies the items of a slice into a value `r` of the type
-    -- `Slots`. `IsCopy z` holds if `z` is a possible value of `r` after the call: `z` has the same
-    -- slots in memory as `r`, all these slots are filled, and they hold the items of the slice.
+    -- `Slots`. `IsCopy z` states what is known about the new value `z` after the call: `z` has the
+    -- same slots in memory as `r`, all these slots are filled, and they hold the items of the
+    -- slice.
     pub record IsCopy (z : (Row E).Denot) : Type 0 where
       pub same : SamePlaces r z
       pub items : slots_items z ≡ s.now

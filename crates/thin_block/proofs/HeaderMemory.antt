@@ -58,8 +58,8 @@ plainly Rs = Struct (record { name = []; args = []; types = []; fields = Rs })
 abbrev pub block_val : Ptr → Val
 block_val p = vstruct (vcons (ptr_val p) (vcons (vstruct vnil) (vcons (vstruct vnil) vnil)))
 
--- `block_own p vs` states what the fields of a block own. Here, `p` is the pointer of the block,
--- and `vs` is the list of the machine values that represent the block.
+-- Suppose that `p` is the pointer of a block, and that `vs` is the list of the machine values that
+-- represent the block. `block_own p vs` states what the fields of this block own.
 abbrev pub block_own : Ptr → List Val → Fml
 block_own p = (plainly (RawPtr ∷ plainly [] ∷ plainly [] ∷ [])).own_val (p, (tt, (tt, tt)))
 
@@ -78,9 +78,9 @@ block_own_made 𝓛 p =
       (refl, (refl, ((tt, (refl, tt)), ((tt, (refl, tt)), tt)))),
     )
 
--- The following lemmas are about the layout of a block in memory. The first lemma states: if `P`
--- holds for the number of bytes of every width `w`, then `P` holds for the alignment of every type
--- `τ`.
+-- The following lemmas are about the layout of a block in memory. A width `w` is 8, 16, 32, 64 or
+-- 128 bits. The alignment of every type is `bytes w` for some width `w`. So if `P` holds for `bytes
+-- w` for every width `w`, then `P` holds for the alignment of every type `τ`.
 by_width : (P : ℕ → Type 0) → ((w : Width) → P (bytes w)) → (τ : Ty) → P (align τ)
 by_width P each τ = subst P (sym (align-bytes τ)) (each (align_w τ))
 
@@ -168,7 +168,8 @@ header t R n c None b o = fsep (lent_at usize (block_ptr b o) 0 [])
     (lent_at usize (block_ptr b (o + 8)) 0 [])
 header t R n c (Some a) b o = frame (t a) R n c b o
 
--- If a block has at least one slot, then it has an allocator.
+-- Suppose that the option `a` contains the allocator of a block if and only if the list `xs` of the
+-- block's slots is not empty. If `xs` is not empty, then `a` contains an allocator.
 pub alloc_there : {D X : Type 0} (a : Option D) (xs : List X) → is_some a ≡ any xs → 0 < length xs
     → (h : D) × (a ≡ Some h)
 alloc_there (Some h) xs is some = (h, refl)
@@ -200,8 +201,9 @@ module _ {D : Type 0} (t : D → Ty → Ptr → Fml) (R : RattleType) {M : Type 
 
 module _ {D : Type 0} (t : D → Ty → Ptr → Fml) (R : RattleType) {M : Type 1} {𝓤 : Ura M}
     {𝓛 : Logic 𝓤} {K : Type 0} {Γ : List (Item 𝓤)} {G : Goal 𝓤 𝓛.H} where
-  -- Proves that a block is small enough to be allocated. This fact follows from the header of the
-  -- block. The rest of the proof may use this fact.
+  -- Proves that a block is small enough to be allocated, and passes this fact to the rest of the
+  -- proof. The fact follows from the header of the block, which is the first entry of the proof
+  -- context.
   pub header_fits : K → (n : ℕ) (xs : List (Option R.Denot)) (a : Option D)
       (b o : ℕ) → is_some a ≡ any xs
       → (fits_block R (length xs) ≡ true → Seq K 𝓛 (‵ (header t R n (length xs) a b o) ∷ Γ) G)
@@ -233,7 +235,7 @@ module _ (E : El) (Y : Al) where
   abbrev pub Header : Br.Denot → ℕ → ℕ → Fml
   Header x b o = header t (R E) x.len (length x.slots) x.alloc b o
 
-  -- `Slots x b o` is the memory of the block's slots. The block is `x`, and its header begins at
+  -- `Slots x b o` is the memory of the slots of the block `x`. The header of this block begins at
   -- the offset `o` of the allocation `b`.
   abbrev pub Slots : Br.Denot → ℕ → ℕ → Fml
   Slots x b o = places (R E) x.slots b (o + 16)

@@ -1,6 +1,6 @@
--- These lemmas begin and end the proof of a method that takes `&mut self` or `&self`. The lemmas
--- assume the laws of the separation logic (`Logic`). At the end of such a proof, the proof chooses
--- which arguments the method gives back to the caller.
+-- These lemmas begin and end the proofs of methods that take `&mut self` or `&self`. The lemmas
+-- assume the laws of the separation logic (`Logic`). Each proof chooses which arguments the method
+-- gives back to its caller when it returns.
 --
 -- - `dropped` is the choice to give back no argument. The lemma `all_go` allows this choice.
 -- - `heard_all` splits a `requires` clause that consists of several facts.
@@ -57,10 +57,10 @@ others [] = []
 others (s ∷ ss) = ss
 
 module _ {n : ℕ} where
-  -- A proof about a function chooses which arguments the function gives back to its caller on
-  -- return. `dropped ss ks` is the choice to give back no argument for the parameters `ss`. For
-  -- each lifetime in the type of a parameter, `ks` says whether the contract mentions the final
-  -- values of the references with this lifetime.
+  -- The proof of a function chooses which arguments the function gives back to its caller when it
+  -- returns. `dropped ss ks` is the choice to give back none of the arguments for the parameters
+  -- `ss`. For each lifetime in the type of a parameter, `ks` says whether the contract mentions the
+  -- final values of the references with this lifetime.
   abbrev pub dropped : (ss : List (Slot n)) (ks : Kepts ss) → Stays ss ks
   dropped [] ks = tt
   dropped (s ∷ ss) ks = (stay_dropped s ks.0, dropped ss ks.1)
@@ -72,8 +72,8 @@ module _ {M : Type 1} {𝓤 : Ura M} (𝓛 : Logic 𝓤) {n : ℕ} where
   AllSilent [] ks = Unit {1}
   AllSilent (s ∷ ss) ks = Silent 𝓛 n s ks.0 × AllSilent ss ks.1
 
-  -- If the contract does not say which values the arguments have after the call, then the function
-  -- need not give the arguments back to its caller.
+  -- Suppose that the contract of a function does not say which values the arguments have after the
+  -- call (`AllSilent`). Then the function need not give the arguments back to its caller.
   pub all_go : (ss : List (Slot n)) (ks : Kepts ss) → AllSilent ss ks
       → AllGo 𝓛 n ss ks (dropped ss ks)
   all_go [] ks silent = tt
@@ -133,8 +133,8 @@ module _ (E : El) (Y : Al) {n : ℕ} (ss : List (Slot (suc n))) where
   abbrev pub on_block : List (Slot (suc n))
   on_block = mut_ref_to (0 ∷ []) tt (plain (λ _. Br E Y)) ∷ ss
 
-  -- A proof about a method chooses which arguments the method gives back to its caller on return.
-  -- `block_stays ks` is the choice to give back only the `&mut Block`.
+  -- The proof of a method chooses which arguments the method gives back to its caller when it
+  -- returns. `block_stays ks` is the choice to give back only the `&mut Block`.
   abbrev pub block_stays : (ks : Kepts ss) → Stays on_block (yes, ks)
   block_stays ks = (stay_ref (0 ∷ []) tt (plain (λ _. Br E Y)), dropped ss ks)
 
@@ -164,9 +164,9 @@ module _ {n : ℕ} (s : Slot (suc n)) (ss : List (Slot (suc n))) where
   Passed Bd = (κs : Lfts (suc n)) × Shares (suc n) × Bd κs × Denots (types_at (s ∷ ss) κs)
       × Valss (types_at (s ∷ ss) κs)
 
-  -- `Entry 𝓛 x` states what a function owns at the start of a call: lifetime tokens, and what its
-  -- arguments own. Here, `x` is everything that the caller passes to the function. `Entry 𝓛 x` does
-  -- not include the `requires` clauses.
+  -- Suppose that `x` is everything that the caller passes to a function. `Entry 𝓛 x` states what
+  -- the function owns at the start of the call: the lifetime tokens, and what its arguments own.
+  -- `Entry 𝓛 x` does not include the `requires` clauses.
   abbrev Entry : {M : Type 1} {𝓤 : Ura M} (𝓛 : Logic 𝓤) {Bd : Lfts (suc n) → Type 0} → Passed Bd
       → SProp 𝓤
   Entry {𝓤 = 𝓤} 𝓛 x = sep 𝓤 (toks 𝓛 (suc n) x.0 x.1) (sem 𝓛 (owns (types_at (s ∷ ss) x.0) x.3 x.4))
@@ -218,10 +218,10 @@ module _ (E : El) (Y : Al) {M : Type 1} {𝓤 : Ura M} (𝓛 : Logic 𝓤) {n : 
   begins_with x φs next = starts x (Facts 𝓤 φs)
       (move ! (5 ∷ []) $ heard_all ! φs (λ said. next said))
 
-  -- Begins the proof of a method that takes `&mut self`, and discards the resources of the other
-  -- arguments. After this step, the proof context holds these entries, in this order: the current
-  -- value of the `&mut`; the borrow of the block; the lifetime token of this `&mut`; the other
-  -- lifetime tokens.
+  -- Begins the proof of a method that takes `&mut self` and requires the facts `φs`. The rest of
+  -- the proof may use these facts. This step discards the resources of the other arguments. After
+  -- this step, the proof context holds these entries, in this order: the current value of the
+  -- `&mut`; the borrow of the block; the lifetime token of this `&mut`; the other lifetime tokens.
   pub begins : {Bd : Lfts (suc n) → Type 0} {P : SProp 𝓤} (x : Passed lent ss Bd)
       (φs : List (Type 0))
       → (Shown φs → Sq 𝓛 (‵ (fobs x.3.0.ghost_name ((Br E Y).coded.code x.3.0.now)) ∷ ‵
@@ -249,9 +249,9 @@ module _ {M : Type 1} {𝓤 : Ura M} {𝓛 : Logic 𝓤} {K : Type 0} {Γ : List
   token_out k n κs qs = step (λ s.
       use1 𝓛 (‵ (flft κs.0 qs.0) ⊛ raw (toks 𝓛 n κs.1 qs.1)) (id⊢ 𝓤 _) $ split k $ s)
 
--- `blanks m` is what must be proved at the end of a function about `m` arguments that the function
--- does not give back to its caller. It consists of one trivially true formula for each of these
--- arguments.
+-- Suppose that a function does not give `m` of its arguments back to its caller. At the end of the
+-- proof of this function, `blanks m` must be proved about these arguments. It consists of one
+-- trivially true formula for each of them.
 abbrev pub blanks : ℕ → Fml
 blanks zero = ftrue
 blanks (suc m) = fsep ftrue (blanks m)

@@ -16,8 +16,8 @@ use Rattle.thin_block.specs.PowerLaws.{least_power_is, powers_filled, powers_of_
 use Rattle.thin_block.proofs.CapacityLemmas.{fitting_none}
 use Rattle.thin_block.proofs.SizesLemmas.{fits_tells, opened, rounded}
 
--- `size` is the item size that the code of the growth rule `PowerBytes` uses: `s`, or `usize::MAX`
--- if `s` is greater. If `size` is 0, then `s` is 0.
+-- Suppose that an item takes `s` bytes. The code of the growth rule `PowerBytes` uses the item size
+-- `size`: the lesser of `s` and `usize::MAX`. If `size` is 0, then `s` is 0.
 pub takes_none : (s size : ℕ) → size ≡ capped s → size ≡ 0 → s ≡ 0
 takes_none s size is none =
     let low : s < 2 ^ 63 = capped_small s (omega (arith, is, none)) in
@@ -32,9 +32,9 @@ capped_le s = elim (cases_lt s (2 ^ 64)) [
 takes_some : (s size : ℕ) → size ≡ capped s → 0 < size → 0 < s
 takes_some s size is some = omega (arith, is, some, capped_le s)
 
--- Suppose that an item takes at least one byte, and that `power_bytes` chooses the capacity `n`.
--- Then there is a power of two `p` such that `p` bytes have room for the header and `n` items, but
--- not for the header and `n + 1` items.
+-- Suppose that an item takes `s` bytes, that `s` is positive, and that `power_bytes` chooses the
+-- capacity `n`. Then there is a power of two `p` such that the header and `n` items fit into `p`
+-- bytes, but the header and `n + 1` items do not.
 pub each_fills : (s a c w : ℕ) (r : Option ℕ) → r ≡ power_bytes s a c w → 0 < s
     → IfSome r (FillsPower s a)
 each_fills s a c w None e some = tt
@@ -48,9 +48,9 @@ module _ (R : RattleType) (c w size : ℕ) (is : size ≡ capped (type_size R))
   abbrev a : ℕ
   a = type_align R
 
-  -- `items` is the greater of the required capacity `w` and twice the old capacity `c`, as the code
-  -- of `PowerBytes` computes it. If `2 * c` exceeds `usize::MAX`, the code uses `usize::MAX`
-  -- instead of `2 * c`.
+  -- `items` is a number of items that the code of `PowerBytes` computes: the greater of the
+  -- required capacity `w` and twice the old capacity `c`. If `2 * c` exceeds `usize::MAX`, the code
+  -- uses `usize::MAX` instead of `2 * c`.
   abbrev items : ℕ
   items = max w (min (c * 2) (2 ^ 64 - 1))
 

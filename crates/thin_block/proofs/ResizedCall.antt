@@ -91,7 +91,7 @@ module _ (E : El) (Y : Al) {M : Type 1} {𝓤 : Ura M} (𝓛 : Logic 𝓤) (at_m
         -- The previous steps have joined the arguments of the call into one entry of the proof
         -- context. The proof context now holds these entries, in this order: the arguments; one
         -- entry for the required facts and the memory of the block; the lifetime tokens of the
-        -- shared reference to the allocator, of `T` and of `A`.
+        -- shared reference to the allocator, of the item type `T` and of the allocator type `A`.
         nothing ! $ move ! (5 ∷ 0 ∷ []) $ join ! $ move ! (4 ∷ 0 ∷ []) $ join ! $
         move ! (3 ∷ 0 ∷ []) $ join ! $ join ! $ join ! $ done !
 

@@ -29,13 +29,15 @@ use Rattle.thin_block.specs.Shifts.{IsShifted}
 use Rattle.thin_block.proofs.SlotsLemmas.{empty-run, parted-run, run-split, length-run, moved_left, moved_right, moved_over, moved_back}
 use Rattle.thin_block.proofs.SlotMemory.{Slot, sz, cut, glue, around, run_out, run_in, to_items, of_items, to_room, of_room}
 
--- If `c ≡ d + a`, then slot `c` begins `d` slots after the beginning of slot `a`. Each slot takes
--- `s` bytes.
+-- Suppose that each slot takes `s` bytes, and that slot 0 begins at the offset `o`. If `c ≡ d + a`,
+-- then slot `c` begins `d * s` bytes after the beginning of slot `a`.
 pub further : (a d c s o : ℕ) → c ≡ d + a → c * s + o ≡ d * s + (a * s + o)
 further a d c s o e = let sum = add_times d a s in
     let same : c * s ≡ (d + a) * s = ap (λ (k : ℕ). k * s) e in omega arith
 
--- If `new` consists of `n` slots, then `laid i new s` is `take i s ++ (new ++ drop (i + n) s)`.
+-- `laid i new s` is the list `s` with the slots `i..i + length new` replaced with the slots `new`.
+-- If `new` consists of `n` slots, then `laid i new s` consists of three parts: the slots of `s`
+-- before index `i`, the slots `new`, and the slots of `s` from index `i + n` onward.
 laid-over : {T : Type 0} (s new : List (Option T)) (i n : ℕ) → length new ≡ n
     → laid i new s ≡ take i s ++ (new ++ drop (i + n) s)
 laid-over s new i n long = ap (λ (k : ℕ). take i s ++ (new ++ drop (i + k) s)) long
@@ -78,9 +80,10 @@ module _ (E : El) {M : Type 1} {𝓤 : Ura M} (𝓛 : Logic 𝓤) (b o : ℕ) (s
   empty-long : (n : ℕ) → length (empty {T = el_x E} n) ≡ n
   empty-long n = length-replicate n None
 
-  -- Suppose that the `d` slots directly before a run of adjacent items are empty. Then the memory
-  -- of the items and of the `d` slots can be separated from the memory of the other slots. After
-  -- the items have been moved down by `d` slots, the memory of all slots can be put back together.
+  -- Suppose that the slots `from..from + k` hold items, and that the `d` slots directly before them
+  -- are empty. Then the memory of the items and of the `d` empty slots can be separated from the
+  -- memory of the other slots. After the items have been moved down by `d` slots, the memory of all
+  -- slots can be put back together.
   pub slides_down : (d : ℕ) → from ≡ to + d → from + k ≤ length slots → run to d slots ≡ empty d
       → Moves (memory_before_copy (R E) false d k (block_ptr b src) (block_ptr b dst) xs)
       (memory_after_copy (R E) false d k (block_ptr b src) (block_ptr b dst) xs)
@@ -130,9 +133,10 @@ module _ (E : El) {M : Type 1} {𝓤 : Ura M} (𝓛 : Logic 𝓤) (b o : ℕ) (s
             rewrite ! 0 (λ (l : S). ‵ (Row o l)) result refl $ done !;
       }
 
-  -- Suppose that the `d` slots directly after a run of adjacent items are empty. Then the memory of
-  -- the items and of the `d` slots can be separated from the memory of the other slots. After the
-  -- items have been moved up by `d` slots, the memory of all slots can be put back together.
+  -- Suppose that the slots `from..from + k` hold items, and that the `d` slots directly after them
+  -- are empty. Then the memory of the items and of the `d` empty slots can be separated from the
+  -- memory of the other slots. After the items have been moved up by `d` slots, the memory of all
+  -- slots can be put back together.
   pub slides_up : (d : ℕ) → to ≡ from + d → to + k ≤ length slots → run (from + k) d slots ≡ empty d
       → Moves (memory_before_copy (R E) true d k (block_ptr b src) (block_ptr b dst) xs)
       (memory_after_copy (R E) true d k (block_ptr b src) (block_ptr b dst) xs)
@@ -222,9 +226,10 @@ module _ (E : El) {M : Type 1} {𝓤 : Ura M} (𝓛 : Logic 𝓤) (b o : ℕ) (s
       let same : length mid * s ≡ m * s = ap (λ (n : ℕ). n * s) count in
       omega arith
 
-  -- Suppose that `k` adjacent slots somewhere above a run of `k` items are empty. Then the memory
-  -- of the items and of the empty slots can be separated from the memory of the other slots. After
-  -- the items have been moved up into the empty slots, the memory of all slots can be put back
+  -- Suppose that the slots `from..from + k` hold items, and that the slots `to..to + k` somewhere
+  -- above them are empty. Between the items and these empty slots are `m` slots. Then the memory of
+  -- the items and of the empty slots can be separated from the memory of the other slots. After the
+  -- items have been moved up into the empty slots, the memory of all slots can be put back
   -- together.
   goes_over : (m : ℕ) → to ≡ from + k + m → to + k ≤ length slots
       → run to k slots ≡ empty k → Moves Was Is
@@ -283,9 +288,10 @@ module _ (E : El) {M : Type 1} {𝓤 : Ura M} (𝓛 : Logic 𝓤) (b o : ℕ) (s
             rewrite ! 0 (λ (l : S). ‵ (Row o l)) result refl $ done !;
       }
 
-  -- Suppose that `k` adjacent slots somewhere below a run of `k` items are empty. Then the memory
-  -- of the items and of the empty slots can be separated from the memory of the other slots. After
-  -- the items have been moved down into the empty slots, the memory of all slots can be put back
+  -- Suppose that the slots `from..from + k` hold items, and that the slots `to..to + k` somewhere
+  -- below them are empty. Between these empty slots and the items are `m` slots. Then the memory of
+  -- the items and of the empty slots can be separated from the memory of the other slots. After the
+  -- items have been moved down into the empty slots, the memory of all slots can be put back
   -- together.
   goes_back : (m : ℕ) → from ≡ to + k + m → from + k ≤ length slots
       → run to k slots ≡ empty k → Moves Was Is
@@ -373,15 +379,15 @@ module _ (E : El) {M : Type 1} {𝓤 : Ura M} (𝓛 : Logic 𝓤) (b o : ℕ) (s
   Way up = Moves (memory_before_copy (R E) up (distance up) k (block_ptr b src) (block_ptr b dst)
       xs) (memory_after_copy (R E) up (distance up) k (block_ptr b src) (block_ptr b dst) xs)
 
-  -- If `up` is true, the items are moved up from the slots `from..from + k` to the slots `to..to +
-  -- k`. In this case, `GapAbove up` states that `from ≤ to`, and that the slots `from + k..to + k`
-  -- are empty. If `up` is false, `GapAbove up` states nothing.
+  -- `GapAbove up` is about a move of items from the slots `from..from + k` to the slots `to..to +
+  -- k`. If `up` is true, the items are moved up, and `GapAbove up` states that `from ≤ to` and that
+  -- the slots `from + k..to + k` are empty. If `up` is false, `GapAbove up` states nothing.
   abbrev pub GapAbove : Bool → Type 0
   GapAbove up = up ≡ true → (from ≤ to) × AreEmpty slots (from + k) (to - from)
 
-  -- If `up` is false, the items are moved down from the slots `from..from + k` to the slots `to..to
-  -- + k`. In this case, `GapBelow up` states that `to ≤ from`, and that the slots `to..from` are
-  -- empty. If `up` is true, `GapBelow up` states nothing.
+  -- `GapBelow up` is about a move of items from the slots `from..from + k` to the slots `to..to +
+  -- k`. If `up` is false, the items are moved down, and `GapBelow up` states that `to ≤ from` and
+  -- that the slots `to..from` are empty. If `up` is true, `GapBelow up` states nothing.
   abbrev pub GapBelow : Bool → Type 0
   GapBelow up = up ≡ false → (to ≤ from) × AreEmpty slots to (from - to)
 
@@ -402,9 +408,10 @@ module _ (E : El) {M : Type 1} {𝓤 : Ura M} (𝓛 : Logic 𝓤) (b o : ℕ) (s
       slides_down (from - to) (omega arith) source
       (empty-run slots to (from - to) within gap.1)
 
-  -- `IsShifted` holds for the old and the new address of the items. If `up` is true, the new
-  -- address is `distance up` slots above the old address. Otherwise, the new address is `distance
-  -- up` slots below the old address.
+  -- Suppose that all slots through which the items are moved are empty. Then `IsShifted` holds for
+  -- the old and the new address of the items. If `up` is true, this means that the new address is
+  -- `distance up` slots above the old address. If `up` is false, it means that the new address is
+  -- `distance up` slots below the old address.
   pub shifted : (up : Bool) → GapAbove up → GapBelow up → IsShifted (R E) up (distance up)
       (block_ptr b src) (block_ptr b dst)
   shifted true above below = let le : from ≤ to = (above refl).0 in

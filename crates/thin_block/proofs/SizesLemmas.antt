@@ -83,11 +83,15 @@ rounded_to w128 x = record {
 pub align_known : (R : RattleType) → IsAlign (type_align R)
 align_known R = (align_w (layout R), align-bytes (layout R))
 
--- If `IsAlign a` holds, then `Rounded a x` holds for every size `x`.
+-- `Rounded a x` collects bounds on the alignment and the size of a block whose items have the
+-- alignment `a` and take `x` bytes in total. If `a` is 1, 2, 4, 8 or 16 (`IsAlign a`), then
+-- `Rounded a x` holds for every `x`.
 pub rounded_at : (a x : ℕ) → IsAlign a → Rounded a x
 rounded_at a x is = subst (λ (k : ℕ). Rounded k x) (sym is.1) (rounded_to is.0 x)
 
--- If `a` is the alignment of an item type, then `Rounded a x` holds for every size `x`.
+-- `Rounded a x` collects bounds on the alignment and the size of a block whose items have the
+-- alignment `a` and take `x` bytes in total. If `a` is the alignment of an item type `R`, then
+-- `Rounded a x` holds for every `x`.
 pub rounded : (R : RattleType) (x : ℕ) → Rounded (type_align R) x
 rounded R x = rounded_at (type_align R) x (align_known R)
 
@@ -147,16 +151,17 @@ pub record Told (s a c : ℕ) : Type 0 where
   pub short : block_bytes s a c < 2 ^ 63
 
 module _ (s a c : ℕ) (is : IsAlign a) where
-  -- Suppose that `a` is an alignment. If `c < 2 ^ 63` and `Small s a c` holds, then
-  -- `is_small s a c` is true.
+  -- Suppose that `a` is an alignment. If `c < 2 ^ 63` and `Small s a c` holds, then `is_small s a
+  -- c` is true: a block for `c` items is small enough to be allocated.
   pub small_yes : c < 2 ^ 63 → Small s a c → is_small s a c ≡ true
   small_yes few room =
       let whole : block_bytes s a c < 2 ^ 63 = (rounded_at a (c * s) is).short room in
       both_true (ltb c (2 ^ 63)) (ltb (block_bytes s a c) (2 ^ 63)) (lt-ltb c (2 ^ 63) few)
       (lt-ltb (block_bytes s a c) (2 ^ 63) whole)
 
-  -- Suppose that `a` is an alignment. If `is_small s a c` is true, then `c < 2 ^ 63`, `Small s a c`
-  -- holds, and the block takes less than `2 ^ 63` bytes.
+  -- Suppose that `a` is an alignment, and that a block for `c` items is small enough to be
+  -- allocated (`is_small s a c`). Then `c < 2 ^ 63`, `Small s a c` holds, and the block takes less
+  -- than `2 ^ 63` bytes.
   pub small_tells : is_small s a c ≡ true → Told s a c
   small_tells e =
       let few : c < 2 ^ 63 =
@@ -170,17 +175,18 @@ module _ (R : RattleType) (c : ℕ) where
   abbrev IsSmall : Type 0
   IsSmall = is_small (type_size R) (type_align R) c ≡ true
 
-  -- If `c < 2 ^ 63` and `Small` holds for `c` items of type `R`, then `is_small` is true for these
-  -- items.
+  -- If `c < 2 ^ 63`, and `Small` holds for `c` items of type `R`, then `is_small` is true for these
+  -- items: a block for them is small enough to be allocated.
   pub fits_yes : c < 2 ^ 63 → Small (type_size R) (type_align R) c → IsSmall
   fits_yes few room = small_yes (type_size R) (type_align R) c (align_known R) few room
 
-  -- If `is_small` is true for `c` items of type `R`, then `c < 2 ^ 63`, `Small` holds for these
-  -- items, and their block takes less than `2 ^ 63` bytes.
+  -- Suppose that a block for `c` items of type `R` is small enough to be allocated (`is_small`).
+  -- Then `c < 2 ^ 63`, `Small` holds for these items, and the block takes less than `2 ^ 63` bytes.
   pub fits_tells : IsSmall → Told (type_size R) (type_align R) c
   fits_tells e = small_tells (type_size R) (type_align R) c (align_known R) e
 
-  -- If `Fits R c` holds, then `is_small` is true for `c` items of type `R`.
+  -- Both `Fits R c` and `is_small` say that a block for `c` items of type `R` is small enough to be
+  -- allocated. If `Fits R c` holds, then `is_small` is true for these items.
   pub opened : Fits R c → IsSmall
   unfolding fits
   opened e = e
@@ -190,9 +196,9 @@ module _ (R : RattleType) (c : ℕ) where
   unfolding fits
   closed e = e
 
-  -- The code of `fits` divides the number of bytes that a block may use for items by the item size.
-  -- If the capacity `c` is at most this quotient, then `Small` holds for `c` items of type `R`: a
-  -- block for these items is small enough to be allocated.
+  -- The code of `fits` divides the number of bytes that a block may use for items by the item size
+  -- `size`. If the capacity `c` is at most this quotient, then `Small` holds for `c` items of type
+  -- `R`: a block for these items is small enough to be allocated.
   pub divided : (size : ℕ) → size ≡ capped (type_size R) → 0 < size
       → c ≤ (2 ^ 63 - block_align (type_align R) - 16) / size → Small (type_size R) (type_align R) c
   divided size is some few =
@@ -206,8 +212,9 @@ module _ (R : RattleType) (c : ℕ) where
       ∙ ap (λ (k : ℕ). c * k) (sym is) in
       omega arith
 
-  -- The code of `fits` divides the number of bytes that a block may use for items by the item size.
-  -- If `Small` holds for `c` items of type `R`, then the capacity `c` is at most this quotient.
+  -- The code of `fits` divides the number of bytes that a block may use for items by the item size
+  -- `size`. If `Small` holds for `c` items of type `R`, then the capacity `c` is at most this
+  -- quotient.
   pub dividing : (size : ℕ) → size ≡ capped (type_size R) → 0 < size
       → Small (type_size R) (type_align R) c → c ≤ (2 ^ 63 - block_align (type_align R) - 16) / size
   dividing size is some room =
@@ -217,7 +224,8 @@ module _ (R : RattleType) (c : ℕ) where
       let same' : c * size ≡ c * type_size R = ap (λ (k : ℕ). c * k) is ∙ same in
       le-div c (2 ^ 63 - block_align (type_align R) - 16) size some (omega arith)
 
--- `is_small` is true for the capacity 0 and every item type `R`: an empty block is never too large.
+-- For the capacity 0 and every item type `R`, `is_small` is true: an empty block is never too large
+-- to be allocated.
 pub fits_none : (R : RattleType) → is_small (type_size R) (type_align R) 0 ≡ true
 fits_none R =
     let about = rounded R 0 in
@@ -226,8 +234,9 @@ fits_none R =
 
 -- Section: the first capacity
 
--- `first s` is the first capacity that the rule `doubling` chooses for items of size `s`. If `s`,
--- capped at `usize::MAX`, exceeds `2 ^ 61 - 1`, then `first s` is 1.
+-- `first s` is the least capacity that the rule `doubling` chooses for the first allocation of a
+-- block whose items have the size `s`. `capped s` is the lesser of `s` and `usize::MAX`. If `capped
+-- s` exceeds `2 ^ 61 - 1`, then `first s` is 1.
 pub first_one : (s : ℕ) → 2 ^ 61 - 1 < capped s → 1 ≡ first s
 unfolding first
 first_one s large =
@@ -236,8 +245,9 @@ first_one s large =
     absurd (omega arith)) in
     rw (lt-ltb (2 ^ 61 - 1) s above) refl
 
--- `first s` is the first capacity that the rule `doubling` chooses for items of size `s`. If `s`,
--- capped at `usize::MAX`, is at most `2 ^ 61 - 1`, then `first s` is 4.
+-- `first s` is the least capacity that the rule `doubling` chooses for the first allocation of a
+-- block whose items have the size `s`. `capped s` is the lesser of `s` and `usize::MAX`. If `capped
+-- s` is at most `2 ^ 61 - 1`, then `first s` is 4.
 pub first_many : (s : ℕ) → capped s ≤ 2 ^ 61 - 1 → 4 ≡ first s
 unfolding first
 first_many s small =
@@ -262,11 +272,13 @@ fits_no s a c many = first_false (ltb c (2 ^ 63)) (ltb (block_bytes s a c) (2 ^ 
 abbrev pub tried : ℕ → ℕ → ℕ → ℕ
 tried s c w = max w (if c == 0 then first s else 2 * c)
 
--- If the old capacity `c` is 0, then `tried s c w` is the greater of `w` and `first s`.
+-- Suppose that the old capacity `c` is 0, and that `d` is `first s`. Then `tried s c w`, which is
+-- the capacity that the rule `doubling` computes, is the greater of `w` and `d`.
 pub tried_first : (s c w d : ℕ) → c ≡ 0 → d ≡ first s → max w d ≡ tried s c w
 tried_first s c w d none is = grind (arith, nat_tests)
 
--- If the old capacity `c` is not 0, then `tried s c w` is the greater of `w` and `2 * c`.
+-- Suppose that the old capacity `c` is not 0, and that `d` is `2 * c`. Then `tried s c w`, which is
+-- the capacity that the rule `doubling` computes, is the greater of `w` and `d`.
 pub tried_twice : (s c w d : ℕ) → (c ≡ 0 → ⊥) → d ≡ 2 * c → max w d ≡ tried s c w
 tried_twice s c w d some is = grind (arith, nat_tests)
 
@@ -276,9 +288,10 @@ pub fitting_past : (s a n : ℕ) → 2 ^ 63 ≤ n → fitting s a n ≡ None
 unfolding fitting
 fitting_past s a n many = λ i. if fits_no s a n many i then Some n else None
 
--- The code of the growth rule `Doubling` chooses the same capacity as the function `doubling`. The
--- code replaces each number that exceeds `usize::MAX` with `usize::MAX`, but this does not change
--- the capacity that the code chooses.
+-- Suppose that `c < w`. Then the code of the growth rule `Doubling` chooses the same capacity as
+-- the function `doubling`. The code first computes the number `d`. If `c` is 0, `d` is `first s`.
+-- Otherwise, `d` is `2 * c`, or `usize::MAX` if `2 * c` is greater. Replacing `2 * c` with
+-- `usize::MAX` does not change the capacity that the code chooses.
 pub doubling_is : (s a c w d : ℕ) → c < w → (c ≡ 0 → d ≡ first s)
     → ((c ≡ 0 → ⊥) → d ≡ min (c * 2) (2 ^ 64 - 1)) → fitting s a (max w d) ≡ doubling s a c w
 unfolding doubling

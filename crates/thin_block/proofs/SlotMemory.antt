@@ -49,11 +49,11 @@ reach Rw i c fits le =
     times_below i c (type_size Rw) (2 ^ 63) le all
 
 module _ (E : El) where
-  -- A slot contains either an item or nothing.
+  -- `Slot` is the type of a slot. A slot contains either an item or nothing.
   abbrev pub Slot : Type 0
   Slot = Option (el_x E)
 
-  -- The size of an item in bytes.
+  -- `sz` is the size of an item in bytes.
   abbrev pub sz : ℕ
   sz = type_size (R E)
 
@@ -66,8 +66,8 @@ module _ (E : El) {M : Type 1} {𝓤 : Ura M} (𝓛 : Logic 𝓤) (b : ℕ) wher
   abbrev Row : ℕ → List (Slot E) → Fml
   Row o xs = places (R E) xs b o
 
-  -- Splits the memory of the slots `xs ++ ys` into the memory of `xs`, which begins at the offset
-  -- `o`, and the memory of `ys`, which begins at the offset `at`.
+  -- Splits the memory of the slots `xs ++ ys` into the memory of `xs` and the memory of `ys`. The
+  -- memory of `xs` begins at the offset `o`, and the memory of `ys` begins at the offset `at`.
   pub cut : (xs ys : List (Slot E)) (o at : ℕ) → at ≡ length xs * s + o
       → ent 𝓤 (sem 𝓛 (Row o (xs ++ ys))) (sep 𝓤 (sem 𝓛 (Row o xs)) (sem 𝓛 (Row at ys)))
   cut [] ys o at e = qed 𝓛 (‵ (Row o ys) ∷ []) ∵ rewrite ! 0 (λ (k : ℕ). ‵ (Row k ys)) {x = at}

@@ -20,16 +20,15 @@ same_or_not i j =
     (λ (q : i ≤ j). inl (let e : i ≡ j = omega arith in e)) (order j i)) (order i j)
 
 module _ {T : Type 0} where
-  -- If `i` and `j` are the same index, then swapping the contents of the slots `i` and `j` yields
-  -- `set s i (slot s i)`. This is the list `s` in which slot `i` has been overwritten with its own
-  -- contents.
+  -- Suppose that `i` and `j` are the same index. Then swapping the contents of the slots `i` and
+  -- `j` yields the list `s` in which slot `i` has been overwritten with its own contents.
   pub set-same : (s : List (Option T)) (i j : ℕ) → i ≡ j
       → set s i (slot s i) ≡ set (set s i (slot s j)) j (slot s i)
   set-same s i j same =
       sym (set-set s i (slot s i) (slot s i))
       ∙ (λ n. set (set s i (slot s (same n))) (same n) (slot s i))
 
-  -- If `IsSome x` holds for the slot `x`, then there is an item `y` with `x ≡ Some y`.
+  -- If the slot `x` is filled, then there is an item `y` with `x ≡ Some y`.
   pub the_item : (x : Option T) → IsSome x → (y : T) × (x ≡ Some y)
   the_item (Some y) is = (y, refl)
   the_item None is = absurd (clash is)
@@ -40,8 +39,9 @@ module _ {T : Type 0} where
   filled-within (x ∷ s) zero is = omega arith
   filled-within (x ∷ s) (suc i) is = let low = filled-within s i is in omega arith
 
-  -- If each of the slots `i..i + k` is filled, then there is a list `xs` of items such that
-  -- `run i k s` is `full xs`.
+  -- Suppose that each of the slots `i..i + k` of the list `s` is filled. Then there is a list `xs`
+  -- of items such that `run i k s`, the list of these slots, is `full xs`: the slots hold the items
+  -- `xs`, in order.
   pub full-run : (s : List (Option T)) (i k : ℕ) → i + k ≤ length s
       → ((j : ℕ) → i ≤ j → j < i + k → IsSome (slot s j)) → (xs : List T) × (run i k s ≡ full xs)
   full-run [] zero zero le filled = ([], refl)
@@ -56,7 +56,8 @@ module _ {T : Type 0} where
       (λ j p q. filled (suc j) (omega arith) (omega arith)) in
       (item.0 ∷ rest.0, λ n. item.1 n ∷ rest.1 n)
 
-  -- If each of the slots `i..i + k` is empty, then `run i k s` is `empty k`.
+  -- If each of the slots `i..i + k` of the list `s` is empty, then `run i k s`, the list of these
+  -- slots, is `empty k`: a list of `k` empty slots.
   pub empty-run : (s : List (Option T)) (i k : ℕ) → i + k ≤ length s
       → ((j : ℕ) → i ≤ j → j < i + k → slot s j ≡ None) → run i k s ≡ empty k
   empty-run [] zero zero le bare = refl
@@ -69,12 +70,14 @@ module _ {T : Type 0} where
       λ n. bare zero (omega arith) (omega arith) n ∷ empty-run s zero k (omega arith)
       (λ j p q. bare (suc j) (omega arith) (omega arith)) n
 
-  -- If `i + k ≤ length s`, then `run i k s` consists of `k` slots.
+  -- `run i k s` is the list of the slots `i..i + k` of the list `s`. If `i + k ≤ length s`, then
+  -- `run i k s` consists of `k` slots.
   pub length-run : (s : List (Option T)) (i k : ℕ) → i + k ≤ length s → length (run i k s) ≡ k
   length-run s i k le = omega (arith, length-take k (drop i s), length-drop i s)
 
-  -- Replacing slots does not change the number of slots. If `i + length ys ≤ length s`, then
-  -- `laid i ys s` is as long as `s`.
+  -- Replacing slots does not change the number of slots. `laid i ys s` is the list `s` with the
+  -- slots `i..i + length ys` replaced with `ys`. If `i + length ys ≤ length s`, then `laid i ys s`
+  -- is as long as `s`.
   pub length-laid : (i : ℕ) (ys s : List (Option T)) → i + length ys ≤ length s
       → length (laid i ys s) ≡ length s
   length-laid i ys s le =
@@ -115,9 +118,9 @@ module _ {T : Type 0} where
   laid-none i s = ap (λ (k : ℕ). take i s ++ drop k s) (let e : i + 0 ≡ i = omega arith in
       e) ∙ take-append-drop i s
 
-  -- If `k ≡ i + length ys` and `k < length s`, then `set (laid i ys s) k y` is
-  -- `laid i (ys ++ y ∷ []) s`. Here `laid i ys s` is `s` with the slots `i..i + length ys` replaced
-  -- with `ys`.
+  -- `laid i ys s` is the list `s` with the slots `i..i + length ys` replaced with `ys`. Suppose
+  -- that `k` is `i + length ys`, and that `k < length s`. If slot `k` of `laid i ys s` is then set
+  -- to `y`, the result is `laid i (ys ++ y ∷ []) s`: the list `s` with one more slot replaced.
   pub laid-one : (i : ℕ) (ys s : List (Option T)) (k : ℕ) (y : Option T) → k ≡ i + length ys
       → k < length s → set (laid i ys s) k y ≡ laid i (ys ++ y ∷ []) s
   laid-one i ys s k y e within =
@@ -135,8 +138,8 @@ module _ {T : Type 0} where
       (sym (append_assoc ys (y ∷ []) (drop (suc k) s)))
       ∙ ap (λ (n : ℕ). take i s ++ ((ys ++ y ∷ []) ++ drop n s)) long))))
 
-  -- If the slots `i..i + length ys` are replaced with `ys`, then no slot at index `i + length ys`
-  -- or later changes.
+  -- Suppose that `i ≤ length s`, and that the slots of the list `s` from index `i` onward are
+  -- replaced with `ys`. Then each slot whose index `k` is at least `i + length ys` is unchanged.
   pub slot-laid : (i : ℕ) (ys s : List (Option T)) (k : ℕ) → i ≤ length s → i + length ys ≤ k
       → slot (laid i ys s) k ≡ slot s k
   slot-laid i ys s k low past =
@@ -155,8 +158,9 @@ module _ {T : Type 0} where
       ∙ ap (λ (l : List (Option T)). take i s ++ l) (sym (take-append-drop k (drop i s))
       ∙ ap (λ (l : List (Option T)). run i k s ++ l) (drop-drop k i s))
 
-  -- `run i (a + k) s` is `run i a s ++ run (i + a) k s`. Here `run i k s` consists of the `k` slots
-  -- from index `i` onward.
+  -- `run i k s` consists of the `k` slots of the list `s` from index `i` onward. A run of `a + k`
+  -- slots from index `i` onward is the run of the first `a` of these slots, followed by the run of
+  -- the other `k` slots.
   pub run-split : (s : List (Option T)) (i a k : ℕ) → run i (a + k) s ≡ run i a s ++ run (i + a) k s
   run-split s i a k = take-add a k (drop i s)
       ∙ ap (λ (l : List (Option T)). run i a s ++ take k l) (drop-drop a i s)
@@ -172,15 +176,19 @@ module _ {T : Type 0} where
       ∙ drop_at (pre ++ old) post (i + length ys) (length-append pre old ∙ omega arith) in
       λ m. take_at pre (old ++ post) i (sym e) m ++ (ys ++ rest m)
 
-  -- If `i ≡ length pre` and `k ≡ length ys`, then `run i k (pre ++ (ys ++ post))` is `ys`.
+  -- `run i k` selects the `k` slots from index `i` onward. If `i ≡ length pre` and `k ≡ length ys`,
+  -- then `run i k` selects `ys` from the list `pre ++ (ys ++ post)`.
   pub run-at : (i k : ℕ) (pre ys post : List (Option T)) → i ≡ length pre → k ≡ length ys
       → run i k (pre ++ (ys ++ post)) ≡ ys
   run-at i k pre ys post e n = ap (λ (l : List (Option T)). take k l)
       (drop_at pre (ys ++ post) i (sym e)) ∙ take_at ys post k (sym n)
 
   module _ (from to k : ℕ) where
-    -- `moved from to k s` can be computed in three steps. If `run from k s ≡ ys`, `emptied from k s
-    -- ≡ bare` and `laid to ys bare ≡ result`, then `moved from to k s ≡ result`.
+    -- `moved from to k s` is the list `s` after the contents of the slots `from..from + k` have
+    -- been moved to the slots `to..to + k`. Suppose that the slots `from..from + k` of `s` are
+    -- `ys`, and that `s` becomes `bare` if these slots are emptied. If `bare` becomes `result` when
+    -- its slots from index `to` onward are replaced with `ys`, then `moved from to k s` is
+    -- `result`.
     moved-by : (s ys bare result : List (Option T)) → run from k s ≡ ys → emptied from k s ≡ bare
         → laid to ys bare ≡ result → moved from to k s ≡ result
     unfolding moved
@@ -199,7 +207,9 @@ module _ {T : Type 0} where
       length-laid to (run from k s) (emptied from k s)
       (omega (arith, left, length-run s from k source)) ∙ left
 
-  -- `empty a ++ (empty k ++ post)` is `empty k ++ (empty a ++ post)`.
+  -- The order of two adjacent groups of empty slots does not matter: `a` empty slots, followed by
+  -- `k` empty slots and `post`, are the same list as `k` empty slots, followed by `a` empty slots
+  -- and `post`.
   empty-turn : (a k : ℕ) (post : List (Option T))
       → empty a ++ (empty k ++ post) ≡ empty k ++ (empty a ++ post)
   empty-turn a k post =
@@ -307,7 +317,8 @@ module _ {T : Type 0} where
         ∙ (laid-at from front (empty k) ys post l m ∙ joined (empty k ++ post)))
         (laid-at to pre ys (empty k) (mid ++ (empty k ++ post)) t (sym m))
 
-  -- Every slot in the list `empty k` is empty.
+  -- Every slot in the list `empty k` is empty: for every index `i`, slot `i` of `empty k` is
+  -- `None`.
   pub slot-empty : (k i : ℕ) → slot (empty {T = T} k) i ≡ None
   slot-empty zero i = refl
   slot-empty (suc k) zero = refl
@@ -321,7 +332,9 @@ module _ {T : Type 0} where
   full-filled (x ∷ xs) rest (suc i) low =
       full-filled xs rest i (let low' : suc i < suc (length xs) = low in omega arith)
 
-  -- If `c ≡ a + b`, then `full xs ++ empty c` is `(full xs ++ empty a) ++ empty b`.
+  -- Suppose that `c ≡ a + b`, and that a list consists of filled slots with the items `xs`,
+  -- followed by `c` empty slots. Then the list also consists of the filled slots, followed by `a`
+  -- empty slots and then by `b` empty slots.
   tail-split : (xs : List T) (a b c : ℕ) → c ≡ a + b
       → full xs ++ empty c ≡ (full xs ++ empty a) ++ empty b
   tail-split xs a b c e =
@@ -381,7 +394,8 @@ module _ {T : Type 0} (s : List (Option T)) (n : ℕ) (packed : IsPacked s n) wh
       ∙ ap (λ (k : ℕ). empty k) (let e : n + (length s - n) ≡ length s = omega arith in e)))
 
   -- Suppose that exactly the first `n` slots of `s` are filled, and that they hold the items `xs`.
-  -- Then moving these items to the start of `c` empty slots yields `full xs ++ empty (c - n)`.
+  -- If these items are moved to the start of a list of `c` empty slots, then this list becomes
+  -- `full xs ++ empty (c - n)`: filled slots with the items `xs`, followed by `c - n` empty slots.
   pub packed-carried : (c : ℕ) → laid 0 (run 0 n s) (empty c) ≡ full xs ++ empty (c - n)
   packed-carried c =
       let long : 0 + length (full xs) ≡ n = omega (arith, full-long) in
@@ -389,9 +403,9 @@ module _ {T : Type 0} (s : List (Option T)) (n : ℕ) (packed : IsPacked s n) wh
       ∙ (ap (λ (k : ℕ). full xs ++ drop k (empty c)) long ∙ ap (λ (l : Row). full xs ++ l)
       (drop-replicate n c None))
 
-  -- Suppose that exactly the first `n` slots of `s` are filled, and that `length s ≤ c`. Then
-  -- moving the items of these `n` slots to the start of `c` empty slots yields `s`, followed by
-  -- `c - length s` empty slots.
+  -- Suppose that exactly the first `n` slots of `s` are filled, and that `length s ≤ c`. If the
+  -- items in these `n` slots are moved to the start of a list of `c` empty slots, then this list
+  -- becomes `s`, followed by `c - length s` empty slots.
   pub packed-grown : (c : ℕ) → length s ≤ c
       → laid 0 (run 0 n s) (empty c) ≡ s ++ empty (c - length s)
   packed-grown c more =
@@ -399,9 +413,9 @@ module _ {T : Type 0} (s : List (Option T)) (n : ℕ) (packed : IsPacked s n) wh
       packed-carried c ∙ (tail-split xs (length s - n) (c - length s) (c - n) (omega arith)
       ∙ ap (λ (l : Row). l ++ empty (c - length s)) (sym parted))
 
-  -- Suppose that exactly the first `n` slots of `s` are filled, and that `n ≤ c ≤ length s`. Then
-  -- moving the items of these `n` slots to the start of `c` empty slots yields the first `c` slots
-  -- of `s`.
+  -- Suppose that exactly the first `n` slots of `s` are filled, and that `n ≤ c ≤ length s`. If the
+  -- items in these `n` slots are moved to the start of a list of `c` empty slots, then this list
+  -- becomes the list of the first `c` slots of `s`.
   pub packed-shrunk : (c : ℕ) → n ≤ c → c ≤ length s → laid 0 (run 0 n s) (empty c) ≡ take c s
   packed-shrunk c enough less =
       let kept : Row = full xs ++ empty (c - n) in

@@ -103,16 +103,17 @@ module _ {M : Type 1} {𝓤 : Ura M} (𝓛 : Logic 𝓤) (E : El) (b c o : ℕ) 
   Parts w = sep 𝓤 (H.room half b o) (sep 𝓤 (H.room half b (o + 8))
       (sep 𝓤 (H.room (array_of (R E) c) b (o + 16)) (sem 𝓛 (way_back w (bare (R E)) c b o))))
 
-  -- Suppose that `in_words` returns the pair `w` for the size of the item type. Then `InWords`
-  -- holds for the two numbers in `w` and for the bare item type: the item type with all field names
-  -- erased.
+  -- Suppose that `in_words` returns the pair `w` for the size of the item type. The pair contains
+  -- two numbers: the number of items in a word, and the number of words that take as many bytes as
+  -- the header. Then `InWords` holds for these two numbers and for the bare item type, which is the
+  -- item type with all field names erased.
   known : (w : ℕ × ℕ) → in_words (type_size (R E)) ≡ Some w
       → InWords (size (bare (R E))) (align (bare (R E))) w.0 w.1
   known w e = nameless (elτ E) w.0 w.1 (words_told (R E) w.0 w.1 e)
 
-  -- Splits the memory of a block into its parts, for each result `w` of `in_words`. If `w` is
-  -- `None`, the items cannot be grouped into words. A word is a struct of 8 or 16 bytes that
-  -- consists of whole items.
+  -- Splits the memory of a block into its parts. Here, `w` is the result of `in_words` for the item
+  -- size. If `w` is `None`, the items cannot be grouped into words. Otherwise, they can. A word is
+  -- a struct of 8 or 16 bytes that consists of whole items.
   carve_for : (w : Option (ℕ × ℕ)) → in_words (type_size (R E)) ≡ w
       → ent 𝓤 (H.room (asked_for w (bare (R E)) c) b o) (Parts w)
   carve_for None e = carve 𝓛 (R E) c b o
@@ -136,8 +137,8 @@ module _ {M : Type 1} {𝓤 : Ura M} (𝓛 : Logic 𝓤) (E : El) (b c o : ℕ) 
   pub carve_asked : ent 𝓤 (H.room (asked (R E) c) b o) (Parts (words_of (R E)))
   carve_asked = carve_for (words_of (R E)) (sym (same_words (R E) c))
 
-  -- Combines a block, except for its slots, with uninitialized memory for the slots. The result is
-  -- the memory of the whole block and the right to free this memory.
+  -- Combines all parts of a block except its slots with uninitialized memory for the slots. The
+  -- result is the memory of the whole block and the right to free this memory.
   pub gather : (t : Ty → Ptr → Fml) (n : ℕ)
       → ent 𝓤 (sep 𝓤 (sem 𝓛 (frame t (R E) n c b o)) (H.room (array_of (R E) c) b (o + 16)))
       (sep 𝓤 (H.room (asked (R E) c) b o) (sem 𝓛 (t (asked (R E) c) (block_ptr b o))))
@@ -357,9 +358,9 @@ module _ {M : Type 1} {𝓤 : Ura M} (𝓛 : Logic 𝓤) (T : RattleType) (L : L
     asked_words : words_of (R Item) ≡ Some (m, k)
     asked_words = same_words (R Item) c ∙ is
 
-    -- Splits a block, except for its slots, into three parts: uninitialized memory for `k` words at
-    -- the address of the header, the right to convert memory for the slots into memory for words,
-    -- and the right to free the block.
+    -- Splits a block without the memory of its slots into three parts: uninitialized memory for `k`
+    -- words at the address of the header, the right to convert memory for the slots into memory for
+    -- words, and the right to free the block.
     pub header_apart : ent 𝓤 (sem 𝓛 (frame t (R Item) n c b o))
         (sep 𝓤 (H.room units b o) (sep 𝓤 (sem 𝓛 Rest) (sem 𝓛 Right)))
     header_apart =
@@ -383,9 +384,9 @@ module _ {M : Type 1} {𝓤 : Ura M} (𝓛 : Logic 𝓤) (T : RattleType) (L : L
         rewrite ! 0 (λ (j : ℕ). ‵ (t (array_of (R W) j) (block_ptr b o))) (sym total) refl $
         move ! (1 ∷ 2 ∷ 0 ∷ []) $ done !
 
-    -- Forms a block, except for its slots, from five parts: the capacity; the length; the right to
-    -- convert memory for the header into memory for words; the right to convert memory for the
-    -- slots into memory for words; the right to free the block.
+    -- Combines five parts into a block without the memory of its slots. The parts are: the
+    -- capacity; the length; the right to convert memory for the header into memory for words; the
+    -- right to convert memory for the slots into memory for words; the right to free the block.
     pub header_whole : fits_block (R Item) c ≡ true
         → ent 𝓤 (sep 𝓤 (sem 𝓛 (lies_at usize full_share (block_ptr b o) c))
         (sep 𝓤 (sem 𝓛 (lies_at usize full_share (block_ptr b (o + 8)) n))

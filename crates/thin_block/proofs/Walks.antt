@@ -1,5 +1,5 @@
 -- Lemmas for proofs about function bodies. Some lemmas are about the parts of a body. Others are
--- about the condition that must hold after a part has been executed, or about the proof of the
+-- about the conditions that must hold before or after a part is executed, or about the proof of the
 -- `ensures` clauses. The lemmas assume the laws of the separation logic (`Logic`).
 pub use Rattle.core.proofs.alloc.Shapes.{after, head, inside, arm_body}
 use Rattle.std.proofs.Common.{◌≡◌, ℕ, zero, suc, List, [], ◌∷◌, refl, T}
@@ -32,9 +32,10 @@ slot_at (suc k) (s ∷ ss) = slot_at k ss
 module _ {M : Type 1} {𝓤 : Ura M} (𝓛 : Logic 𝓤) where
   open 𝓛 use {H}
 
-  -- `then_runs C Λ E b q` is the condition that must hold before the last part `b` of a function
-  -- body is executed. If this condition holds, then `q` holds after `b` has been executed. `C` and
-  -- `Λ` are the tables of calls and loops, and `E` is the environment of the local variables.
+  -- Suppose that the condition `q` must hold after the last part `b` of a function body has been
+  -- executed. `then_runs C Λ E b q` is the condition that must hold before `b` is executed, so that
+  -- `q` holds after `b`. `C` and `Λ` are the tables of calls and loops, and `E` is the environment
+  -- of the local variables.
   abbrev pub then_runs : Calls 𝓤 H → Loops 𝓤 H → Env 𝓤 H → Body → Post 𝓤 H → Post 𝓤 H
   then_runs C Λ E b q = any_q (after_seq 𝓤 H (Wp 𝓤 H C Λ E b (post 𝓤 H q)) (post 𝓤 H q))
 
@@ -65,7 +66,8 @@ facts_i 𝓤 (φ ∷ ψ ∷ φs) x =
     (via 𝓤 (sep 𝓤 (fact 𝓤 φ) (emp 𝓤)) (mono_l 𝓤 (emp 𝓤) (fact_i 𝓤 φ (emp 𝓤) x.0))
     (mono_r 𝓤 (fact 𝓤 φ) (facts_i 𝓤 (ψ ∷ φs) x.1)))
 
--- Proves several `ensures` clauses at once. The rest of the goal remains to be proved.
+-- Proves several `ensures` clauses, the facts `φs`, at once. The rest of the goal remains to be
+-- proved.
 pub says_all : {M : Type 1} {𝓤 : Ura M} {𝓛 : Logic 𝓤} {K : Type 0} {Γ : List (Item 𝓤)} → K
     → (φs : List (Type 0)) {P : SProp 𝓤}
     → Shown φs → Step K 𝓛 Γ (prop P) Γ (prop (sep 𝓤 P (Facts 𝓤 φs)))
@@ -83,8 +85,8 @@ refused_made 𝓛 = qed 𝓛 [] ∵
     (Struct-Makes 𝓛 (Declared.shape AE.the_type) tt) tt (vstruct vnil ∷ []) (tt, (refl, tt)) $
     done !
 
--- If the machine values in the list `vs` have the types `τ ∷ []`, then `vs` consists of one value
--- of type `τ`.
+-- If the machine values in the list `vs` have the types in the list `τ ∷ []`, in order, then `vs`
+-- consists of a single value `v`, and `v` has the type `τ`.
 pub alone : (τ : Ty) (vs : List Val) → Typed (τ ∷ []) vs → (v : Val)
     × ((vs ≡ v ∷ []) × (T (has_ty τ v) × WT v))
 alone τ [] t = absurd t

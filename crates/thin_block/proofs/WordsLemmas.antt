@@ -93,8 +93,9 @@ Laid s a m k = (word_size s a m ≡ m * s) × ((word_align a ≡ block_align a)
     × (Dv 8 (word_align a) × (Dv a (word_align a)
     × ((c : ℕ) → (k + div_ceil c m) * (m * s) ≡ block_bytes s a c))))
 
--- This lemma and the next four lemmas are about items of 1, 2, 4, 8 and 16 bytes. They state that
--- `Laid` holds if the alignment of an item, `bytes w`, divides the size of the item.
+-- This lemma and the next four lemmas are about items of 1, 2, 4, 8 and 16 bytes. The alignment of
+-- an item is `bytes w`, which is the number of bytes of a width `w`. If this alignment divides the
+-- size of the item, then `Laid` holds for words of these items.
 laid_1 : (w : Width) → Dv (bytes w) 1 → Laid 1 (bytes w) 8 2
 laid_1 w8 d = (refl, (refl, (tt, (tt, λ c. omega arith))))
 laid_1 w16 d = absurd d
@@ -166,8 +167,9 @@ abbrev pair : Option (ℕ × ℕ) → ℕ × ℕ
 pair None = (0, 0)
 pair (Some p) = p
 
--- In `AtAny`, the item size and the two numbers may be replaced with equal ones: if `s ≡ t`, and
--- the pairs `p` and `q` are equal, then `AtAny t p.0 p.1` implies `AtAny s q.0 q.1`.
+-- Suppose that the item sizes `s` and `t` are equal, and that the pairs `p` and `q` are equal. If
+-- `AtAny` holds for `t` and the two numbers in `p`, then `AtAny` holds for `s` and the two numbers
+-- in `q`.
 at_size : (s t : ℕ) (p q : ℕ × ℕ) → s ≡ t → ◌≡◌ {A = Option (ℕ × ℕ)} (Some p) (Some q)
     → AtAny t p.0 p.1 → AtAny s q.0 q.1
 at_size s t p q es e all =

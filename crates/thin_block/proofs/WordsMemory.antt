@@ -55,8 +55,9 @@ use Rattle.thin_block.proofs.SlotMemory.{cut, glue, to_items, of_items, to_raw, 
 use Rattle.thin_block.proofs.WordsLemmas.{InWords, nameless}
 use Rattle.thin_block.proofs.words.Words.TheLaws.{the_row_laws}
 
--- The following lemmas are about uninitialized memory. The first lemma states: if an array of `n`
--- values begins at the offset `o`, then it ends at `o` plus `n` times the size of a value.
+-- The following lemmas are about uninitialized memory. `past τ n o` is the offset at which an array
+-- of `n` values of type `τ` ends if the array begins at the offset `o`. This offset is `o` plus `n`
+-- times the size of a value.
 past-place : (τ : Ty) (n o : ℕ) → past τ n o ≡ place (size τ) o n
 past-place τ zero o = refl
 past-place τ (suc n) o = past-place τ n (o + size τ)
@@ -244,9 +245,9 @@ module _ {M : Type 1} {𝓤 : Ura M} (𝓛 : Logic 𝓤) (τ : Ty) (m k b : ℕ)
         move ! (2 ∷ 3 ∷ 1 ∷ []) $ use3 𝓛 (‵ (froom units b o)) (header_in o) $
         by ! (room_glue 𝓛 ω k w b o)
 
--- The type `Words` has a const argument: the number of items in a word. `number_of_items m` is this
--- argument for words of `m` items. The following definitions and lemmas are about words that hold
--- items.
+-- The following definitions and lemmas are about words that hold items. The type `Words` of such
+-- words has a const argument: the number of items in a word. `number_of_items m` is this argument
+-- for words of `m` items.
 abbrev pub number_of_items : ℕ → RattleType
 number_of_items m = param 1 (number m)
 
@@ -254,8 +255,9 @@ number_of_items m = param 1 (number m)
 abbrev pub word_row : RattleType → ℕ → RattleType
 word_row T m = the_row (param 0 T) (number_of_items m)
 
--- `word_el T L m` combines the type of words of `m` items with the laws of this type into one
--- record. The lemmas about blocks take this record as an argument. The items have the type `T`.
+-- `word_el T L m` is a record that combines the type of words with the laws of this type. Each word
+-- consists of `m` items of type `T`, and `L` contains the laws of `T`. The lemmas about blocks take
+-- such a record as an argument.
 abbrev pub word_el : (T : RattleType) → Laws T → ℕ → El
 word_el T L m = record {
   row = word_row T m;
@@ -324,8 +326,8 @@ module _ {M : Type 1} {𝓤 : Ura M} (𝓛 : Logic 𝓤) (T : RattleType) (L : L
   hd' : InWords (size τ') (align τ') m k
   hd' = nameless σ m k hd
 
-  -- `u'` is the size of a word whose type has all field names erased. This size is `m` times the
-  -- size of an item.
+  -- `u'` is the size of a word of `m` items if all field names of the item type are erased. This
+  -- size is `m` times the size `s` of an item.
   wide : u' ≡ m * s
   wide = hd'.size ∙ ap (λ (n : ℕ). m * n) (size-raw σ)
 
@@ -361,7 +363,8 @@ module _ {M : Type 1} {𝓤 : Ura M} (𝓛 : Logic 𝓤) (T : RattleType) (L : L
     Rooms = rooms_for 𝓤 H fields zero b o
 
     -- Suppose that memory for the fields of a word can be converted into memory for the word. Then
-    -- memory for the items of the word can be converted into memory for the word, too.
+    -- memory for the items of the word can be converted into memory for the word, too, because the
+    -- other field of a word takes no bytes.
     way_out : ent 𝓤 (RoomBack 𝓤 H (the_type (R E) N).name fields b o) (sem 𝓛 (way τ' m b o))
     way_out =
         qed 𝓛 (raw (RoomBack 𝓤 H (the_type (R E) N).name fields b o) ∷ []) ∵
@@ -401,8 +404,9 @@ module _ {M : Type 1} {𝓤 : Ura M} (𝓛 : Logic 𝓤) (T : RattleType) (L : L
   abbrev words : ℕ → List X → List W.row.Denot
   words n xs = words_made T m n xs
 
-  -- `full xs` is `full (take m xs) ++ full (rest m xs)`. The first `m` items of `xs` make the first
-  -- word, and `rest m xs` contains the items after them.
+  -- The first `m` items of `xs` make the first word, and `rest m xs` contains the items after them.
+  -- So the slots that hold the items `xs` are the slots that hold the items of the first word,
+  -- followed by the slots that hold the items `rest m xs`.
   parted : (xs : List X) → full xs ≡ full (take m xs) ++ full (rest m xs)
   parted xs = ap full (sym (take-append-drop m xs)) ∙ map-append Some (take m xs) (rest m xs)
 
@@ -419,9 +423,10 @@ module _ {M : Type 1} {𝓤 : Ura M} (𝓛 : Logic 𝓤) (T : RattleType) (L : L
         ap (λ (n : ℕ). n * s) (length-map (take m xs) Some ∙ first_long) in
         let e = wide in omega arith
 
-  -- Groups the slots that hold the items of `n` words. The slots of each word form one group. Each
-  -- group is combined with the right (`way`) to convert the memory of the group into memory for a
-  -- word. The rights for the `j` words directly after the `n` words are not used.
+  -- Groups the slots that hold the items `xs` of `n` words. The slots of each word form one group.
+  -- Each group is combined with the right (`way`) to convert the memory of the group into memory
+  -- for a word. Before this step, there are such rights (`ways`) for `w` words. After this step,
+  -- the rights for the last `j` words are left over.
   to_runs : (n w j : ℕ) (xs : List X) (o at : ℕ) → length xs ≡ n * m → w ≡ j + n → at ≡ n * u' + o
       → ent 𝓤 (sep 𝓤 (sem 𝓛 (places (R E) (full xs) b o)) (sem 𝓛 (ways τ' m w b o)))
       (sep 𝓤 (sem 𝓛 (runs_at (R E) N (chunks n xs) b o)) (sem 𝓛 (ways τ' m j b at)))
@@ -443,17 +448,17 @@ module _ {M : Type 1} {𝓤 : Ura M} (𝓛 : Logic 𝓤) (T : RattleType) (L : L
       rewrite ! 0 (λ (n : ℕ). ‵ (ways τ' m n b o)) {x = suc (j + n)} (omega (arith, ew)) refl $
       fsplit ! $
       -- The previous steps have split the slots and the rights (`ways`). The proof context now
-      -- holds these entries, in this order: the right to convert memory for the items of the first
-      -- word into memory for this word; the same rights for all later words; the items of the first
-      -- word; the slots with the items of the other words.
+      -- holds these entries, in this order: the right (`way`) to convert memory for the items of
+      -- the first word into memory for this word; the rights (`ways`) for all later words; the
+      -- items of the first word; the slots with the items of the other words.
       move ! (2 ∷ 0 ∷ []) $ fjoin ! $ move ! (2 ∷ 1 ∷ []) $
       use2 𝓛 (‵ (runs_at (R E) N (chunks n (rest m xs)) b far) ⊛ ‵ (ways τ' m j b at))
       (to_runs n (j + n) j (rest m xs) far at (rest_long n xs o long) refl
       (omega (arith, ea, suc-mul n u'))) $ split ! $ move ! (2 ∷ 0 ∷ []) $ fjoin ! $ done !
 
-  -- Converts `n` adjacent words into slots that hold the items of the words, and into rights
-  -- (`ways`) to convert these slots back into words. The result contains these rights together with
-  -- the given rights for the `j` words directly after the `n` words.
+  -- Converts `n` adjacent words into slots that hold the items `xs` of the words, and into rights
+  -- to convert these slots back into words. The lemma also takes such rights (`ways`) for the `j`
+  -- words directly after the `n` words. So the result contains the rights for all `w` words.
   of_runs : (n w j : ℕ) (xs : List X) (o at : ℕ) → length xs ≡ n * m → w ≡ j + n → at ≡ n * u' + o
       → ent 𝓤 (sep 𝓤 (sem 𝓛 (places (R W) (full (words n xs)) b o)) (sem 𝓛 (ways τ' m j b at)))
       (sep 𝓤 (sem 𝓛 (places (R E) (full xs) b o)) (sem 𝓛 (ways τ' m w b o)))
@@ -478,7 +483,8 @@ module _ {M : Type 1} {𝓤 : Ura M} (𝓛 : Logic 𝓤) (T : RattleType) (L : L
       -- The previous steps have converted all words into slots. The proof context now holds these
       -- entries, in this order: the slots with the items of all words except the first; the rights
       -- (`ways`) to convert memory for items back into memory for these words and the `j` words
-      -- after them; the slots with the items of the first word; the same right for the first word.
+      -- after them; the slots with the items of the first word; the right (`way`) to convert memory
+      -- for these items back into memory for the first word.
       move ! (2 ∷ 0 ∷ []) $ use2 𝓛 (‵ (places (R E) (full c ++ full (rest m xs)) b o))
       (glue E 𝓛 b (full c) (full (rest m xs)) o far (next n xs o long)) $
       rewrite ! 0 (λ (l : List (Option X)). ‵ (places (R E) l b o)) (sym (parted xs)) refl $
@@ -494,8 +500,9 @@ module _ {M : Type 1} {𝓤 : Ura M} (𝓛 : Logic 𝓤) (T : RattleType) (L : L
     end_at : far ≡ past τ' j at
     end_at = end ∙ sym (past_is τ' j at)
 
-    -- Converts empty slots into empty words. The conversion needs the rights (`ways`) to convert
-    -- the slots into words, and the memory after the last slot, which belongs to no slot.
+    -- Converts `j` empty slots into `v` empty words. This conversion requires the rights (`ways`)
+    -- to convert memory for items into memory for words. It also requires the memory after the last
+    -- slot, which belongs to no slot.
     spare_words : ent 𝓤 (sep 𝓤 (sem 𝓛 (places (R E) (empty j) b at))
         (sep 𝓤 (sem 𝓛 (ways τ' m v b at)) (sem 𝓛 Spare)))
         (sem 𝓛 (places (R W) (empty v) b at))
@@ -509,9 +516,9 @@ module _ {M : Type 1} {𝓤 : Ura M} (𝓛 : Logic 𝓤) (T : RattleType) (L : L
         use2 𝓛 (‵ (froom (ty_array (word_of τ' m) v) b at)) (ways_in 𝓛 τ' m k b hd' v at) $
         by ! (of_raw W 𝓛 b v at)
 
-    -- Converts empty words into empty slots. The result also contains the rights (`ways`) to
-    -- convert the slots back into words, and the memory after the last slot, which belongs to no
-    -- slot.
+    -- Converts `v` empty words into `j` empty slots. The result also contains the rights (`ways`)
+    -- to convert memory for items back into memory for words, and the memory after the last slot,
+    -- which belongs to no slot.
     spare_slots : ent 𝓤 (sem 𝓛 (places (R W) (empty v) b at))
         (sep 𝓤 (sem 𝓛 (places (R E) (empty j) b at))
         (sep 𝓤 (sem 𝓛 (ways τ' m v b at)) (sem 𝓛 Spare)))
@@ -527,8 +534,9 @@ module _ {M : Type 1} {𝓤 : Ura M} (𝓛 : Logic 𝓤) (T : RattleType) (L : L
         rewrite ! 0 (λ (n : ℕ). ‵ (froom (ty_array τ' pad) b n)) (sym end_at) refl $
         move ! (1 ∷ 2 ∷ 0 ∷ []) $ done !
 
-  -- The next lemmas are about all slots of a block. The `c` slots occupy `w` words, and the first
-  -- `n` of these words hold the items `xs`. The other `v` words and the other `j` slots are empty.
+  -- The next lemmas are about all slots of a block. The `c` slots occupy `w` words. The first `n`
+  -- of these words hold the items `xs`. The other `v` words contain the other `j` slots, which are
+  -- empty.
   module _ (xs : List X) (n j v w c o : ℕ) (long : length xs ≡ n * m) (all : c ≡ length xs + j)
       (total : w ≡ v + n) (le : c ≤ w * m) where
     abbrev after : ℕ
@@ -573,8 +581,8 @@ module _ {M : Type 1} {𝓤 : Ura M} (𝓛 : Logic 𝓤) (T : RattleType) (L : L
         (cut E 𝓛 b (full xs) (empty j) o after last) $ split ! $ move ! (2 ∷ []) $ fsplit ! $
         -- The previous steps have separated the filled slots from the empty slots, and have split
         -- `slots_way` into its two parts. The proof context now holds these entries, in this order:
-        -- the rights (`ways`) to convert memory for the items of all words into memory for the
-        -- words; the memory after the last slot, which belongs to no slot; the filled slots; the
+        -- the rights (`ways`) to convert memory for items into memory for words, one right for each
+        -- word; the memory after the last slot, which belongs to no slot; the filled slots; the
         -- empty slots.
         move ! (2 ∷ 0 ∷ []) $
         use2 𝓛 (‵ (runs_at (R E) N (chunks n xs) b o) ⊛ ‵ (ways τ' m v b after))
