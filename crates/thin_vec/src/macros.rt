@@ -11,7 +11,8 @@ use crate::list::ThinVec;
 use std::alloc::Allocator;
 use thin_block::ThinVecError;
 
-/// Makes a list with the growth rule `Doubling`. The macro has three forms:
+/// Makes a list with the growth rule `Doubling`, which chooses the new capacity whenever the list
+/// grows. The macro has three forms:
 ///
 /// - `thin_vec![alloc =>]` makes an empty list of capacity 0. It allocates nothing.
 /// - `thin_vec![alloc => x, y]` makes a list of the given items, in order. The capacity is exactly
@@ -23,12 +24,15 @@ use thin_block::ThinVecError;
 /// Instead of `alloc =>`, you can write `in alloc;`, as in `thin_vec![in alloc; x, y]`. The first
 /// form is then `thin_vec![in alloc]`. A trailing comma is allowed after items, but not after `k`.
 ///
-/// The macro evaluates to a `Result<ThinVec<T, A>, ThinVecError>`. You can use the macro in any
-/// function, whatever the return type of this function is.
+/// The macro evaluates to a `Result<ThinVec<T, A>, ThinVecError>`. An error does not make the
+/// surrounding function return. So you can use the macro in a function of any return type.
 ///
-/// The macro evaluates `alloc` first, and only once. In the second form, it then requests the
-/// memory. If the allocator grants the memory, the macro evaluates each item once, in order. In the
-/// third form, the macro evaluates `x` and then `k`, and then requests the memory.
+/// The macro evaluates `alloc` first, and only once. The next steps depend on the form:
+///
+/// - In the second form, the macro requests the memory for the list. If the allocator grants the
+///   memory, the macro then evaluates each item once, in order.
+/// - In the third form, the macro evaluates `x`, then evaluates `k`, and then requests the memory
+///   for the list.
 ///
 /// # Errors
 ///
@@ -81,8 +85,8 @@ macro_rules! count_items {
     };
 }
 
-/// Appends `value` to a list, which must have room for one more item. The list then owns `value`.
-/// `thin_vec!` calls this function once for each item.
+/// Appends `value` to `list`, which must have room for one more item. After the call, `list` owns
+/// `value`. `thin_vec!` calls this function once for each item.
 #[doc(hidden)]
 pub fn place<T, A: Allocator>(list: &mut ThinVec<T, A>, value: T)
     requires room { HasRoomFor list.old 1 }

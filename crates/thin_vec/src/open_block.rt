@@ -1,6 +1,6 @@
-//! The type `OpenBlock`, which contains the block of a list while a range of the list is edited.
-//! For example, `retain` uses an `OpenBlock`. There may be empty slots between the items of the
-//! block.
+//! The type `OpenBlock`. A method such as `retain` removes, replaces or tests the items of a range
+//! of a list. During this time, an `OpenBlock` contains the block of the list, that is, the pointer
+//! to its allocation. There may be empty slots between the items of the block.
 ghost use Rattle.std.specs.Prelude.{◌≡◌, ◌↔◌, ◌+◌, ◌-◌, ◌==◌, ◌<◌, ◌≤◌, ◌∷◌, ◌++◌, [], IsTrue, drop, if◌then◌else◌, length, slice_range, take};
 ghost use Rattle.std.specs.Iterator.{YieldsFirst, YieldsLast};
 ghost use Rattle.thin_block.specs.Cost.{moving, no_cost};
@@ -19,11 +19,12 @@ use std::marker::Model;
 use std::mem;
 use thin_block::{Block, Growth};
 
-/// Contains the block of a list while a range of the list is edited, for example during a call to
-/// `retain`. There may be empty slots between the items of the block.
+/// Contains the block of a list (the pointer to its allocation) while a method such as `retain`
+/// removes, replaces or tests the items of a range. During this time, there may be empty slots
+/// between the items of the block.
 ///
-/// The slots have six parts, each of which may be empty. The fields of this struct say in which
-/// slot each part begins. `capacity` is the number of slots.
+/// The slots are divided into six parts, each of which may be empty. The fields of this struct say
+/// in which slot each part begins. `capacity` is the number of slots.
 ///
 /// ```text
 ///   0       front_end    rest_start     rest_end    tail_start      len        capacity
@@ -37,10 +38,11 @@ use thin_block::{Block, Growth};
 /// - The *front* contains the items before the range, and the items that have been kept or inserted
 ///   so far. They do not move again while the block is open.
 /// - The *gap* consists of the empty slots between the front and the middle run.
-/// - The *middle run* contains the items of the range that have not been yielded or tested yet. In
-///   names of fields and in contracts, it is called `rest`.
+/// - The *middle run* contains the items of the range that have not been yielded, kept or removed
+///   yet. In names of fields and in contracts, it is called `rest`.
 /// - `gap_after` consists of the empty slots between the middle run and the tail. There are such
-///   slots only after items were removed from the end of the middle run, or the tail was moved up.
+///   slots only after items were removed from the end of the middle run, or after the tail was
+///   moved up.
 /// - The *tail* contains the items after the range.
 /// - The *spare slots* are the empty slots after the tail.
 ///
@@ -54,7 +56,8 @@ use thin_block::{Block, Growth};
 /// the block back into the list. In contracts, an `OpenBlock` is an `Open`, which is defined in
 /// `specs/Open.antt`.
 pub struct OpenBlock<T, A: Allocator> {
-    // The length that is stored in the block is not used while the block is open.
+    // The block that was taken out of the list. It stores a length, but this length is not used
+    // while the block is open.
     pub(crate) block: Block<T, A>,
     // The front (the items before the gap) is in the slots `0..front_end`.
     pub(crate) front_end: usize,
@@ -81,9 +84,9 @@ impl<T, A: Allocator> Model for OpenBlock<T, A> {
 }
 
 impl<T, A: Allocator, G: Growth> ThinVec<T, A, G> {
-    // Takes the block out of the list, so that the items `start..end` can be edited. These items
-    // become the middle run of the open block. After the call, the list has no items, and its
-    // capacity is 0.
+    // Takes the block out of the list, and returns it as an open block. The items `start..end`,
+    // which can then be removed or replaced, become the middle run of the open block. After the
+    // call, the list has no items, and its capacity is 0.
     pub(crate) fn open(&mut self, start: usize, end: usize) -> OpenBlock<T, A>
         requires start_le_end { start ≤ end }
         requires in_bounds { end ≤ length self.old.items }
@@ -113,9 +116,10 @@ impl<T, A: Allocator, G: Growth> ThinVec<T, A, G> {
         }
     }
 
-    // Takes the block out of the list, and makes a gap of `count` empty slots before the item at
-    // index `at`. To make this gap, the items from index `at` onward are moved up. After the call,
-    // the list has no items, and its capacity is 0.
+    // Takes the block out of the list, and returns it as an open block with a gap of `count` empty
+    // slots that begins at index `at`. To make this gap, moves the items from index `at` onward up
+    // by `count` slots. The list must have room for `count` more items. After the call, the list
+    // has no items, and its capacity is 0.
     pub(crate) fn open_wide(&mut self, at: usize, count: usize) -> OpenBlock<T, A>
         requires in_bounds { at ≤ length self.old.items }
         requires room { HasRoomFor self.old count }
@@ -143,9 +147,9 @@ impl<T, A: Allocator, G: Growth> ThinVec<T, A, G> {
         block
     }
 
-    // Moves the items after the gap down, so that no gap remains, and puts the block back into the
-    // list. If the list has another allocation at the time of the call, that allocation is freed.
-    // The code for a gap of one or two slots is inlined.
+    // Closes the gap of the open block `block`, and puts the block back into the list. To close the
+    // gap, moves the items after the gap down. If the list has another allocation before the call,
+    // frees that allocation. The code that closes a gap of one or two slots is inlined.
     #[inline(always)]
     pub(crate) fn close(&mut self, block: OpenBlock<T, A>)
         requires empty { self.old.items ≡ [] }
@@ -263,7 +267,8 @@ impl<T, A: Allocator> OpenBlock<T, A> {
         closed
     }
 
-    // Moves the items after the range (the tail) up by `count` slots.
+    // Moves the items after the range (the tail) up by `count` slots. There must be at least
+    // `count` empty slots after the tail.
     pub(crate) fn widen(&mut self, count: usize)
         requires some { 0 < count }
         requires room { reach self.old + count ≤ self.old.capacity }

@@ -15,7 +15,8 @@ use thin_block::Block;
 
 /// The result of a function that moves items of an iterator into empty slots, in order.
 pub(crate) struct Filled<I> {
-    /// The iterator after the call. It yields the items that have not been taken yet.
+    /// The iterator after the call. It yields the items that were not taken from it during the
+    /// call.
     pub(crate) rest: I,
     /// The index of the slot directly after the last item that was placed. If no item was placed,
     /// this is the index of the first of the empty slots.
@@ -49,8 +50,8 @@ pub(crate) fn put_vec<T, A: Allocator, B: Allocator>(
       cost = moving (length items.items) block.old.cost;
     } }
 {
-    // This call is needed only for the proof: the contract of `cap` says that the number of slots
-    // is less than 2^63. So each index is less than 2^63, too.
+    // This call is needed only for the proof. The contract of `cap` says that the number of slots
+    // is less than 2^63. So the index of each slot is less than 2^63, too.
     let _whole = block.cap();
     while let Some(item) = items.pop() {
         block.put(start + items.len(), item);
@@ -76,8 +77,8 @@ pub(crate) fn put_clones<T: Clone, A: Allocator>(
     ensures refused { result < length items.now
         → HoldsAt (λ x. ¬ (T.is_infallible x)) items.now result }
 {
-    // This call is needed only for the proof: the contract of `cap` says that the number of slots
-    // is less than 2^63. So each index is less than 2^63, too.
+    // This call is needed only for the proof. The contract of `cap` says that the number of slots
+    // is less than 2^63. So the index of each slot is less than 2^63, too.
     let _whole = block.cap();
     for i in 0..items.len() {
         match items[i].clone() {
@@ -107,8 +108,8 @@ pub(crate) fn put_repeated<T: Clone, A: Allocator>(
     } }
     ensures refused { result < count → ¬ (T.is_infallible value.now) }
 {
-    // This call is needed only for the proof: the contract of `cap` says that the number of slots
-    // is less than 2^63. So each index is less than 2^63, too.
+    // This call is needed only for the proof. The contract of `cap` says that the number of slots
+    // is less than 2^63. So the index of each slot is less than 2^63, too.
     let _whole = block.cap();
     for i in 0..count {
         match value.clone() {
@@ -137,8 +138,8 @@ pub(crate) fn put_results<T, A: Allocator, F: FnMut() -> T>(
       cost = moving count block.old.cost;
     } }
 {
-    // This call is needed only for the proof: the contract of `cap` says that the number of slots
-    // is less than 2^63. So each index is less than 2^63, too.
+    // This call is needed only for the proof. The contract of `cap` says that the number of slots
+    // is less than 2^63. So the index of each slot is less than 2^63, too.
     let _whole = block.cap();
     for i in 0..count {
         block.put(start + i, make());

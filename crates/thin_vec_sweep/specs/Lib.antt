@@ -1,2 +1,2 @@
 -- This crate contains only tests. It has no definitions of its own for contracts and proofs, so
--- this file is otherwise empty.
+-- this file contains nothing but this comment.

@@ -7,8 +7,8 @@ use std::fmt::Debug;
 use std::process::Abort;
 
 /// Identifies one test case of a sweep: the call, the length and the spare capacity of the list,
-/// the argument, and the refused allocation request. The message of a failed assertion contains
-/// these values.
+/// the argument, and the allocation request that is refused. The message of a failed assertion
+/// contains these values.
 #[derive(Debug, Clone, Copy)]
 pub struct At {
     pub call: &'static str,
@@ -17,7 +17,8 @@ pub struct At {
     /// The number of the allocation request that is refused, counting from 1. It is 0 if no request
     /// is refused.
     pub refused: u64,
-    /// The counters of the running test. Each comparison adds 1 to the counter `comparisons`.
+    /// The counters of the running test. The counter `comparisons` counts the comparisons that the
+    /// test makes.
     pub counts: &'static Counts,
 }
 
@@ -70,10 +71,10 @@ pub fn assert_same_items<T: Sample, R: Abort>(rt: &R, at: &At, items: &[T], numb
     assert_same(rt, at, "first item that differs", difference, None);
 }
 
-/// Asserts that exactly `items` items of type `T` have not been dropped yet. If the ledger does not
-/// count items of type `T`, asserts instead that the ledger counts no items at all. Also asserts
-/// the number of allocated blocks: one for each item if items own blocks, plus one for the list if
-/// `capacity` is not 0.
+/// Asserts that `ledger` has the expected counts of items and of allocated blocks. If the ledger
+/// counts items of type `T`, exactly `items` of them must not have been dropped yet. Otherwise, the
+/// ledger must count no items at all. The number of allocated blocks must be one for each item if
+/// items own blocks, plus one for the list if `capacity` is not 0.
 pub fn assert_live<T: Sample, R: Abort>(
     rt: &R,
     at: &At,

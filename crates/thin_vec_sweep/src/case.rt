@@ -20,7 +20,7 @@ pub enum Verdict {
     /// The call fails because the capacity would overflow, and not because the allocator refuses a
     /// request.
     Overflow,
-    /// The call fails because the allocator refuses a request for a block. A block is the memory in
+    /// The call fails because the allocator refuses to allocate a block, that is, the memory in
     /// which a list or a `Vec` stores its items.
     NoRoom,
     /// The call fails because cloning an item fails. The clones that were already made are dropped.
@@ -82,15 +82,16 @@ impl<T: Sample, G: Ruled> Case<T, G> {
         T::nth(rt, self.ledger, number)
     }
 
-    /// Resets the counts that concern a single call, and makes the allocator refuse the request
-    /// with the number `at.refused`. A test calls `begin` immediately before the call under test.
+    /// Prepares for the call under test, and is called immediately before it. Resets the counts of
+    /// requests, of clones, and of calls to `next` and `size_hint`. Then makes the allocator refuse
+    /// the request with the number `at.refused`, or no request if this number is 0.
     pub fn begin(&self) {
         self.ledger.begin(self.at.refused);
     }
 
     /// Returns the expected capacity of the list after a call that makes room for `additional` more
-    /// items. If the list must grow, the growth rule determines this capacity. Returns `None` if
-    /// the capacity overflows.
+    /// items. If there is enough room already, this is the current capacity. Otherwise, the growth
+    /// rule determines the capacity. Returns `None` if the capacity overflows.
     pub fn ruled(&self, additional: usize) -> Option<usize> {
         let want = self.items.len().checked_add(additional)?;
         if want <= self.capacity {
@@ -108,9 +109,9 @@ impl<T: Sample, G: Ruled> Case<T, G> {
     }
 
     /// Determines whether the call must be skipped because a list of capacity `capacity` would take
-    /// too much memory. Stores the result in `is_left_out`, and returns it. The call is not skipped
-    /// if its first request is refused, or if an item has a size of 0 bytes, because such a call
-    /// takes no memory.
+    /// too much memory. Stores the result in `is_left_out`, and returns it. A call is never skipped
+    /// if its first request is refused, or if the items have a size of 0 bytes. In these two cases,
+    /// the call takes no memory.
     pub fn is_too_much(&mut self, capacity: Option<usize>) -> bool {
         let is_great = capacity.is_some_and(|capacity| capacity > 1_000_000);
         self.is_left_out = is_great && self.at.refused != 1 && T::LIMIT < isize::MAX as usize;
@@ -118,8 +119,9 @@ impl<T: Sample, G: Ruled> Case<T, G> {
     }
 
     /// Returns how many requests of the call can be refused. Each of them is refused in a test case
-    /// of its own. If the call was skipped, returns 1: if the first request is refused, the call
-    /// takes no memory, so this test case can still be run.
+    /// of its own. The result is 1 if the call was skipped because it would need too much memory.
+    /// Such a call can still be tested with its first request refused, because it then takes no
+    /// memory.
     pub fn requests_in_turn(&self) -> u64 {
         if self.is_left_out { 1 } else { self.requests }
     }
@@ -139,10 +141,10 @@ impl<T: Sample, G: Ruled> Case<T, G> {
         verdict
     }
 
-    /// Records that the call must grow the list to `capacity`. Adds one to the expected number of
-    /// allocation requests and, if the allocator grants this request, updates the expected
-    /// capacity. Returns whether the growth must succeed. `capacity` is `None` if the capacity
-    /// overflows. In this case, nothing is recorded.
+    /// Records that the call must grow the list to `capacity`, and returns whether this growth must
+    /// succeed. Adds one to the expected number of allocation requests. If the allocator grants
+    /// this request, also updates the expected capacity. If the capacity overflows, `capacity` is
+    /// `None`. In this case, nothing is recorded, and the result is `false`.
     pub fn grows(&mut self, capacity: Option<usize>) -> bool {
         let Some(capacity) = capacity else {
             return false;
@@ -161,10 +163,10 @@ impl<T: Sample, G: Ruled> Case<T, G> {
         self.requests != self.at.refused
     }
 
-    /// Returns the expected outcome of one growth of the list to `capacity`, during a call that may
+    /// Returns the expected outcome of a growth of the list to `capacity`, during a call that may
     /// grow the list several times. Also updates the expected capacity and the expected number of
-    /// requests. If `capacity` is already the expected capacity, no request is expected for this
-    /// growth.
+    /// requests. If `capacity` is already the expected capacity, the list does not grow, and no
+    /// request is expected. `capacity` is `None` if the capacity overflows.
     pub fn further_growth(&mut self, capacity: Option<usize>) -> Verdict {
         let Some(wanted) = capacity else {
             return Verdict::Overflow;

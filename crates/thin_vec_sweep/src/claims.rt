@@ -7,8 +7,8 @@ use crate::ledger::{Ledger, count};
 use crate::samples::Counted;
 
 /// An iterator that yields its items in reverse order, and then always returns `None`. Its size
-/// hint is always `(lower, None)`, no matter how many items remain. The ledger counts the iterator
-/// itself as one item until the iterator is dropped.
+/// hint is always `(lower, None)`, no matter how many items remain. In the ledger, the iterator
+/// itself counts as one item until the iterator is dropped.
 #[derive(Drop)]
 pub struct Claims<T> {
     items: Vec<T>,

@@ -1,4 +1,4 @@
-//! Random and hand-written runs. A run executes a sequence of commands, each of which describes a
+//! Random and hand-written runs. A run executes a sequence of commands. Each command describes a
 //! call on a list. The runner (`step`) executes each command on a `ThinVec`. Except in `long.rt`, a
 //! model also executes each command on a `Vec`, and the two results are compared.
 mod commands;

@@ -24,10 +24,10 @@ pub trait Sample: Clone + Drop + PartialEq {
     const SIZE: usize;
 
     /// The greatest possible capacity of a list of such items, computed by hand. If an item has a
-    /// size of 0 bytes, this is `isize::MAX`. Otherwise, the limit follows from the size of a
-    /// block. A block consists of a header of 16 bytes and the items. Its size, rounded up to its
-    /// alignment, must be at most `isize::MAX`. The alignment of a block is the alignment of an
-    /// item, but at least 8.
+    /// size of 0 bytes, this capacity is `isize::MAX`. Otherwise, it depends on the size of a
+    /// block. A block consists of a header of 16 bytes and the items. The size of a block is
+    /// rounded up to a multiple of the alignment of the block. The result must be at most
+    /// `isize::MAX`. The alignment of a block is the alignment of an item, but at least 8.
     const LIMIT: usize;
 
     /// Makes an item from `number`.
@@ -93,8 +93,8 @@ impl Sample for i32 {
 
     const LIMIT: usize = 2_305_843_009_213_693_946;
 
-    // Returns the remainder of `number` modulo `2^31 - 1`, and negates it if `number` is odd. So
-    // the test items have both signs.
+    // Makes an item from the remainder of `number` modulo `2^31 - 1`. The item is this remainder if
+    // `number` is even, and its negative if `number` is odd. So the test items have both signs.
     fn nth<R: Abort>(_rt: &R, _ledger: &'static Ledger, number: u64) -> i32 {
         let magnitude = (number % 2_147_483_647) as i32;
         if number % 2 == 0 {

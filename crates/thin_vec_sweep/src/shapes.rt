@@ -34,9 +34,9 @@ const MANY: [usize; 2] = [1, 300];
 
 const MOST: [usize; 2] = [1, 100_000];
 
-/// For each `k` from 0 to 6, the number of test cases of a call on `k` items. These items are
-/// either the whole list or a range of the list. On lists of at most 6 items, all these test cases
-/// are run.
+/// For each `k` from 0 to 6, the number of test cases of a call on `k` items. The call acts on a
+/// whole list of `k` items, or on a range of `k` items. On lists of at most 6 items, all these test
+/// cases are run.
 pub type Cases = [usize; 7];
 
 // The number of ranges that are tried on a list of more than 6 items.
@@ -106,9 +106,9 @@ impl Shape {
         self.length < 5
     }
 
-    /// Returns the maximum number of test cases for one argument: one with enough memory, and one
-    /// for each refused request. At most the first 49 requests are refused in turn. On a list of
-    /// more than 40 items, only the first request is refused.
+    /// Returns the greatest possible number of test cases for one argument. There is one test case
+    /// with enough memory, and one for each request that is refused. At most the first 49 requests
+    /// are refused in turn. On a list of more than 40 items, only the first request is refused.
     pub fn rounds(self) -> u64 {
         if self.is_long() { 2 } else { 50 }
     }
@@ -141,8 +141,9 @@ impl Shape {
         cases.get(self.length).copied().unwrap_or(self.some())
     }
 
-    // Returns the number of test cases of a call on a list of more than 6 items, or on one range of
-    // such a list. The number is 0 if the list has spare capacity.
+    // Returns the number of test cases of a call on a list of more than 6 items. If the call acts
+    // on a range, this is the number of test cases for one range. If the list has spare capacity,
+    // the number is 0.
     fn some(self) -> usize {
         self.alone(if self.is_long() { 2 } else { 20 })
     }
@@ -166,8 +167,9 @@ impl Shape {
         self.length.saturating_add(1).saturating_sub(width)
     }
 
-    /// Returns a range, and the number of a test case on this range. All such pairs are numbered
-    /// consecutively, and `number` selects one of them.
+    /// Returns a range, and the number of a test case on this range. The test cases on all ranges
+    /// are numbered consecutively, and `number` selects one of them. On a list of at most 6 items,
+    /// `cases` says how many test cases there are on a range.
     pub fn ranged_case(self, cases: &Cases, number: usize) -> Ranged {
         if self.length >= cases.len() {
             return self.some_range(number % RANGES, number / RANGES);
@@ -188,9 +190,9 @@ impl Shape {
         self.some_range(0, number)
     }
 
-    // Returns one of the four ranges that are tried on a list of more than 6 items. `range` is a
-    // number from 0 to 3, which selects the range. `number` is the number of a test case on this
-    // range, and is stored in the returned `Ranged`.
+    // Returns one of the four ranges that are tried on a list of more than 6 items. `range`, which
+    // is a number from 0 to 3, selects the range. `number` is the number of a test case on this
+    // range. The returned `Ranged` contains both the range and this number.
     fn some_range(self, range: usize, number: usize) -> Ranged {
         let length = self.length;
         let (start, end) = match range {

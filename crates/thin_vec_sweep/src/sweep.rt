@@ -70,8 +70,9 @@ fn each_refusal<C: Call<T, G>, T: Sample, G: Ruled, R: Abort>(
     }
 }
 
-// Runs one test case. Returns the number of allocation requests that the call under test made, or 1
-// if the call was skipped because it would have needed too much memory.
+// Runs one test case: makes the call, and checks its results. Returns the number of allocation
+// requests that the call made, or 1 if the call was skipped because it would have needed too much
+// memory.
 #[inline(never)]
 fn case<C: Call<T, G>, T: Sample, G: Ruled, R: Abort>(
     rt: &R,

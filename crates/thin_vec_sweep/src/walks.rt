@@ -7,8 +7,8 @@ use crate::shapes::Cases;
 pub const WALKS: Cases = [3, 7, 15, 31, 63, 127, 255];
 
 // Four sequences of steps over more than 6 items. Each of the four numbers represents one sequence.
-// The bits of a number represent the steps: 1 is a step from the back, and 0 is a step from the
-// front.
+// The bits of the number represent the steps, beginning with the last bit: 1 is a step from the
+// back, and 0 is a step from the front.
 const ENDS: [u64; 4] = [0x5555_5555_5555_5555, u64::MAX, 0, 0xcccc_cccc_cccc_cccc];
 
 /// A sequence of steps. Each step takes an item from the front or from the back of an iterator.
@@ -24,12 +24,12 @@ pub struct Walk {
 impl Walk {
     /// Returns one of the walks over `count` items. `number` selects the walk.
     ///
-    /// If `count` is at most 6, the binary digits of `number + 1` describe the steps, beginning
-    /// with the last digit and without the leading 1. The digit 1 is a step from the back, and 0 is
-    /// a step from the front.
+    /// If `count` is at most 6, the binary digits of `number + 1` describe the steps, except that
+    /// the first digit, which is always 1, describes no step. The last digit describes the first
+    /// step. The digit 1 is a step from the back, and 0 is a step from the front.
     ///
-    /// If `count` is greater than 6, `number / 4` selects the number of steps, and `number % 4`
-    /// selects the directions of the steps, which are an entry of `ENDS`.
+    /// If `count` is greater than 6, `number / 4` selects the number of steps. `number % 4` selects
+    /// an entry of `ENDS`, which describes the directions of the steps.
     pub fn nth(count: usize, number: usize) -> Walk {
         if count >= WALKS.len() {
             return Walk {
@@ -91,10 +91,10 @@ impl Remaining {
         }
     }
 
-    /// Removes the index of the item that the next step must yield, and returns the number from
-    /// which this item was made. Returns `None` if no item remains. The step is from the back if
-    /// `is_back` is true, and from the front otherwise. `numbers` contains the numbers from which
-    /// all items were made.
+    /// Takes the next step: removes the index of the item that this step must yield, and returns
+    /// the number from which this item was made. Returns `None` if no item remains. If `is_back` is
+    /// true, the step takes the last remaining item. Otherwise, it takes the first one. `numbers`
+    /// contains the numbers from which all items were made.
     pub fn take(&mut self, is_back: bool, numbers: &[u64]) -> Option<u64> {
         if self.start >= self.end {
             return None;

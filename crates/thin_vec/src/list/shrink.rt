@@ -12,8 +12,8 @@ impl<T, A: Allocator, G: Growth> ThinVec<T, A, G> {
 
     /// Shrinks the capacity to `min_capacity`, or to the length if the length is greater. If this
     /// would not reduce the capacity, nothing changes. If the capacity is reduced to 0, the
-    /// allocation is freed. In contracts, the recorded cost of the list (its field `cost`) is then
-    /// 0.
+    /// allocation is freed. In this case, all counts in the field `cost` of the list become 0. This
+    /// field exists only in contracts, and counts allocations and the copies and moves of items.
     ///
     /// Rust's `Vec` has a method of this name, but the Rust crate thin-vec does not.
     ///
@@ -54,8 +54,9 @@ impl<T, A: Allocator, G: Growth> ThinVec<T, A, G> {
     }
 
     /// Shrinks the capacity to the length. If the list is full, nothing changes. If the list is
-    /// empty but has an allocation, the allocation is freed. In contracts, the recorded cost of the
-    /// list (its field `cost`) is then 0.
+    /// empty but has an allocation, the allocation is freed. In this case, all counts in the field
+    /// `cost` of the list become 0. This field exists only in contracts, and counts allocations and
+    /// the copies and moves of items.
     ///
     /// # Errors
     ///
@@ -90,7 +91,8 @@ impl<T, A: Allocator, G: Growth> ThinVec<T, A, G> {
         requires smaller { cap < self.old.capacity }
         requires within { IsWithin T.row self.old }
 
-        // In every case, only the fields `capacity` and `cost` of the list may change.
+        // Whether or not the call succeeds, only the fields `capacity` and `cost` of the list may
+        // change.
         ensures changes { self.new ≡ record self.old {
           capacity = self.new.capacity;
           cost = self.new.cost;
@@ -112,8 +114,8 @@ impl<T, A: Allocator, G: Growth> ThinVec<T, A, G> {
     }
 
     // Frees the allocation of an empty list. After the call, the capacity of the list is 0. In
-    // contracts, the field `cost` of the list, which counts allocations and moves of items, is then
-    // 0, too.
+    // contracts, all counts in the field `cost` of the list, such as the number of allocations, are
+    // then 0, too.
     fn give_block_back(&mut self)
         requires empty { self.old.items ≡ [] }
         ensures changes { self.new ≡ record self.old { items = []; capacity = 0; cost = no_cost } }

@@ -1,8 +1,10 @@
-//! The functions that the `dedup` methods call. These functions test each item against the last
-//! item that was kept before it, and drop the items that the test removes.
+//! The functions that the `dedup` methods call. These functions keep the first item, and test each
+//! later item against the last item that was kept before it. If the test decides that the later
+//! item is removed, the functions drop this item.
 //!
-//! The front of the block contains the items that have been kept so far. After the front, there is
-//! a gap of empty slots. After the gap, the middle run contains the remaining items.
+//! The front of the block contains the items that have been kept so far. After the front, there may
+//! be a gap of empty slots. After the gap, the middle run contains the remaining items, that is,
+//! the items that have not been kept or removed yet.
 ghost use Rattle.std.specs.Prelude.{◌≡◌, ◌+◌, ◌-◌, ◌^◌, ◌<◌, ◌≤◌, ◌∷◌, ◌++◌, [], Bool, length};
 ghost use Rattle.thin_block.specs.Block.{seen};
 ghost use Rattle.thin_block.specs.Cost.{moving};
@@ -15,10 +17,9 @@ use thin_block::Block;
 
 /// A test of two items. It decides whether the later item is removed, and may write to both items.
 pub(crate) trait PairTest<T> {
-    /// States what one call to the test does. The arguments are, in this order: the state of the
-    /// test before the call, the later item, the last item that was kept before it, whether the
-    /// later item is removed, the state of the test after the call, and the two items after the
-    /// call.
+    /// `tests s x k b t y l` holds if one call to the test may change the state of the test from
+    /// `s` to `t`, the later item from `x` to `y`, and the last item that was kept before it from
+    /// `k` to `l`. The flag `b` is true if the later item is removed.
     ghost tests: { Self → T → T → Bool → Self → T → T → Type 0 };
 
     /// `ready s` holds if the test can be called in the state `s`, with any two items. After such a
@@ -36,8 +37,8 @@ pub(crate) trait PairTest<T> {
 impl<T, A: Allocator> OpenBlock<T, A> {
     ghost use Rattle.thin_vec.specs.OpenBlock.Dedup.{IsPairAskedAt, IsLastAsked, IsNextAsked};
 
-    // Tests the item at index `k` of the remaining items against the item before it. Neither item
-    // is moved.
+    // Tests the item at index `k` of the remaining items against the item before it. Returns
+    // whether the item at index `k` is to be removed. Neither item is moved.
     pub(crate) fn test_pair<J: PairTest<T>>(&mut self, k: usize, test: &mut J) -> bool
         requires some { 0 < k }
         requires in_bounds { k < length self.old.rest }
@@ -51,7 +52,8 @@ impl<T, A: Allocator> OpenBlock<T, A> {
         test_neighbours(&mut self.block, kept, test)
     }
 
-    // Tests the item `later` against the last item that was kept. The kept item is not moved.
+    // Tests the item `later` against the last item that was kept. Returns whether `later` is to be
+    // removed. The kept item is not moved.
     pub(crate) fn test_last<J: PairTest<T>>(&mut self, later: &mut T, test: &mut J) -> bool
         requires some { 0 < length self.old.front }
         requires ready { J.ready test.old }
@@ -63,8 +65,8 @@ impl<T, A: Allocator> OpenBlock<T, A> {
         test.test(later, self.block.slot_mut(self.front_end - 1))
     }
 
-    // Tests the first of the remaining items against the item `kept`. The remaining item is not
-    // moved.
+    // Tests the first of the remaining items against the item `kept`. Returns whether the remaining
+    // item is to be removed. The remaining item is not moved.
     pub(crate) fn test_next<J: PairTest<T>>(&mut self, kept: &mut T, test: &mut J) -> bool
         requires some { 0 < length self.old.rest }
         requires ready { J.ready test.old }
@@ -136,8 +138,8 @@ impl<T: Drop, A: Allocator> OpenBlock<T, A> {
         }
     }
 
-    // Continues `dedup_rest` after the first removal. The removed item has left an empty slot after
-    // the kept items.
+    // Continues the work of `dedup_rest` after the first item has been removed. The slot of the
+    // removed item is empty, so there is a gap after the kept items.
     fn dedup_past_gap<J: PairTest<T>>(&mut self, test: &mut J)
         requires some { 0 < length self.old.front }
         requires gap { 0 < self.old.gap }
@@ -151,14 +153,15 @@ impl<T: Drop, A: Allocator> OpenBlock<T, A> {
         self.dedup_last(test);
     }
 
-    // Tests the remaining items, in order, up to the first item that is removed. Drops that item,
-    // and appends the items before it to the kept items. At least two items must remain before the
-    // call.
+    // Tests the remaining items, in order, each against the last item that was kept before it.
+    // Stops at the first item that is to be removed, and drops this item. Appends the items before
+    // it to the kept items. If no item is to be removed, appends all remaining items. At least two
+    // items must remain before the call.
     //
-    // The first remaining item is taken out of the block before it is tested. The test needs
-    // mutable references to this item and to the last kept item at the same time. The block can
-    // provide two such references only for adjacent items, but there are empty slots between these
-    // two items.
+    // The first remaining item is taken out of the block before it is tested. This is necessary
+    // because the test needs mutable references to this item and to the last kept item at the same
+    // time. The block can provide two such references only for adjacent items, but there are empty
+    // slots between these two items.
     fn dedup_two<J: PairTest<T>>(&mut self, test: &mut J)
         requires some { 0 < length self.old.front }
         requires two { 1 < length self.old.rest }
@@ -166,9 +169,10 @@ impl<T: Drop, A: Allocator> OpenBlock<T, A> {
         requires ready { J.ready test.old }
         ensures dedups { Dedups J.tests test.old self.old test.new self.new }
 
-        // The function `dedup_past_gap` calls this function in a loop. The proof of this loop uses
-        // this clause and the next two clauses: the front is not empty after the call, fewer items
-        // remain than before, and the test can be called again.
+        // The function `dedup_past_gap` calls this function in a loop. The proof of the loop uses
+        // three facts about the state after the call: the front is not empty, fewer items remain
+        // than before the call, and the test can be called again. This clause and the next two
+        // clauses state these facts.
         ensures some { 0 < length self.new.front }
         ensures less { length self.new.rest < length self.old.rest }
         ensures ready { J.ready test.new }
@@ -213,7 +217,8 @@ impl<T: Drop, A: Allocator> OpenBlock<T, A> {
     }
 }
 
-// Tests the item in slot `i + 1` against the item in slot `i`. Neither item is moved.
+// Tests the item in slot `i + 1` against the item in slot `i`, and returns whether the former item
+// is to be removed. Neither item is moved.
 fn test_neighbours<T, A: Allocator, J: PairTest<T>>(
     block: &mut Block<T, A>,
     i: usize,

@@ -1,4 +1,4 @@
-//! Methods that put items into the gap of an open block, that is, into the empty slots in the
+//! Methods that put items into the gap of an open block. The gap consists of empty slots in the
 //! middle of the block. The new items directly follow the items before the gap.
 ghost use Rattle.std.specs.Prelude.{◌≡◌, ◌-◌, ◌<◌, ◌≤◌, [], ◌++◌, HoldsAt, List, drop, length, take};
 ghost use Rattle.std.specs.Iterator.{IsFinite};
@@ -15,9 +15,9 @@ use std::mem;
 use thin_block::{Block, Growth};
 
 impl<T, A: Allocator> OpenBlock<T, A> {
-    // Moves items of `iter` into the gap of empty slots, until the gap is full or `iter` returns
-    // `None`. The field `end` of the returned `Filled` is the number of items that are before the
-    // gap after the call.
+    // Moves items of `iter` into the gap of empty slots, in order, until the gap is full or `iter`
+    // returns `None`. After the call, the number of items before the gap is the field `end` of the
+    // returned value.
     pub(crate) fn fill<I: Iterator<Item = T>>(&mut self, iter: I) -> Filled<I>
         requires can_next { I.can_next iter }
         requires finite { IsFinite (I.remaining iter) }

@@ -11,14 +11,14 @@ use std::alloc::Allocator;
 use std::mem;
 use thin_block::Block;
 
-// If at least this many items have to be moved, it is faster to move them together than one by one.
+// If at least this many items have to be moved, they are moved together. For so many items, this is
+// faster than moving them one by one.
 const MANY: usize = 8;
 
 /// A test of one item. It decides whether the item is kept, and may write to the item.
 pub(crate) trait Test<T> {
-    /// States what one call to the test does. The arguments are, in this order: the state of the
-    /// test before the call, the item, whether the item is kept, the state of the test after the
-    /// call, and the item after the call.
+    /// `tests s x b t y` holds if one call to the test may change the state of the test from `s` to
+    /// `t`, and the item from `x` to `y`. The flag `b` is true if the item is kept.
     ghost tests: { Self → T → Bool → Self → T → Type 0 };
 
     /// `ready s` holds if the test can be called in the state `s`, with any item. After such a
@@ -35,7 +35,8 @@ pub(crate) trait Test<T> {
 impl<T, A: Allocator> OpenBlock<T, A> {
     ghost use Rattle.thin_vec.specs.OpenBlock.Sift.{IsAskedAt, AskedUpTo};
 
-    // Tests the item at index `k` of the remaining items. The item is not moved.
+    // Tests the item at index `k` of the remaining items, and returns whether this item is kept.
+    // The item is not moved.
     pub(crate) fn test<J: Test<T>>(&mut self, k: usize, test: &mut J) -> bool
         requires in_bounds { k < length self.old.rest }
         requires ready { J.ready test.old }
@@ -104,9 +105,9 @@ impl<T, A: Allocator> OpenBlock<T, A> {
         }
     }
 
-    // Moves the first `k` of the remaining items down, all together, so that they directly follow
-    // the kept items. The method `close_gap` takes the block by value, so that the other fields of
-    // the open block can stay in registers.
+    // Moves the first `k` of the remaining items down, so that they directly follow the kept items.
+    // The method `close_gap` of the block moves all `k` items together. It takes the block by
+    // value, so that the other fields of the open block can stay in registers.
     #[inline(always)]
     fn move_run_down(&mut self, k: usize)
         requires in_bounds { k ≤ length self.old.rest }
@@ -127,9 +128,10 @@ impl<T, A: Allocator> OpenBlock<T, A> {
         self.rest_start += k;
     }
 
-    // Returns whether at least two items remain. There must be a gap before the remaining items. So
-    // `rest_end` is not 0, and `rest_end - 1` cannot overflow. The code compares `rest_start` with
-    // `rest_end - 1` because `rest_end - 1` can stay in a register during a loop.
+    // Returns whether at least two items remain. There must be a gap before the remaining items.
+    // For this reason, `rest_end` is not 0, and the subtraction cannot overflow. The code subtracts
+    // 1 from `rest_end`, instead of adding 1 to `rest_start`, because `rest_end - 1` can stay in a
+    // register during a loop.
     pub(crate) fn has_two(&self) -> bool
         requires gap { 0 < self.now.gap }
         ensures value { IsTrue result ↔ (1 < length self.now.rest) }
@@ -163,9 +165,10 @@ impl<T, A: Allocator> OpenBlock<T, A> {
     ghost use Rattle.thin_vec.specs.OpenBlock.Sift.{Advances};
 
     // Tests the remaining items, in order, up to the first item that is to be removed, and returns
-    // whether there is such an item. The items before it become kept items. If there is a gap
-    // before the remaining items, these kept items are moved down. The item that is to be removed
-    // is then the first of the remaining items.
+    // whether there is such an item. The items before it become kept items. If no item is to be
+    // removed, all remaining items become kept items. If there is a gap before the remaining items,
+    // these kept items are moved down. After the call, the item that is to be removed is the first
+    // of the remaining items.
     pub(crate) fn advance<J: Test<T>>(&mut self, test: &mut J) -> bool
         requires ready { J.ready test.old }
         ensures advances { Advances J.tests test.old self.old test.new self.new }
@@ -180,7 +183,9 @@ impl<T, A: Allocator> OpenBlock<T, A> {
         self.rest_len() > 0
     }
 
-    // Does the same as `advance`, for a block with empty slots after the kept items.
+    // Does the same as `advance`: tests the remaining items up to the first item that is to be
+    // removed, and returns whether there is such an item. There must be empty slots after the kept
+    // items.
     fn advance_past_gap<J: Test<T>>(&mut self, test: &mut J) -> bool
         requires gap { 0 < self.old.gap }
         requires ready { J.ready test.old }
@@ -195,9 +200,9 @@ impl<T, A: Allocator> OpenBlock<T, A> {
         }
     }
 
-    // Does the same as `advance`, for a block with empty slots after the kept items and at least
-    // two remaining items. The first two items are tested before the loop. If one of these two
-    // items is to be removed, the function returns without a loop, and needs no loop counter.
+    // Does the same as `advance`, but needs empty slots after the kept items, and at least two
+    // remaining items. The first two items are tested before the loop. If one of them is to be
+    // removed, the function returns before the loop, and needs no loop counter.
     fn advance_two<J: Test<T>>(&mut self, test: &mut J) -> bool
         requires two { 1 < length self.old.rest }
         requires gap { 0 < self.old.gap }
@@ -218,8 +223,8 @@ impl<T, A: Allocator> OpenBlock<T, A> {
         self.rest_len() > 0
     }
 
-    // Does the same as `advance`, for a block with empty slots after the kept items and at most one
-    // remaining item.
+    // Does the same as `advance`, but needs empty slots after the kept items. At most one item may
+    // remain before the call.
     fn advance_last<J: Test<T>>(&mut self, test: &mut J) -> bool
         requires short { length self.old.rest ≤ 1 }
         requires gap { 0 < self.old.gap }
@@ -258,8 +263,8 @@ impl<T: Drop, A: Allocator> OpenBlock<T, A> {
         }
     }
 
-    // Continues `sift` after the first removal. The removed item has left an empty slot after the
-    // kept items.
+    // Continues the work of `sift` after the first item has been removed. The slot of the removed
+    // item is empty, so there is a gap after the kept items.
     fn sift_past_gap<J: Test<T>>(&mut self, test: &mut J)
         requires gap { 0 < self.old.gap }
         requires ready { J.ready test.old }
@@ -272,9 +277,9 @@ impl<T: Drop, A: Allocator> OpenBlock<T, A> {
         self.sift_last(test);
     }
 
-    // Tests the remaining items, in order, up to the first item that is removed. Drops that item,
-    // and appends the items before it to the kept items. At least two items must remain before the
-    // call.
+    // Tests the remaining items, in order, up to the first item that is to be removed, and drops
+    // this item. Appends the items before it to the kept items. If no item is to be removed,
+    // appends all remaining items. At least two items must remain before the call.
     fn sift_two<J: Test<T>>(&mut self, test: &mut J)
         requires two { 1 < length self.old.rest }
         requires gap { 0 < self.old.gap }

@@ -13,8 +13,8 @@ use std::process::Abort;
 use thin_testing::Ruled;
 
 /// A test that compares a list with a second list, and hashes the first list. There are four test
-/// cases: the second list is equal to the first list, has another last item, is shorter by one
-/// item, or is longer by one item.
+/// cases. In these test cases, the second list is equal to the first list, differs in the last
+/// item, is one item shorter, or is one item longer.
 pub struct Compare {}
 
 impl<T: Sample + Ord + Hash + Debug, G: Ruled> Call<T, G> for Compare {

@@ -13,7 +13,8 @@ use thin_vec::{Doubling, Rejected, ThinVec, ThinVecError, thin_vec};
 // Each test item is made from a number. In the test `Repeated`, all items are made from `FRESH`.
 const FRESH: u64 = 70_000;
 
-// The allocator of the lists under test. It can refuse one allocation request.
+// The type of the allocator of the lists under test. The allocator can refuse one allocation
+// request.
 type Lender = &'static Refusing<Global>;
 
 /// A test that calls `into_vec` or `into_boxed_slice`.

@@ -1,6 +1,6 @@
-//! Tests of the calls that fill a list from an iterator, such as `extend` and `from_iter`. The
-//! lower bound of the iterator's size hint is too small, exact, too large, or even greater than the
-//! greatest possible capacity.
+//! Tests of the calls that fill a list from an iterator, such as `extend` and `from_iter`. Several
+//! size hints are tried for each iterator. The lower bound of a size hint is too small, exact, too
+//! large, or even greater than the greatest possible capacity of a list.
 use crate::assertions::assert_same;
 use crate::case::{Case, Verdict, numbers, put, source};
 use crate::claims::Claims;
@@ -21,8 +21,9 @@ const FRESH: u64 = 800_000;
 // The number of size hints that are tried.
 const HINTS: usize = 10;
 
-// Returns a lower bound for the size hint of an iterator over `count` items. `number` selects one
-// of several bounds, and `length` is the length of the list.
+// Returns one of the lower bounds that are tried for the size hint of an iterator over `count`
+// items. `number` selects the bound. `length` is the length of the list, on which some of the
+// bounds depend.
 fn hint<T: Sample>(number: usize, count: usize, length: usize) -> usize {
     match number {
         0 => 0,
@@ -47,10 +48,10 @@ pub struct Ending {
     /// The number of items that are taken from the iterator and then stored in a temporary vector
     /// instead of the list.
     pub held: usize,
-    /// The number of items in hand: 0 or 1. An item in hand is an item that the call takes from the
-    /// iterator, but for which it finds no room.
+    /// The number of items in hand, which is 0 or 1. An item in hand is an item that the call takes
+    /// from the iterator, but for which it finds no room.
     pub in_hand: usize,
-    /// The number of times the iterator returns `None`: 0 or 1.
+    /// The number of times that the iterator returns `None`, which is 0 or 1.
     pub ends: usize,
     /// The number of times `size_hint` is called.
     pub hints: u64,
@@ -58,8 +59,8 @@ pub struct Ending {
 
 impl Ending {
     /// Returns the expected outcome of a call that fails after it has moved `placed` items into the
-    /// list. `in_hand` is 1 if the call then takes one more item from the iterator and finds no
-    /// room for it. Otherwise, `in_hand` is 0.
+    /// list. If `in_hand` is 1, the call then takes one more item from the iterator, and finds no
+    /// room for this item. If `in_hand` is 0, the call takes no further item.
     pub fn refused(verdict: Verdict, placed: usize, in_hand: usize) -> Ending {
         Ending {
             verdict,
@@ -93,9 +94,9 @@ impl Ending {
 }
 
 /// Returns the expected outcome of a call that appends `count` items from an iterator. Also appends
-/// the expected items to `case.items`. `hinted` is the capacity that the call computes from the
-/// size hint. The call first grows the list to this capacity. After this, it grows the list
-/// whenever the list is full.
+/// the expected items to `case.items`. The call first grows the list to the capacity `hinted`,
+/// which it computes from the size hint. Later, it grows the list whenever there is no room for the
+/// next item. `hinted` is `None` if the capacity that the call computes is too large.
 pub fn fill<T: Sample, G: Ruled, R: Abort>(
     rt: &R,
     case: &mut Case<T, G>,
@@ -153,9 +154,9 @@ pub fn assert_iterator_calls<T: Sample, G: Ruled, R: Abort>(
     );
 }
 
-/// Asserts that a failed call returned the iterator with all items that the call had not taken. The
-/// iterator had `count` items before the call. If the call had taken an item for which it found no
-/// room, it must have returned this item, too.
+/// Checks the items that a failed call returned. Before the call, the iterator had `count` items.
+/// The call must have returned the iterator with all items that it had not taken. If the call had
+/// taken an item for which it found no room, it must also have returned this item, as `in_hand`.
 pub fn back<T: Sample, G: Ruled, R: Abort>(
     rt: &R,
     case: &Case<T, G>,
@@ -250,7 +251,8 @@ fn done<T: Sample, G: Ruled, R: Abort>(rt: &R, case: &Case<T, G>, ending: &Endin
 }
 
 // Returns three values: an iterator whose items are to be appended, the number of these items, and
-// the expected outcome of the call. Returns `None` if the call would need too much memory.
+// the expected outcome of the call. Returns `None` if the call must be skipped because it would
+// need too much memory.
 fn extension<T: Sample, G: Ruled, R: Abort>(
     rt: &R,
     case: &mut Case<T, G>,
@@ -332,7 +334,8 @@ impl<T: Sample> Call<T, Doubling> for Collect {
 }
 
 // Drops the list under test. Returns two values: an iterator, and the expected outcome of a call
-// that makes a list from this iterator. Returns `None` if the call would need too much memory.
+// that makes a list from this iterator. Returns `None` if the call must be skipped because it would
+// need too much memory.
 fn collection<T: Sample, R: Abort>(
     rt: &R,
     case: &mut Case<T, Doubling>,

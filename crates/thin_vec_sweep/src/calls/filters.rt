@@ -11,8 +11,8 @@ use std::mem;
 use std::process::Abort;
 use thin_testing::Ruled;
 
-// The number from which a test of `retain_mut` or `pop_if` makes a new item. The closure moves this
-// item into the list.
+// The number from which the tests of `retain_mut` and `pop_if` make a new item. The closure moves
+// this new item into the list.
 const FRESH: u64 = 70_000;
 
 /// A test that calls `retain`. The closure only reads the items.
@@ -39,9 +39,9 @@ impl<T: Sample, G: Ruled> Call<T, G> for Retain {
     }
 }
 
-// Returns the items that remain after a call to `retain` on a list of `count` items. Each item is
-// represented by the number from which it was made. `pattern` determines which items the closure
-// keeps.
+// Returns the items that remain after a call to `retain` on a list of `count` items. The result
+// contains, for each item, the number from which it was made. `pattern` determines which items the
+// closure keeps.
 fn kept<R: Abort>(rt: &R, global: Global, count: usize, pattern: usize) -> Vec<u64, Global> {
     let mut left = Vec::new(global);
     for index in 0..count {
@@ -81,10 +81,10 @@ impl<T: Sample, G: Ruled> Call<T, G> for RetainMut {
     }
 }
 
-// Returns the items that remain after the test `RetainMut` on a list of `count` items. Each item is
-// represented by the number from which it was made. At index 0, the closure writes a new item. At
-// each later index, it writes the old item of the previous index. `pattern` determines at which
-// indices the written items are kept.
+// Returns the items that remain after the test `RetainMut` on a list of `count` items. The result
+// contains, for each item, the number from which it was made. The closure writes a new item to
+// index 0. To each later index, it writes the item that was at the previous index before the call.
+// `pattern` determines at which indices the written items are kept.
 fn moved_up<R: Abort>(rt: &R, global: Global, count: usize, pattern: usize) -> Vec<u64, Global> {
     let mut left = Vec::new(global);
     let mut number = FRESH;
@@ -128,9 +128,11 @@ impl<T: Sample, G: Ruled> Call<T, G> for PopIf {
     }
 }
 
-// Updates the expected items for the test `PopIf`. If `items` is not empty, replaces its last
-// number with the number from which the new item is made. `goes` says whether the closure returns
-// `true`. If it does, also removes and returns this new number.
+// Updates `items`, the expected items, for the test `PopIf`, and returns the number of the item
+// that `pop_if` must return. If `items` is empty, returns `None`. Otherwise, the closure replaces
+// the last item with a new item, which is made from `FRESH`. `goes` says whether the closure then
+// returns `true`. If it does, the new item is removed and returned. If not, the new item remains in
+// the list.
 fn popped<R: Abort>(rt: &R, items: &mut Vec<u64, Global>, goes: bool) -> Option<u64> {
     let _last = items.pop()?;
     if goes {
@@ -171,10 +173,10 @@ impl<T: Sample, G: Ruled> Call<T, G> for DedupBy {
     }
 }
 
-// Returns the items that remain after the test `DedupBy` on a list of `count` items. Each item is
-// represented by the number from which it was made. The closure swaps each item with the last item
-// that was kept. After each swap, `pattern` determines whether the item that is now at the later
-// index is removed.
+// Returns the items that remain after the test `DedupBy` on a list of `count` items. The result
+// contains, for each item, the number from which it was made. At each index except 0, the closure
+// swaps the item at this index with the last item that was kept. After the swap, `pattern`
+// determines whether the item that is now at this index is removed.
 fn exchanged<R: Abort>(rt: &R, global: Global, count: usize, pattern: usize) -> Vec<u64, Global> {
     let mut left = Vec::new(global);
     let mut last = number_at(0);
@@ -192,8 +194,8 @@ fn exchanged<R: Abort>(rt: &R, global: Global, count: usize, pattern: usize) -> 
 }
 
 /// A test that calls `dedup_by_key`. In each comparison, the key of the later item is 1. The key of
-/// the kept item is 1 if the later item is to be removed, and 0 otherwise. The test also detects
-/// keys that are not dropped.
+/// the kept item is 1 if the later item is to be removed, and 0 otherwise. The ledger counts the
+/// keys, so the test also detects keys that are not dropped.
 pub struct DedupByKey {}
 
 impl<T: Sample, G: Ruled> Call<T, G> for DedupByKey {
@@ -229,9 +231,9 @@ impl<T: Sample, G: Ruled> Call<T, G> for DedupByKey {
     }
 }
 
-// Returns the items that remain after the test `DedupByKey` on a list of `count` items. Each item
-// is represented by the number from which it was made. The first item always remains, and `pattern`
-// determines which later items remain.
+// Returns the items that remain after the test `DedupByKey` on a list of `count` items. The result
+// contains, for each item, the number from which it was made. The first item always remains, and
+// `pattern` determines which later items remain.
 fn first_kept<R: Abort>(rt: &R, global: Global, count: usize, pattern: usize) -> Vec<u64, Global> {
     let mut left = Vec::new(global);
     for index in 0..count {

@@ -1,6 +1,6 @@
 //! Tests of the function `bounds`, and of `drain` and `extract_if`, which remove items of a range.
-//! The iterators that `drain` and `extract_if` return are dropped after they have yielded some
-//! items.
+//! The tests take some items from the iterators that `drain` and `extract_if` return, and then drop
+//! these iterators.
 use crate::assertions::{At, assert_same, assert_same_item, assert_same_items};
 use crate::case::{Case, put};
 use crate::closures::{number_at, stays};
@@ -103,9 +103,10 @@ fn step_through<'a, T: Sample, A: Allocator, G: Growth, R: Abort>(
     remaining.of(numbers)
 }
 
-// For each `k` from 0 to 6, the number of test cases of `extract_if` on a range of `k` items. The
-// test calls `next` from 0 to `k + 1` times, and tries all `2^k` combinations of the closure's
-// results. So there are `(k + 2) * 2^k` test cases.
+// For each `k` from 0 to 6, the number of test cases of `extract_if` on a range of `k` items. A
+// test case calls `next` from 0 to `k + 1` times. For each of these `k + 2` numbers of calls, the
+// test tries all `2^k` sequences of results of the closure. So there are `(k + 2) * 2^k` test
+// cases.
 const EXTRACTIONS: Cases = [2, 6, 16, 40, 96, 224, 512];
 
 /// A test that calls `extract_if` on several ranges, with several closures. Each test case calls
@@ -178,8 +179,8 @@ impl Extraction {
     }
 }
 
-// Returns two properties of the test case `number` on a range of `width` items: how many times
-// `next` is called, and which pattern of results the closure returns.
+// Returns two values for the test case `number` on a range of `width` items: the number of calls to
+// `next`, and the number of the pattern that determines what the closure returns.
 fn calls_and_pattern(width: usize, number: usize) -> (usize, usize) {
     if width >= EXTRACTIONS.len() {
         return (some_steps(width, number % 5), number / 5);
@@ -192,8 +193,8 @@ fn calls_and_pattern(width: usize, number: usize) -> (usize, usize) {
 }
 
 // Calls `extract_if`, and then calls `next` the number of times that `wanted` specifies. Checks
-// each item that is yielded. If the closure is called with an item other than the expected one, it
-// returns `false`, so that this item is not removed.
+// each item that is yielded. If an item that is passed to the closure is not the expected item, the
+// closure returns `false`, so that the item is not removed.
 fn extract<T: Sample, A: Allocator, G: Growth, R: Abort>(
     rt: &R,
     at: &At,
@@ -227,8 +228,8 @@ fn extract<T: Sample, A: Allocator, G: Growth, R: Abort>(
 // numbers `n`.
 const BOUNDS: usize = 19;
 
-/// A test that calls `bounds` with every pair of bounds from a set of 19. The set consists of
-/// `Unbounded`, and of inclusive and exclusive bounds at nine numbers: 0 to 4, the length, the
+/// A test that calls `bounds` with every pair of 19 bounds. These are `Unbounded`, and the
+/// inclusive and exclusive bounds at nine numbers. The nine numbers are 0 to 4, the length, the
 /// length plus 1, and the two greatest values of `usize`.
 pub struct Bounds {}
 

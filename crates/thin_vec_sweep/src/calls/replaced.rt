@@ -18,9 +18,9 @@ const COUNTS: usize = 7;
 // For each `k` from 0 to 6, the number of test cases on a range of `k` items.
 const EACH_COUNT: Cases = [COUNTS; 7];
 
-// Returns the number of new items in a test case. `range` contains the replaced range and the
-// number of the test case. On a list of more than 40 items, only the test cases 0 and 1 are run. In
-// both of them, the list becomes longer.
+// Returns the number of new items in a test case. `range` contains two things: the range that is
+// replaced, and the number of the test case. On a list of more than 40 items, only the test cases 0
+// and 1 are run. In both of these test cases, the list becomes longer.
 fn count_for(range: Ranged) -> usize {
     let width = range.width();
     match range.number % COUNTS {
@@ -34,8 +34,8 @@ fn count_for(range: Ranged) -> usize {
     }
 }
 
-// If `verdict` says that the call must succeed, replaces the range in `case.items` with the `count`
-// consecutive numbers from `FRESH` onward.
+// Updates the expected items if `verdict` says that the call must succeed. In this case, replaces
+// the items of `range` in `case.items` with `count` consecutive numbers, beginning with `FRESH`.
 fn replaced<T: Sample, G: Ruled, R: Abort>(
     rt: &R,
     case: &mut Case<T, G>,

@@ -100,8 +100,9 @@ impl<T: Sample, G: Ruled> Call<T, G> for ShrinkToFit {
 const GREAT: usize = 6;
 
 // Returns the number of additional items to reserve in the test case `argument`. In the last
-// `GREAT` test cases, this number is very large. In the first of these test cases, it leads to the
-// greatest possible capacity. In the second, it leads to a capacity that is too great by one.
+// `GREAT` test cases, this number is very large. In the first of these test cases, the resulting
+// capacity is the greatest possible capacity. In the second of them, the resulting capacity would
+// be too large by one.
 fn additional<T: Sample>(shape: Shape, argument: usize) -> usize {
     let most = T::LIMIT.saturating_sub(shape.length);
     match argument.checked_sub(shape.counts()) {

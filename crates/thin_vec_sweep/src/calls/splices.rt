@@ -1,6 +1,6 @@
 //! Tests of `splice`. They take some items of the replaced range from the `Splice`, and then call
-//! `finish`, which moves the new items into the list. The iterator over the new items has a size
-//! hint whose lower bound is too small, exact, or too large.
+//! `finish`, which moves the new items into the list. Several size hints are tried for the iterator
+//! over the new items. The lower bound of a size hint is too small, exact, or too large.
 ghost use Rattle.std.specs.Iterator.{IsFinite};
 ghost use Rattle.std.specs.Prelude.{◌≤◌, length};
 ghost use Rattle.thin_vec.specs.Edits.Splice.{SpliceKeeps};
@@ -22,29 +22,33 @@ use thin_vec::{Growth, Splice, SpliceRefused, ThinVec};
 // The number of size hints that are tried.
 const HINTS: usize = 5;
 
-// The number of combinations of a size hint and a number of new items from 0 to 5. On lists of at
-// most 6 items, all these combinations are tried.
+// The number of pairs of a size hint and a number of new items. There are 5 size hints, and the
+// numbers of new items are 0 to 5. On lists of at most 6 items, all these pairs are tried.
 const FILLS: usize = 30;
 
 // The number of short sequences of calls: no call, one call to `next`, and one call to `next_back`.
-// Each of these sequences is tried with each size hint and each number of new items.
+// Each short sequence is tried with each pair of a size hint and a number of new items.
 const SHORT_WALKS: usize = 3;
 
-// For each `k` from 0 to 6, the number of test cases on a range of `k` items. If `k > 0`, 90 test
-// cases make at most one call to `next` or `next_back`: each of the 3 possible sequences of calls
-// is combined with each of the 30 combinations of a size hint and a number of new items. In
-// addition, each longer sequence of calls is tried once. If `k = 0`, 30 test cases make no call,
-// and 3 test cases call `next` once.
+// For each `k` from 0 to 6, the number of test cases on a range of `k` items. A test case makes a
+// sequence of calls to `next` and `next_back`, and then calls `finish`.
+//
+// If `k > 0`, there are 90 test cases with at most one call to `next` or `next_back`. They combine
+// the 3 sequences of at most one call with the 30 pairs of a size hint and a number of new items.
+// In addition, there is one test case for each longer sequence of calls.
+//
+// If `k = 0`, there are 30 test cases without a call to `next` or `next_back`, and 3 test cases
+// with one call to `next`.
 const AFTER_STEPS: Cases = [33, 94, 102, 118, 150, 214, 342];
 
 // For each `k` from 0 to 6, the number of test cases that replace a range of `k` items and call
-// `finish` without calling `next` or `next_back` first. There is one test case for each combination
-// of a size hint and a number of new items.
+// `finish` at once, that is, without a call to `next` or `next_back`. There is one test case for
+// each pair of a size hint and a number of new items.
 const AT_ONCE: Cases = [FILLS; 7];
 
-// Returns the number of test cases on a range, for each length of the range from 0 to 6. Spare
-// capacity affects only `finish`. So if the list has spare capacity, the test cases call `finish`
-// without taking an item first.
+// Returns, for each `k` from 0 to 6, the number of test cases on a range of `k` items. If the list
+// has spare capacity, the test cases call `finish` without taking an item first. This is enough,
+// because spare capacity affects only `finish`.
 fn cases(shape: Shape) -> Cases {
     if shape.spare == 0 {
         AFTER_STEPS
@@ -58,20 +62,20 @@ fn cases(shape: Shape) -> Cases {
 #[derive(Drop)]
 struct Plan {
     range: Ranged,
-    // The numbers from which the items in the range are made.
+    // The numbers from which the items in the replaced range are made.
     numbers: Vec<u64, Global>,
     // The calls to `next` and `next_back` before `finish`.
     walk: Walk,
-    // The number of new items that the iterator yields.
+    // The number of new items that the iterator passed to `splice` yields.
     count: usize,
-    // The lower bound of the iterator's size hint.
+    // The lower bound of the size hint of the iterator that is passed to `splice`.
     hint: usize,
 }
 
 impl Plan {
-    // Returns the test case with the number `argument`. Before `finish` reads the size hint, it may
-    // already have moved new items into the range, so that fewer items remain in the iterator. One
-    // of the tried size hints is exact at the moment when `finish` reads it.
+    // Returns the test case with the number `argument`. One of the size hints that are tried is
+    // exact at the moment when `finish` reads the size hint. Before that moment, `finish` may
+    // already have moved some new items into the range, so that fewer items remain in the iterator.
     fn new<T: Sample, G: Ruled, R: Abort>(rt: &R, case: &Case<T, G>, argument: usize) -> Plan {
         let shape = case.at.shape;
         let range = shape.ranged_case(&cases(shape), argument);
@@ -96,8 +100,8 @@ impl Plan {
     }
 }
 
-// Returns the number of the walk that the test case `number` uses on a list of at most 6 items. A
-// walk is a sequence of calls to `next` and `next_back`.
+// Returns the number of a walk, that is, of a sequence of calls to `next` and `next_back`. On a
+// list of at most 6 items, the test case with the number `number` uses this walk.
 fn few_steps(number: usize) -> usize {
     let crossed = SHORT_WALKS.saturating_mul(FILLS);
     match number.checked_sub(crossed) {
@@ -106,9 +110,9 @@ fn few_steps(number: usize) -> usize {
     }
 }
 
-// Returns the number of new items for a list of more than 6 items. Depending on `number`, the
-// result is greater than twice the length of the range, equal to this length, one less than this
-// length, or 0.
+// Returns the number of new items for a list of more than 6 items. `width` is the length of the
+// range. Depending on `number`, the result is greater than twice this length, equal to it, one less
+// than it, or 0.
 fn many(width: usize, number: usize) -> usize {
     match number {
         0 => width.saturating_mul(2).saturating_add(9),
@@ -118,9 +122,9 @@ fn many(width: usize, number: usize) -> usize {
     }
 }
 
-// Returns a lower bound for the size hint of an iterator over `all` items. `number` selects one of
-// five bounds. One of these bounds is `left`, the number of items that remain in the iterator when
-// `finish` reads the size hint.
+// Returns one of five lower bounds for the size hint of an iterator over `all` items. `number`
+// selects the bound. One of the five bounds is `left`. This is the number of items that remain in
+// the iterator when `finish` reads the size hint.
 fn hint(number: usize, left: usize, all: usize) -> usize {
     match number {
         0 => 0,
@@ -132,7 +136,7 @@ fn hint(number: usize, left: usize, all: usize) -> usize {
 }
 
 // Returns the expected outcome of `finish`, and updates the expected items in `case.items`. If
-// there are no items after the range, `finish` works like `extend`.
+// there are no items after the range, `finish` has the same outcome as `extend`.
 fn finish<T: Sample, G: Ruled, R: Abort>(rt: &R, case: &mut Case<T, G>, plan: &Plan) -> Ending {
     let range = plan.range;
     let length = case.items.len();
@@ -184,8 +188,8 @@ fn fill_between<T: Sample, G: Ruled>(case: &mut Case<T, G>, width: usize, plan: 
     ending
 }
 
-// Returns how many of `count` items can be pushed to a new `Vec` before the allocator refuses a
-// request. Also adds the requests of the `Vec` to the expected requests of `case`. The first
+// Returns how many of `count` items a new `Vec` can take before the allocator refuses one of its
+// requests. Also adds the requests of the `Vec` to the expected requests of `case`. The first
 // request is for 4 items, or for 8 items if an item takes at most one byte. Each further request
 // doubles the capacity.
 fn hold<T: Sample, G: Ruled>(case: &mut Case<T, G>, count: usize) -> usize {
@@ -233,8 +237,8 @@ impl<T: Sample, G: Ruled> Call<T, G> for Spliced {
     }
 }
 
-// The result of the calls to `next` and `next_back`: the first call that yielded a wrong item, and
-// the number of remaining items.
+// The result of the calls to `next` and `next_back`: the index of the first call that yielded a
+// wrong item, and the number of remaining items.
 #[derive(Drop, Debug, PartialEq)]
 struct Walked {
     // The index of the first call that yielded a wrong item, or `None` if there is no such call.

@@ -1,6 +1,8 @@
-//! Tests of the commands, each of which describes a call on a list. Random runs must produce every
-//! possible reply to every command, and two other runs must have results that were computed by
-//! hand. Another test checks that each kind of difference from the model is detected.
+//! Tests of the commands, each of which describes a call on a list. The result of a command is
+//! called its reply. Random runs must produce every possible reply to every command. Two other runs
+//! must have results that were computed by hand. Commands are also executed on a model, which is a
+//! simple program that specifies them. Another test checks that each kind of difference between the
+//! list and the model is detected.
 use crate::runs::compared::both;
 use crate::runs::judges::{EACH_SECOND, Evens};
 use crate::runs::model::Model;
@@ -15,7 +17,8 @@ use thin_testing::{Refusing, Ruled};
 use thin_vec::{Doubling, Growth, PowerBytes, ThinVec, ThinVecError};
 
 // All possible replies to the commands. Each line consists of the name of a command, the variant of
-// its reply, and the cause of the failure. If the command did not fail, the cause is `None`.
+// its reply, and the error that the reply contains. If the reply contains no error, the last part
+// is `None`.
 const REPLIES: &str = "\
     Push Done None\n\
     Push Returned Some(OutOfMemory)\n\
@@ -71,7 +74,7 @@ const REPLIES: &str = "\
     Splice Stopped Some(OutOfMemory)\n\
     Splice OutOfRange None\n";
 
-// The kind of a command, the variant of its reply, and the cause of the failure, if any.
+// The kind of a command, the variant of its reply, and the error that the reply contains, if any.
 type Replied = (Kind, Form, Option<ThinVecError>);
 
 fn has(replies: &[Replied], one: Replied) -> bool {
@@ -118,8 +121,9 @@ fn random_runs_get_each_reply_of_each_command(rt: HostRuntime) {
     assert_eq!(rt; replies.len(), REPLIES.lines().count());
 }
 
-// Returns an `Order`, which describes a command with plain numbers. The command has no steps (calls
-// to `next` and `next_back`).
+// Returns an `Order`, which describes a command by plain numbers. The field `steps` of the order is
+// 0: the order specifies no sequence of calls to `next` and `next_back`. The other fields of the
+// order are the arguments of this function.
 const fn plain(kind: Kind, at: usize, to: usize, count: usize, lower: usize, number: u64) -> Order {
     Order {
         kind,
@@ -133,7 +137,7 @@ const fn plain(kind: Kind, at: usize, to: usize, count: usize, lower: usize, num
 }
 
 // Returns the commands of a run whose results were computed by hand. Each `Order` describes a
-// command with plain numbers.
+// command by plain numbers.
 fn worked_orders() -> [Order; 6] {
     let walked = Order {
         steps: 1,
@@ -188,8 +192,8 @@ const WORKED_POWERS: [(&[u32], usize); 9] = [
     (&[1, 7, 8, 9, 6], 20),
 ];
 
-// Returns whether the list has the expected items and the expected capacity. `worked` contains
-// these two expected values.
+// Returns whether `list` has the expected items and the expected capacity. `worked` is the pair of
+// these expected values.
 fn is_worked<T: Eq, A: Allocator, G: Growth>(
     list: &ThinVec<T, A, G>,
     worked: &(&[T], usize),

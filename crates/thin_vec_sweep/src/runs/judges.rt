@@ -1,21 +1,22 @@
-//! The judges that the runs use. A judge replaces the closure of a call such as `retain`: it
-//! decides which items are kept, and which items are removed.
+//! The judges that the runs use. A judge decides about items instead of the closure of a call such
+//! as `retain`. For example, it decides which items are kept, and which items are removed.
 ghost use Rattle.std.specs.Prelude.{◌≡◌, ◌==◌, ◌/◌, ◌%◌};
 
 use std::mem;
 use thin_runner::judge::Judge;
 
-/// A judge, which replaces the closure of a call such as `retain`. Its decisions are the binary
-/// digits of a number, beginning with the last digit: 1 is `true`, and 0 is `false`. When it
-/// compares two items, it also swaps them.
+/// A judge, which decides about items instead of the closure of a call such as `retain`. Its
+/// decisions are the binary digits of a number, beginning with the last digit: 1 is `true`, and 0
+/// is `false`. Its method `same`, which compares two items, also swaps them.
 #[derive(Clone, Copy)]
 pub struct Digits {
     /// The number whose binary digits are the decisions that the judge has not made yet.
     pub digits: u64,
 }
 
-/// A judge, which replaces the closure of a call such as `retain`. It decides `true` for every
-/// second item, beginning with the first item. After 64 items, it decides `false` for every item.
+/// A judge, which decides about items instead of the closure of a call such as `retain`. Every
+/// second decision is `true`, beginning with the first one. After 64 decisions, every decision is
+/// `false`.
 pub const EACH_SECOND: Digits = Digits {
     digits: 0x5555_5555_5555_5555,
 };
@@ -69,9 +70,10 @@ impl<T> Judge<T> for Digits {
     }
 }
 
-/// A judge that decides `true` for even numbers, and considers `x` and `y` equal if
-/// `x / 2 == y / 2`. The judge also changes items: `keep` and `key` halve the item, rounding down,
-/// and `same` sets the kept item to 0.
+/// A judge, which decides about items instead of the closure of a call such as `retain`. It decides
+/// `true` for even numbers, and considers `x` and `y` equal if `x / 2 == y / 2`. Three of its
+/// methods also change items: `keep` and `key` halve the item, rounding down, and `same` sets the
+/// kept item to 0.
 #[derive(Clone, Copy)]
 pub struct Evens;
 

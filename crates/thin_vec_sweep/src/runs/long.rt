@@ -1,5 +1,6 @@
 //! Long runs of commands, and a run that fails. Unlike random runs, these runs are not compared
-//! with the model, a simple program that would be too slow for long runs.
+//! with the model. The model is a simple program that specifies the commands, and it would be too
+//! slow for long runs.
 use crate::runs::judges::EACH_SECOND;
 use crate::runs::samples::{Lender, put};
 use std::alloc::Global;
@@ -136,8 +137,8 @@ fn earlier_reply<'a, R: Abort>(rt: &R, alloc: Lender<'a>) -> Replies<'a> {
     replies
 }
 
-// Returns whether `replies` contains exactly one reply, and this reply reports a capacity overflow.
-// The function `earlier_reply` makes such a reply.
+// Returns whether `replies` contains exactly one reply, and this reply reports a capacity overflow,
+// like the reply that `earlier_reply` makes.
 fn has_earlier_alone(replies: &Replies<'_>) -> bool {
     match replies.as_slice() {
         [left] => left.refusal() == Some(ThinVecError::CapacityOverflow),

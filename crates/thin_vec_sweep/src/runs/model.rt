@@ -14,8 +14,8 @@ use thin_runner::judge::Judge;
 use thin_testing::Ruled;
 use thin_vec::{ThinVec, ThinVecError};
 
-// The greatest capacity that the model allows. It is lower than the true limit, but no test
-// requests a capacity between the two limits.
+// The greatest capacity that the model allows. The true greatest capacity is larger, but no test
+// requests a capacity between these two limits.
 const LIMIT: usize = 1_000_000_000_000;
 
 /// The model of a list: its items and its capacity.
@@ -113,8 +113,8 @@ fn shown_sifted<T: Drop, A: Allocator + Copy>(
     Ok(Shown::with_answers(Form::Answers, alloc, answers))
 }
 
-// Asks the judge, which replaces a closure, whether `item` remains in the list. The kind of the
-// command determines which method of the judge is called.
+// Asks the judge whether `item` remains in the list. The judge makes this decision instead of a
+// closure. The kind of the command determines which method of the judge is called.
 fn stays<T, J: Judge<T>>(judge: &mut J, kind: Kind, item: &mut T) -> bool {
     match kind {
         Kind::Retain => judge.look(item),
@@ -155,8 +155,8 @@ impl<T: Numbered<A>, A: Allocator + Copy, G: Ruled> Model<T, A, G> {
         mem::replace(&mut self.items, Vec::new(alloc))
     }
 
-    // Replaces the items `start..end` with `new`, and returns the replaced items. Fails if the
-    // range is out of bounds.
+    // Replaces the items `start..end` with `new`, and returns the replaced items. Returns an error
+    // if the range is out of bounds.
     fn replace(
         &mut self,
         start: usize,
@@ -244,9 +244,9 @@ impl<T: Numbered<A>, A: Allocator + Copy, G: Ruled> Model<T, A, G> {
         Ok(Shown::with_items(Form::List, None, alloc, copy, capacity))
     }
 
-    // Appends `item` to the list if it is kept, and to `answers` otherwise. If `asked` is `None`,
-    // the item is kept. Otherwise, `asked` is the kind of the command, and the judge, which
-    // replaces a closure, decides whether the item is kept.
+    // Appends `item` to the list if it is kept, and to `answers` otherwise. If `asked` is the kind
+    // of a command, the judge decides whether the item is kept. The judge makes this decision
+    // instead of a closure. If `asked` is `None`, the item is kept.
     fn sift_one<J: Judge<T>>(
         &mut self,
         asked: Option<Kind>,
@@ -264,9 +264,9 @@ impl<T: Numbered<A>, A: Allocator + Copy, G: Ruled> Model<T, A, G> {
         }
     }
 
-    // Asks the judge, which replaces a closure, about each item in order, and removes the items
-    // that the judge does not keep. For an `ExtractIf`, asks only about the items of the range, and
-    // only until `order.count` items have been removed.
+    // Asks the judge about each item in order, and removes the items that the judge does not keep.
+    // The judge makes these decisions instead of a closure. For an `ExtractIf`, asks only about the
+    // items of the range, and only until `order.count` items have been removed. Returns the reply.
     fn sift<J: Judge<T>>(
         &mut self,
         alloc: A,
@@ -287,7 +287,7 @@ impl<T: Numbered<A>, A: Allocator + Copy, G: Ruled> Model<T, A, G> {
     }
 
     // Appends `item` to the list, unless it is a duplicate of the last item of the list. The kind
-    // of the command determines which items are duplicates.
+    // of the command determines when two items are duplicates.
     fn put_other<J: Judge<T>>(
         &mut self,
         kind: Kind,
@@ -357,9 +357,9 @@ impl<T: Numbered<A>, A: Allocator + Copy, G: Ruled> Model<T, A, G> {
     }
 
     /// Executes a command on the model, and compares the reply of the model with `given`, the reply
-    /// of the runner. If a request was refused while the runner executed the command, `nth` is the
-    /// number of this request. Returns two values: the variant of the reply (or `Never` if the two
-    /// replies differ), and the cause of the failure, if any.
+    /// of the runner to the same command. If a request was refused while the runner executed the
+    /// command, `nth` is the number of this request. Returns two values: the variant of the reply
+    /// (or `Never` if the two replies differ), and the cause of the failure, if any.
     pub fn follow<J: Judge<T>>(
         &mut self,
         alloc: A,

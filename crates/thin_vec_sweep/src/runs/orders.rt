@@ -1,5 +1,5 @@
-//! Orders, which describe commands with plain numbers. The commands for the runner are made from
-//! orders.
+//! Orders. An order describes a command by plain numbers. The commands that the runner executes on
+//! a `ThinVec` are made from orders.
 use crate::runs::samples::{Numbered, put, samples};
 use std::alloc::{AllocError, Allocator};
 use thin_runner::command::{Command, Step};
@@ -64,8 +64,9 @@ pub const KINDS: [Kind; 25] = [
     Kind::Splice,
 ];
 
-/// An order: a description of a command with plain numbers. The runner executes a command that is
-/// made from the order, and the model executes the order itself.
+/// An order: a description of a command by plain numbers. The runner executes a command that is
+/// made from the order. The model, a simple program that specifies the commands, executes the order
+/// itself.
 #[derive(Clone, Copy, Debug)]
 pub struct Order {
     pub kind: Kind,
@@ -73,18 +74,20 @@ pub struct Order {
     pub at: usize,
     /// The end of the range on which the command acts.
     pub to: usize,
-    /// For an `ExtractIf`, the number of calls to `next`. For a command that takes any number of
-    /// new items, such as `Extend`, the number of these items.
+    /// The number of calls to `next` if the command is an `ExtractIf`. If the command takes any
+    /// number of new items, as an `Extend` does, this is the number of these items.
     pub count: usize,
-    /// For `Extend` and `Splice`, the lower bound of the size hint. For `Reserve` and
-    /// `ReserveExact`, the number of items for which room is reserved. For `Resize`, the new
-    /// length.
+    /// A number whose meaning depends on the command:
+    ///
+    /// - For `Extend` and `Splice`, it is the lower bound of the size hint.
+    /// - For `Reserve` and `ReserveExact`, it is the number of items for which room is reserved.
+    /// - For `Resize`, it is the new length.
     pub lower: usize,
     /// The number of steps. Each step takes an item from the front or from the back of the range.
     pub steps: usize,
-    /// The number from which the first new item is made. The binary digits of this number,
-    /// beginning with the last digit, also determine the steps over the range: 1 is a step from the
-    /// front, and 0 is a step from the back.
+    /// The number from which the first new item is made. This number also determines the steps over
+    /// the range. Its binary digits describe the steps, beginning with the last digit: 1 is a step
+    /// from the front, and 0 is a step from the back.
     pub number: u64,
 }
 

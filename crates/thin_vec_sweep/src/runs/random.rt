@@ -35,8 +35,8 @@ impl Dice {
         usize::try_from(self.below(limit)).unwrap_or(0)
     }
 
-    // Returns a random value for the field `lower` of an `Order`. The value is usually small, and
-    // sometimes greater than every possible capacity.
+    // Returns a random value for the field `lower` of an `Order`. Usually, the value is a small
+    // number. Sometimes, it is greater than every possible capacity.
     fn claim(&mut self) -> usize {
         if self.below(9) == 0 {
             usize::MAX
@@ -56,8 +56,8 @@ impl Dice {
         }
     }
 
-    // Returns a random number whose binary digits are the decisions of a judge. A judge replaces
-    // the closure of a call such as `retain`.
+    // Returns a random number whose binary digits are the decisions of a judge. A judge decides
+    // about items instead of the closure of a call such as `retain`.
     fn digits(&mut self) -> u64 {
         if self.below(4) == 0 {
             EACH_SECOND.digits
@@ -82,8 +82,8 @@ impl Dice {
     }
 }
 
-/// The record of an executed command: the command, the number of the request that was to be
-/// refused, the variant of the reply, and the cause of the failure, if any.
+/// The record of an executed command: the command, the number of the request that was to be refused
+/// (0 if there is no such request), the variant of the reply, and the cause of the failure, if any.
 pub type Done = (Order, u64, Form, Option<ThinVecError>);
 
 // Executes one random command, and appends a record of it to `done`. Returns whether `ThinVec` and
@@ -201,9 +201,9 @@ fn assert_all_from<'a, T: Numbered<Lender<'a>>, G: Ruled, R: Abort>(
     tally
 }
 
-// Asserts that `commands` commands were executed. Asserts that in `named` of these commands, a
-// request was to be refused. Another program computed these two numbers. Also asserts that in more
-// than 2 percent of the commands, a request really was refused.
+// Asserts that `commands` commands were executed, and that a request was to be refused in `named`
+// of them. These two numbers were computed by another program. Also asserts that a request really
+// was refused in more than 2 percent of the commands.
 fn assert_tally<R: Abort>(rt: &R, tally: &Tally, commands: u64, named: u64) {
     assert_eq!(rt; (tally.commands, tally.named), (commands, named));
     assert!(rt; tally.refused > commands / 50, "{tally:?}");
@@ -255,8 +255,8 @@ fn each_seed_makes_its_own_run(rt: HostRuntime) {
     assert_eq!(rt; counted, (217, 187, 12));
 }
 
-// Returns a box that owns a block. No command allocates this block, so each run must detect it as a
-// difference.
+// Returns a box that owns a block. No command allocates this block. So each run must report a
+// difference between the list and the model as long as the block exists.
 fn block<'a, R: Abort>(rt: &R, alloc: Lender<'a>) -> Box<u64, Lender<'a>> {
     Box::new(alloc, 1).ok().expect(rt, "memory")
 }

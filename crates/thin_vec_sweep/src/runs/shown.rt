@@ -1,6 +1,6 @@
-//! The parts of a reply to a command (`Shown`). The runner executes a command on a `ThinVec`, and
-//! the model, a program that specifies the commands, executes it on a `Vec`. Their two replies are
-//! compared part by part.
+//! The parts of a reply to a command (`Shown`). The runner executes a command on a `ThinVec`. The
+//! model, a simple program that specifies the commands, executes the same command on a `Vec`. The
+//! two replies are compared part by part.
 use crate::runs::samples::{one, put};
 use std::alloc::{AllocError, Allocator};
 use thin_runner::command::{Command, Reply, Step};
@@ -23,8 +23,8 @@ pub enum Form {
     Never,
 }
 
-/// Says where a command acts: at an index, or on a range. Also contains the steps over the range,
-/// each of which is a call to `next` or `next_back`. If the command has only an index, all fields
+/// Says where a command acts: at an index, or on a range. Also contains the steps over the range.
+/// Each step is a call to `next` or `next_back`. If the command has only an index, all fields
 /// except `start` are 0.
 #[derive(Clone, Copy, PartialEq, Eq)]
 pub struct Place {
@@ -32,11 +32,13 @@ pub struct Place {
     pub start: usize,
     /// The end of the range on which the command acts.
     pub end: usize,
-    /// For a `Splice`, the lower bound of the size hint. For an `ExtractIf`, the number of calls to
-    /// `next`. For other commands, 0.
+    /// A number whose meaning depends on the command. For a `Splice`, it is the lower bound of the
+    /// size hint. For an `ExtractIf`, it is the number of calls to `next`. For any other command,
+    /// it is 0.
     pub claim: usize,
-    /// The steps over the range, as binary digits after a leading 1. The digit 1 is a step from the
-    /// front, and 0 is a step from the back.
+    /// The steps over the range, represented by a binary number. The first digit is always 1. Each
+    /// further digit is one step, in order: 1 is a step from the front, and 0 is a step from the
+    /// back.
     pub walk: u64,
 }
 
@@ -75,18 +77,20 @@ pub struct Shown<T, A: Allocator> {
     pub form: Form,
     /// The cause of the failure, if the command failed.
     pub cause: Option<ThinVecError>,
-    /// For a command that makes an iterator, the results of the calls to `next` and `next_back`.
-    /// For a command that removes or replaces one item, this vector contains only the old item, or
-    /// `None` if there was no such item.
+    /// If the command makes an iterator, this vector contains the results of the calls to `next`
+    /// and `next_back`. If the command removes or replaces one item, this vector contains only the
+    /// old item, or `None` if there was no such item.
     pub answers: Vec<Option<T>, A>,
-    /// If the reply contains a list, the items of this list. If the command failed, the items that
-    /// it returned. If the index or the range is out of bounds, the new items of the command.
+    /// The items in the reply. If the reply contains a list, these are the items of this list. If
+    /// the command failed, these are the items that it returned. If the index or the range is out
+    /// of bounds, these are the new items of the command.
     pub items: Vec<T, A>,
     /// The capacity of the list in the reply, or the number of items that a failed splice had
     /// stored in a temporary vector.
     pub number: usize,
     /// Whether the failed command had taken an item from the iterator and found no room for it. If
-    /// so, `items` contains this item after the items that had been stored in a temporary vector.
+    /// so, this item is also in `items`, directly after the items that had been stored in a
+    /// temporary vector.
     pub in_hand: bool,
     /// If the reply is `OutOfRange`, the index or the range that is out of bounds.
     pub place: Place,

@@ -1,5 +1,5 @@
-//! The commands `Splice` and `Extend` in the model. The model is a program that specifies the
-//! commands. It treats an `Extend` as a splice at the end of the list, without calls to `next` and
+//! The commands `Splice` and `Extend` in the model, which is a program that specifies the commands.
+//! The model treats an `Extend` as a splice at the end of the list, without calls to `next` and
 //! `next_back`.
 use super::{Model, walked};
 use crate::runs::orders::{Kind, Order};
@@ -10,9 +10,9 @@ use thin_testing::Ruled;
 use thin_vec::ThinVecError;
 
 impl<T: Numbered<A>, A: Allocator + Copy, G: Ruled> Model<T, A, G> {
-    // If `order` describes an `Extend`, returns it with two changes: its range is empty and lies at
-    // the end of the list, and it has no steps (calls to `next` and `next_back`). Otherwise,
-    // returns `order` unchanged.
+    // If `order` describes an `Extend`, returns a copy of `order` with two changes. The range of
+    // the copy is empty and lies at the end of the list. The copy also has no steps (calls to
+    // `next` and `next_back`). If `order` describes another command, returns `order` unchanged.
     pub(crate) fn placed(&self, order: Order) -> Order {
         let len = self.items.len();
         if order.kind == Kind::Extend {
@@ -27,14 +27,15 @@ impl<T: Numbered<A>, A: Allocator + Copy, G: Ruled> Model<T, A, G> {
         }
     }
 
-    // Increases the capacity as a splice does, and returns whether this succeeded.
+    // Increases the capacity of the model in the same way as a splice increases the capacity of a
+    // list. Returns whether this succeeded.
     //
-    // If there are no items after the range, the list first makes room according to the size hint.
-    // Then it makes room for each new item separately.
+    // If there are no items after the range, the splice first makes room for as many items as the
+    // size hint says. Then it makes room for each new item separately.
     //
-    // If there are items after the range, the list makes room only if the new items fill the whole
-    // range. In this case, it first makes room according to the size hint, and then for all new
-    // items at once.
+    // If there are items after the range, the splice makes room only if the new items fill the
+    // whole range. In this case, it first makes room for as many items as the size hint says. Then
+    // it makes room for all new items at once.
     fn make_rooms(&mut self, order: Order) -> bool {
         let len = self.items.len();
         let gap = order.to.saturating_sub(order.at);
@@ -91,16 +92,17 @@ impl<T: Numbered<A>, A: Allocator + Copy, G: Ruled> Model<T, A, G> {
     }
 
     // Returns whether `given` is a possible reply to a command whose allocation request was
-    // refused. The reply contains the new items that were not moved into the list. There are two
-    // special kinds of such items. An item is in hand if the command took it from the iterator, but
-    // found no room for it. An item is held back if the command stored it in a temporary vector.
+    // refused. The reply contains the new items that were not moved into the list. One of them may
+    // be in hand: the command took this item from the iterator, but found no room for it. Others
+    // may be held back: the command stored these items in a temporary vector.
     //
-    // If there are no items after the range, then no item may be held back. If an item is in hand,
-    // the list must be full. If no item is in hand, no new item may have been moved into the list.
+    // Suppose that there are no items after the range. Then no item may be held back. If an item is
+    // in hand, the list must be full. If no item is in hand, no new item may have been moved into
+    // the list.
     //
-    // If there are items after the range, then the new items must have filled the range. In
-    // addition, one of three conditions must hold: an item is in hand, no item is held back, or the
-    // iterator has yielded all its items.
+    // Suppose that there are items after the range. Then the new items must have filled the range.
+    // In addition, one of three conditions must hold: an item is in hand, no item is held back, or
+    // the iterator has yielded all its items.
     fn may_stop(&self, order: Order, given: &Shown<T, A>) -> bool {
         let placed = order.count.saturating_sub(given.items.len());
         if order.to == self.items.len() {
@@ -113,9 +115,10 @@ impl<T: Numbered<A>, A: Allocator + Copy, G: Ruled> Model<T, A, G> {
     }
 
     // Increases the capacity of the model to the capacity that the list had when the request was
-    // refused. If `given`, the reply of the runner, contains an item that the command had taken but
-    // not moved into the list, the capacity grows according to the size hint and for the first
-    // `placed` new items. Otherwise, the capacity is unchanged.
+    // refused. `given` is the reply of the runner. It may contain an item that the command had
+    // taken from the iterator but not moved into the list. If so, the capacity first grows
+    // according to the size hint, and then for the first `placed` new items. Otherwise, the
+    // capacity is unchanged.
     fn make_first_rooms(&mut self, order: Order, placed: usize, given: &Shown<T, A>) {
         if given.number > 0 || given.in_hand {
             let first = Order {
@@ -126,9 +129,9 @@ impl<T: Numbered<A>, A: Allocator + Copy, G: Ruled> Model<T, A, G> {
         }
     }
 
-    // Executes a `Splice` or an `Extend` with a refused allocation request. `given` is the reply of
-    // the runner. It contains the new items that were not moved into the list. The other new items
-    // had been moved into the list before the refusal.
+    // Executes a `Splice` or an `Extend` in which an allocation request was refused, and returns
+    // the reply. `given`, the reply of the runner, contains the new items that had not been moved
+    // into the list before the refusal. All other new items had been moved into the list.
     pub(crate) fn stop(
         &mut self,
         alloc: A,

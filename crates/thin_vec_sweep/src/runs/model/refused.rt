@@ -1,6 +1,6 @@
-//! The part of the model for commands with a refused allocation request. The model is a program
-//! that specifies the commands. This file specifies the items and the capacity of the list after
-//! such a command, and the reply.
+//! The part of the model for commands in which an allocation request is refused. The model is a
+//! program that specifies the commands. This file specifies three things: the items of the list
+//! after such a command, the capacity of the list after it, and the reply.
 use super::Model;
 use crate::runs::orders::{Kind, Order};
 use crate::runs::samples::{Numbered, samples};
@@ -22,8 +22,8 @@ fn form_of(order: Order) -> Form {
 }
 
 impl<T: Numbered<A>, A: Allocator + Copy, G: Ruled> Model<T, A, G> {
-    // Returns the capacity that the list must have before the command clones items into it. Returns
-    // 0 if the command clones no items into the list.
+    // Returns the capacity that the list must have before the command clones items into the list.
+    // If the command clones no items into the list, returns 0.
     fn room_of_clones(&self, order: Order) -> usize {
         match order.kind {
             Kind::Resize => order.lower,
@@ -32,7 +32,8 @@ impl<T: Numbered<A>, A: Allocator + Copy, G: Ruled> Model<T, A, G> {
         }
     }
 
-    // Executes a command whose request with the number `nth` was refused, and returns the reply.
+    // Executes a command whose allocation request with the number `nth` was refused, and returns
+    // the reply. `given` is the reply of the runner to the same command.
     pub(crate) fn refuse(
         &mut self,
         alloc: A,
