@@ -22,30 +22,33 @@ module _ {T A : Type 0} where
 
 module _ (T A G : RattleType) (a : AllocatorGhosts A.Denot) (g : GrowthGhosts G.Denot)
     (v : MutBor (Thin T.Denot A.Denot)) where
-  -- `LendsItems r` states that the reference `r` borrows all items of the list `v`. When the borrow
-  -- ends, the list contains the items that were written through `r`.
+  -- `LendsItems r` states that the reference `r` borrows all items of the list to which the
+  -- reference `v` points. When the borrow ends, the list contains the items that were written
+  -- through `r`.
   abbrev pub LendsItems : MutBor (List T.Denot) → Fml
   LendsItems r = Lends (the_row T A G a g) (Array T 0) v r (with_items v.now)
 
-  -- `LendsItem i r` states that the reference `r` borrows the item at index `i` of the list `v`.
-  -- When the borrow ends, the item at this index is the value that was written through `r`.
+  -- `LendsItem i r` states that the reference `r` borrows the item at index `i` of the list to
+  -- which the reference `v` points. When the borrow ends, the item at this index is the value that
+  -- was written through `r`.
   abbrev pub LendsItem : ℕ → MutBor T.Denot → Fml
   LendsItem i r = Lends (the_row T A G a g) T v r (with_item v.now i)
 
-  -- `LendsGet i r` describes the option `r`, which may contain a reference. If `r` is `Some`, the
-  -- reference in `r` borrows the item at index `i` of the list `v`, as in `LendsItem`. If `r` is
-  -- `None`, the list does not change.
+  -- `LendsGet i r` describes the option `r`, which may contain a reference. If `r` is `Some`, this
+  -- reference borrows the item at index `i` of the list, as in `LendsItem`. If `r` is `None`, the
+  -- list does not change.
   abbrev pub LendsGet : ℕ → Option (MutBor T.Denot) → Fml
   LendsGet i r = LendsIf (the_row T A G a g) T v r (with_item v.now i) v.now
 
-  -- `LendsIter it` states that the iterator `it` borrows all items of the list `v`. When the borrow
-  -- ends, the list contains the items that were written through the references that `it` yielded.
+  -- `LendsIter it` states that the iterator `it` borrows all items of the list to which the
+  -- reference `v` points. When the borrow ends, the list contains the items that were written
+  -- through the references that `it` yielded.
   abbrev pub LendsIter : IterMut T.Denot → Fml
   LendsIter it = follows (the_row T A G a g) (Array T 0) v.ghost_name
       (iter_mut_name it) (with_items v.now)
 
-  -- `LendsRest r` states that the reference `r` borrows the items that the iterator `v` has not
-  -- yielded yet. When the borrow ends, these items of `v` are the items that were written through
-  -- `r`.
+  -- `LendsRest r` states that the reference `r` borrows the items that an iterator has not yielded
+  -- yet. The reference `v` points to this iterator. When the borrow ends, these items of the
+  -- iterator are the items that were written through `r`.
   abbrev pub LendsRest : MutBor (List T.Denot) → Fml
   LendsRest r = Lends (iterator_row T A G a g) (Array T 0) v r (with_items v.now)

@@ -1,6 +1,11 @@
 -- These lemmas are for the proof of `Splice::finish`, which puts the items of an iterator in place
 -- of a range of a list. They state what `finish` costs, which items the iterator has yielded, and
 -- why `finish` fails.
+--
+-- An open block is the block of a list during an edit. Its items are in three parts: the front
+-- items (the items before the range, and the new items that were already inserted), the middle
+-- items (the items of the range that have not been yielded yet), and the tail items (the items
+-- after the range). The empty slots after the front items are called the gap.
 use Rattle.std.proofs.Common.{if◌then◌else◌, inl, inr, Option, Some, None, append_assoc, drop, take, subst, ◌≡◌, ℕ, ◌+◌, ◌-◌, ◌*◌, ◌^◌, ◌<◌, ◌≤◌, Bool, true, false, eqb, List, [], ◌∷◌, ◌++◌, ap, arith, length, length-append, refl, sym, ◌∙◌}
 use Rattle.std.proofs.lemmas.List.{append-nil, drop_at, length-drop, length-take-le, take_at}
 use Rattle.std.specs.Borrow.{RattleType}
@@ -35,10 +40,11 @@ pub moving-zero : (c : Cost) → c ≡ moving 0 c
 moving-zero c = ap (λ m. let d : Cost = record c { moves = m } in d)
     (let e : c.moves ≡ c.moves + 0 = omega arith in e)
 
--- Suppose that `n` items were put into the gap of the open block `v`, which became `w`, at the cost
--- of one move each. Suppose also that `w` has no middle items (items of the edited range). Then
--- closing `w` moves each tail item (each item after the range) at most once. If the gap has no
--- empty slot left, no item is moved.
+-- Suppose that putting `n` items into the gap of the open block `v` turned `v` into `w`, at the
+-- cost of one move for each item. (The gap consists of the empty slots after the front items.)
+-- Suppose also that `w` has no middle items (items of the edited range). Then closing the gap of
+-- `w` moves each tail item (each item after the range) at most once. If the gap of `w` has no
+-- slots, no item is moved.
 pub closed-moves : {T A : Type 0} (v w : Open T A) (n : ℕ) → w.cost ≡ moving (v.gap - w.gap)
     v.cost → w.rest ≡ [] → w.tail ≡ v.tail → n ≡ v.gap - w.gap
     → (m : ℕ) × (cost_closed w ≡ moving (n + m) v.cost) × (m ≤ length v.tail)
@@ -73,8 +79,9 @@ closed-moves v w n paid none same count = go (eqb w.gap 0) refl
         false-true : false ≡ true → ⊥
         false-true h = cc
 
--- Suppose that the cost `d` is the cost `c` plus `n` moves, or `c` itself if `count` is 0. Then `d`
--- plus `k + m` moves is `c` plus `k + x` moves for some number `x`, and `x ≤ n + m`.
+-- Suppose that the cost `d` is the cost `c` plus `n` moves, or is equal to `c` if `count` is 0.
+-- Then there is a number `x`, at most `n + m`, such that adding `k + m` moves to `d` gives the same
+-- cost as adding `k + x` moves to `c`.
 pub run-moves : (count n k m : ℕ) (c d : Cost) → d ≡ (if eqb count 0 then c else moving n c)
     → (x : ℕ) × (moving (k + m) d ≡ moving (k + x) c) × (x ≤ n + m)
 run-moves count n k m c d e = go (eqb count 0) e
@@ -91,9 +98,9 @@ run-moves count n k m c d e = go (eqb count 0) e
     )
 
 module _ {S X : Type 0} (steps : S → Option X → S → Type 0) where
-  -- If calls to `next` yielded the items `xs`, and later calls yielded the items `ys` and then
-  -- returned `o`, then all these calls together yielded `zs`, which is `xs ++ ys`, and then
-  -- returned `o`.
+  -- Suppose that calls to `next` yielded the items `xs`. Suppose also that the following calls
+  -- yielded the items `ys`, and that the call after them returned `o`. If `zs` is `xs ++ ys`, then
+  -- all these calls together first yielded the items `zs`, and the last of them returned `o`.
   pub yields-held : (s t u : S) (xs ys zs : List X) (o : Option X) → Yields steps s xs t
       → zs ≡ xs ++ ys → YieldsThen steps t ys o u → YieldsThen steps s zs o u
   yields-held s t u xs ys zs o before e now = (
@@ -110,11 +117,13 @@ module _ {S X : Type 0} (steps : S → Option X → S → Type 0) where
   yields-drawn s u xs o x is all =
       yields-more steps s all.0 u xs x all.1 (subst (λ r. steps all.0 r u) is all.2)
 
-  -- Suppose that a call to `next` yielded `x`, and that later calls yielded the items `xs`. Suppose
-  -- also that `x ∷ xs` is the list `held`, followed by the item in `o` if `o` is `Some`. If `o` is
-  -- `Some y`, then all these calls together yielded `held ++ y ∷ []`. If `o` is `None`, and the
-  -- last call returned `None`, then all these calls together yielded `held` and then returned
-  -- `None`.
+  -- Suppose that a call to `next` yielded the item `x`, and that the following calls yielded the
+  -- items `xs`. Suppose also that the list `x ∷ xs` consists of the items `held`, followed by the
+  -- item in `o`, if there is one. There are two cases:
+  --
+  -- - If `o` is `Some y`, then all these calls together yielded `held ++ y ∷ []`.
+  -- - If `o` is `None`, and one more call returned `None`, then all these calls together yielded
+  --   `held` and then returned `None`.
   pub drawn-after : (s t u : S) (x : X) (xs held : List X) (o : Option X) → steps s (Some x) t
       → held ++ option_to_list o ≡ x ∷ xs
       → MatchOption o (YieldsThen steps t xs None u) (λ _. Yields steps t xs u)
@@ -153,8 +162,8 @@ pub any-err : {X E : Type 0} {Q : E → Type 0} (r : Result X E) → ((e : E) �
 any-err (Ok _) h = tt
 any-err (Err e) h = h e
 
--- Inserting the list `ys` into the list `xs` at index `at` results in a list of length `length xs +
--- length ys`.
+-- If `at` is at most the length of the list `xs`, then inserting the list `ys` into `xs` at index
+-- `at` results in a list of length `length xs + length ys`.
 pub inserted-long : {T : Type 0} (xs ys : List T) (at : ℕ) → at ≤ length xs
     → length ((take at xs ++ ys) ++ drop at xs) ≡ length xs + length ys
 inserted-long xs ys at in_bounds =
@@ -168,8 +177,9 @@ inserted-long xs ys at in_bounds =
     )
 
 module _ {S X : Type 0} (steps : S → Option X → S → Type 0) where
-  -- If calls to `next` yielded the items `xs`, and later calls yielded the items `ys` and then
-  -- returned `None`, then all these calls together yielded `xs ++ ys` and then returned `None`.
+  -- Suppose that calls to `next` yielded the items `xs`. Suppose also that the following calls
+  -- yielded the items `ys` and then returned `None`. Then all these calls together yielded `xs ++
+  -- ys` and then returned `None`.
   pub drains-more : (s t : S) (xs ys : List X) → Yields steps s xs t → Drains steps t ys
       → Drains steps s (xs ++ ys)
   drains-more s t xs ys before now =
@@ -177,10 +187,10 @@ module _ {S X : Type 0} (steps : S → Option X → S → Type 0) where
 
 module _ {S X A : Type 0} (steps : S → Option X → S → Type 0) (can : S → Type 0)
     (remaining : S → Count) where
-  -- `Stopped` describes which items of an iterator a failed call to `finish` inserted into the
-  -- list, and which items it returned in `error`. Suppose that the first calls to `next` yielded
-  -- the items `xs`, which were inserted. If `Stopped` holds for the later calls with no inserted
-  -- items, then it holds for all calls together with the inserted items `xs`.
+  -- `Stopped` states which items of an iterator a call to `finish` inserted into the list before it
+  -- failed with `error`, and which items `error` returns. Suppose that calls to `next` yielded the
+  -- items `xs` and changed the iterator from `s` to `t`. If `Stopped` holds for the iterator `t`
+  -- and no inserted items, then it also holds for the iterator `s` and the inserted items `xs`.
   pub stopped-more : (s t : S) (xs : List X) (error : SpliceRefused X S A) → Yields steps s xs t
       → Stopped steps can remaining t [] error → Stopped steps can remaining s xs error
   stopped-more s t xs error before (inl now) =
@@ -201,10 +211,10 @@ module _ {S X A : Type 0} (steps : S → Option X → S → Type 0) (can : S →
         (now.2.0, yields-join steps s t now.2.0 xs error.held.items before now.2.1, now.2.2),
       )
 
-  -- `Stopped` describes which items of an iterator a failed call to `finish` inserted into the
-  -- list, and which items it returned in `error`. Suppose that calls to `next` yielded the items
-  -- `xs`, which were inserted, and then the item in `error.in_hand`, if there is one. If
-  -- `error.held` is empty, then `Stopped` holds for these calls with the inserted items `xs`.
+  -- `Stopped` states which items of an iterator a call to `finish` inserted into the list before it
+  -- failed with `error`, and which items `error` returns. Suppose that calls to `next` on the
+  -- iterator `s` yielded the items `xs`, and then the item in `error.in_hand`, if there is one. If
+  -- `error.held` is empty, then `Stopped` holds for `s` and the inserted items `xs`.
   pub stopped-now : (s : S) (xs : List X) (error : SpliceRefused X S A) → error.held.items ≡ []
       → PausedAfter steps can remaining s (xs ++ option_to_list error.in_hand) error.rest
       → Stopped steps can remaining s xs error
@@ -224,9 +234,10 @@ module _ {S X A : Type 0} (steps : S → Option X → S → Type 0) (can : S →
 -- items that the iterator may still yield.
 module _ {S T A : Type 0} (rule : Rule) (R : RattleType) (v : Thin T A) (tail : List T)
     (left : Count) (error : SpliceRefused T S A) where
-  -- `IsStopCause` states why `finish` failed. It holds if there are items after the range (`tail`),
-  -- the error returns no items, and the list could not reserve room for as many items as the lower
-  -- bound of the iterator's size hint.
+  -- `IsStopCause` states why `finish` failed. Suppose that there are items after the range
+  -- (`tail`), and that the error returns no items. Suppose also that the list could not reserve
+  -- room for as many items as the lower bound of the iterator's size hint. Then `IsStopCause`
+  -- holds.
   pub stop-at-hint : 0 < length tail → error.held.items ≡ [] → error.in_hand ≡ None
       → FailsAtHint rule R v left error.cause → IsStopCause rule R v tail left error
   stop-at-hint some none empty fails = record {
@@ -236,11 +247,12 @@ module _ {S T A : Type 0} (rule : Rule) (R : RattleType) (v : Thin T A) (tail : 
     by_push = λ no_tail. absurd (omega (arith, some, ap length no_tail));
   }
 
-  -- `IsStopCause` states why `finish` failed. Suppose that there are items after the range
-  -- (`tail`), and that the error returns items. There are two cases. If `in_hand` is `Some`,
-  -- suppose that the cause is `OutOfMemory`. If `in_hand` is `None`, suppose that the cause is
-  -- `CapacityOverflow` if and only if the growth rule chooses no capacity with room for the items
-  -- in `held`. Then `IsStopCause` holds.
+  -- `IsStopCause` states why `finish` failed. It holds if all of the following conditions are met:
+  --
+  -- - There are items after the range (`tail`), and the error returns at least one item.
+  -- - If `in_hand` is `Some`, the cause is `OutOfMemory`.
+  -- - If `in_hand` is `None`, the cause is `CapacityOverflow` if and only if the growth rule
+  --   chooses no capacity with room for the items in `held`.
   pub stop-at-held : 0 < length tail → (error.in_hand ≡ None → 0 < length error.held.items)
       → (error.in_hand ≡ None → (error.cause ≡ CapacityOverflow)
       ↔ (capacity_for rule R v (length error.held.items) ≡ None))
@@ -253,10 +265,10 @@ module _ {S T A : Type 0} (rule : Rule) (R : RattleType) (v : Thin T A) (tail : 
     by_push = λ no_tail. absurd (omega (arith, some, ap length no_tail));
   }
 
+  -- `IsExtendCause` states why `extend` failed, and `IsStopCause` states why `finish` failed.
   -- Suppose that no item follows the range (`tail` is empty), that `error.held` is empty, and that
-  -- `extend` failed with the error `e`. Suppose also that the fields `cause` and `in_hand` of
-  -- `error` are those of `e`. If `IsExtendCause`, which states why `extend` failed, holds for `e`,
-  -- then `IsStopCause`, which states why `finish` failed, holds for `error`.
+  -- the fields `cause` and `in_hand` of `error` are those of `e`. If `extend` failed with the error
+  -- `e`, and `IsExtendCause` holds for `e`, then `IsStopCause` holds for `error`.
   pub stop-at-end : (e : ExtendRefused T S) → tail ≡ [] → error.held.items ≡ []
       → error.cause ≡ e.cause → error.in_hand ≡ e.in_hand → IsExtendCause rule R v left e
       → IsStopCause rule R v tail left error
@@ -274,8 +286,8 @@ module _ {S T A : Type 0} (rule : Rule) (R : RattleType) (v : Thin T A) (tail : 
 
 module _ (rule : Rule) (R : RattleType) where
   -- Suppose that `d` is the capacity of the list `v` after a call that reserves room for `k` more
-  -- items, and that `n` is at least `length v.items + k`. Then `IsKeptOrRuled` holds: `d` is the
-  -- old capacity of `v`, or a capacity that the growth rule chooses for at most `n` items.
+  -- items, and that `length v.items + k` is at most `n`. Then `IsKeptOrRuled` holds: `d` is the old
+  -- capacity of `v`, or the growth rule can choose the capacity `d` for `n` or fewer items.
   pub kept-or-ruled : KeepsLaw rule → {T A : Type 0} (v : Thin T A) (k d n : ℕ)
       → capacity_for rule R v k ≡ Some d → length v.items + k ≤ n
       → IsKeptOrRuled rule R v.capacity d n
@@ -285,16 +297,17 @@ module _ (rule : Rule) (R : RattleType) where
         | inr spare ↦ inl (cap-kept rule R law v k d spare e)
       ]
 
--- If `n` is 0, then adding `n` moves to the cost `c` does not change `c`. So it does not matter
--- whether `b` is true or false.
+-- If `n` is 0, then adding `n` moves to the cost `c` does not change `c`. So the result is `c` in
+-- both cases: no moves are added if `b` is true, and `n` moves are added if `b` is false.
 unmoved : (b : Bool) (c : Cost) (n : ℕ) → n ≡ 0 → (if b then c else moving n c) ≡ c
 unmoved true c n none = refl
 unmoved false c n none = ap (λ k. moving k c) none ∙ sym (moving-zero c)
 
 module _ {T A : Type 0} where
   -- Suppose that the open block `v` has no middle items (items of the edited range) and no tail
-  -- items (items after the range). Then closing `v` moves no item. The result is the list `left_of
-  -- v u.alloc`, which contains the front items of `v`, and whose allocator is the allocator of `u`.
+  -- items (items after the range). Then closing `v` moves no item, and results in the list `left_of
+  -- v u.alloc`. This list contains the front items of `v`, and has the same allocator as the list
+  -- `u`.
   pub closed-left : (v : Open T A) (u : Thin T A) → v.rest ≡ [] → v.tail ≡ []
       → record u { items = items_of v; capacity = v.capacity; cost = cost_closed v }
       ≡ left_of v u.alloc
@@ -309,9 +322,10 @@ module _ {T A : Type 0} where
         cost = free i;
       }
 
-  -- `with_between v xs` contains the items of the open block `v`, with `xs` in place of its middle
-  -- items. Suppose that `us` is this list, and that `xs` ends at index `end` of `us`. Then
-  -- inserting `ys` into `us` at index `end` results in `with_between v (xs ++ ys)`.
+  -- `with_between v xs` contains the items of the open block `v`, but with `xs` in place of its
+  -- middle items. Suppose that the list `us` is `with_between v xs`, and that `end` is the index
+  -- directly after the items `xs` in `us`. Then inserting the items `ys` into `us` at index `end`
+  -- results in the list `with_between v (xs ++ ys)`.
   pub between-more : (v : Open T A) (us xs ys : List T) (end : ℕ) → us ≡ with_between v xs
       → end ≡ length v.front + length xs
       → (take end us ++ ys) ++ drop end us ≡ with_between v (xs ++ ys)
@@ -330,8 +344,8 @@ module _ {T A : Type 0} where
       omega (arith, length-append (v.front ++ xs) v.tail, length-append v.front xs)
 
   -- `with_between v xs` contains the front items of the open block `v`, then the items `xs`, and
-  -- then the tail items of `v`. If `v` has no tail items, then the front items, followed by `xs`,
-  -- are the same list.
+  -- then the tail items of `v`. If `v` has no tail items, then appending `xs` to the front items of
+  -- `v` results in the same list.
   pub after-items : (v : Open T A) (xs : List T) → v.tail ≡ []
       → (v.front ++ v.tail) ++ xs ≡ with_between v xs
   after-items v xs none =
@@ -343,9 +357,9 @@ module _ {T A : Type 0} where
 -- capacities of the lists.
 module _ (rule : Rule) (R : RattleType) {T A : Type 0} where
   -- `HasTaken` describes how adding items of an iterator may change a list. Suppose that adding `k`
-  -- items turned the list `v` into `w`, with `k + m` moves and without a change of the capacity or
-  -- of the allocator. If `m ≤ n`, then `HasTaken` holds for `v` and `w`, and the old items were
-  -- moved at most `n` times in total.
+  -- items turned the list `v` into `w`, with `k + m` moves. Suppose also that neither the capacity
+  -- nor the allocator changed. If `m ≤ n`, then `HasTaken` holds for `v` and `w`, and states that
+  -- the old items were moved at most `n` times in total.
   pub taken-spare : (v w : Thin T A) (k m n : ℕ) (left : Count) → w.cost ≡ moving (k + m) v.cost
       → w.capacity ≡ v.capacity → length w.items ≡ length v.items + k → m ≤ n → w.alloc ≡ v.alloc
       → HasTaken rule R v w n left
@@ -396,8 +410,9 @@ module _ (rule : Rule) (R : RattleType) {T A : Type 0} where
     }
 
     -- `HasTaken` describes how adding items of an iterator may change a list. Suppose that it holds
-    -- for `v` and `u` with at most `m` moves of old items, and for `u` and `w` with at most `n`
-    -- moves. If `m + n ≤ k`, then `HasTaken` holds for `v` and `w` with at most `k` moves.
+    -- for the change from `v` to `u`, with at most `m` moves of old items, and for the change from
+    -- `u` to `w`, with at most `n` moves. If `m + n ≤ k`, then it holds for the change from `v` to
+    -- `w`, with at most `k` moves of old items.
     pub taken-join : (v u w : Thin T A) (m n k : ℕ) (left more : Count) → m + n ≤ k
         → length v.items ≤ length u.items
         → (HasRoomFor v (size left) → u.capacity ≡ v.capacity → HasRoomFor u (size more))

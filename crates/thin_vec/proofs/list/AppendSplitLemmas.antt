@@ -72,9 +72,9 @@ module _ {T : Type 0} where
         (replicate-append-replicate k (c - length ys) None ∙ ap (λ (m : ℕ). empty m) bare))
 
 module _ {T A : Type 0} where
-  -- Suppose that `b` is the block of a list. The items `xs` are written into the slots directly
-  -- after the last item, and the stored length grows by `length xs`. Then the new block `b'` is the
-  -- block of the list with `xs` appended.
+  -- Suppose that `b` is the block of a list, that the items `xs` are written into the slots
+  -- directly after its last item, and that the stored length grows by `length xs`. Then the new
+  -- block `b'` is the block of the list with `xs` appended.
   pub settle-more : {b : Block T A} {a : A} → IsThin b a → (b' : Block T A) (xs : List T) (n : ℕ)
       → n ≡ b.len → n + length xs ≤ length b.slots → {l : ℕ} {k : Cost} → l ≡ n + length xs
       → IsWritten b b' (laid n (full xs) b.slots) l k
@@ -88,10 +88,10 @@ module _ {T A : Type 0} where
       (omega (arith, new, end, length-append ys xs)) (omega (arith, room, end, length-append ys xs))
 
   module _ {b o : Block T A} {a p : A} (t : IsThin b a) (u : IsThin o p) where
-    -- Suppose that the last items of a second list, those from index `i` onward, are written
-    -- directly after the last item of a first list. The stored length of the first list grows by
-    -- the number of these items. Then the new block `b'` is the block of the first list with these
-    -- items appended.
+    -- Suppose that `b` and `o` are the blocks of two lists. Suppose also that the items of the
+    -- second list from index `i` onward are written directly after the last item in `b`, and that
+    -- the stored length of `b` grows by the number of these items. Then the new block `b'` is the
+    -- block of the first list with these items appended.
     pub settle-joined : (b' : Block T A) (i : ℕ) {k n : ℕ} → i ≤ length (items_in o.slots)
         → k ≡ o.len - i → n ≡ b.len → n + k ≤ length b.slots
         → {m : Cost} → IsWritten b b' (laid n (run i k o.slots) b.slots) (n + k) m
@@ -105,9 +105,9 @@ module _ {T A : Type 0} where
         settle-more t b' (drop i ys) n len (omega (arith, room, more)) (omega (arith, more))
         (slots-are w (ap (λ (r : List (Option T)). laid n r b.slots) same))
 
-  -- Suppose that `o` is the block of a list. The slots of all items from index `i` onward are
-  -- emptied, and the stored length becomes `i`. Then the new block `o'` is the block of a list that
-  -- contains only the first `i` items.
+  -- Suppose that `o` is the block of a list, that the slots of all items from index `i` onward are
+  -- emptied, and that the stored length becomes `i`. Then the new block `o'` is the block of a list
+  -- that contains only the first `i` items.
   pub settle-cut : {o : Block T A} {p : A} → IsThin o p → (o' : Block T A) (i : ℕ) {k : ℕ}
       {m : Cost} → i ≤ length (items_in o.slots) → k ≡ o.len - i
       → IsWritten o o' (emptied i k o.slots) i m

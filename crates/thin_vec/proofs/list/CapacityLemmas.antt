@@ -17,9 +17,10 @@ use Rattle.thin_vec.specs.ThinVec.{IsThin}
 use Rattle.thin_vec.proofs.ListLemmas.{Settled, settled, length-front, thin-room, front-grow}
 
 module _ (rule : Rule) (law : KeepsLaw rule) (R : RattleType) where
-  -- If a growth rule satisfies `KeepsLaw`, then each capacity `n` that the rule chooses satisfies
-  -- `Grows`: it is large enough for the items, at least twice the old capacity, and small enough to
-  -- be allocated.
+  -- `KeepsLaw` is the law that every growth rule satisfies. Suppose that the rule chooses the
+  -- capacity `n` for a block of capacity `c` that has to grow in order to hold `w` items. Then `n`
+  -- satisfies `Grows`: it is large enough for the items, at least twice the old capacity, and small
+  -- enough to be allocated.
   pub grows-rule : (w : ℕ) {c c' w' : ℕ} {o : Option ℕ}
       → o ≡ rule (type_size R) (type_align R) c w → c ≡ c' → w ≡ w' → c < w → w < 2 ^ 64
       → IfSome o (λ n. Grows R c' w' n)
@@ -39,9 +40,9 @@ module _ {T : Type 0} where
   front-none c = let same : c ≡ c - 0 = omega arith in ap (λ (m : ℕ). empty m) same
 
 module _ {T A : Type 0} {b : Block T A} {a : A} (t : IsThin b a) where
-  -- Suppose that the block of a list is replaced with a block `b'` of `c` slots from the same
-  -- allocator. If the first slots of `b'` hold the same items in order, and all its other slots are
-  -- empty, then `b'` is the block of a list with the same items and the capacity `c`.
+  -- Suppose that the block `b` of a list is replaced with a block `b'`, which has `c` slots and the
+  -- same allocator. If the first slots of `b'` hold the same items in order, and all its other
+  -- slots are empty, then `b'` is the block of a list with the same items and the capacity `c`.
   settle-remade : (b' : Block T A) (c : ℕ) {s : List (Option T)} {k : Cost}
       → seen b' ≡ record (seen b) { slots = s; alloc = Some a; cost = k }
       → s ≡ front (items_in b.slots) c → length (items_in b.slots) ≤ c
@@ -50,9 +51,9 @@ module _ {T A : Type 0} {b : Block T A} {a : A} (t : IsThin b a) where
       settled b' a (items_in b.slots) c (ap (λ v. v.slots) w ∙ e) (ap (λ v. v.len) w ∙ t.packed.len)
       room (λ x h. some-same (sym h ∙ ap (λ v. v.alloc) w))
 
-  -- Suppose that a call tried to grow the block of a list to `c` slots, and returned `r`. Whether
-  -- or not the growth succeeded, the resulting block `b'` is the block of a list with the same
-  -- items, and `b'` has at most `c` slots.
+  -- Suppose that `r` is the result of a call that tried to grow the block of a list to `c` slots,
+  -- and that `b'` is the block after this call. Whether or not the call succeeded, `b'` is the
+  -- block of a list with the same items, and has at most `c` slots.
   pub settle-tried : {X E : Type 0} (r : Result X E) (b' : Block T A) (c : ℕ)
       → length b.slots < c
       → OnOk r (seen b' ≡ record (seen b) {

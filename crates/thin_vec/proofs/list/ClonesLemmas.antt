@@ -47,9 +47,9 @@ pub all-repeated : {T : Type 0} (clones : T → T → Type 0) (x : T) (n m : ℕ
     → AllZip clones (take n (replicate m x)) ys → All (clones x) ys
 all-repeated {T} clones x n m ys cloned = All-from_recursion (clones x) ys (each n m ys cloned)
   where
-    -- This lemma is the lemma `all-repeated` with `AllByRecursion` in place of `All`: if `ys`
-    -- consists of clones of the first `n` items of `replicate m x`, then every item of `ys` is a
-    -- clone of `x`.
+    -- If `ys` consists of clones of the first `n` items of `replicate m x`, then every item of `ys`
+    -- is a clone of `x`. The conclusion is stated with `AllByRecursion`, which defines by recursion
+    -- that all items of a list satisfy a predicate.
     each : (n m : ℕ) (ys : List T) → AllZip clones (take n (replicate m x)) ys
         → AllByRecursion (clones x) ys
     each zero m [] e = tt
@@ -60,8 +60,9 @@ all-repeated {T} clones x n m ys cloned = All-from_recursion (clones x) ys (each
     each (suc n) (suc m) (y ∷ ys) e = (e.0, each n m ys e.1)
 
 module _ {T : Type 0} (clones : T → T → Type 0) where
-  -- Suppose that every clone of `x` equals `x`. If `zs` consists of the list `xs`, `n` clones of
-  -- `x`, and finally `x` itself, then `zs` is `xs ++ replicate (n + 1) x`.
+  -- Suppose that every clone of `x` equals `x`. Suppose also that the list `zs` consists of the
+  -- items `xs`, then `n` clones of `x`, and finally `x` itself. Then `zs` is `xs ++ replicate m x`,
+  -- where `m` is `n + 1`.
   pub equal-repeated : (n m : ℕ) {x : T} {xs ys zs : List T} → CloneEquals clones x
       → AppendsRepeats clones x n xs ys → zs ≡ ys ++ x ∷ [] → m ≡ n + 1 → zs ≡ xs ++ replicate m x
   equal-repeated n m {x} {xs} equal repeats last one =

@@ -76,10 +76,10 @@ module _ {S X : Type 0} (steps : S → Option X → S → Type 0) (s : S) where
   run_given xs o t P gave h =
       (run steps s (xs ++ option_to_list o) false (t, gave, λ e. absurd (false≢true e)), refl, h)
 
-  -- Suppose that `r` is an error `e`. Suppose also that calls to `next` yielded the items `xs`, and
-  -- then the item in `hand e`, if there is one. If `xs` satisfies `P`, then `SomeRun` holds: the
-  -- calls form a run of the iterator, which may be incomplete. `can` and `remaining` occur only in
-  -- the assumptions.
+  -- Suppose that the result `r` is an error `e`. Suppose also that calls to `next` yielded some
+  -- items `xs` that satisfy `P`, and then the item in `hand e`, if there is one. Then `SomeRun`
+  -- holds: these calls form a run of the iterator, which may be incomplete. (The parameters `can`
+  -- and `remaining` occur only in the condition of the lemma, and not in its conclusion.)
   pub run_given_err : {E : Type 0} (can : S → Type 0) (remaining : S → Count)
       (hand : E → Option X) (rest : E → S) (P : List X → Type 0) (r : Result (Unit {0}) E)
       → IfErr r (λ e. (xs : List X) × P xs
@@ -103,9 +103,9 @@ match-some P Q None some p = absurd (false≢true some)
 pub hand-empty : {X : Type 0} {o : Option X} → IsSome o → o ≡ None → ⊥
 hand-empty some none = false≢true (subst IsSome none some)
 
--- Suppose that the result `r` is an error whose field `in_hand` is `Some`, and that the statement
--- `P` holds. Then a `MatchOption` statement about `in_hand` holds. It states `Q` if `in_hand` is
--- `None`, and `P` if `in_hand` is `Some`.
+-- `MatchOption o Q (λ _. P)` is the statement `Q` if the option `o` is `None`, and the statement
+-- `P` if `o` is `Some`. Suppose that the result `r` is an error whose field `in_hand` is `Some`,
+-- and that `P` holds. Then this statement holds with `in_hand` in place of `o`.
 pub full-in-hand : {T S : Type 0} (P : Type 0) (Q : ExtendRefused T S → Type 0)
     (r : Result (Unit {0}) (ExtendRefused T S)) → IfErr r (λ error. IsSome error.in_hand)
     → OnErr r P → IfErr r (λ error. MatchOption error.in_hand (Q error) (λ _. P))
@@ -165,8 +165,9 @@ spare-kept v w xs is =
 -- The following lemmas are about the growth of a capacity over several calls.
 
 module _ (rule : Rule) (R : RattleType) (law : KeepsLaw rule) where
-  -- `IsLoose rule R c d` states that `d` is equal to `c`, or at least as large as a capacity that
-  -- the growth rule chooses if a block of capacity `c` has to grow. In both cases, `c ≤ d`.
+  -- `IsLoose rule R c d` holds in two cases: `d` is equal to `c`, or `d` is at least `n`, where `n`
+  -- is a capacity that the growth rule can choose for a block of capacity `c` that has to grow. In
+  -- both cases, `c ≤ d`.
   pub loose-le : (c d : ℕ) → IsLoose rule R c d → c ≤ d
   loose-le c d (inl e) = omega arith
   loose-le c d (inr p) = let g = ruled-grows rule R c p.0 p.1 law p.2 p.3 in
@@ -179,29 +180,29 @@ module _ (rule : Rule) (R : RattleType) (law : KeepsLaw rule) where
   loose-join c d e (inl p) q = subst (λ n. IsLoose rule R n e) p q
   loose-join c d e (inr p) q = inr (p.0, p.1, p.2, p.3, omega (arith, p.4, loose-le d e q))
 
-  -- `IsKeptOrRuled rule R c d n` states that `d` is the old capacity `c`, or a capacity that the
-  -- growth rule chooses for at most `n` items. If this holds for `n`, and `n ≤ m`, then it also
-  -- holds for `m`.
+  -- `IsKeptOrRuled rule R c d n` states that `d` is the old capacity `c`, or that the growth rule
+  -- can choose the capacity `d` for `n` or fewer items. If this statement holds for a number `n`,
+  -- then it also holds for every number `m ≥ n`.
   pub ruled-more : (c n m : ℕ) {d d' : ℕ} → d' ≡ d → n ≤ m → IsKeptOrRuled rule R c d n
       → IsKeptOrRuled rule R c d' m
   ruled-more c n m same more (inl e) = inl (same ∙ e)
   ruled-more c n m same more (inr p) =
       inr (p.0, p.1, p.2, omega (arith, p.3, more), p.4 ∙ ap Some (sym same))
 
-  -- `IsKeptOrRuled rule R d e n` states that the new capacity `e` is the old capacity `d`, or a
-  -- capacity that the growth rule chooses for at most `n` items. Suppose that it holds, and that `e
-  -- ≡ d` implies `P`. Then `P` holds, or `IsKeptOrRuled` holds with any capacity `c` in place of
-  -- `d`.
+  -- `IsKeptOrRuled rule R d e n` states that the new capacity `e` is the old capacity `d`, or that
+  -- the growth rule can choose `e` for `n` or fewer items. Suppose that this statement holds, and
+  -- that `P` holds if `e ≡ d`. Then `P` holds, or `IsKeptOrRuled` also holds with the capacity `c`
+  -- in place of the old capacity `d`.
   pub ruled-after : (c d e n : ℕ) (P : Type 0) → IsKeptOrRuled rule R d e n → (e ≡ d → P)
       → IsKeptOrRuled rule R c e n ⊎ P
   ruled-after c d e n P (inl same) f = inr (f same)
   ruled-after c d e n P (inr p) f = inl (inr p)
 
-  -- Suppose that a new list was made with the capacity `c`, which is exactly enough for `h` items,
-  -- and that `h` may be the lower bound of the iterator's size hint. Suppose also that the capacity
-  -- then changed from `c` to `d`, and that this change satisfies `IsKeptOrRuled`. Then
-  -- `IsCollected` holds: `d` is an allowed capacity of a list that is made from the items of the
-  -- iterator.
+  -- Suppose that a new list was made with the capacity `c`, which is exactly enough for `h` items.
+  -- Here, `h` is a possible lower bound of the iterator's size hint. Suppose also that the capacity
+  -- then changed from `c` to `d`, and that `IsKeptOrRuled` holds: `d` is equal to `c`, or the
+  -- growth rule can choose `d` for `n` or fewer items. Then `IsCollected` holds, which states that
+  -- a list made from the items of the iterator may have the capacity `d`.
   pub collected-after : {c d : ℕ} (n h : ℕ) (left : Count) → IsWithinCount h left
       → exact_capacity R 0 h ≡ Some c → IsKeptOrRuled rule R c d n → IsCollected rule R d n left
   collected-after n h left hint e (inl same) = inr (h, hint, e ∙ ap Some (sym same))
@@ -220,8 +221,9 @@ module _ (rule : Rule) (R : RattleType) (law : KeepsLaw rule) where
 
 module _ {T A : Type 0} where
   -- Suppose that appending `k` items turned the list `v` into `w`, with `k` moves and at most one
-  -- reallocation. If the reallocation copied at most one item for each new slot, then `CostsAdding
-  -- v w 0` holds: apart from the reallocation, no old item was moved.
+  -- reallocation. Suppose also that the number of items that this reallocation copied is at most
+  -- the number of slots by which the capacity grew. Then `CostsAdding v w 0` holds: apart from the
+  -- reallocation, no old item was moved.
   pub filled-at : (v w : Thin T A) (k : ℕ) → w.cost ≡ moving k (cost_at v w.capacity)
       → length w.items ≡ length v.items + k
       → (cost_at v w.capacity).grown + v.capacity ≤ v.cost.grown + w.capacity → CostsAdding v w 0
@@ -238,8 +240,9 @@ module _ {T A : Type 0} where
   }
 
   -- Suppose that reserving room turned the list `v` into `w`, with at most one reallocation and
-  -- without a change of the items. If the reallocation copied at most one item for each new slot,
-  -- then `CostsAdding v w 0` holds: apart from the reallocation, no old item was moved.
+  -- without a change of the items. Suppose also that the number of items that this reallocation
+  -- copied is at most the number of slots by which the capacity grew. Then `CostsAdding v w 0`
+  -- holds: apart from the reallocation, no old item was moved.
   pub filled-reserved : (v w : Thin T A) → w.cost ≡ cost_at v w.capacity
       → w.items ≡ v.items
       → (cost_at v w.capacity).grown + v.capacity ≤ v.cost.grown + w.capacity → CostsAdding v w 0
@@ -266,10 +269,9 @@ module _ {T A : Type 0} where
       (omega (arith, ap (λ c. c.grown) kept, same))
 
   -- `CostsAdding v w k` bounds the cost of adding items to the list `v`, which became `w`: the old
-  -- items were moved at most `k` times in total. Suppose that `v` became `u`, and that `u` became
-  -- `w`. Suppose also that the capacity never became smaller, and that `u` is not shorter than `v`.
-  -- If `CostsAdding v u m` and `CostsAdding u w n` hold, and `m + n ≤ k`, then `CostsAdding v w k`
-  -- holds.
+  -- items were moved at most `k` times in total. Suppose that `CostsAdding v u m` and `CostsAdding
+  -- u w n` hold. Suppose also that neither step made the capacity smaller, and that `u` is not
+  -- shorter than `v`. If `m + n ≤ k`, then `CostsAdding v w k` holds.
   pub adding-join : {v u w : Thin T A} (m n k : ℕ) → m + n ≤ k → CostsAdding v u m
       → CostsAdding u w n → v.capacity ≤ u.capacity → u.capacity ≤ w.capacity
       → length v.items ≤ length u.items → CostsAdding v w k

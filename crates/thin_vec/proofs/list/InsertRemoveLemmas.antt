@@ -47,9 +47,9 @@ module _ {T : Type 0} where
   -- for a new item at index `i`.
   module _ (xs : List T) (c i : ℕ) {j k : ℕ} (h : i ≤ length xs) (l : length xs < c) (e : j ≡ i + 1)
       (n : k ≡ length xs - i) where
-    -- Suppose that the items of `xs` from index `i` onward have just been moved up by one slot.
-    -- Then `after` is the row of slots that follow slot `i`: first the slots of the moved items,
-    -- and then empty slots.
+    -- `after` is the row of slots that follow slot `i` after the items of `xs` from index `i`
+    -- onward have been moved up by one slot: first the slots of the moved items, and then empty
+    -- slots.
     after : List (Option T)
     after = full (drop i xs) ++ replicate (c - length xs - 1) None
 
@@ -100,9 +100,9 @@ module _ {T : Type 0} where
         ∙ get_or_at (full (take i xs)) None after None i (sym before)
 
 module _ {T A : Type 0} {b : Block T A} {a : A} (t : IsThin b a) where
-  -- Suppose that the item in slot `i` is removed, all later items are moved down by one slot, and
-  -- the stored length is decremented. Then the new block `b'` is the block of the list without the
-  -- item at index `i`.
+  -- Suppose that `b` is the block of a list. If the item in slot `i` is removed, all later items
+  -- are moved down by one slot, and the stored length is decremented, then the new block `b'` is
+  -- the block of the list without the item at index `i`.
   pub settle-remove : (b' : Block T A) (i : ℕ) {j k : ℕ} → i < length (items_in b.slots)
       → j ≡ i + 1 → k ≡ b.len - j → {l : ℕ} {m : Cost} → l ≡ b.len
       → IsWritten b b' (moved j i k (set b.slots i None)) (l - 1) m
@@ -115,9 +115,9 @@ module _ {T A : Type 0} {b : Block T A} {a : A} (t : IsThin b a) where
       (omega (arith, len, t.packed.len, length-remove xs i h))
       (omega (arith, thin-room b a t, length-remove xs i h))
 
-  -- Suppose that the items from index `i` onward are moved up by one slot, `v` is written into slot
-  -- `i`, and the stored length is incremented. Then the new block `b'` is the block of the list
-  -- with `v` inserted at index `i`.
+  -- Suppose that `b` is the block of a list. If the items from index `i` onward are moved up by one
+  -- slot, `v` is written into slot `i`, and the stored length is incremented, then the new block
+  -- `b'` is the block of the list with `v` inserted at index `i`.
   pub settle-insert : (b' : Block T A) (i : ℕ) (v : T) {j k : ℕ} → i ≤ length (items_in b.slots)
       → b.len < length b.slots → j ≡ i + 1 → k ≡ b.len - i → {l : ℕ} {m : Cost} → l ≡ b.len
       → IsWritten b b' (set (moved i j k b.slots) i (Some v)) (l + 1) m
@@ -253,10 +253,12 @@ module _ {T : Type 0} where
   full-set (x ∷ xs) s (suc i) m h = ap (λ (r : List (Option T)). Some x ∷ r)
       (full-set xs s i m (omega arith))
 
-  -- Suppose that a row of `c` slots holds the items `ys`, then the item `m`, and nothing else, and
-  -- that `i < length ys`. If slot `i` and the slot of `m` are emptied, and `m` is then written into
-  -- slot `i`, then the row holds the items of the list after `swap_remove` at index `i`, followed
-  -- by empty slots. The value of `v` does not matter.
+  -- Suppose that the first slots of a row of `c` slots hold the items `ys` and then the item `m`,
+  -- and that all other slots are empty. Suppose also that `i < length ys`, that slot `i` and the
+  -- slot of `m` are emptied, and that `m` is then written into slot `i`. Then the first slots hold
+  -- the items of the list after `swap_remove` at index `i`, and all other slots are empty.
+  -- (`swap_remove` needs its argument `v` only for an empty list, so the value of `v` does not
+  -- matter.)
   front-swap_remove : (ys : List T) (c i : ℕ) (v m : T) → i < length ys → length (ys ++ m ∷ []) ≤ c
       → set (set (set (front (ys ++ m ∷ []) c) i None) (length ys) None) i (Some m) ≡ front
       (swap_remove (ys ++ m ∷ []) i v) c
@@ -282,8 +284,8 @@ module _ {T : Type 0} where
       ∙ ap (λ (l : List T). front l c) (sym cut))))
 
 module _ {T A : Type 0} where
-  -- If all slots are emptied, and the stored length becomes 0, then the new block `b'` is the block
-  -- of an empty list with the same capacity.
+  -- Suppose that `b` is the block of a list. If all slots are emptied, and the stored length
+  -- becomes 0, then the new block `b'` is the block of an empty list with the same capacity.
   pub settle-emptied : {b : Block T A} {a : A} → IsThin b a → (b' : Block T A)
       {s : List (Option T)} {m : Cost} → IsWritten b b' s 0 m → s ≡ empty (length b.slots)
       → Settled b' a [] (length b.slots)
@@ -291,9 +293,10 @@ module _ {T A : Type 0} where
       settle-front t b' [] (length b.slots) w (e ∙ front-none (length b.slots)) refl (omega arith)
 
   module _ {b : Block T A} {a : A} (t : IsThin b a) (b' : Block T A) (i last : ℕ) where
-    -- Suppose that slot `i` is emptied, the last item `m` is moved from slot `last` into slot `i`,
-    -- and the stored length is decremented. If `i < last`, then the new block `b'` is the block of
-    -- the list after `swap_remove` at index `i`. The value of `v` does not matter.
+    -- Suppose that slot `i` is emptied, that the last item `m` is moved from slot `last` into slot
+    -- `i`, and that the stored length is decremented. If `i < last`, then the new block `b'` is the
+    -- block of the list after `swap_remove` at index `i`. (`swap_remove` needs its argument `v`
+    -- only for an empty list, so the value of `v` does not matter.)
     settle-swap_remove : (v : T) {m : T} → i < last → last + 1 ≡ b.len → slot b.slots last ≡ Some m
         → {k : Cost} → IsWritten b b' (set (set (set b.slots i None) last None) i (Some m)) last k
         → Settled b' a (swap_remove (items_in b.slots) i v) (length b.slots)
@@ -319,8 +322,8 @@ module _ {T A : Type 0} where
         subst (λ (l : List T). Settled b' a (swap_remove l i v) c) (sym at_end) done
       where
         -- If the list `ys` has `k` items, and `i < k`, then removing the item at index `i` of the
-        -- list `ys ++ m ∷ []` with `swap_remove` results in a list of `k` items. The value of `v`
-        -- does not matter.
+        -- list `ys ++ m ∷ []` with `swap_remove` results in a list of `k` items. (`swap_remove`
+        -- needs its argument `v` only for an empty list, so the value of `v` does not matter.)
         length-swap_remove : (ys : List T) (i : ℕ) (v m : T) {k : ℕ} → length ys ≡ k → i < k
             → length (swap_remove (ys ++ m ∷ []) i v) ≡ k
         length-swap_remove ys i v m {k} long lt =
@@ -334,9 +337,10 @@ module _ {T A : Type 0} where
               long,
             )
 
-    -- Suppose that slot `i` holds the item `v`, that the item in the last filled slot is moved into
-    -- slot `i`, and that the stored length is decremented. Then the new block `b'` is the block of
-    -- the list after `swap_remove` at index `i`. Slot `i` may itself be the last filled slot.
+    -- Suppose that slot `i` of a block holds the item `v`, and that slot `last` is the last slot
+    -- that holds an item. If the item in slot `last` is moved into slot `i`, and the stored length
+    -- is decremented, then the new block `b'` is the block of the list after `swap_remove` at index
+    -- `i`. This is also true if `i` is equal to `last`.
     pub settle-replaced : (v : T) → i ≤ last → last + 1 ≡ b.len → slot b.slots i ≡ Some v
         → {k : Cost} → IsWritten b b' (set (set b.slots i (slot b.slots last)) last None) last k
         → Settled b' a (swap_remove (items_in b.slots) i v) (length b.slots)

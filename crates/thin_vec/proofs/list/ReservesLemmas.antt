@@ -12,18 +12,19 @@ use Rattle.thin_vec.specs.Cheap.{IsCheap}
 use Rattle.thin_vec.specs.List.Capacity.{Keeps, Reserves, TellsOverflow, TellsOverflowOf}
 use Rattle.thin_vec.specs.ThinVec.{HasRoomFor, IsWithin, Thin, capacity_for}
 
--- `TellsOverflow named r` states that the result `r` is the error `CapacityOverflow` if and only if
--- the needed capacity, `named`, is `None`. So it holds if `r` is `Ok x` and `named` is `Some n`.
+-- `TellsOverflow named r` states that the result `r` of a call is the error `CapacityOverflow` if
+-- and only if `named` is `None`. Here, `named` is the capacity that the call needs, or `None` if
+-- this capacity is too large. So `TellsOverflow` holds if `r` is `Ok x` and `named` is `Some n`.
 pub tells-ok : {X : Type 0} (x : X) (named : Option ℕ) (n : ℕ) → named ≡ Some n
     → TellsOverflow named (Ok x)
 tells-ok x named n is = record {
   overflow = (λ e. ok-err x CapacityOverflow e, λ none. absurd (none-some none is));
 }
 
--- `TellsOverflowOf` states that the result of making a list is the error `CapacityOverflow` if and
--- only if the capacity is too large. Suppose that a list of `m` items of type `R` and a list of `n`
--- items of type `S` need the same capacity. If `TellsOverflowOf` holds for the first list and the
--- result `Ok x`, then it holds for the second list and the result `Ok y`.
+-- `TellsOverflowOf R m r` states that the result `r` of making a list of `m` items of the type `R`
+-- is the error `CapacityOverflow` if and only if the capacity is too large. Suppose that `m` items
+-- of the type `R` and `n` items of the type `S` need the same capacity. If `TellsOverflowOf` holds
+-- for `R`, `m` and the result `Ok x`, then it holds for `S`, `n` and the result `Ok y`.
 pub tells-made : {X : Type 0} {x y : X} (R S : RattleType) (m n : ℕ)
     → exact_capacity R 0 m ≡ exact_capacity S 0 n
     → TellsOverflowOf R m (let r : Result X ThinVecError = Ok x in r)
@@ -35,10 +36,10 @@ tells-made {x = x} {y} R S m n e told = record {
   );
 }
 
--- `TellsOverflowOf R m r` states that the result `r` of making a list of `m` items of type `R` is
--- the error `CapacityOverflow` if and only if the capacity is too large. Suppose that a list of `n`
--- items of type `S` needs the same capacity. Then `TellsOverflowOf R m r` implies `TellsOverflowOf
--- S n r`.
+-- `TellsOverflowOf R m r` states that the result `r` of making a list of `m` items of the type `R`
+-- is the error `CapacityOverflow` if and only if the capacity is too large. Suppose that `m` items
+-- of the type `R` and `n` items of the type `S` need the same capacity. If `TellsOverflowOf` holds
+-- for `R`, `m` and `r`, then it holds for `S`, `n` and `r`.
 pub tells-same : {X : Type 0} {r : Result X ThinVecError} (R S : RattleType) (m n : ℕ)
     → exact_capacity R 0 m ≡ exact_capacity S 0 n → TellsOverflowOf R m r → TellsOverflowOf S n r
 tells-same R S m n e told = record {
@@ -97,10 +98,14 @@ module _ {T A : Type 0} (R : RattleType) (v : Thin T A) where
         }
 
     -- `Reserves` states how a call that needs room for `k` more items may change the capacity, and
-    -- when the call fails. Suppose that a call has two steps. The first step returns `Ok` and
-    -- satisfies `Reserves`. The second step does not change the capacity, and fails only with
-    -- `OutOfMemory`. Then the whole call satisfies `Reserves`. If items of another type `S` need
-    -- the same capacity, then the whole call also satisfies `Reserves` for `S`.
+    -- when the call fails. Suppose that a call consists of two steps:
+    --
+    -- - The first step changes the list from `v` to `u`, returns `Ok`, and satisfies `Reserves`.
+    -- - The second step changes `u` to `w`, does not change the capacity, and fails only with
+    --   `OutOfMemory`.
+    --
+    -- Then the whole call satisfies `Reserves`. If the items of another type `S` need the same
+    -- capacity, it also satisfies `Reserves` for `S`.
     pub reserves-then : {X Y : Type 0} {x : X} (S : RattleType) (k l : ℕ) (u w : Thin T A)
         (r : Result Y ThinVecError) → l ≡ k
         → capacity_for rule S v l ≡ capacity_for rule R v k → w.capacity ≡ u.capacity
@@ -127,10 +132,10 @@ module _ {T A : Type 0} (R : RattleType) (v : Thin T A) where
         }
 
     -- `Reserves` states how a call that needs room for `k` more items may change the capacity, and
-    -- when the call fails. Suppose that a call satisfies `Reserves`, and fails without changing the
-    -- list. Then another call that fails with the same error and does not change the list also
-    -- satisfies `Reserves`. If items of another type `S` need the same capacity, then this other
-    -- call also satisfies `Reserves` for `S`.
+    -- when the call fails. Suppose that a call fails with the error `cause`, does not change the
+    -- list `v`, and satisfies `Reserves`. Then any other call that fails with `cause` and does not
+    -- change `v` also satisfies `Reserves`. If the items of another type `S` need the same
+    -- capacity, this other call also satisfies `Reserves` for `S`.
     pub reserves-failed : {X Y : Type 0} (S : RattleType) (k l : ℕ) (w : Thin T A)
         (cause : ThinVecError) → l ≡ k
         → capacity_for rule S v l ≡ capacity_for rule R v k

@@ -1,6 +1,11 @@
--- An open block is the block of a list during an edit. These lemmas are for the `dedup` methods,
--- which test an item of an open block against another item. Each lemma states what one step of such
--- a test changes in the open block, as it appears in contracts.
+-- These lemmas are for the `dedup` methods, which test each item against the last item that was
+-- kept before it. During such a method, the block of the list is called an open block. Its items
+-- are in three parts: the front items (the items that were kept so far), the middle items (the
+-- items that were not tested yet), and the tail items (the items after the edited range).
+--
+-- A value of the type `Inside` is an open block as it is stored at run time. Contracts describe the
+-- same open block by a value of the type `Open`. Each lemma states how one step of such a test
+-- changes this value.
 use Rattle.std.proofs.Common.{◌≡◌, ◌≢◌, ℕ, zero, suc, ◌+◌, ◌-◌, ◌<◌, ◌≤◌, List, [], ◌∷◌, ◌++◌, Option, Some, None, length, take, drop, refl, sym, ap, ◌∙◌, arith, length-append, append_assoc, get_or}
 use Rattle.std.proofs.lemmas.List.{drop_at, get_or_at, get_or-set_other, length-drop, length-take-le, length_push, set_at, take_at}
 use Rattle.std.specs.Prelude.{IsSome, slice_range}
@@ -23,8 +28,8 @@ use Rattle.thin_vec.proofs.open_block.SiftLemmas.{row-at, same-past, write-step,
 module _ {T : Type 0} where
   -- The following lemmas are about two items in neighboring slots.
 
-  -- `over s 0 []` is the row of slots `s` after its first items were overwritten with the items of
-  -- an empty list. So this row is equal to `s`.
+  -- `over s 0 ws` is the row of slots `s` after its first items were overwritten with the items
+  -- `ws`. If `ws` is empty, nothing is overwritten. So `over s 0 []` is `s`.
   over-none : (s : List (Option T)) → over s 0 [] ≡ s
   over-none [] = refl
   over-none (None ∷ s) = refl
@@ -39,7 +44,7 @@ module _ {T : Type 0} where
     pub now : over s i (k' ∷ x' ∷ []) ≡ set (set s i (Some k')) (suc i) (Some x')
 
   -- If the slots `i` and `i + 1` hold the items `k` and `x`, then `Neighbours` holds for these
-  -- items and all new items `k'` and `x'`.
+  -- items and any new items `k'` and `x'`.
   pub neighbours : (s : List (Option T)) (i : ℕ) (k x k' x' : T) → Some k ∷ Some x ∷ [] ≡ take 2
       (drop i s) → Neighbours s i k x k' x'
   neighbours [] zero k x k' x' e = absurd (cons-not-nil e)
@@ -62,9 +67,9 @@ module _ {T : Type 0} where
   -- split into the slices `a` and `b`, which contain one item each.
   module _ (s : List (Option T)) (i : ℕ) (all a b : List T) (within : i + 2 ≤ length s)
       (lent : full all ≡ slice_range s i (i + 2)) (cut : all ≡ a ++ b) (one : length a ≡ 1) where
-    -- Suppose that the slice `a` consists of the item `k`, and the slice `b` of the item `x`. Then
-    -- `Neighbours` holds: writing `k'` into `a` and `x'` into `b` puts `k'` into slot `i` and `x'`
-    -- into slot `i + 1`.
+    -- Suppose that the slice `a` consists of the item `k`, and that the slice `b` consists of the
+    -- item `x`. Then `Neighbours` holds: the slots `i` and `i + 1` hold `k` and `x`. In addition,
+    -- writing `k'` into `a` and `x'` into `b` puts `k'` into slot `i` and `x'` into slot `i + 1`.
     pub parts-of : {k x : T} (k' x' : T) → k ≡ get_or a 0 k → x ≡ get_or b 0 x
         → Neighbours s i k x k' x'
         × (over s i (set a 0 k' ++ set b 0 x') ≡ set (set s i (Some k')) (suc i) (Some x'))
@@ -93,12 +98,14 @@ module _ {T : Type 0} where
 
 module _ {T A : Type 0} where
   -- The following lemmas are about open blocks. An open block is the block of a list during an
-  -- edit.
+  -- edit. Its items are in three parts: the front items (the items before the edited range, and the
+  -- items that were kept so far), the middle items (the items of the range that were not tested
+  -- yet), and the tail items (the items after the range).
 
-  -- `WrittenTwo` states that two neighboring middle items of the open block `h`, the items `x` and
-  -- `y` at the indices `k` and `k + 1`, were overwritten with `x'` and `y'`. The slots of the new
-  -- open block are in the block `b`. As it appears in contracts, the new open block differs from
-  -- `h` only in these two items.
+  -- `WrittenTwo` states that two neighboring middle items of the open block `h` were overwritten.
+  -- The items `x` and `y` at the indices `k` and `k + 1` became `x'` and `y'`. The block `b`
+  -- contains the slots of the new open block. In contracts, the new open block differs from `h`
+  -- only in these two items.
   pub record WrittenTwo (h : Inside T A) (o : IsOpen h) (k : ℕ) (b : Block T A)
       (x y x' y' : T) : Type 0 where
     pub pre : List T
@@ -117,7 +124,8 @@ module _ {T A : Type 0} where
   module _ (h : Inside T A) (o : IsOpen h) (b : Block T A)
       (kept : seen b ≡ record (seen h.block) { slots = b.slots }) where
     -- If two neighboring middle items of the open block `h` were overwritten, and no other slot was
-    -- changed, then `WrittenTwo` holds.
+    -- changed, then `WrittenTwo` holds: in contracts, the new open block differs from `h` only in
+    -- these two items.
     pub write-two-step : (k : ℕ) {x y : T} (x' y' : T) → suc k < length (open_of h).rest
         → slot h.block.slots (h.rest_start + k) ≡ Some x
         → slot h.block.slots (suc (h.rest_start + k)) ≡ Some y
@@ -173,9 +181,9 @@ module _ {T A : Type 0} where
           };
         }
 
-  -- `WrittenLast` states that the last front item `x` of the open block `h` was overwritten with
-  -- `y`. The slots of the new open block are in the block `b`. As it appears in contracts, the new
-  -- open block differs from `h` only in this item.
+  -- `WrittenLast` states that `x`, the last front item of the open block `h`, was overwritten with
+  -- `y`. The block `b` contains the slots of the new open block. In contracts, the new open block
+  -- differs from `h` only in this item.
   pub record WrittenLast (h : Inside T A) (b : Block T A) (x y : T) : Type 0 where
     pub pre : List T
     pub was : (open_of h).front ≡ pre ++ x ∷ []
@@ -189,7 +197,7 @@ module _ {T A : Type 0} where
     }) (record (open_of h) { front = pre ++ y ∷ [] })
 
   -- If the last front item of the open block `h` was overwritten, and no other slot was changed,
-  -- then `WrittenLast` holds.
+  -- then `WrittenLast` holds: in contracts, the new open block differs from `h` only in this item.
   pub write-last-step : (h : Inside T A) (o : IsOpen h) (b : Block T A) {x : T} (y : T)
       → 0 < length (open_of h).front → slot h.block.slots (h.front_end - 1) ≡ Some x
       → seen b ≡ record (seen h.block) { slots = set h.block.slots (h.front_end - 1) (Some y) }
@@ -242,9 +250,9 @@ module _ {T A : Type 0} where
             (ap (λ (z : Seen T A). z.cost) now);
       }
 
-  -- The gap of the open block `h` consists of the empty slots after the front items. If the item
-  -- `x` was written into the first slot of the gap, then `x` is the last front item of the new open
-  -- block, and the gap is one slot shorter than before.
+  -- The gap of the open block `h` consists of the empty slots directly after the front items. If
+  -- the item `x` was written into the first slot of the gap, then `x` is the last front item of the
+  -- new open block, and the gap is one slot shorter than before.
   pub put-step : (h : Inside T A) (o : IsOpen h) (b : Block T A) (x : T) {c : Cost}
       → 0 < (open_of h).gap
       → seen b ≡ record (seen h.block)

@@ -1,7 +1,12 @@
 -- These lemmas are for methods that test the items of an open block, which is the block of a list
--- during an edit. They state how the open block appears in contracts after one of its middle items
--- was tested, and after its first `k` middle items became front items. In this file, `h` is the
--- open block as it is stored at run time.
+-- during an edit. Its items are in three parts: the front items (the items before the edited range,
+-- and the items that were kept so far), the middle items (the items of the range that were not
+-- tested yet), and the tail items (the items after the range). The empty slots after the front
+-- items are called the gap.
+--
+-- In this file, `h` is the open block as it is stored at run time, and `open_of h` is the value
+-- that describes it in contracts. The lemmas state what this value is after one of the middle items
+-- was tested, and after the first `k` middle items became front items.
 use Rattle.std.proofs.Common.{◌≡◌, ℕ, zero, suc, ◌+◌, ◌-◌, ◌<◌, ◌≤◌, List, [], ◌∷◌, ◌++◌, Option, Some, None, length, take, drop, refl, sym, ap, ◌∙◌, arith, length-append, append_assoc}
 use Rattle.std.proofs.lemmas.List.{get_or_at, length-drop, length-take-le, set_at, take-append-drop}
 use lib.ListN.{set}
@@ -30,9 +35,9 @@ split-at (x ∷ xs) (suc k) low =
     (x ∷ p.0, p.1, p.2, ap suc p.3, ap (λ l. x ∷ l) p.4)
 
 module _ {T : Type 0} where
-  -- Suppose that the slots `a` are followed by the items `pre`, the item `x`, the items `post`, and
-  -- the slots `z`. Then all these slots can be split into the slots before `x`, the slot of `x`,
-  -- and the slots after `x`.
+  -- Suppose that a row consists of the slots `a`, then the slots of the items `pre`, `x` and
+  -- `post`, and then the slots `z`. This row can be split into the slots before the slot of `x`,
+  -- the slot of `x` itself, and the slots after it.
   pub row-at : (a : List (Option T)) (pre : List T) (x : T) (post : List T) (z : List (Option T))
       → a ++ (full (pre ++ x ∷ post) ++ z) ≡ (a ++ full pre) ++ (Some x ∷ (full post ++ z))
   row-at a pre x post z =
@@ -50,12 +55,13 @@ module _ {T A : Type 0} where
 
   module _ (h : Inside T A) (o : IsOpen h) (b : Block T A) (k : ℕ)
       (low : k < length (open_of h).rest) where
-    -- `v` is the open block `h` as it appears in contracts, before its middle item at index `k` is
-    -- overwritten.
+    -- `v` is the value that describes the open block `h` in contracts, before the middle item at
+    -- index `k` is overwritten.
     abbrev v : Open T A
     v = open_of h
 
-    -- `written` is the open block after its middle item at index `k` was overwritten.
+    -- `written` is the open block `h` after its middle item at index `k` was overwritten. Its slots
+    -- are the slots of the block `b`.
     abbrev pub written : Inside T A
     written = record {
       block = b;
@@ -66,13 +72,13 @@ module _ {T A : Type 0} where
       len = h.len;
     }
 
-    -- `written-seen ys` is the open block `written` as it appears in contracts, if its middle items
-    -- are `ys`.
+    -- `written-seen ys` is the value that describes the open block `written` in contracts if its
+    -- middle items are `ys`.
     abbrev pub written-seen : List T → Open T A
     written-seen ys = record v { rest = ys }
 
-    -- `Written x y` states that the middle item `x` at index `k` was overwritten with `y`. As it
-    -- appears in contracts, the new open block differs from the old one only in this item.
+    -- `Written x y` states that the middle item `x` at index `k` was overwritten with `y`. In
+    -- contracts, the new open block differs from the old one only in this item.
     pub record Written (x y : T) : Type 0 where
       pub pre : List T
       pub post : List T
@@ -81,7 +87,8 @@ module _ {T A : Type 0} where
       pub shown : Found written (written-seen (pre ++ y ∷ post))
 
     -- If the slot of the middle item at index `k` held `x`, and `y` was written into this slot,
-    -- then `Written x y` holds: the new open block differs from the old one only in this item.
+    -- then `Written x y` holds: in contracts, the new open block differs from the old one only in
+    -- this item.
     pub write-step : (x y : T) → slot h.block.slots (h.rest_start + k) ≡ Some x
         → seen b ≡ record (seen h.block)
         { slots = set h.block.slots (h.rest_start + k) (Some y) } → Written x y
@@ -142,12 +149,12 @@ module _ {T A : Type 0} where
 
   -- In this module, the first `k` middle items are moved to the end of the front items.
   module _ (h : Inside T A) (o : IsOpen h) (k : ℕ) (low : k ≤ length (open_of h).rest) where
-    -- `u` is the open block `h` as it appears in contracts, before its first `k` middle items are
-    -- moved.
+    -- `u` is the value that describes the open block `h` in contracts, before its first `k` middle
+    -- items are moved.
     abbrev u : Open T A
     u = open_of h
 
-    -- `moved_run b` is the open block after its first `k` middle items became front items. Its
+    -- `moved_run b` is the open block `h` after its first `k` middle items became front items. Its
     -- slots are the slots of the block `b`.
     abbrev pub moved_run : Block T A → Inside T A
     moved_run b = record {
@@ -159,15 +166,16 @@ module _ {T A : Type 0} where
       len = h.len;
     }
 
-    -- `moved_run-seen b` is the open block `moved_run b` as it appears in contracts. Its last `k`
-    -- front items are the items that were the first `k` middle items before.
+    -- `moved_run-seen b` is the value that describes the open block `moved_run b` in contracts.
+    -- Before the move, its last `k` front items were the first `k` middle items.
     abbrev pub moved_run-seen : Block T A → Open T A
     moved_run-seen b = record u
         { front = u.front ++ take k u.rest; rest = drop k u.rest; cost = b.cost }
 
-    -- Suppose that the slots of `b` are, in this order: the slots of the front items, the slots of
-    -- the moved items, the gap, and all later slots. Then the open block `moved_run b` appears in
-    -- contracts as `moved_run-seen b`.
+    -- Suppose that the block `b` has the same allocator as before, and that its slots are, in this
+    -- order: the slots of the front items, the slots of the moved items, the gap, and all later
+    -- slots. Then `moved_run b` is a valid open block, and contracts describe it by the value
+    -- `moved_run-seen b`.
     moved_run-shows : (b : Block T A)
         → b.slots ≡ full u.front
         ++ (full (take k u.rest) ++ (empty u.gap ++ (full (drop k u.rest) ++ past_rest u)))
@@ -216,7 +224,8 @@ module _ {T A : Type 0} where
     parted = o.row ∙ ap (λ (r : List (Option T)). full u.front ++ (empty u.gap ++ r)) cut
 
     -- If there is no gap after the front items, then the first `k` middle items become front items
-    -- without being moved.
+    -- without being moved. Contracts describe the resulting open block by the value `moved_run-seen
+    -- h.block`.
     pub pass-step : u.gap ≡ 0 → Found (moved_run h.block) (moved_run-seen h.block)
     pass-step none =
         moved_run-shows h.block
@@ -226,8 +235,9 @@ module _ {T A : Type 0} where
         ++ (full (take k u.rest) ++ (empty n ++ (full (drop k u.rest) ++ past_rest u))))
         (sym none))) refl
 
-    -- If the first `k` middle items were moved to the slots directly after the front items, then
-    -- the open block `moved_run b` appears in contracts as `moved_run-seen b`.
+    -- Suppose that the first `k` middle items were moved to the slots directly after the front
+    -- items, and that `b` is the resulting block. Then `moved_run b` is a valid open block, and
+    -- contracts describe it by the value `moved_run-seen b`.
     pub move_run_down-step : (b : Block T A) {c : Cost}
         → seen b ≡ record (seen h.block)
         { slots = moved h.rest_start h.front_end k h.block.slots; cost = c }
@@ -242,7 +252,7 @@ module _ {T A : Type 0} where
         (sym o.gap) (sym few))) (ap (λ (z : Seen T A). z.alloc) now)
 
   -- Suppose that the first middle item was moved from its slot to the slot directly after the front
-  -- items. Then this item is the last front item of the new open block, as it appears in contracts.
+  -- items. Then, in contracts, this item is the last front item of the new open block.
   pub move_one_down-step : (h : Inside T A) (o : IsOpen h) (some : 1 ≤ length (open_of h).rest)
       → 0 < (open_of h).gap → (b : Block T A) {x : T} {c : Cost}
       → slot h.block.slots h.rest_start ≡ Some x

@@ -9,8 +9,8 @@ use Rattle.thin_block.specs.declared.block.Block.{Block}
 use Rattle.thin_vec.specs.ThinVec.{Thin}
 
 module _ {T A : Type 0} where
-  -- `IsWalked b a start end` states that exactly the slots `start..end` of an iterator's block `b`
-  -- hold items, and that the memory of `b` came from the allocator `a`.
+  -- `IsWalked b a start end` describes the block `b` of an iterator: exactly the slots `start..end`
+  -- hold items, and the memory of `b`, if it has any, came from the allocator `a`.
   pub record IsWalked (b : Block T A) (a : A) (start end : ℕ) : Type 0 where
     pub row : b.slots ≡ empty start ++ (full (items_in b.slots) ++ empty (length b.slots - end))
     pub len : start + length (items_in b.slots) ≡ end

@@ -13,8 +13,9 @@ use Rattle.thin_vec.specs.Edits.Retain.{moved_down}
 module _ {S T : Type 0} (R : S → T → T → Bool → S → T → T → Type 0) where
   -- `AskedLast s k xs stays ys t` states that the items of `xs` were tested in order, each against
   -- the last item that was kept before it. For the first item of `xs`, this kept item is `k`. The
-  -- tests changed the state from `s` to `t`. The flags `stays` say which items of `xs` were kept,
-  -- and `ys` consists of `k` and the kept items, as the tests left them.
+  -- tests changed the state from `s` to `t`. The list `stays` contains one flag for each item of
+  -- `xs`, which is true if the item was kept. The list `ys` contains `k` and then the kept items of
+  -- `xs`, as the tests left them.
   abbrev pub AskedLast : S → T → List T → List Bool → List T → S → Type 0
   AskedLast s k [] stays ys t = (stays ≡ []) × (ys ≡ k ∷ []) × (t ≡ s)
   AskedLast s k (x ∷ xs) stays ys t =
@@ -25,13 +26,14 @@ module _ {S T : Type 0} (R : S → T → T → Bool → S → T → T → Type 0
 
   -- `AskedPairs s xs stays ys t` states that all items of `xs` except the first were tested in
   -- order, each against the last item that was kept before it. The tests changed the state from `s`
-  -- to `t`. The flags `stays` say which of the tested items were kept, and `ys` consists of the
-  -- first item and the kept items, as the tests left them.
+  -- to `t`. The list `stays` contains one flag for each tested item, which is true if the item was
+  -- kept. The list `ys` contains the first item of `xs` and then the kept items, as the tests left
+  -- them.
   abbrev pub AskedPairs : S → List T → List Bool → List T → S → Type 0
   AskedPairs s [] stays ys t = (stays ≡ []) × (ys ≡ []) × (t ≡ s)
   AskedPairs s (x ∷ xs) stays ys t = AskedLast s x xs stays ys t
 
-  -- `IsDedupedTo s v w t` states that the list `v` became `w` when its duplicates were removed. The
+  -- `IsDedupedTo s v w t` states that removing the duplicates turned the list `v` into `w`. The
   -- recorded cost increased by one move for each kept item that follows the first removed item. The
   -- test that found the duplicates changed its state from `s` to `t`.
   pub record IsDedupedTo {A : Type 0} (s : S) (v w : Thin T A) (t : S) : Type 0 where

@@ -11,9 +11,9 @@ use Rattle.thin_vec.specs.declared.edits.drain.Drain.{Drain}
 use Rattle.thin_vec.specs.declared.edits.holder.Holder.{Holder}
 use Rattle.thin_vec.specs.declared.edits.holder.Holds.{Ghosts as HoldsGhosts}
 
--- Until a `Drain` is dropped, it owns the block of the list. The block is in a field of the
--- `Drain`. In this module, the type of this field is `Holder`, as in every `Drain` that the method
--- `drain` returns.
+-- Until a `Drain` is dropped, it owns the block of the list. The block is in a field whose type is
+-- a parameter of `Drain`. In this module, this type is `Holder`, a struct that contains only the
+-- block. The method `drain` always returns a `Drain` with this type.
 module _ {T A G : Type 0} {g : Ghosts G} {h : HoldsGhosts (Holder (Open T A)) (Open T A)} where
   -- `drain_rest d` contains the items of the range that the `Drain` has not yielded yet.
   abbrev pub drain_rest : Drain T A G (Holder (Open T A)) g h → List T
@@ -74,13 +74,12 @@ module _ {T A G : Type 0} {g : Ghosts G} {h : HoldsGhosts (Holder (Open T A)) (O
   DrainKeepsAlong first = (items : List T) (later : Drain T A G (Holder (Open T A)) g h)
       → Yields DrainSteps first items later → DrainKeeps first later
 
-  -- `DrainsInOrder d` states that calls to `next` yield the remaining items of the range
-  -- (`drain_rest`) in order. This is a statement about every `Drain` of the same type as `d`.
+  -- `DrainsInOrder d` states that, for every `Drain` of the same type as `d`, calls to `next` yield
+  -- the remaining items of the range (`drain_rest`) in order.
   abbrev pub DrainsInOrder : Drain T A G (Holder (Open T A)) g h → Type 0
   DrainsInOrder d = YieldsInOrder DrainSteps drain_rest
 
-  -- `DrainsInReverse d` states that calls to `next_back` yield the remaining items of the range
-  -- (`drain_rest`) in reverse order. This is a statement about every `Drain` of the same type as
-  -- `d`.
+  -- `DrainsInReverse d` states that, for every `Drain` of the same type as `d`, calls to
+  -- `next_back` yield the remaining items of the range (`drain_rest`) in reverse order.
   abbrev pub DrainsInReverse : Drain T A G (Holder (Open T A)) g h → Type 0
   DrainsInReverse d = YieldsInReverse DrainStepsBack drain_rest

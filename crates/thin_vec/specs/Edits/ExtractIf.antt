@@ -14,12 +14,14 @@ use Rattle.thin_vec.specs.declared.edits.holder.Holds.{Ghosts as HoldsGhosts}
 -- `R f x b g y` states that the closure was called with the item `x` and returned the Boolean value
 -- `b`. The call changed the state of the closure from `f` to `g`, and the item from `x` to `y`.
 module _ {T F A : Type 0} (R : F → T → Bool → F → T → Type 0) where
-  -- `Extracts old item new` states that a call to `next` changed `old` to `new` and returned
-  -- `item`. The call passed the untested items of the range to the closure, in order. It stopped
-  -- when the closure returned true for an item, or when no untested item was left. If the closure
-  -- returned true for an item, the call removed and returned this item. The items `kept`, for which
-  -- the closure returned false, remain in the list. If an item had already been extracted before
-  -- the call, each item in `kept` counts as one move.
+  -- `Extracts old item new` describes a call to `next` that returned `item`. `old` and `new` are
+  -- the block and the closure of the `ExtractIf` before and after the call. The call passed the
+  -- untested items of the range to the closure, in order. It stopped when the closure returned true
+  -- for an item, or when no untested item was left.
+  --
+  -- If the closure returned true for an item, the call removed and returned this item. The items
+  -- `kept`, for which the closure returned false, remain in the list. If an item had already been
+  -- extracted before the call, each item in `kept` counts as one move.
   pub record Extracts (old : Extracting T F A) (item : Option T)
       (new : Extracting T F A) : Type 0 where
     pub kept : List T
@@ -34,9 +36,10 @@ module _ {T F A : Type 0} (R : F → T → Bool → F → T → Type 0) where
     pub cost : new.block.cost ≡ (if old.block.gap == 0 then old.block.cost else moving
         (length kept) old.block.cost)
 
--- Until an `ExtractIf` is dropped, it owns the block of the list. The block is in a field of the
--- `ExtractIf`. In this module, the type of this field is `Holder`, as in every `ExtractIf` that the
--- method `extract_if` returns.
+-- Until an `ExtractIf` is dropped, it owns the block of the list. The block and the closure are in
+-- a field whose type is a parameter of `ExtractIf`. In this module, this type is `Holder`, a struct
+-- that contains only the block and the closure. The method `extract_if` always returns an
+-- `ExtractIf` with this type.
 module _ {T F A G : Type 0} {g : Ghosts G}
     {h : HoldsGhosts (Holder (Extracting T F A)) (Extracting T F A)} where
   -- `extract_front e` contains the items before the range, followed by the tested items that were

@@ -34,9 +34,9 @@ module _ {T A : Type 0} where
     pub items : w.items ≡ with_between v xs
     pub capacity : w.capacity ≡ v.capacity
     pub alloc : w.alloc ≡ a
-    -- Each item of `xs` was moved once. `m` is the number of moves of tail items, which are the
-    -- items after the edited range. Each tail item was moved at most once. If `xs` filled the gap,
-    -- no tail item was moved.
+    -- Each item of `xs` was moved once. In addition, tail items (items after the edited range) were
+    -- moved `m` times in total. Each tail item was moved at most once. If `xs` filled the gap, no
+    -- tail item was moved.
     pub cost : (m : ℕ) × (w.cost ≡ moving (length xs + m) v.cost) × (m ≤ length v.tail)
         × (length xs ≡ v.gap → m ≡ 0)
 

@@ -13,8 +13,10 @@ module _ {T A : Type 0} where
   moves_replacing v i j k = k + (if k == j - i then 0 else length v.items - j)
 
   -- `moves_cloning v i j k` is the number of moves that are counted if `k` clones replace the items
-  -- `i..j` of the list `v`. The clones are made while the old items are still in the list. So each
-  -- clone that is later moved into the range costs one move that `moves_replacing` does not count.
+  -- `i..j` of the list `v`. It counts the moves of `moves_replacing v i j k`, and one more move for
+  -- each clone that takes the place of an old item. The reason is that all clones are made while
+  -- the old items are still in the list. So these clones are first put into other slots, and later
+  -- moved into the range.
   abbrev pub moves_cloning : Thin T A → ℕ → ℕ → ℕ → ℕ
   moves_cloning v i j k = moves_replacing v i j k + min k (j - i)
 

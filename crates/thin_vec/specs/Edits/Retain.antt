@@ -4,7 +4,7 @@ use Rattle.std.specs.Prelude.{◌≡◌, ℕ, zero, suc, List, [], ◌∷◌, Bo
 use Rattle.thin_block.specs.Cost.{moving}
 use Rattle.thin_vec.specs.ThinVec.{Thin}
 
--- `trues flags` is the number of flags that are true.
+-- `trues flags` is the number of flags in the list `flags` that are true.
 abbrev pub trues : List Bool → ℕ
 trues [] = zero
 trues (true ∷ flags) = suc (trues flags)
@@ -24,8 +24,8 @@ abbrev pub Verdicts : Type 0 → Type 0
 Verdicts T = List (Bool × T)
 
 module _ {T : Type 0} where
-  -- `left_at true verdicts` contains the items that are kept, and `left_at false verdicts` contains
-  -- the items that are removed. The items are as the test left them.
+  -- `left_at true verdicts` contains the items that are kept according to `verdicts`, and `left_at
+  -- false verdicts` contains the items that are removed. The items are as the test left them.
   abbrev pub left_at : Bool → Verdicts T → List T
   left_at b [] = []
   left_at true ((true, x) ∷ verdicts) = x ∷ left_at true verdicts
@@ -33,8 +33,8 @@ module _ {T : Type 0} where
   left_at false ((true, x) ∷ verdicts) = left_at false verdicts
   left_at false ((false, x) ∷ verdicts) = x ∷ left_at false verdicts
 
-  -- `stay xs` is the list of verdicts of a test that keeps every item. The list `xs` contains the
-  -- items as the test left them.
+  -- `stay xs` is the list of verdicts in which every item is kept. The list `xs` contains the items
+  -- as the test left them.
   abbrev pub stay : List T → Verdicts T
   stay xs = map (λ (x : T). (true, x)) xs
 
@@ -69,8 +69,8 @@ module _ {S T : Type 0} (R : S → T → Bool → S → T → Type 0) where
   abbrev pub IsRetained : {A : Type 0} → S → Thin T A → Thin T A → Type 0
   IsRetained s v w = (t : S) × IsRetainedTo s v w t
 
--- `Looks R` describes a test that does not change the tested item. `R s x b t` describes one call
--- of the test with the item `x`. The call returns the Boolean value `b`, which is true if the item
--- is to be kept, and changes the state of the test from `s` to `t`.
+-- `Looks R` describes the calls of a test that does not change the tested item. `R s x b t` states
+-- that a call with the item `x` returns the Boolean value `b`, which is true if the item is to be
+-- kept, and that the call changes the state of the test from `s` to `t`.
 abbrev pub Looks : {S T : Type 0} → (S → T → Bool → S → Type 0) → S → T → Bool → S → T → Type 0
 Looks R s x b t y = R s x b t × (y ≡ x)

@@ -17,12 +17,13 @@ use Rattle.thin_vec.specs.declared.edits.holder.Holds.{Ghosts as HoldsGhosts}
 
 module _ {S T A : Type 0} (steps : S → Option T → S → Type 0) where
   -- `Stopped can remaining s placed error` states that `finish` failed with `error` after it had
-  -- inserted the items `placed` of the iterator `s`. The error returns the items that `s` yielded
-  -- after them: first the items in `held`, and then the item in `in_hand`, if there is one.
+  -- inserted the items `placed`, which the iterator `s` yielded first. The error returns the items
+  -- that `s` yielded after them: first the items in `held`, and then the item in `in_hand`, if
+  -- there is one.
   --
-  -- If `held` is not empty and `in_hand` is `None`, the iterator has ended. Otherwise, `next` may
-  -- be called again (`can`), and the rest of the iterator yields only finitely many items
-  -- (`remaining`).
+  -- If `held` is not empty and `in_hand` is `None`, the iterator has ended. Otherwise, the error
+  -- returns an iterator that may not have ended yet. Its method `next` may be called again (`can`),
+  -- and the number of items that it may still yield is finite (`remaining`).
   abbrev pub Stopped : (S → Type 0) → (S → Count) → S → List T → SpliceRefused T S A → Type 0
   Stopped can remaining s placed error =
       (PausedAfter steps can remaining s
@@ -37,8 +38,8 @@ module _ {T A : Type 0} where
   -- items that the rest of the iterator may yield.
   pub record IsStopCause {S : Type 0} (rule : Rule) (R : RattleType) (w : Thin T A) (tail : List T)
       (left : Count) (error : SpliceRefused T S A) : Type 0 where
-    -- The error returns no items if `held` is empty and `in_hand` is `None`. In this case, the call
-    -- failed because it could not reserve room for as many items as the lower bound of the
+    -- Suppose that the error returns no items: `held` is empty, and `in_hand` is `None`. Then the
+    -- call failed because it could not reserve room for as many items as the lower bound of the
     -- iterator's size hint.
     pub by_hint : error.held.items ≡ [] → error.in_hand ≡ None
         → FailsAtHint rule R w left error.cause
@@ -55,20 +56,22 @@ module _ {T A : Type 0} where
     pub by_push : tail ≡ [] → IsSome error.in_hand
         → (error.cause ≡ CapacityOverflow) ↔ (capacity_for rule R w 1 ≡ None)
 
-  -- Suppose that no item follows the range, and that a call to `finish` fails with `error`.
-  -- `FailsAsExtend` describes this failure. `v` is the list without the items of the range, `w` is
-  -- the list after the call, and `s` is the iterator before the call.
+  -- `FailsAsExtend v w s error` describes a call to `finish` that failed with `error`, where no
+  -- item follows the range. `v` is the list without the items of the range, `w` is the list after
+  -- the call, and `s` is the iterator before the call.
   pub record FailsAsExtend {S : Type 0} (v w : Thin T A) (s : S) (error : SpliceRefused T S A)
       : Type 0 where
     pub held : error.held.items ≡ []
-    -- If `in_hand` is `None`, the iterator has yielded no item, and the list after the call is `v`,
-    -- the list without the items of the range. If `in_hand` is `Some`, the list after the call is
+    -- If `in_hand` is `None`, the iterator has yielded no item, and the list after the call is the
+    -- list without the items of the range (`v`). If `in_hand` is `Some`, the list after the call is
     -- full.
     pub in_hand : MatchOption error.in_hand ((w ≡ v) × (error.rest ≡ s))
         (λ _. length w.items ≡ w.capacity)
 
   -- `left_of v a` is the list that contains the front items and the tail items of the open block
-  -- `v`, that is, all its items except the middle items. The list has the allocator `a`.
+  -- `v`, that is, all its items except the middle items. (In a `Splice`, the front items are the
+  -- items before the range, the middle items are the items of the range, and the tail items are the
+  -- items after the range.) The list has the allocator `a`.
   abbrev pub left_of : Open T A → A → Thin T A
   left_of v a = record {
     items = v.front ++ v.tail;
@@ -112,8 +115,8 @@ module _ {I T A G H : Type 0} {g : Ghosts G} {h : HoldsGhosts H (Open T A)} wher
   abbrev pub splice_left : Splice I T A G H g h → Thin T A
   splice_left s = left_of (splice_block s) (splice_alloc s)
 
-  -- `splice_range s` is the number of slots of the range, including the slots of items that have
-  -- already been yielded.
+  -- `splice_range s` is the number of slots of the range. Slots whose items have already been
+  -- yielded are included.
   abbrev pub splice_range : Splice I T A G H g h → ℕ
   splice_range s = range_len (splice_block s)
 
@@ -123,8 +126,9 @@ module _ {I T A G H : Type 0} {g : Ghosts G} {h : HoldsGhosts H (Open T A)} wher
   splice_replaced s xs = with_between (splice_block s) xs
 
   -- `HasPlacesFor s most` states that `most` items can be inserted without a request for memory.
-  -- There are two cases: the range has at least `most` slots, or no item follows the range and the
-  -- list without the range has room for `most` more items.
+  -- This is possible in two cases. In the first case, the range has at least `most` slots. In the
+  -- second case, no item follows the range, and the list without the range has room for `most` more
+  -- items.
   abbrev pub HasPlacesFor : Splice I T A G H g h → ℕ → Type 0
   HasPlacesFor s most =
       (most ≤ splice_range s)

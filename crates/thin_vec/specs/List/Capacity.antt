@@ -4,9 +4,12 @@
 --
 -- If `v` has room for `k` more items, `capacity_for rule R v k` is the old capacity. Otherwise, it
 -- is the capacity that the growth rule chooses, or `None` if this capacity is too large for a
--- block. Every growth rule must at least double the capacity and make room for all items
--- (`KeepsLaw`). The default rule chooses twice the old capacity (4 if the old capacity is 0), or
--- the new number of items if this number is larger.
+-- block. The law `KeepsLaw` requires that every growth rule at least doubles the capacity and makes
+-- room for all items.
+--
+-- The default rule chooses twice the old capacity. If the old capacity is 0, it chooses 4 instead
+-- (or 1 for items of at least `2 ^ 61` bytes). If the new number of items is larger than this
+-- capacity, the rule chooses the new number of items.
 use Rattle.std.specs.Prelude.{◌≡◌, ◌↔◌, ◌⊎◌, ℕ, ◌≤◌, IsErrOf, OnErr, OnOk, Option, Result}
 use Rattle.std.specs.declared.option.Option.TheVariants.{None, Some}
 use Rattle.std.specs.declared.result.Result.TheVariants.{Ok, Err}

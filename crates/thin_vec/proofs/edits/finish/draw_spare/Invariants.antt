@@ -1,4 +1,5 @@
--- The vector contains its old items, followed by the items that the iterator has yielded so far.
+-- Before each iteration of the loop, the vector contains its old items, followed by the items that
+-- the iterator has yielded so far.
 use Rattle.std.proofs.Common.{◌≡◌, ◌+◌, ◌≤◌, List, ◌++◌, length}
 use Rattle.std.specs.Iterator.{IsFinite, Yields, size}
 use Rattle.thin_vec.proofs.edits.finish.draw_spare.Given as goal

@@ -1,6 +1,7 @@
--- `dedup` compares items with `==`. So the list contains the items that the specification function
--- `dedup` returns. The flags `unlike`, which say which items are kept, determine the number of
--- moves. The list never becomes longer.
+-- `dedup` compares items with `==`. So after the call, the list contains the items that the
+-- specification function of the same name returns. The specification function `unlike` returns
+-- flags that say which items are kept. These flags determine the number of moves. The list never
+-- becomes longer.
 use Rattle.std.proofs.Common.{ap, ◌∙◌}
 use Rattle.thin_block.specs.Cost.{moving}
 use Rattle.thin_vec.specs.Edits.Retain.{moved_down}

@@ -26,7 +26,8 @@ wide g c = record {
 
 -- `HasTaken` describes how adding items of an iterator may change a list. Suppose that opening and
 -- closing the gap takes at most `n` moves. Then `HasTaken` holds for the list before the call to
--- `insert_hinted` and the list after it, with at most `n` moves of old items.
+-- `insert_hinted` and the list after this call. It states that the old items were moved at most `n`
+-- times in total.
 taken : (g : _) (c : After-fill_gap g) (n : _)
     → c.fill_gap.ensures.filled.1.cost.0 + (length c.reserve.new.self.items - c.args.at) ≤ n
     → HasTaken g.G.Growth.rule (param 0 g.row.T) c.args.self.now c.fill_gap.new.self n

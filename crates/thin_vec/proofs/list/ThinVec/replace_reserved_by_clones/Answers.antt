@@ -1,6 +1,7 @@
--- The clones that do not fit into the range are made first, directly after the range. The other
--- clones are appended to the list, and `replace_by_last` then moves them into the range. If a clone
--- fails, all clones are dropped, so the list contains its old items again.
+-- If there are more new items than items in the range, the surplus clones are made first, in slots
+-- directly after the range. The other clones are appended to the list, and `replace_by_last` then
+-- moves them into the range. If a clone fails, all clones are dropped, so the list contains its old
+-- items again.
 use Rattle.std.proofs.Common.{if◌then◌else◌, ◌≡◌, ◌+◌, ◌-◌, ◌≤◌, ◌++◌, ◌∙◌, ap, arith, eqb, length, length-append, subst, sym}
 use Rattle.std.proofs.lemmas.List.Elements.{length_all_zip}
 use Rattle.std.specs.List.{AllZip}

@@ -1,5 +1,5 @@
 -- If the list already has room for `additional` more items, `reserve` changes nothing. In this
--- case, `capacity_for` in the contract is the current capacity.
+-- case, the capacity that the contract promises, `capacity_for`, is the current capacity.
 use Rattle.std.proofs.Common.{arith}
 use Rattle.std.proofs.Common.{refl}
 use Rattle.thin_vec.proofs.list.ReservesLemmas.{reserves-room}

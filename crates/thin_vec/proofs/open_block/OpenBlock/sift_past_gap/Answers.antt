@@ -1,6 +1,7 @@
--- `Sifts` describes how testing some items changes the open block. If it holds for the first
--- iterations of the loop, and for the iteration after them, then it holds for all of them together.
--- After the loop, `sift_last` tests the remaining item, if there is one.
+-- `Sifts` describes one stage of the removal of items: some of the untested items were tested, and
+-- were then either kept or removed. If `Sifts` holds for the first iterations of the loop, and for
+-- the iteration after them, then it holds for all of them together. After the loop, `sift_last`
+-- tests the remaining item, if there is one.
 use Rattle.thin_vec.proofs.RetainLemmas.{sifts-start, sifts-then}
 use Rattle.thin_vec.proofs.open_block.OpenBlock.sift_past_gap.Goals as goal
 

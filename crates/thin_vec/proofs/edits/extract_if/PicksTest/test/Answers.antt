@@ -1,13 +1,13 @@
 -- The closure of `extract_if` returns true for an item to be extracted, but the test returns true
--- for an item to be kept. So the test negates the result of the closure, and the specification of
--- the test negates it again.
+-- for an item to be kept. So the test negates the result of the closure. The specification of the
+-- test negates the result of the test, and thereby describes the call of the closure.
 use Rattle.std.proofs.Common.{Bool, rules, sym, subst}
 use Rattle.std.specs.Fn.{CalledAtMut}
 use Rattle.thin_vec.proofs.edits.ExtractIfLemmas.{not-not}
 use Rattle.thin_vec.proofs.edits.extract_if.PicksTest.test.Goals as goal
 
--- The clause `asked` holds because the result of the closure is negated twice, once by the test and
--- once by its specification.
+-- The result of the closure is negated twice, once by the test and once by its specification.
+-- Negating a Boolean value twice does not change it, so the clause `asked` holds.
 pub returns-clause-asked : goal.returns-clause-asked
 returns-clause-asked g c =
     let called : CalledAtMut g.F.FnMut c.args.self.now.pick c.args.item.now c.pick.result

@@ -15,9 +15,10 @@ use Rattle.thin_vec.specs.List.Extend.{IsCollectedList}
 use Rattle.thin_vec.proofs.list.extend.ThinVec+T+A.from_iter.Goals.{After-extend_unhinted}
 use Rattle.thin_vec.proofs.list.extend.ThinVec+T+A.from_iter.Goals as goal
 
--- `IsCollectedList` describes a list that was made from the items of an iterator. The list
--- satisfies it after the call to `extend_unhinted`, because the capacity before this call was
--- exactly the lower bound of the size hint.
+-- `IsCollectedList` describes a list that was made from the items of an iterator: it states which
+-- capacity and which cost the list may have. The list satisfies `IsCollectedList` after the call to
+-- `extend_unhinted`, because its capacity before this call was exactly the lower bound of the size
+-- hint.
 collected : (g : _) (c : After-extend_unhinted g)
     → IsCollectedList doubling (param 0 g.row.T) c.args.alloc c.extend_unhinted.new.self
     (g.I.Iterator.remaining c.args.iter)
