@@ -15,12 +15,13 @@ kind_of node = (out-Node node).kind
 abbrev pub children_of : Node → Thin Node Global
 children_of node = (out-Node node).children
 
--- `count_step node` is 1 plus the sum of the node counts of the children. In `node`, each child has
--- already been replaced with its node count.
+-- `count_step node` computes the number of nodes of the tree whose root is `node`. In `node`, each
+-- child has already been replaced with its own node count. The result is the sum of these counts,
+-- plus 1 for the root.
 abbrev pub count_step : Node-F ℕ → ℕ
 count_step node = 1 + sum node.children.items
 
--- `node_count node` is the number of nodes in the tree whose root is `node`. The root itself is
--- counted, too.
+-- `node_count node` is the number of nodes in the tree whose root is `node`. This number includes
+-- the root itself.
 abbrev pub node_count : Node → ℕ
 node_count = fold-Node ℕ count_step

@@ -59,7 +59,8 @@ pub fn carry_out<T: Clone + Eq, A: Allocator + Copy, G: Growth, J: Judge<T>>(
     }
 }
 
-// Fails if a reply reports a failed call. The error is the cause of the first failed call.
+// Returns `Ok(())` if no reply reports a failed call. Otherwise, returns the cause of the first
+// failed call as an error.
 fn all_granted<T, A: Allocator, G: Growth>(replies: &[Reply<T, A, G>]) -> Result<(), ThinVecError>
     ensures granted { OnOk result (All IsGranted replies.now) }
 {

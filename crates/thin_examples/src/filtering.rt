@@ -29,7 +29,7 @@ pub fn keep_distinct<A: Allocator, G: Growth>(list: &mut ThinVec<u32, A, G>)
 }
 
 /// If adjacent numbers have the same value of `number / 10`, keeps only the first of them. For
-/// example, the numbers 12, 17, 23 become 12, 23.
+/// example, the list 12, 17, 23 becomes the list 12, 23.
 pub fn keep_tens<A: Allocator, G: Growth>(list: &mut ThinVec<u32, A, G>)
     ensures items { list.new.items ≡ dedup (λ later kept. later / 10 == kept / 10) list.old.items }
     ensures capacity { list.new.capacity ≡ list.old.capacity }
@@ -75,8 +75,8 @@ pub trait Keeper<T>: Copy {
         ensures { keeps self.old item.old ≡ (result, (item.new, self.new)) };
 }
 
-/// Asks a copy of `keeper` about each item, and removes the items for which `keep` returns false.
-/// The copy may write to the items. The call does not change `keeper` itself.
+/// Calls `keep` on a copy of `keeper` for each item, and removes the items for which `keep` returns
+/// false. The calls may write to the items. They change only the copy, and not `keeper` itself.
 pub fn keep_by<T: Copy, A: Allocator, G: Growth, J: Keeper<T>>(
     list: &mut ThinVec<T, A, G>,
     keeper: &J,

@@ -105,8 +105,8 @@ pub fn continued<A: Allocator, G: Growth>(
     Ok(copy)
 }
 
-/// Appends the items of `numbers` in order, until there is no room for the next item. Returns how
-/// many items were appended. The list keeps its old items in every case.
+/// Appends the items of `numbers` in order. Stops when there is no room for the next item. Returns
+/// how many items were appended. The list keeps its old items in every case.
 pub fn extend_by_number<A: Allocator, G: Growth>(
     list: &mut ThinVec<u32, A, G>,
     numbers: &[u32],
@@ -180,7 +180,8 @@ pub fn take_all<T, A: Allocator, G: Growth>(
     ensures succeeds { HasRoomFor list.old (length other.old.items) → IsOk result }
     ensures succeeds_empty { other.old.items ≡ [] → IsOk result }
 
-    // On failure, the call returns the cause, and both lists are unchanged.
+    // The following clauses describe a failed call. The error is `CapacityOverflow` if and only if
+    // the growth rule chooses no capacity for the items of both lists. Both lists are unchanged.
     ensures overflow { capacity_for G.rule T.row list.old (length other.old.items) ≡ None
         → IsErrOf result ThinVecError.CapacityOverflow }
     ensures cause { IfErr result

@@ -7,9 +7,10 @@ ghost use Rattle.thin_vec.specs.ThinVec.{IsWithin};
 use std::alloc::Allocator;
 use thin_vec::{Growth, Rejected, ThinVec};
 
-/// Returns `start + count`, the index directly after the `count` items that begin at `start`. The
-/// sum cannot overflow, because the precondition `within` limits the length to `isize::MAX`. The
-/// contracts of the methods of `ThinVec` ensure this limit.
+/// Returns `start + count`. This is the index directly after the `count` items that begin at the
+/// index `start`. The sum is at most the length of the list. It cannot overflow, because the
+/// precondition `within` limits this length to `isize::MAX`. The contracts of the methods of
+/// `ThinVec` ensure this limit for every list.
 pub fn run_end<T, A: Allocator, G: Growth>(
     list: &ThinVec<T, A, G>,
     start: usize,
@@ -22,8 +23,8 @@ pub fn run_end<T, A: Allocator, G: Growth>(
     start + count
 }
 
-/// Returns the item at `index` and the next item. The sum `index + 1` cannot overflow, because the
-/// contract of `list[index]` ensures that the length is at most `isize::MAX`.
+/// Returns the item at `index` and the item after it. The sum `index + 1` cannot overflow, because
+/// the contract of `list[index]` ensures that the length of the list is at most `isize::MAX`.
 pub fn neighbours<A: Allocator, G: Growth>(list: &ThinVec<u32, A, G>, index: usize) -> (u32, u32)
     requires in_bounds { index + 1 < length list.now.items }
     ensures first { result.0 ≡ slice_index list.now.items index }

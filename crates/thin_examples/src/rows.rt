@@ -35,7 +35,8 @@ pub const ROWS: [u32; 35] = [
 /// the error of a call that failed unexpectedly.
 pub type Outcome = Result<Checks, ThinVecError>;
 
-/// Runs the worked example with the number `number`. If there is no such example, compares nothing.
+/// Runs the worked example with the number `number`. If there is no such example, returns a counter
+/// that has not counted any comparisons.
 ///
 /// # Errors
 ///

@@ -47,7 +47,7 @@ pub fn add<A: Allocator>(
 }
 
 /// Sets the count at `row` and `column` to `count`, then reads this count from the table and
-/// returns it. The lemma `written` shows that the returned count is `count`.
+/// returns it. The lemma `written` shows that the result is `Some(count)`.
 ///
 /// # Errors
 ///

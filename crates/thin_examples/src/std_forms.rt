@@ -1,5 +1,7 @@
 //! Example functions that call `thin_vec!` in the syntax of std's `vec!`, and example functions
-//! that use the traits `Emptied` and `MadeWith` of Rattle's std.
+//! that use two traits of Rattle's std. The trait `Emptied` has a function that makes an empty
+//! value to replace a given one. The trait `MadeWith` has a function that makes a value from an
+//! allocator.
 ghost use Rattle.std.specs.Prelude.{◌≡◌, [], ◌∷◌, IfOk, OnErr, OnOk, replicate};
 
 use std::alloc::{AllocError, Allocator};
@@ -46,8 +48,8 @@ pub fn take_list<T, A: Allocator + Clone, G: Growth>(
     mem::try_take(list)
 }
 
-/// Makes an empty list using the trait `MadeWith` of Rattle's std. The method `or_default` of maps
-/// uses the same trait.
+/// Makes an empty list from an allocator, using the trait `MadeWith` of Rattle's std. The method
+/// `or_default` of maps uses the same trait.
 pub fn made<A: Allocator, G: Growth>(alloc: A) -> ThinVec<u32, A, G>
     ensures items { result.items ≡ [] }
 {
@@ -59,7 +61,7 @@ pub fn made<A: Allocator, G: Growth>(alloc: A) -> ThinVec<u32, A, G>
 ///
 /// # Errors
 ///
-/// Fails if the allocator fails.
+/// Fails if the map has no room for a new list, or if the list has no room for `number`.
 pub fn append_to(
     lists: &mut HashMap<u32, ThinVec<u32>>,
     key: u32,

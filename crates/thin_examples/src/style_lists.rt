@@ -8,8 +8,8 @@ use std::alloc::Allocator;
 use std::hash::{DefaultHasher, Hash, Hasher};
 use thin_vec::{Growth, ThinVec};
 
-/// Returns whether both styles have the same rules in the same order. A style is a list of rules,
-/// and each rule is a number. The capacities of the lists are not compared.
+/// Returns whether the two styles have the same rules in the same order. A style is a list of
+/// rules, and each rule is a number. The capacities of the lists are not compared.
 pub fn same_style<A: Allocator, G: Growth>(
     one: &ThinVec<u32, A, G>,
     other: &ThinVec<u32, A, G>,
@@ -19,8 +19,8 @@ pub fn same_style<A: Allocator, G: Growth>(
     one == other
 }
 
-/// Returns the hash that std's `DefaultHasher` computes for `style`, which is a list of rules. The
-/// hash depends only on the rules, so equal styles have equal hashes.
+/// Returns the hash that std's `DefaultHasher` computes for the list `style`. The items of this
+/// list are rules. The hash depends only on the rules, so equal styles have equal hashes.
 pub fn style_hash<A: Allocator, G: Growth>(style: &ThinVec<u32, A, G>) -> u64
     ensures value { result ≡ sip.finish
         (fold sip.write sip.initial (fed.slice fed.u32 style.now.items)) }

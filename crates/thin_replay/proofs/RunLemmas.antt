@@ -1,6 +1,7 @@
--- A run carries out a list of commands, and produces one reply for each command. These lemmas are
--- about a run of a single command. They state that such a run produces exactly one reply, and that
--- the main theorem of `thin_runner` (`Headline`) holds for the command and this reply.
+-- A run carries out a list of commands, and produces one reply for each command. The following
+-- lemmas consider a run with only one command. They state that such a run produces exactly one
+-- reply. They also state that the main theorem of `thin_runner` (`Headline`) holds for the command
+-- and this reply.
 use Rattle.std.proofs.Common.{◌≡◌, List, [], ◌∷◌, ◌++◌, Option, Some, ap, arith, length, length-append, refl, subst, sym, ◌∙◌}
 use Rattle.std.specs.Option.{option_to_list}
 use Rattle.thin_vec.specs.ThinVec.{Thin}
@@ -16,32 +17,33 @@ alone : {X : Type 0} (front : List X) (x : X) → length (front ++ x ∷ []) ≡
 alone [] x one = refl
 alone (y ∷ front) x one = absurd (omega (arith, length-append front (x ∷ [])))
 
--- In this module, a single command was run with the setting `here`. The command turned the list
--- `old` into the list `new`. The list of replies was empty before the run, and the main theorem
--- `Headline` holds for the run.
+-- In this module, the list `commands` contains only `command`. The run of `commands` turned the
+-- list `old` into the list `new`. The setting `here` contains the values that all commands of a run
+-- share, such as the allocator. The list `before` of replies before the run is empty, and `after`
+-- is the list of replies after the run. The main theorem `Headline` holds for this run.
 module _ {T A G J : Type 0} (here : Setting T A J) (old new : Thin T A)
     (command : Command T A G) (commands : List (Command T A G)) (before after : List (Reply T A G))
     (one : commands ≡ command ∷ []) (none : before ≡ [])
     (headline : Headline here old commands before after new) where
-  -- If a run of the single command `command` turns the list `old` into `new` and produces the
-  -- replies `replies`, then there is exactly one reply.
+  -- Suppose that a run of the single command `command` turns the list `old` into `new`, and
+  -- produces the list `replies` of replies. Then `replies` contains exactly one reply.
   has_one : (replies : List (Reply T A G)) → Runs here old (command ∷ []) replies new
       → length replies ≡ 1
   has_one [] run = absurd run
   has_one (reply ∷ []) run = refl
   has_one (reply ∷ more ∷ replies) run = absurd run.1.1
 
-  -- After the run of the single command, the list `after` of all replies contains exactly one
-  -- reply.
+  -- The list `after` contains all replies after the run of the single command. It contains exactly
+  -- one reply.
   pub one_reply : length after ≡ 1
   one_reply =
       ap length (headline.appended ∙ ap (λ (l : List (Reply T A G)). l ++ headline.replies) none)
       ∙ has_one headline.replies
       (subst (λ cs. Runs here old cs headline.replies new) one headline.allowed)
 
-  -- Suppose that a call to `pop` on the list of replies returns `popped`, which is `Some reply`,
-  -- and leaves the list `left`. Then the main theorem `Headline` holds for the run, with the single
-  -- command and the single reply `reply`.
+  -- Suppose that `pop` is called on the list `after` of replies. The call leaves the list `left`,
+  -- and its result `popped` is `Some reply`. Then `reply` is the only reply, and the main theorem
+  -- (`Headline`) holds for the single command `command` and this reply.
   pub headline-one : (left : List (Reply T A G)) (popped : Option (Reply T A G))
       (reply : Reply T A G) → after ≡ left ++ option_to_list popped → popped ≡ Some reply
       → Headline here old (command ∷ []) [] (reply ∷ []) new

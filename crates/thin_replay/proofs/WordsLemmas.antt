@@ -6,8 +6,9 @@ use Rattle.std.specs.List.{AllZip}
 
 module _ {X Y : Type 0} (R : X → Y → Type 0) where
   -- `AllZip R xs ys` holds if the lists `xs` and `ys` have the same length, and `R` holds for every
-  -- pair of items at the same index. If `AllZip R xs ys` and `R x y` hold, then `AllZip R (xs ++ x
-  -- ∷ []) (ys ++ y ∷ [])` holds, too.
+  -- pair of items at the same index. Suppose that `AllZip R xs ys` holds, and that `R x y` holds.
+  -- Then `AllZip` also holds for the two lists that result from appending `x` to `xs` and `y` to
+  -- `ys`.
   zip-push : (xs : List X) (ys : List Y) (x : X) (y : Y) → AllZip R xs ys → R x y
       → AllZip R (xs ++ x ∷ []) (ys ++ y ∷ [])
   zip-push [] [] x y all one = (one, tt)
@@ -15,18 +16,19 @@ module _ {X Y : Type 0} (R : X → Y → Type 0) where
   zip-push [] (b ∷ ys) x y all one = absurd all
   zip-push (a ∷ xs) [] x y all one = absurd all
 
-  -- `AllZip R xs ys` holds if `R` relates the lists `xs` and `ys` item by item. Suppose that `R`
-  -- relates the first `i` items of `xs` to the list `ys`, and the next item of `xs` to `y`. Then
-  -- `R` relates the first `i + 1` items of `xs` to the list `ys ++ y ∷ []`. The default item `d` is
+  -- `AllZip R xs ys` holds if the lists `xs` and `ys` have the same length, and `R` holds for every
+  -- pair of items at the same index. Suppose that `AllZip` holds for the first `i` items of `xs`
+  -- and the list `ys`. Suppose also that `R` holds for the next item of `xs` and `y`. Then `AllZip`
+  -- holds for the first `i + 1` items of `xs` and the list `ys ++ y ∷ []`. The default item `d` is
   -- never used, because `i < length xs`.
   pub zip-next : (xs : List X) (i : ℕ) (d : X) (ys : List Y) (y : Y) → i < length xs
       → AllZip R (take i xs) ys → R (get_or xs i d) y → AllZip R (take (i + 1) xs) (ys ++ y ∷ [])
   zip-next xs i d ys y within all one =
       rw (take_more xs i d within) (zip-push (take i xs) ys (get_or xs i d) y all one)
 
-  -- `AllZip R xs ys` holds if `R` relates the lists `xs` and `ys` item by item. Suppose that
-  -- `length xs ≤ n`, so that `take n xs` is the whole list `xs`. If `AllZip R (take n xs) ys`
-  -- holds, then `AllZip R xs ys` holds, too.
+  -- `AllZip R xs ys` holds if the lists `xs` and `ys` have the same length, and `R` holds for every
+  -- pair of items at the same index. Suppose that `length xs ≤ n`, so that `take n xs` is the whole
+  -- list `xs`. If `AllZip R (take n xs) ys` holds, then `AllZip R xs ys` holds.
   pub zip-all : (xs : List X) (n : ℕ) (ys : List Y) → length xs ≤ n → AllZip R (take n xs) ys
       → AllZip R xs ys
   zip-all xs n ys past all = subst (λ l. AllZip R l ys) (take_all n xs past) all

@@ -18,14 +18,15 @@ counted judge = record judge { offset = (judge.offset + judge.stride) % 2 ^ 64 }
 abbrev pub written : DivisorJudge → ℕ → ℕ
 written judge x = (x + judge.added) % 2 ^ 64
 
--- `chooses judge x` is true if the divisor of the judge divides `number_for judge x`. In this case,
--- the judge chooses the item `x`.
+-- `chooses judge x` says whether the judge chooses the item `x`. It is true if and only if the
+-- number `number_for judge x` is divisible by the divisor of the judge.
 abbrev pub chooses : DivisorJudge → ℕ → Bool
 chooses judge x = number_for judge x % judge.divisor == 0
 
--- `judging` specifies how `DivisorJudge` implements the trait `Judge`. For each method, `judging`
--- contains a function that says what the method returns, which values it writes to the items, and
--- how it changes the judge.
+-- `judging` describes how `DivisorJudge` implements the methods of the trait `Judge`. For each
+-- method, it contains a function. This function maps the state of the judge and the items to the
+-- result of the method, the values of the items after the call, and the state of the judge after
+-- the call. The method `look` does not write to the item.
 abbrev pub judging : Judging ℕ DivisorJudge
 judging = record {
   look = λ judge x. (chooses judge x, counted judge);
@@ -40,9 +41,9 @@ judging = record {
   take = λ judge x. (chooses judge x, written judge x, counted judge);
 }
 
--- `SpellsJudge divisor stride added judge` holds if each of the three texts spells the number in
--- the field of `judge` with the same name. In addition, `judge` must be in its initial state, in
--- which it has made no decisions.
+-- `SpellsJudge divisor stride added judge` holds if two conditions are met. First, the texts
+-- `divisor`, `stride` and `added` spell the numbers in the fields of `judge` that have these names.
+-- Second, `judge` has made no decisions yet.
 pub record SpellsJudge (divisor stride added : List ℕ) (judge : DivisorJudge) : Type 0 where
   pub divisor_is : Spells divisor judge.divisor
   pub stride_is : Spells stride judge.stride

@@ -20,8 +20,9 @@ abbrev pub BeginsForm : Words → List ℕ → ℕ → Type 0
 BeginsForm words name count = (count ≤ length words) × (word words 0 ≡ name)
 
 -- `Says words command` holds if the words have the form of a line for `command`, and spell the
--- arguments of `command`. Some commands need a judge, which makes decisions in place of a closure.
--- For such a command, `Says` allows any words in the places that describe the judge.
+-- arguments of `command`. For some commands, the last three words of the line describe a judge,
+-- which makes decisions in place of a closure. `Says` requires these three words to be present, but
+-- allows any text in them.
 abbrev pub Says : {A G : Type 0} → Words → Command ℕ A G → Type 0
 Says words (Push item) = HasForm words (codes "push") 2 × Spells (word words 1) item
 Says words Pop = HasForm words (codes "pop") 1
@@ -63,9 +64,10 @@ Says words (Splice start end steps items lower) = BeginsForm words (codes "splic
     × (SpellsSteps (word words 3) steps.items
     × (Spells (word words 4) lower × SpellAll (drop 5 words) items.items))))
 
--- If `command` calls methods of a judge, then `SaysJudge words command judge` holds if the last
--- three words of the command's form spell the divisor, the stride and the addend of `judge`. If
--- `command` calls no method of a judge, then `SaysJudge words command judge` always holds.
+-- For some commands, the last three words of the line describe a judge, which makes decisions in
+-- place of a closure. For such a command, `SaysJudge words command judge` holds if these words
+-- spell the fields `divisor`, `stride` and `added` of `judge`, and `judge` has made no decisions
+-- yet. For any other command, `SaysJudge words command judge` always holds.
 abbrev pub SaysJudge : {A G : Type 0} → Words → Command ℕ A G → DivisorJudge → Type 0
 SaysJudge words Retain judge = SpellsJudge (word words 1) (word words 2) (word words 3) judge
 SaysJudge words RetainMut judge = SpellsJudge (word words 1) (word words 2) (word words 3) judge
@@ -91,8 +93,8 @@ abbrev pub SaysUnjudged : {A G : Type 0} → Words → Command ℕ A G → Type 
 SaysUnjudged words command = Says words command × AsksNone command
 
 -- `IsFilter name command` holds if `command` is `Retain`, `RetainMut`, `DedupBy` or `DedupByKey`,
--- and `name` is the name of this command. On a line with such a command, three words follow the
--- name. They describe a judge, which makes decisions in place of a closure.
+-- and `name` is the name of this command. On a line with such a command, the three words after the
+-- name describe a judge, which makes decisions in place of a closure.
 abbrev pub IsFilter : {A G : Type 0} → List ℕ → Command ℕ A G → Type 0
 IsFilter name Retain = name ≡ codes "retain"
 IsFilter name RetainMut = name ≡ codes "retain_mut"
@@ -101,14 +103,14 @@ IsFilter name DedupByKey = name ≡ codes "dedup_by_key"
 IsFilter name command = ⊥
 
 -- `IsCall words call` holds if the words describe the command of `call`. If this command calls
--- methods of a judge, which makes decisions in place of a closure, then the last three words must
--- describe the judge of `call`.
+-- methods of a judge, then the last three words must also describe the judge of `call`. A judge
+-- makes decisions in place of a closure.
 abbrev pub IsCall : Words → Call → Type 0
 IsCall words call = Says words call.command × SaysJudge words call.command call.judge
 
--- `IsLine words line` holds if the words describe the line. The word `help` describes the line
--- `Help`, and the word `new` describes the line `New`. Any other line contains a call, and the
--- words must describe this call.
+-- `IsLine words line` holds if the words describe the line. The single word `help` describes the
+-- line `Help`, and the single word `new` describes the line `New`. Any other line contains a call,
+-- and the words must describe this call.
 abbrev pub IsLine : Words → Line → Type 0
 IsLine words Help = HasForm words (codes "help") 1
 IsLine words New = HasForm words (codes "new") 1

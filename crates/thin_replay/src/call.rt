@@ -15,8 +15,8 @@ use std::alloc::Global;
 use thin_runner::command::Command;
 
 /// A command and a judge. The judge makes decisions in place of a closure: for example, it decides
-/// which items `retain` keeps. If the command calls no method of the judge, `judge` may have any
-/// value.
+/// which items `retain` keeps. If the command calls no method of a judge, the field `judge` is not
+/// used and may have any value.
 #[derive(Drop)]
 pub struct Call {
     pub command: Command<u64>,

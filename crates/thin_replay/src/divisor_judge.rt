@@ -9,10 +9,11 @@ use thin_runner::judge::Judge;
 /// A judge that computes a number for each item, and divides this number by `divisor`. The number
 /// is `item + stride * n`, where `n` is the number of decisions that the judge has made before.
 ///
-/// - The judge chooses an item if `divisor` divides the number.
+/// - The judge chooses an item if the number is divisible by `divisor`.
 /// - The key of an item is the quotient, rounded down.
-/// - A later item is a duplicate of a kept item if the number for the later item and the kept item
-///   itself have the same remainder modulo `divisor`.
+/// - To compare a later item with a kept item, the judge computes the number only for the later
+///   item. The later item is a duplicate if this number and the kept item have the same remainder
+///   modulo `divisor`.
 ///
 /// After each decision, the judge adds `added` to the items that it may change. All sums and
 /// products are modulo 2^64.
@@ -58,8 +59,9 @@ impl DivisorJudge {
         })
     }
 
-    // Returns the number that the judge computes for `item`. To make a decision, the caller divides
-    // this number by `divisor`. The call counts as one decision.
+    // Returns the number that the judge computes for `item`. The caller makes a decision by
+    // dividing this number by `divisor`. Each call to this method counts as one decision of the
+    // judge.
     fn number(&mut self, item: u64) -> u64
         ensures value { result ≡ number_for self.old item }
         ensures counted { self.new ≡ counted self.old }
@@ -69,8 +71,8 @@ impl DivisorJudge {
         number
     }
 
-    // Returns whether the number that the judge computes for `item` is divisible by `divisor`. The
-    // call counts as one decision.
+    // Returns whether the number that the judge computes for `item` is divisible by `divisor`. Each
+    // call to this method counts as one decision of the judge.
     fn divides(&mut self, item: u64) -> bool
         ensures value { result ≡ chooses self.old item }
         ensures counted { self.new ≡ counted self.old }

@@ -64,8 +64,8 @@ module _ {V : Type 0} where
   columns_rise (e ∷ entries) h (suc i) (suc k) d before inside =
       columns_rise entries (both_hold _ _ h).1 i k d (omega arith) (omega arith)
 
-  -- If the entries satisfy `IsRising`, then the list of their columns satisfies std's
-  -- `IsStrictlyIncreasing`. Both predicates say that the columns are strictly increasing.
+  -- If the columns of the entries are strictly increasing (`IsRising`), then the list of these
+  -- columns is strictly increasing in the sense of std (`IsStrictlyIncreasing`).
   pub columns_increase : (entries : List (ℕ × V)) → IsRising entries
       → IsStrictlyIncreasing (map (λ entry. entry.0) entries)
   columns_increase (e ∷ entries) h k inside =
@@ -78,9 +78,9 @@ module _ {V : Type 0} where
   columns_increase [] h k inside = absurd (omega arith)
 
   module _ (c : ℕ) where
-    -- If the entry of column `c` is at index `at + 1` of the list `e ∷ entries`, then this entry is
-    -- at index `at` of the list `entries`. The lemma `gap_after` says the same about the index at
-    -- which an entry of column `c` would be inserted.
+    -- If the entry of column `c` is at index `at + 1` of the list `e ∷ entries`, then it is at
+    -- index `at` of the list `entries`. The lemma `gap_after` covers the case that there is no such
+    -- entry. It states the same about the index at which the entry would be inserted.
     place_after : (e : ℕ × V) (entries : List (ℕ × V)) (at : ℕ)
         → IsPlaceOf (e ∷ entries) c (suc at) → IsPlaceOf entries c at
     place_after e entries at p = record { in_bounds = omega (arith, p.in_bounds); same = p.same }
@@ -93,9 +93,9 @@ module _ {V : Type 0} where
       greater = λ k d from inside. g.greater (suc k) d (omega arith) (omega arith);
     }
 
-    -- Suppose that the columns of the list `e ∷ entries` are strictly increasing. If the entry of
-    -- column `c` is at index `at + 1`, so that it is not the first entry, then the column of the
-    -- first entry `e` is less than `c`.
+    -- Suppose that the columns of the list `e ∷ entries` are strictly increasing, and that the
+    -- entry of column `c` is at index `at + 1`. Then this entry is not the first entry `e`. So the
+    -- column of `e` is less than `c`.
     before_place : (e : ℕ × V) (entries : List (ℕ × V)) (at : ℕ) → IsRising (e ∷ entries)
         → IsPlaceOf (e ∷ entries) c (suc at) → e.0 < c
     before_place e entries at h p =
@@ -178,9 +178,9 @@ module _ {V : Type 0} where
         (e ∷ put nat_cmp c v entries)) (is_more c e.0 (g.smaller 0 e (omega arith)))
         ∙ ap (λ rest. e ∷ rest) (put_gap entries at v (gap_after e entries at g))
 
-    -- Suppose that the columns of the entries are strictly increasing, and that each column is
-    -- compared with `c`. Then all results `Less` precede all results `Equal`, which precede all
-    -- results `Greater`. A binary search requires this order.
+    -- Suppose that the columns of the entries are strictly increasing, and that each of them is
+    -- compared with `c`. Then the results are in the order that a binary search requires: first all
+    -- results `Less`, then all results `Equal`, and then all results `Greater`.
     comparisons_rise : (entries : List (ℕ × V)) → IsRising entries
         → IsNonDecreasingBy (λ e. ordering_index (nat_cmp e.0 c)) entries
     comparisons_rise entries h i k d before inside =

@@ -10,9 +10,8 @@ use Rattle.std.specs.Ordering.{eq_by_cmp}
 use Rattle.thin_rows.specs.Entries.{IsGapFor, IsPlaceOf, IsRising}
 use Rattle.thin_rows.proofs.EntriesLemmas.{find_at, find_gap, put_at, put_gap, stays, without_at, without_gap}
 
--- If the columns `q` and `k` compare as equal, then `stays c q` equals `stays c k`. The function
--- `stays` says whether an entry of column `k` remains after the entry of column `c` has been
--- removed.
+-- `stays c k` says whether an entry of column `k` remains when the entry of column `c` is removed.
+-- If the columns `q` and `k` compare as equal, then `stays c k` equals `stays c q`.
 alike : (c q k : ℕ) → nat_cmp q k ≡ Equal → stays c k ≡ stays c q
 alike c q k e = ap (stays c) (sym (ranked q k Equal (sym e)))
 
@@ -23,8 +22,8 @@ module _ {V : Type 0} (es : List (ℕ × V)) (rising : IsRising es) where
   abbrev row : map.FinMap nat_cmp V
   row = from_sorted es
 
-  -- Suppose that the list `es` of entries is sorted by column, and that `row` is the map that `es`
-  -- represents. Then `row` has `length es` entries.
+  -- In this module, the columns of the list `es` of entries are strictly increasing, and `row` is
+  -- the map that `es` represents. The map `row` has as many entries as the list `es`.
   pub len_is : map.len row ≡ length es
   len_is = len-entries row ∙ ap length (entries-from_sorted nat_cmp es rising)
 

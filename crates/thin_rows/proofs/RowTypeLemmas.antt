@@ -29,7 +29,7 @@ unfolding ruled_capacity
 ruled_of_same rule R S c d v w size align capacity want = rw (size, align, capacity, want) refl
 
 -- The result `Ok x` is not an error. So the assumption that `Ok x` is the error `e` is false, and
--- every statement `P` follows from this assumption.
+-- any statement `P` follows from it.
 no_error : {X E P : Type 0} {x : X} {e : E} → IsErrOf (Ok x) e → P
 no_error same = cc
 
@@ -37,10 +37,10 @@ no_error same = cc
 pub same_cause : {X E : Type 0} {d e : E} → IsErrOf {T = X} (Err d) e → d ≡ e
 same_cause same = cc
 
--- Suppose that the types `R` and `S` have the same size and alignment, and that `result` is the
--- error `cause`. Suppose also that `cause` is `CapacityOverflow` if and only if the capacity for
--- `w` items of the type `R` is too large. Then `result` is `CapacityOverflow` if and only if the
--- capacity for `w` items of the type `S` is too large.
+-- Suppose that the types `R` and `S` have the same size and alignment, and that a call failed with
+-- the error `cause`. Suppose also that this error is `CapacityOverflow` if and only if the capacity
+-- for `w` items of the type `R` is too large (`TellsOverflowOf R w`). If `result` is the same
+-- error, then the same statement holds for `result` and the type `S`.
 pub error_tells : {X Y : Type 0} (R S : RattleType) (w : ℕ) (cause : ThinVecError)
     (result : Result Y ThinVecError) → type_size S ≡ type_size R → type_align S ≡ type_align R
     → IsErrAnd result (λ e. e ≡ cause) → TellsOverflowOf {X = X} R w (Err cause)
@@ -54,9 +54,10 @@ error_tells R S w cause (Err e) size align passed told = record {
   );
 }
 
--- Suppose that a call fails with the error `cause`, and that `cause` is `CapacityOverflow` if and
--- only if `b` is `None`. If `a` equals `b`, then `cause` is `CapacityOverflow` if and only if `a`
--- is `None`. The predicate `TellsOverflow a` states this conclusion.
+-- `TellsOverflow a r` says that the result `r` is the error `CapacityOverflow` if and only if the
+-- capacity `a` is `None`, which means that it is too large. Suppose that the error `cause` is
+-- `CapacityOverflow` if and only if `b` is `None`. If `a` equals `b`, then `TellsOverflow a` holds
+-- for the result `Err cause`.
 pub failure_tells : {X Y : Type 0} {a b : Option ℕ} {cause : ThinVecError} → a ≡ b
     → IsErrOf {T = X} (Err cause) CapacityOverflow ↔ (b ≡ None)
     → TellsOverflow a (let r : Result Y ThinVecError = Err cause in r)
@@ -67,10 +68,11 @@ failure_tells same told = record {
   );
 }
 
--- Suppose that the types `R` and `S` have the same size and alignment. If `TellsOverflowOf R w`
--- holds for the successful result `Ok x`, then `TellsOverflowOf S w` holds for the successful
--- result `Ok y`. For a successful result, these predicates say that the capacity for `w` items is
--- not too large.
+-- `TellsOverflowOf R w r` says that the result `r` is the error `CapacityOverflow` if and only if
+-- the capacity for `w` items of the type `R` is too large. Suppose that the types `R` and `S` have
+-- the same size and alignment. If `TellsOverflowOf R w` holds for the successful result `Ok x`,
+-- then the capacity is not too large. So `TellsOverflowOf S w` holds for the successful result `Ok
+-- y`.
 pub made_tells : {X Y : Type 0} (R S : RattleType) (w : ℕ) (x : X) (y : Y)
     → type_size S ≡ type_size R → type_align S ≡ type_align R
     → TellsOverflowOf R w (Ok x) → TellsOverflowOf S w (Ok y)

@@ -51,9 +51,9 @@ module _ {V : Type 0} where
   pub outside : (t : Table V) (i j : ℕ) → length t ≤ i → value_at t i j ≡ None
   outside t i j past = ap (λ r. map.get r j) (get_or_past t i map.empty past) ∙ get-empty nat_cmp j
 
-  -- Suppose that row `i` of the table `t` is replaced with `row`. If `row` has the same value at
-  -- column `l` as the old row `i`, then the value at column `l` does not change in any row `k` of
-  -- the table.
+  -- Suppose that row `i` of the table `t` is replaced with `row`, and that the old row and `row`
+  -- have the same value at column `l`. Then the replacement changes the value at column `l` in no
+  -- row `k` of the table.
   other_columns : (t : Table V) (i k l : ℕ) (row : Columns V)
       → map.get row l ≡ value_at t i l → value_at (set t i row) k l ≡ value_at t k l
   other_columns t i k l row same = elim (cases_eq k i) [
@@ -142,9 +142,9 @@ module _ {V : Type 0} where
         (omega (arith, past, length-replicate n (map.empty {X = V} {R = nat_cmp})))
   ]
 
-  -- Let `k` be an index into the list of the entries of `row`. Then `row` maps the column of the
-  -- entry at index `k` to the value of this entry. The default entry `d` is never used, because `k`
-  -- is in bounds.
+  -- Consider the entry at index `k` of the list of all entries of `row`. The map `row` maps the
+  -- column of this entry to the value of this entry. The default entry `d` is never used, because
+  -- the index `k` is in bounds.
   pub listed : (row : Columns V) (k : ℕ) (d : ℕ × V) → k < length (map.entries row)
       → map.get row (slice_index_or (map.entries row) k d).0
       ≡ Some (slice_index_or (map.entries row) k d).1
@@ -170,8 +170,9 @@ module _ {V : Type 0} where
   in_order row k m d before inside =
       columns_rise (map.entries row) (entries_sorted row) k m d before inside
 
--- The rule set `values` contains the lemmas about the values of a table after a call, and the
--- lemmas about the entries of a row.
+-- A rule set is a group of lemmas that other proofs can use under one name. The rule set `values`
+-- contains the lemmas about the values of a table after a call, and the lemmas about the entries of
+-- a row.
 pub ruleset values = (
   written,
   columns_unchanged,

@@ -16,15 +16,16 @@ module _ (V A : RattleType) (allocator : AllocatorGhosts A.Denot) where
   LendsColumn row column r = Lends (the_row V A allocator) V row r (insert row.now column)
 
   -- `LendsIfThere row column r` says that `r` is a mutable reference to the value of `row` at
-  -- `column`, or `None` if there is no such value. After the borrow has ended, `row` contains the
-  -- final value of the reference at `column`, and is otherwise unchanged.
+  -- `column`, or `None` if there is no such value. If there is one, `row` contains the final value
+  -- of the reference at `column` after the borrow has ended. Nothing else in `row` changes.
   abbrev pub LendsIfThere : MutBor (Columns V.Denot) → ℕ → Option (MutBor V.Denot) → Fml
   LendsIfThere row column r = LendsIf (the_row V A allocator) V row r
       (insert row.now column) row.now
 
   -- `LendsValue table i column r` says that `r` is a mutable reference to the value in row `i` of
-  -- `table` at `column`, or `None` if there is no such value. After the borrow has ended, `table`
-  -- contains the final value of the reference at this place, and is otherwise unchanged.
+  -- `table` at `column`, or `None` if there is no such value. If there is one, `table` contains the
+  -- final value of the reference at this place after the borrow has ended. Nothing else in `table`
+  -- changes.
   abbrev pub LendsValue : MutBor (Table V.Denot) → ℕ → ℕ → Option (MutBor V.Denot) → Fml
   LendsValue table i column r = LendsIf (table_row V A allocator) V table r
       (with_value table.now i column) table.now

@@ -1,5 +1,5 @@
-//! Defines the sparse table `Rows`. The module contains the type and its methods. It also defines
-//! the value that describes a table in contracts.
+//! Defines the type `Rows`, a sparse table, and its methods. In contracts, the value of a table is
+//! the list of its rows. This module also defines this value.
 ghost use Rattle.std.specs.Prelude.{◌≡◌, ◌↔◌, ◌+◌, ◌-◌, ◌^◌, ◌<◌, IfErr, IfOk, IsOk, IsSome, IsTrue, OnErr, OnOk, length, map, min, replicate, sum};
 ghost use Rattle.std.specs.FinMap as columns;
 ghost use Rattle.std.specs.List.Sorted.{IsStrictlyIncreasing};
@@ -132,7 +132,9 @@ impl<V, A: Allocator> Rows<V, A> {
         // When it must succeed.
         ensures succeeds { IsSome (value_at self.old row column) → IsOk result }
 
-        // On failure, the table is unchanged. The error contains the cause and `value`.
+        // The following clauses describe a failed call. The cause is `CapacityOverflow` if and only
+        // if the new capacity of the row would be too large. The table is unchanged, and the error
+        // contains the cause and `value`.
         ensures overflow { OnErr result (TellsOverflow (ruled_capacity doubling (entry_type V.row)
             (columns.len (row_of self.old row)) (columns.len (row_of self.old row) + 1))
             (causes result)) }

@@ -1,6 +1,7 @@
--- These lemmas prove an upper bound on the number of items that growth copies. Suppose that a new
--- list is changed only by pushes and pops, and that `m` of the pushes succeed, where `m` is at
--- least 1. Then growing the list copies fewer than `2 * m` items in total.
+-- When a list grows, its items may be copied to a new allocation. These lemmas prove an upper bound
+-- on the number of copied items. Suppose that a new list is changed only by pushes and pops, and
+-- that `m` of the pushes succeed, where `m` is at least 1. Then growing the list copies fewer than
+-- `2 * m` items in total.
 use Rattle.std.proofs.Common.{◌≡◌, ℕ, zero, suc, ◌+◌, ◌*◌, ◌<◌, ◌≤◌, List, [], ◌∷◌, length, arith, ap, ◌∙◌, refl, subst, inl, inr}
 use Rattle.std.proofs.lemmas.Bool.{cases_lt}
 use Rattle.std.proofs.lemmas.List.{length-append, length_push}
@@ -21,9 +22,12 @@ use Rattle.thin_runner.specs.declared.command.Reply.{Reply}
 use Rattle.thin_runner.specs.declared.command.Reply.TheVariants.{Done, Item, Returned, OutOfRange}
 use Rattle.thin_runner.proofs.PaidLemmas.{step-paid}
 
--- `IsAmortised m v` states four facts about the list `v`. It is cheap (`IsCheap`), which means that
--- growing it has cost little compared with its capacity. Its length is at most its capacity. Its
--- length is also at most `m`. Growing it has copied no items, or fewer than `2 * m` items.
+-- `IsAmortised m v` holds if the list `v` meets four conditions:
+--
+-- - Growing the list has cost little compared with its capacity (`IsCheap`).
+-- - The length of the list is at most its capacity.
+-- - The length of the list is at most `m`.
+-- - Growing the list has copied no items, or fewer than `2 * m` items.
 pub record IsAmortised {T A : Type 0} (m : ℕ) (v : Thin T A) : Type 0 where
   pub cheap : IsCheap v
   pub room : length v.items ≤ v.capacity
@@ -31,8 +35,8 @@ pub record IsAmortised {T A : Type 0} (m : ℕ) (v : Thin T A) : Type 0 where
   pub copied : (v.cost.grown < 2 * m) ⊎ (v.cost.grown ≡ 0)
 
 module _ {T A : Type 0} where
-  -- Every new list `v` is cheap (`IsCheap`), because it has not grown yet. A list is cheap if
-  -- growing it has cost little compared with its capacity.
+  -- If `v` is a new list, then `IsCheap v` holds. This predicate says that growing the list has
+  -- cost little compared with its capacity. A new list has not grown yet.
   new-cheap : (v : Thin T A) → IsNew v v.alloc → IsCheap v
   new-cheap v new =
       let blocks : v.cost.blocks ≡ 0 = ap (λ c. c.blocks) new.cost in
@@ -43,8 +47,8 @@ module _ {T A : Type 0} where
         blocks = λ some. absurd (omega (arith, new.capacity, some));
       }
 
-  -- Every new list `v` satisfies `IsAmortised 0 v`, because it contains no items, and growing it
-  -- has copied no items.
+  -- Every new list `v` satisfies `IsAmortised 0 v`. Among other facts, this predicate says that the
+  -- list contains no items, and that growing it has copied no items.
   pub new-amortised : (v : Thin T A) → IsNew v v.alloc → IsAmortised 0 v
   new-amortised v new = record {
     cheap = new-cheap v new;
@@ -53,8 +57,9 @@ module _ {T A : Type 0} where
     copied = inr (ap (λ c. c.grown) new.cost);
   }
 
-  -- If `IsAmortised m w` holds and `m` is not 0, then growing the list `w` has copied fewer than `2
-  -- * m` items. The field `amortised` of the main theorem states this bound.
+  -- Among other facts, `IsAmortised m w` says that growing the list `w` has copied no items, or
+  -- fewer than `2 * m` items. If `IsAmortised m w` holds and `m` is not 0, then growing `w` has
+  -- copied fewer than `2 * m` items. The field `amortised` of the main theorem states this bound.
   pub copied-run : (w : Thin T A) (m : ℕ) → IsAmortised (0 + m) w → 0 < m → w.cost.grown < 2 * m
   copied-run w m a some = below a.copied
     where
@@ -65,26 +70,27 @@ module _ {T A : Type 0} where
   same-amortised : (m : ℕ) (v w : Thin T A) → IsAmortised m v → w ≡ v → IsAmortised (m + 0) w
   same-amortised m v w a same = let e : m + 0 ≡ m = omega arith in rw (same, e) a
 
--- Let `k` be the cost of a list with the capacity `c`. The field `k.grown` is the number of items
--- that growing the list has copied. If `k` is within the bound `IsCheapAt` for the capacity `c`,
--- and `c ≤ m`, then `k.grown + c < 2 * (m + 1)`.
+-- Let `k` be the cost of a list with the capacity `c`. The number `k.grown` counts the items that
+-- were copied when the list grew. Suppose that this cost is small compared with the capacity
+-- (`IsCheapAt c k`), and that `c ≤ m`. Then `k.grown + c < 2 * (m + 1)`.
 copied-growing : (c m : ℕ) (k : Cost) → IsCheapAt c k → c ≤ m → k.grown + c < 2 * (m + 1)
 copied-growing zero m k h few = let z = h.none refl in omega (arith, z.1)
 copied-growing (suc c) m k h few =
     let copied : k.grown < suc c = h.grown (omega arith) in omega (arith, copied, few)
 
--- Let `g` and `g'` be the numbers of copied items before and after a command. If `g` is 0 or less
--- than `2 * m`, and the command copies no items (`g' ≡ g`), then `g'` is 0 or less than `2 * (m +
--- more)`, for every number `more`.
+-- Let `g` be the number of copied items before a command, and `g'` the number after it. Suppose
+-- that `g` is 0 or less than `2 * m`, and that the command copies no items, so that `g' ≡ g`. Then
+-- for every number `more`, `g'` is 0 or less than `2 * (m + more)`.
 copied-kept : (m more : ℕ) {g g' : ℕ} → (g < 2 * m) ⊎ (g ≡ 0) → g' ≡ g
     → (g' < 2 * (m + more)) ⊎ (g' ≡ 0)
 copied-kept m more (inl few) same = inl (omega (arith, few, same))
 copied-kept m more (inr none) same = inr (same ∙ none)
 
 module _ {T A G J : Type 0} (here : Setting T A J) (law : KeepsLaw here.rule) where
-  -- Suppose that `IsAmortised m v` holds, and that a push or a pop turns the list `v` into `w`. If
-  -- the command is a push that succeeds, then `IsAmortised (m + 1) w` holds. Otherwise,
-  -- `IsAmortised m w` holds.
+  -- Among other facts, `IsAmortised m v` says that growing the list `v` has copied no items, or
+  -- fewer than `2 * m` items. Suppose that `IsAmortised m v` holds, and that a push or a pop turns
+  -- `v` into the list `w`. If the command is a push that succeeds, then `IsAmortised (m + 1) w`
+  -- holds. Otherwise, `IsAmortised m w` holds.
   step-amortised : (m : ℕ) (v w : Thin T A) (command : Command T A G) (reply : Reply T A G)
       → IsPushOrPop command → IsAmortised m v → Steps here v command reply w
       → IsAmortised (m + accepted (command ∷ []) (reply ∷ [])) w
@@ -127,7 +133,8 @@ module _ {T A G J : Type 0} (here : Setting T A J) (law : KeepsLaw here.rule) wh
   step-amortised m v w command reply only a s = absurd only
 
   -- `accepted` counts the successful pushes of a run, which is a sequence of commands. The count
-  -- for the whole run is the sum of the counts for its individual commands.
+  -- for the whole run is the sum of the counts for its individual commands. The function `counted`
+  -- computes this sum.
   accepted-counted : (commands : List (Command T A G)) (replies : List (Reply T A G))
       → counted (λ c r. accepted (c ∷ []) (r ∷ [])) commands replies ≡ accepted commands replies
   accepted-counted (Push x ∷ commands) (Done ∷ replies) =
@@ -136,8 +143,9 @@ module _ {T A G J : Type 0} (here : Setting T A J) (law : KeepsLaw here.rule) wh
       omega (arith, accepted-counted commands replies)
   accepted-counted commands replies = refl
 
-  -- Suppose that a run of pushes and pops turns the list `v` into `w`, and that `n` of the pushes
-  -- succeed. If `IsAmortised 0 v` holds, then `IsAmortised n w` holds.
+  -- Among other facts, `IsAmortised n w` says that growing the list `w` has copied no items, or
+  -- fewer than `2 * n` items. Suppose that a run of pushes and pops turns the list `v` into `w`,
+  -- and that `n` of the pushes succeed. If `IsAmortised 0 v` holds, then `IsAmortised n w` holds.
   pub runs-amortised : (v w : Thin T A) (commands : List (Command T A G))
       (replies : List (Reply T A G)) → All IsPushOrPop commands → IsAmortised 0 v
       → Runs here v commands replies w → IsAmortised (0 + accepted commands replies) w

@@ -1,5 +1,5 @@
--- Each command calls a method of a list, and `specs/Steps` states how the command may change the
--- list. These lemmas help to derive this statement from the contract of the method.
+-- Each command calls a method of a list. The file `specs/Steps` states how each command may change
+-- the list. The following lemmas help to derive these statements from the contracts of the methods.
 use Rattle.std.proofs.Common.{◌≡◌, ℕ, ◌<◌, ◌⊎◌, List, [], ◌∷◌, Some, refl, length, inl, inr, arith}
 use Rattle.std.specs.Borrow.{RattleType}
 use Rattle.std.specs.Prelude.{HoldsAt}
@@ -14,15 +14,15 @@ some-items [] none = absurd (none refl)
 some-items (x ∷ xs) none = omega arith
 
 module _ {T A : Type 0} where
-  -- `grown v c xs m` is the list `v` after a call that set its items to `xs` and its capacity to
-  -- `c`. The call added `m` moves to the cost of the list. If the capacity changed, the call also
-  -- added one reallocation to the cost.
+  -- `grown v c xs m` is the list `v` after a call that sets its items to `xs` and its capacity to
+  -- `c`. The cost of a list counts its moved items and its reallocations. The call adds `m` moves
+  -- to the cost. If the capacity changes, the call also adds one reallocation.
   abbrev pub grown : Thin T A → ℕ → List T → ℕ → Thin T A
   grown v c xs m = record v { items = xs; capacity = c; cost = moving m (cost_at v c) }
 
   -- Suppose that the list `w` has the items `xs` and the same allocator as the list `v`. Suppose
   -- also that the cost of `w` is the cost of `v`, plus `m` moves, plus one reallocation if the
-  -- capacity changed. Then `w` is `grown v w.capacity xs m`.
+  -- capacities differ. Then `w` is the list `grown v w.capacity xs m`.
   pub is-grown : (v w : Thin T A) (xs : List T) (m : ℕ) → w.items ≡ xs → w.cost
       ≡ moving m (cost_at v w.capacity) → w.alloc ≡ v.alloc → w ≡ grown v w.capacity xs m
   is-grown v w xs m items cost alloc = λ i. record {
@@ -33,11 +33,15 @@ module _ {T A : Type 0} where
   }
 
   module _ (rule : Rule) where
-    -- Suppose that a call that clones the items `sources` failed, and that it changed neither the
-    -- items nor the allocator of the list. Then there are two cases. In the first case, the call
-    -- did not change the list at all. In the second case, cloning an item failed, and this item is
-    -- not `infallible`. The list has then reserved room for `k` more items, and each item that was
-    -- cloned before the failure counts as one move.
+    -- Suppose that a call that clones the items `sources` failed and turned the list `v` into `w`,
+    -- and that it changed neither the items nor the allocator. Suppose also that `w` has a capacity
+    -- and a cost that the contract of the call allows. Then one of two cases applies:
+    --
+    -- - The call did not change the list at all.
+    -- - The item of `sources` at an index `at` could not be cloned. This item does not satisfy
+    --   `infallible`, which would mean that cloning it cannot fail. The list has reserved room for
+    --   `k` more items. Each of the `at` items that were cloned before the failure counts as one
+    --   move.
     pub refuses-clone : (R : RattleType) (k : ℕ) {infallible : T → Type 0} {sources : List T}
         {v w : Thin T A} → w.items ≡ v.items → w.alloc ≡ v.alloc
         → (w ≡ v) ⊎ (capacity_for rule R v k ≡ Some w.capacity)

@@ -1,4 +1,5 @@
--- This file proves the main theorem (`Headline`) from the lemmas of the other files.
+-- The lemma of this file proves the main theorem (`Headline`). It uses the lemmas of the other
+-- files.
 use Rattle.std.proofs.Common.{◌≡◌, List, [], ◌++◌, ap, sym, subst, ◌∙◌}
 use Rattle.std.proofs.lemmas.List.{append-nil}
 use Rattle.thin_vec.specs.Growth.{KeepsLaw}
@@ -18,8 +19,9 @@ use Rattle.thin_runner.proofs.SlackLemmas.{runs-slack}
 module _ {T A G J : Type 0} (here : Setting T A J) (law : KeepsLaw here.rule) where
   module _ {old new : Thin T A} where
     -- Suppose that a run carried out all of its commands, so that the list `left` of remaining
-    -- commands is empty. If the list was within its size limits (`IsWithin`) before and after the
-    -- run, then the main theorem `Headline` holds for the run.
+    -- commands is empty. Suppose also that the list `old` before the run and the list `new` after
+    -- it were within the size limits of a list (`IsWithin`). Then the main theorem `Headline` holds
+    -- for the run.
     pub headline : {commands left : List (Command T A G)} {before after : List (Reply T A G)}
         → IsWithin here.R old → IsWithin here.R new → left ≡ []
         → HasRun here old commands left before after new

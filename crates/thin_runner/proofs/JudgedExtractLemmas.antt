@@ -17,15 +17,17 @@ use Rattle.thin_runner.specs.commands.Ranges.{walked}
 use Rattle.thin_runner.specs.declared.command.Step.TheVariants.{Front}
 
 module _ {T : Type 0} where
-  -- `goes item` is the list of the verdicts on the result `item` of a call to `next`. A verdict
-  -- says whether an item is kept. For `Some x`, the list contains one verdict, which says that `x`
-  -- is removed. For `None`, the list is empty.
+  -- A verdict consists of an item and a flag, which says whether the item is kept. `goes item` is
+  -- the list of the verdicts on the result `item` of a call to `next`. If `item` is `Some x`, the
+  -- list contains one verdict, which says that `x` is removed. If `item` is `None`, the list is
+  -- empty.
   abbrev pub goes : Option T → Verdicts T
   goes None = []
   goes (Some x) = (false, x) ∷ []
 
-  -- `handed_out k xs` is the list of the results of `k` calls to `next` on an iterator that yields
-  -- the items `xs`. The calls return these items in order, and then return `None`.
+  -- `handed_out k xs` is the list of the results of `k` calls to `next`. The calls are made on an
+  -- iterator that yields the items `xs`. They return these items in order, and after the last item
+  -- they return `None`.
   abbrev pub handed_out : ℕ → List T → List (Option T)
   handed_out k xs = walked xs (replicate k Front)
 
@@ -62,9 +64,10 @@ module _ {T : Type 0} where
   few-goes (Some x) = refl
 
   -- A verdict says whether an item is kept. A kept item is moved if an item before it is removed.
-  -- The number of moves for the verdicts `a ++ b` is the number of moves for `a`, plus a second
-  -- number. If `a` removes an item, the second number is the number of items that `b` keeps.
-  -- Otherwise, it is the number of moves for `b`.
+  -- This lemma counts the moves for the verdicts `a ++ b`. If `a` removes no item, this is the
+  -- number of moves for `a`, plus the number of moves for `b`. Otherwise, every item that `b` keeps
+  -- is moved. So in this case, it is the number of moves for `a`, plus the number of items that `b`
+  -- keeps.
   pub moves-append : (a b : Verdicts T) → moved_down (flags_of (a ++ b))
       ≡ moved_down (flags_of a) + (if length (left_at false a) == 0 then moved_down
       (flags_of b) else trues (flags_of b))
@@ -82,14 +85,15 @@ module _ {S T J : Type 0} (R : S → T → Bool → S → T → Type 0) (judge_o
   none-left j zero = refl
   none-left j (suc k) = refl
 
-  -- In this module, a call to `next` returns `item`, and `k` more calls to `next` follow. After the
-  -- first of these calls, the closure is in the state `t`, and the items `rest` have not been
-  -- tested yet.
+  -- In this module, a call to `next` on an `ExtractIf` returns `item`. After this call, the closure
+  -- of the iterator is in the state `t`, and the items `rest` have not been tested yet. Then `k`
+  -- more calls to `next` follow.
   module _ (t : S) (k : ℕ) (item : Option T) (rest : List T) where
-    -- Suppose that `xs` contains the untested items, and that a call to `next` keeps the items
-    -- `kept` and returns `item`. Then the verdicts of this call and of the next `k` calls consist
-    -- of three parts, in this order: the verdicts that keep the items `kept`, the verdict that
-    -- removes `item` (if `item` is not `None`), and the verdicts of the `k` calls.
+    -- A verdict says whether an item is kept. Suppose that the items `xs` have not been tested yet.
+    -- A call to `next` keeps the items `kept` and returns `item`, and then `k` more calls follow.
+    -- The verdicts of all these calls consist of three parts, in this order: the verdicts that keep
+    -- the items `kept`, the verdict that removes `item`, and the verdicts of the `k` later calls.
+    -- If `item` is `None`, the second part is empty.
     pub extracts-by : (s : S) (xs kept : List T) → ExtractsNext R s xs item t kept rest
         → extracting ask (judge_of s) (suc k) xs
         ≡ stay kept ++ (goes item ++ extracting ask (judge_of t) k rest)
@@ -115,8 +119,8 @@ module _ {S T J : Type 0} (R : S → T → Bool → S → T → Type 0) (judge_o
             ap (λ l. (true, e.2) ∷ l) (by m.0 m.1)
             ∙ sym (ap (λ l. stay l ++ (goes item ++ extracting ask (judge_of t) k rest)) m.2)
 
-    -- If a call to `next` returns `None`, then it has tested all items. So the list `rest` of
-    -- untested items is empty.
+    -- If a call to `next` returns `None`, then it has tested all items. So after this call, the
+    -- list `rest` of untested items is empty.
     rest-none : (s : S) (xs kept : List T) → ExtractsNext R s xs item t kept rest
         → item ≡ None → rest ≡ []
     rest-none s [] kept e none = e.3
@@ -129,9 +133,9 @@ module _ {S T J : Type 0} (R : S → T → Bool → S → T → Type 0) (judge_o
         answered true by m = let wrong = m.0 in absurd (none-some (sym none ∙ wrong))
         answered false by m = by m.0 m.1
 
-    -- Suppose that a call to `next` returns `item`, and that `k` more calls to `next` follow. Then
-    -- the list of all results, which `handed_out` computes, consists of `item` and the results of
-    -- the `k` calls, in this order.
+    -- Suppose that a call to `next` returns `item`, and that `k` more calls to `next` follow. The
+    -- function `handed_out` computes the list of the results of all these calls. This list consists
+    -- of `item`, followed by the results of the `k` later calls.
     pub handed-by : (s : S) (xs kept : List T) → ExtractsNext R s xs item t kept rest
         → handed_out (suc k) (left_at false (extracting ask (judge_of s) (suc k) xs))
         ≡ item ∷ handed_out k (left_at false (extracting ask (judge_of t) k rest))
@@ -151,8 +155,8 @@ module _ {S T J : Type 0} (R : S → T → Bool → S → T → Type 0) (judge_o
             ∙ ap (left_at false) (none-left (judge_of t) k) in
             subst (λ l. handed_out (suc k) l ≡ None ∷ handed_out k l) (sym empty) refl
 
--- Suppose that `m` moves are added to the cost `c`, and then `k` moves are added if `gone` is not
--- 0. The resulting cost is the same as if all these moves were added at once.
+-- Suppose that `m` moves are added to the cost `c`. If `gone` is not 0, `k` more moves are added
+-- afterwards. The resulting cost is the same as if all these moves were added at once.
 charged : (gone m k : ℕ) (c : Cost)
     → (if gone == 0 then moving m c else moving k (moving m c))
     ≡ moving (m + (if gone == 0 then 0 else k)) c
@@ -162,10 +166,11 @@ charged (suc gone) m k c =
     ≡ moving (m + (if t then 0 else k)) c)
     (sym (eqb-suc-zero gone)) (moving-more k m c)
 
--- The state of an `extract_if` between two calls to `next`.
+-- The state of an `ExtractIf` between two calls to `next`. This iterator tests the items of a range
+-- of a list, and removes and yields some of them.
 pub record Stand (T : Type 0) : Type 0 where
-  -- The verdicts on the items of the range that have not been tested yet. In proofs, these verdicts
-  -- are known in advance. A verdict says whether an item is kept.
+  -- The verdicts on the items of the range that have not been tested yet. A verdict says whether an
+  -- item is kept. In proofs, these verdicts are known before the items are tested.
   pub left : Verdicts T
   -- The items before the range, followed by the items of the range that have been kept so far.
   pub front : List T
@@ -174,12 +179,12 @@ pub record Stand (T : Type 0) : Type 0 where
   -- the cost so far
   pub paid : Cost
 
--- In this module, an `extract_if` tests the items of a range of a list. `asked` contains a verdict
+-- In this module, an `ExtractIf` tests the items of a range of a list. `asked` contains a verdict
 -- for each item of the range, which says whether the item is kept. `start` contains the items
--- before the range, and `before` is the cost of the list before the first call to `next`.
+-- before the range. `before` is the cost of the list before the first call to `next`.
 module _ {T : Type 0} (asked : Verdicts T) (start : List T) (before : Cost) where
-  -- `IsExtracting at` holds if `at` is a state of the extraction between two calls to `next`. The
-  -- field `done` contains the verdicts of the calls so far.
+  -- `IsExtracting at` holds if the state `at` of the extraction agrees with the verdicts of the
+  -- calls to `next` so far. The field `done` contains these verdicts.
   pub record IsExtracting (at : Stand T) : Type 0 where
     pub done : Verdicts T
     pub split : asked ≡ done ++ at.left
@@ -187,9 +192,11 @@ module _ {T : Type 0} (asked : Verdicts T) (start : List T) (before : Cost) wher
     pub out : at.out ≡ length (left_at false done)
     pub paid : at.paid ≡ moving (moved_down (flags_of done)) before
 
-  -- Suppose that the next verdicts, `now`, keep `k` items, and remove no item before a kept item.
-  -- If an item has already been extracted in the state `at`, then the `k` items are moved, and the
-  -- cost increases by `k` moves. Otherwise, the cost does not change.
+  -- Suppose that the state `at` agrees with the verdicts so far (`IsExtracting at`). Suppose also
+  -- that the next verdicts, `now`, keep `k` items, and remove no item before a kept item. If no
+  -- item has been extracted so far, these `k` items are not moved. Otherwise, they are moved, and
+  -- `k` moves are added to the cost `at.paid`. In both cases, the result is the cost `before`, plus
+  -- the moves for all verdicts up to and including `now`.
   paid-next : (at : Stand T) (h : IsExtracting at) (now : Verdicts T) (k : ℕ)
       → moved_down (flags_of now) ≡ 0 → trues (flags_of now) ≡ k
       → (if at.out == 0 then at.paid else moving k at.paid)
@@ -202,7 +209,8 @@ module _ {T : Type 0} (asked : Verdicts T) (start : List T) (before : Cost) wher
       before)
       ∙ ap (λ m. moving m before) (sym (moves-append h.done now))))
 
-  -- If `at` is the state before the first call to `next`, then `IsExtracting at` holds.
+  -- `IsExtracting at` says that the state `at` agrees with the verdicts of the calls to `next` so
+  -- far. It holds if `at` is the state before the first call to `next`.
   pub extracting-none : (at : Stand T) → at.left ≡ asked → at.front ≡ start → at.out ≡ 0
       → at.paid ≡ before → IsExtracting at
   extracting-none at all same none free =
@@ -215,8 +223,9 @@ module _ {T : Type 0} (asked : Verdicts T) (start : List T) (before : Cost) wher
       }
 
   module _ (at next : Stand T) where
-    -- Suppose that `IsExtracting at` holds. If a call to `next` keeps the items `kept`, returns
-    -- `item`, and changes the state from `at` to `next`, then `IsExtracting next` holds.
+    -- `IsExtracting at` says that the state `at` agrees with the verdicts of the calls to `next` so
+    -- far. Suppose that `IsExtracting at` holds. If a call to `next` keeps the items `kept`,
+    -- returns `item`, and changes the state from `at` to `next`, then `IsExtracting next` holds.
     pub extracting-step : (kept : List T) (item : Option T) → IsExtracting at
         → at.left ≡ stay kept ++ (goes item ++ next.left) → next.front ≡ at.front ++ kept
         → next.out ≡ at.out + length (option_to_list item)
@@ -253,14 +262,15 @@ module _ {T : Type 0} (asked : Verdicts T) (start : List T) (before : Cost) wher
           paid = charge ∙ paid-next at h now (length kept) still moved;
         }
 
--- In this module, `extract_if` tests the items `a..b` of the list `v`, and `w` is the list after
--- the extraction. `asked` contains a verdict for each of the items `a..b`, which says whether the
--- item is kept.
+-- In this module, an `ExtractIf` tests items in the range `a..b` of the list `v`, and `w` is the
+-- list after the extraction. `asked` contains a verdict for each item of the range, which says
+-- whether the item is kept.
 module _ {T A : Type 0} (v w : Thin T A) (a b : ℕ) (asked : Verdicts T) where
-  -- `IsLeft at rest tail` states that `w` is the list after an extraction that ended in the state
-  -- `at`. The items of `w` are `at.front`, then the untested items `rest` of the range, and then
-  -- the items `tail` after the range. If an item was extracted, each item of `rest` and `tail`
-  -- counts as one move. The capacity and the allocator are unchanged.
+  -- `IsLeft at rest tail` holds if the list `w` can result from an extraction that ended in the
+  -- state `at`. The items of `w` are `at.front`, then the untested items `rest` of the range, and
+  -- then the items `tail` after the range. If no item was extracted, the cost of `w` is `at.paid`.
+  -- Otherwise, it is `at.paid`, plus one move for each item of `rest` and `tail`. The capacity and
+  -- the allocator of `w` are those of `v`.
   pub record IsLeft (at : Stand T) (rest tail : List T) : Type 0 where
     pub items : w.items ≡ at.front ++ (rest ++ tail)
     pub cost : w.cost ≡ (if at.out == 0 then at.paid else moving (length rest
@@ -268,9 +278,9 @@ module _ {T A : Type 0} (v w : Thin T A) (a b : ℕ) (asked : Verdicts T) where
     pub capacity : w.capacity ≡ v.capacity
     pub alloc : w.alloc ≡ v.alloc
 
-  -- Suppose that an extraction ends in the state `at`, and that the items `rest` of the range are
-  -- still untested. Then the list `w` contains the items of the list `v`, except those that the
-  -- verdicts remove. The function `sifted` computes this list.
+  -- Suppose that an extraction ended in the state `at`, and kept the items `rest` of the range
+  -- without testing them. Then the list `w` contains the items of the list `v`, except those that
+  -- the verdicts `asked` remove. The function `sifted` computes `w` from `v` and these verdicts.
   pub extracting-ends : (at : Stand T) (rest tail : List T)
       → IsExtracting asked (take a v.items) v.cost at → at.left ≡ stay rest → tail ≡ drop b v.items
       → IsLeft at rest tail → w ≡ sifted v (around v.items a b asked)
@@ -323,7 +333,8 @@ module _ {T J : Type 0} (ask : J → T → Bool × T × J) where
       ap suc (extracting-length (ask j x).2 (if (ask j x).0 then k else suc k) xs)
 
   -- Suppose that `k` calls to `next` extract items from the range `a..b` of the list `xs`, and that
-  -- the judge starts in the state `j`. Then at most `length xs` items are left in the list.
+  -- the judge is in the state `j` before the first call. Then at most `length xs` items are left in
+  -- the list.
   pub few-extracted : (j : J) (k : ℕ) (xs : List T) (a b : ℕ) → a ≤ b → b ≤ length xs
       → length (left_at true (around xs a b (extracting ask j k (slice_range xs a b)))) ≤ length xs
   few-extracted j k xs a b order within =

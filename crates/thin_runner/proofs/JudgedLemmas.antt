@@ -15,17 +15,18 @@ use Rattle.thin_runner.specs.commands.Filters.{asked, asked_last, asked_pairs, s
 
 module _ {S T J : Type 0} (R : S → T → Bool → S → T → Type 0) (judge_of : S → J)
     (ask : J → T → Bool × T × J) where
-  -- `AsksJudge` holds if the closure has a judge in its state, and each call to the closure returns
-  -- the decision of this judge.
+  -- `R` describes the calls to a closure whose state contains a judge. `AsksJudge` holds if each
+  -- call to the closure does the same as the method `ask` of this judge. So the closure returns the
+  -- decision of the judge.
   abbrev pub AsksJudge : Type 0
   AsksJudge = (s : S) (x : T) (b : Bool) (u : S) (y : T) → R s x b u y
       → (b, y, judge_of u) ≡ ask (judge_of s) x
 
 module _ {S T J : Type 0} (R : S → T → Bool → S → T → Type 0) (judge_of : S → J)
     (ask : J → T → Bool × T × J) (told : AsksJudge R judge_of ask) where
-  -- Suppose that the closure returns the decisions of the judge in its state. If the closure is
-  -- called for each item of `xs`, in order, and its state changes from `s` to `t`, then `verdicts`
-  -- contains the decisions of the judge on these items.
+  -- Suppose that a closure returns the decisions of the judge in its state. The closure is called
+  -- for each item of `xs`, in order, and its state changes from `s` to `t`. Then the results of
+  -- these calls, `verdicts`, are the decisions of the judge on the items of `xs`.
   pub asked-by : (s t : S) (xs : List T) (verdicts : Verdicts T) → Asked R s xs verdicts t
       → verdicts ≡ asked ask (judge_of s) xs
   asked-by s t [] verdicts a = a.0
@@ -35,7 +36,7 @@ module _ {S T J : Type 0} (R : S → T → Bool → S → T → Type 0) (judge_o
 
   -- Suppose that `retain` or `retain_mut` turned the list `v` into `w`, and that its closure
   -- returned the decisions of a judge. Then `w` contains exactly the items of `v` that the judge
-  -- keeps. The function `sifted` computes this list.
+  -- keeps. The function `sifted` computes `w` from `v` and the decisions.
   pub retained-by : {A : Type 0} (s : S) (v w : Thin T A) → IsRetained R s v w
       → w.capacity ≡ v.capacity → w.alloc ≡ v.alloc
       → w ≡ sifted v (asked ask (judge_of s) v.items)
@@ -48,9 +49,10 @@ module _ {S T J : Type 0} (R : S → T → Bool → S → T → Type 0) (judge_o
 -- This module is about methods such as `dedup_by`, which compare each item with the last item kept
 -- before it.
 module _ {T : Type 0} where
-  -- Methods such as `dedup_by` keep the first item, and decide for each later item whether to keep
-  -- it. The pair `b` consists of the first item and the verdicts on the later items. `Leaves flags
-  -- ys b` holds if `flags` lists these decisions, and `ys` lists the items that are kept.
+  -- A method such as `dedup_by` keeps the first item of a list, and decides for each later item
+  -- whether to keep it. The pair `b` consists of the first item and the verdicts on the later
+  -- items. `Leaves flags ys b` holds if `flags` contains the decisions in these verdicts, and `ys`
+  -- contains the first item and the kept later items.
   abbrev pub Leaves : List Bool → List T → T × Verdicts T → Type 0
   Leaves flags ys b = (flags ≡ flags_of b.1) × (ys ≡ b.0 ∷ left_at true b.1)
 
@@ -59,10 +61,10 @@ module _ {S T J : Type 0} (R : S → T → T → Bool → S → T → T → Type
     (same : J → T → T → Bool × T × T × J)
     (told : (s : S) (x k : T) (b : Bool) (u : S) (x' k' : T) → R s x k b u x' k'
     → (b, x', k', judge_of u) ≡ same (judge_of s) x k) where
-  -- Suppose that a closure returns the decisions of a judge. The closure compares each item of `xs`
-  -- with the last item kept before it, and the first item of `xs` with `k`. Then `flags` says for
-  -- each item of `xs` whether the judge keeps it. The list `ys` contains `k` and the kept items, as
-  -- they are after the comparisons.
+  -- Suppose that a closure returns the decisions of a judge. It compares each item of `xs` with the
+  -- last item kept before it. Before the first item of `xs`, this is the item `k`. Then `flags`
+  -- says for each item of `xs` whether the judge keeps it. The list `ys` contains `k` and the kept
+  -- items of `xs`, as they are after the comparisons.
   pub asked-last-by : (s t : S) (k : T) (xs : List T) (flags : List Bool) (ys : List T)
       → AskedLast R s k xs flags ys t → Leaves flags ys (asked_last same (judge_of s) k xs)
   asked-last-by s t k [] flags ys a = (a.0, a.1)
@@ -82,10 +84,11 @@ module _ {S T J : Type 0} (R : S → T → T → Bool → S → T → T → Type
       answered by false m e = let h =
           by a.1 m.0 m.1 in (e ∙ ap (λ l. true ∷ l) h.0, m.2 ∙ ap (λ l. a.2 ∷ l) h.1)
 
-  -- Suppose that a closure returns the decisions of a judge. The closure compares each item of
-  -- `xs`, except the first one, with the last item kept before it. Then `ys` contains exactly the
-  -- items that the judge keeps. The decisions of the judge and `flags` result in the same number of
-  -- moves.
+  -- Suppose that a closure returns the decisions of a judge. The first item of `xs` is kept, and
+  -- the closure compares each later item with the last item kept before it. The flags `flags` say
+  -- which of the later items are kept, and `ys` contains all kept items. Then `ys` contains exactly
+  -- the items that the judge keeps. The number of moves is the same for `flags` and for the
+  -- verdicts of the judge.
   pub asked-pairs-by : (s t : S) (xs : List T) (flags : List Bool) (ys : List T)
       → AskedPairs R s xs flags ys t
       → (moved_down flags ≡ moved_down (flags_of (asked_pairs same (judge_of s) xs)))
@@ -96,7 +99,7 @@ module _ {S T J : Type 0} (R : S → T → T → Bool → S → T → T → Type
 
   -- Suppose that `dedup_by` turned the list `v` into `w`, and that its closure returned the
   -- decisions of a judge. Then `w` contains exactly the items of `v` that the judge keeps. The
-  -- function `sifted` computes this list.
+  -- function `sifted` computes `w` from `v` and the decisions.
   pub deduped-by : {A : Type 0} (s : S) (v w : Thin T A) → IsDedupedBy R s v w
       → w.capacity ≡ v.capacity → w.alloc ≡ v.alloc
       → w ≡ sifted v (asked_pairs same (judge_of s) v.items)
@@ -111,9 +114,10 @@ module _ {F T A J : Type 0} (g : Mut F (MutBor T × Unit {0}) (ℕ × (MutBor T 
     (told : (f : F) (x : T) (k : ℕ) (f' : F) (x' : T) → CalledAtMut g f x k f' x'
     → (k, x', judge_of f') ≡ key (judge_of f) x) where
   -- Suppose that `dedup_by_key` turned the list `v` into `w`, and that its closure returned keys
-  -- that a judge computed. For each comparison of two items, the judge first computed the key of
-  -- the later item, and then the key of the kept item. Then `w` contains exactly the items of `v`
-  -- that remain if items with equal keys are duplicates. The function `sifted` computes this list.
+  -- that a judge computed. In each comparison of two items, the judge first computed the key of the
+  -- later item, and then the key of the kept item. Then `w` contains the items of `v` that remain
+  -- if each later item with an equal key is removed. The function `sifted` computes `w` from `v`
+  -- and these decisions.
   pub deduped-by-keys : (f : F) (v w : Thin T A)
       → IsDedupedBy (ComparesKeys g (λ a b. a == b)) f v w → w.capacity ≡ v.capacity
       → w.alloc ≡ v.alloc → w ≡ sifted v (asked_pairs (same_key key) (judge_of f) v.items)
@@ -129,18 +133,19 @@ module _ {F T A J : Type 0} (g : Mut F (MutBor T × Unit {0}) (ℕ × (MutBor T 
 
 -- In this module, `look` is a method of the judge that cannot write to the item.
 module _ {T J : Type 0} (look : J → T → Bool × J) where
-  -- `looks j x` consists of the decision of `look` on the item `x`, the unchanged item `x`, and the
-  -- state of the judge after the decision.
+  -- `looks j x` is a triple. It consists of the decision of `look` on the item `x`, the unchanged
+  -- item `x`, and the state of the judge after the decision. The state before the decision is `j`.
   abbrev pub looks : J → T → Bool × T × J
   looks j x = let a = look j x in (a.0, x, a.1)
 
-  -- Suppose that a call to `look` for the item `x` returned the decision `b` and changed the judge
-  -- from `j` to `u`. If the item `y` after the call equals `x`, then `looks j x` is `(b, y, u)`.
+  -- Suppose that a call to `look` for the item `x` returned the decision `b`, and changed the state
+  -- of the judge from `j` to `u`. Let `y` be the item after the call. If `y` equals `x`, then
+  -- `looks j x` is the triple `(b, y, u)`.
   pub looked : (j u : J) (x y : T) (b : Bool) → (b, u) ≡ look j x → y ≡ x → (b, y, u) ≡ looks j x
   looked j u x y b told same = ap (λ z. (b, z, u)) same ∙ ap (λ a. (a.0, x, a.1)) told
 
--- The lemmas of this module help to show that a command that tests items and removes some of them
--- does not increase the number of items.
+-- Some commands test the items of a list, and remove some of them. The lemmas of this module help
+-- to show that such a command does not increase the number of items.
 module _ {T : Type 0} where
   -- A verdict says whether an item is kept. The number of kept items is at most the number of
   -- verdicts.
@@ -149,21 +154,24 @@ module _ {T : Type 0} where
   few-left ((true, x) ∷ verdicts) = omega (arith, few-left verdicts)
   few-left ((false, x) ∷ verdicts) = omega (arith, few-left verdicts)
 
-  -- Suppose that the item `x` was compared with the kept item `k`, and that `a` contains the
-  -- results for the items after `x`. Then `next b x k a` contains the results for `x` and the items
-  -- after it. If `b` is true, `x` is removed. Otherwise, `x` is kept.
+  -- Suppose that the item `x` was compared with `k`, the last item kept before it, and that `b` is
+  -- the result of the comparison. The pair `a` describes the comparisons that follow: it consists
+  -- of the last item kept before them, and the verdicts on the items after `x`. Then `next b x k a`
+  -- is the pair of `k` and the verdicts on `x` and the items after it. If `b` is true, `x` is
+  -- removed. Otherwise, `x` is kept.
   abbrev next : Bool → T → T → T × Verdicts T → T × Verdicts T
   next b x k a = if b then (a.0, (false, x) ∷ a.1) else (k, (true, a.0) ∷ a.1)
 
-  -- The function `next` adds the result of one comparison to the results `a`. So the new results
-  -- contain one verdict more than `a`.
+  -- The function `next` adds the verdict on the item `x` to the verdicts in the pair `a`. So its
+  -- result contains exactly one verdict more than `a`.
   one-answer : (b : Bool) (x k : T) (a : T × Verdicts T)
       → length (next b x k a).1 ≡ suc (length a.1)
   one-answer true x k a = refl
   one-answer false x k a = refl
 
 module _ {T J : Type 0} where
-  -- If a judge in the state `j` tests each item of `xs`, the number of verdicts is `length xs`.
+  -- If a judge in the state `j` tests each item of `xs`, then there is one verdict for each item.
+  -- So the number of verdicts is `length xs`.
   pub asked-length : (ask : J → T → Bool × T × J) (j : J) (xs : List T) → length (asked ask j xs)
       ≡ length xs
   asked-length ask j [] = refl
@@ -176,7 +184,8 @@ module _ {T J : Type 0} where
 
   -- Suppose that the item `k` is kept, and that each item of `xs` is then compared with the last
   -- item kept before it. Then there is exactly one verdict for each item of `xs`. The lemma
-  -- `pairs-length` states the same for a whole list, whose first item is kept without a comparison.
+  -- `pairs-length` is about a whole list, whose first item is kept without a comparison. It also
+  -- states that there is one verdict for each item.
   last-length : (same : J → T → T → Bool × T × T × J) (j : J) (k : T) (xs : List T)
       → length (asked_last same j k xs).1 ≡ length xs
   last-length same j k [] = refl
@@ -196,18 +205,19 @@ module _ {T J : Type 0} where
       → length (left_at true (asked_pairs same j xs)) ≤ length xs
   few-pairs same j xs = omega (arith, few-left (asked_pairs same j xs), pairs-length same j xs)
 
--- These lemmas compare `dedup`, which uses the equality test `E`, with `dedup_by`, which asks a
--- judge. If the judge returns the results of `E`, then both methods keep the same items.
+-- The following lemmas compare `dedup` and `dedup_by`. The method `dedup` uses the equality test
+-- `E`, and the closure of `dedup_by` asks a judge. If the judge returns the results of `E`, then
+-- both methods keep the same items.
 module _ {T J : Type 0} (E : T → T → Bool) (j : J) where
-  -- `tells` is a method of a judge that compares two items with the test `E`. It returns the result
-  -- of `E`, and changes neither the items nor the state of the judge.
+  -- `tells` is the method of a judge that compares two items with the equality test `E`. It returns
+  -- the result of `E`, and changes neither the items nor the state `j` of the judge.
   abbrev pub tells : J → T → T → Bool × T × T × J
   tells j later kept = (E later kept, later, kept, j)
 
   -- Suppose that `k` is the last item kept before the items `xs`, and that a judge compares items
-  -- with the test `E`. Then the list `dedup_from E k xs` consists of `k` and the items of `xs` that
-  -- this judge keeps. The flags `unlike_from E k xs` say for each item of `xs` whether the judge
-  -- keeps it.
+  -- with the equality test `E`. Then `dedup` keeps the same items as this judge: the list
+  -- `dedup_from E k xs` consists of `k` and the items of `xs` that the judge keeps. The flags
+  -- `unlike_from E k xs` say for each item of `xs` whether it is kept.
   dedup-last : (k : T) (xs : List T) → Leaves (unlike_from E k xs) (dedup_from E k xs)
       (asked_last tells j k xs)
   dedup-last k [] = (refl, refl)
@@ -222,18 +232,19 @@ module _ {T J : Type 0} (E : T → T → Bool) (j : J) where
       told by true = let h = by k in (ap (λ l. false ∷ l) h.0, h.1)
       told by false = let h = by x in (ap (λ l. true ∷ l) h.0, ap (λ l. k ∷ l) h.1)
 
-  -- Suppose that a judge compares items with the test `E`. Then the list `dedup E xs` contains
-  -- exactly the items of `xs` that this judge keeps. The flags of `unlike E xs` and the verdicts of
-  -- the judge result in the same number of moves.
+  -- Suppose that a judge compares items with the equality test `E`. Then the list `dedup E xs`
+  -- contains exactly the items of `xs` that this judge keeps. The flags `unlike E xs` say which
+  -- items `dedup` keeps. The number of moves is the same for these flags and for the verdicts of
+  -- the judge.
   pub dedup-pairs : (xs : List T)
       → (moved_down (unlike E xs) ≡ moved_down (flags_of (asked_pairs tells j xs)))
       × (dedup E xs ≡ left_at true (asked_pairs tells j xs))
   dedup-pairs [] = (refl, refl)
   dedup-pairs (x ∷ xs) = let h = dedup-last x xs in (ap moved_down h.0, h.1)
 
-  -- Suppose that `dedup` compared items with the test `E`, and turned the list `v` into `w`. Then
-  -- `w` contains exactly the items of `v` that a judge keeps if it compares items with `E`. The
-  -- function `sifted` computes this list.
+  -- Suppose that `dedup` compared items with the equality test `E`, and turned the list `v` into
+  -- `w`. Then `w` contains exactly the items of `v` that a judge keeps if it compares items with
+  -- `E`. The function `sifted` computes `w` from `v` and the decisions of this judge.
   pub deduped-alike : {A : Type 0} (v w : Thin T A) → w.items ≡ dedup E v.items → w.cost
       ≡ moving (moved_down (unlike E v.items)) v.cost
       → w.capacity ≡ v.capacity → w.alloc ≡ v.alloc → w ≡ sifted v (asked_pairs tells j v.items)

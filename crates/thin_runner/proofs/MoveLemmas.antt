@@ -1,5 +1,6 @@
--- A run is a sequence of commands. These lemmas prove that a command moves at most `may_move`
--- items, and that a run moves at most `run_may_move` items.
+-- The cost of a list counts its moves: each item that is put into the list or moved within it
+-- counts as one move. The following lemmas prove that a command adds at most `may_move` moves to
+-- the cost. A run is a sequence of commands, and adds at most `run_may_move` moves.
 use Rattle.std.proofs.Common.{Bool, true, false, ◌≡◌, ℕ, ◌+◌, ◌-◌, ◌==◌, ◌<◌, ◌≤◌, List, [], ◌∷◌, ◌++◌, Option, Some, None, length, arith, ap, refl, inl, inr}
 use Rattle.std.proofs.lemmas.List.{length-append, length-replicate}
 use Rattle.std.specs.Prelude.{◌*◌, ◌⊎◌, drop, take, HoldsAt, replicate, if◌then◌else◌}
@@ -31,7 +32,7 @@ few-repeats k x = omega (arith, length-replicate (k - 1) x)
 module _ {T A : Type 0} (v w : Thin T A) where
   -- Suppose that the lists `w` and `u` are equal, and that the costs of `u` and `v` count the same
   -- number of moves. Then the costs of `w` and `v` also count the same number of moves. So for
-  -- every number `k`, the cost of `w` counts at most `k` more moves than the cost of `v`.
+  -- every number `k`, the moves of `w` are at most the moves of `v` plus `k`.
   same-moves : (u : Thin T A) (k : ℕ) → w ≡ u → u.cost.moves ≡ v.cost.moves
       → w.cost.moves ≤ v.cost.moves + k
   same-moves u k e same = omega (arith, ap (λ z. z.cost.moves) e, same)
@@ -43,18 +44,17 @@ module _ {T A : Type 0} (v w : Thin T A) where
   edited-moves xs m e = omega (arith, ap (λ z. z.cost.moves) e)
 
   -- `grown v c xs m` is the list `v` after a call that set its items to `xs` and its capacity to
-  -- `c`, and added `m` moves to its cost. If `w` is this list for some `c`, then the cost of `w`
-  -- counts at most `m` more moves than the cost of `v`. A change of the capacity does not count as
-  -- a move.
+  -- `c`, and added `m` moves to its cost. If `w` is such a list, then the cost of `w` counts at
+  -- most `m` more moves than the cost of `v`. A change of the capacity does not count as a move.
   grown-moves : (xs : List T) (m : ℕ) → w ≡ grown v w.capacity xs m
       → w.cost.moves ≤ v.cost.moves + m
   grown-moves xs m e = omega (arith, ap (λ z. z.cost.moves) e, cost_at-moves v w.capacity)
 
   module _ (rule : Rule) (R : RattleType) (a b : ℕ) where
-    -- Suppose that a splice inserted the items `placed`, and that `placed` contains at most `k`
-    -- items. Then the splice added at most `k` moves to the cost of the list, plus two moves for
-    -- each item after the replaced range. The number `most` is an upper bound on the number of
-    -- items that the iterator could yield.
+    -- Suppose that a splice replaced the items `a..b` of the list `v` with the items `placed`, and
+    -- that there are at most `k` of these items. Then the splice added at most `k` moves to the
+    -- cost of the list, plus at most two moves for each item after the replaced range. The iterator
+    -- of the splice could yield at most `most` items.
     spliced-moves : (placed : List T) (most k : ℕ) → Replaces rule R v a b placed most w
         → length placed ≤ k → w.cost.moves ≤ v.cost.moves + (2 * (length v.items - b) + k)
     spliced-moves placed most k f few =
@@ -68,9 +68,9 @@ module _ {T A : Type 0} (v w : Thin T A) where
           few,
         )
 
-    -- Suppose that a splice failed, and that its iterator contained the items `xs`. Then the splice
-    -- added at most one move for each item of `xs` to the cost of the list, plus two moves for each
-    -- item after the replaced range.
+    -- Suppose that a splice of the range `a..b` failed partway, and that its iterator contained the
+    -- items `xs` at first. Then the splice added at most one move for each item of `xs` to the cost
+    -- of the list, plus at most two moves for each item after the range.
     stopped-moves : (xs held : List T) (lower : ℕ) (cause : ThinVecError) (in_hand : Option T)
         (rest : Hinted T A) → StopsBetween rule R v a b xs held lower cause in_hand rest w
         → w.cost.moves ≤ v.cost.moves + (2 * (length v.items - b) + length xs)
@@ -79,7 +79,8 @@ module _ {T A : Type 0} (v w : Thin T A) where
         spliced-moves s.placed (lower + length xs) (length xs) s.filled
         (omega (arith, ap length s.all, length-append s.placed others))
 
--- A call to `shrink_to_fit` adds no moves to the cost.
+-- A call to `shrink_to_fit` adds no moves to the cost of the list. If the call frees the allocation
+-- of an empty list, the number of moves even becomes 0.
 shrunk-moves : {T A : Type 0} (v : Thin T A) → (cost_shrunk v).moves ≤ v.cost.moves
 shrunk-moves v = go (length v.items == v.capacity) (length v.items == 0)
   where
@@ -103,9 +104,9 @@ module _ {T A J : Type 0} (here : Setting T A J) (v w : Thin T A) where
       stopped (inr s) = omega (arith, few, s.1, grown-moves v w v.items s.0 s.3.1)
 
 module _ {T A G J : Type 0} (here : Setting T A J) where
-  -- If `command` turns the list `v` into `w` and gets the reply `reply`, then it adds at most
-  -- `may_move` moves to the cost of the list. This bound depends on the command, its reply, and the
-  -- items of `v`.
+  -- Suppose that `command` turns the list `v` into `w`, and gets the reply `reply`. Then the
+  -- command adds at most `may_move` moves to the cost of the list. This bound depends on the items
+  -- of `v`, the command and the reply.
   pub step-moves : (v w : Thin T A) (command : Command T A G) (reply : Reply T A G)
       → Steps here v command reply w
       → w.cost.moves ≤ v.cost.moves + may_move here v.items command reply
@@ -167,8 +168,9 @@ module _ {T A G J : Type 0} (here : Setting T A J) where
   step-moves v w (Splice a b steps xs lower) (Refused cause) s = same-moves v w v 0 s.1.2 refl
   step-moves v w command reply s = absurd s.1
 
-  -- If a run of `commands` turns the list `v` into `w`, then it adds at most `run_may_move` moves
-  -- to the cost of the list. This bound is the sum of the bounds for the individual commands.
+  -- Suppose that a run of the list `commands` turns the list `v` into `w`. Then the run adds at
+  -- most `run_may_move` moves to the cost of the list. This bound is the sum of the bounds for the
+  -- individual commands.
   pub runs-moves : (v w : Thin T A) (commands : List (Command T A G))
       (replies : List (Reply T A G)) (run : Runs here v commands replies w)
       → w.cost.moves ≤ v.cost.moves + run_may_move here v w commands replies run

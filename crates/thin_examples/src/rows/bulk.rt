@@ -38,8 +38,8 @@ pub fn row_15<A: Allocator + Copy>(alloc: A) -> Outcome {
     Ok(checks)
 }
 
-/// Extends new lists with iterators of five items. The lower bounds of the size hints of these
-/// iterators are 0, 3, 5 and 9. Checks the items and the capacity of each list.
+/// Extends new lists with iterators that yield five items each. The lower bounds of the size hints
+/// of these iterators are 0, 3, 5 and 9. Checks the items and the capacity of each list.
 pub fn row_24<A: Allocator + Copy>(alloc: A) -> Outcome {
     let mut checks = Checks::new();
     for (lower, capacity) in [(0, 8), (3, 8), (5, 5), (9, 9)] {
@@ -50,9 +50,9 @@ pub fn row_24<A: Allocator + Copy>(alloc: A) -> Outcome {
     Ok(checks)
 }
 
-// Checks the error of a failed `extend`. The cause must be `CapacityOverflow`. The field `in_hand`
-// must be `None`, which means that no item was taken from the iterator. The iterator must still
-// yield all items.
+// Checks the error of a call to `extend` that failed because the size hint was too large. The cause
+// must be `CapacityOverflow`. The field `in_hand` must be `None`, because no item was taken from
+// the iterator. The iterator `rest` must still yield all of its items.
 fn check_refused<A: Allocator>(checks: &mut Checks, refused: ExtendRefused<i32, Hinted<i32, A>>) {
     let ExtendRefused {
         cause,
@@ -89,7 +89,7 @@ pub fn row_27<A: Allocator + Copy>(alloc: A) -> Outcome {
     Ok(checks)
 }
 
-/// Checks `resize` to a greater length and to a smaller length.
+/// Checks a call to `resize` with a greater length, and a call to `resize` with a smaller length.
 pub fn row_28<A: Allocator + Copy>(alloc: A) -> Outcome {
     let mut checks = Checks::new();
     let mut words = listed(alloc, ["hello"])?;

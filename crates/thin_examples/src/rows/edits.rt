@@ -53,9 +53,9 @@ pub fn row_9<A: Allocator + Copy>(alloc: A) -> Outcome {
     Ok(checks)
 }
 
-/// Checks the function `bounds` for a list of five items. For two values of the type `Bound`, the
-/// function must return the start and the end of the range that they describe. If the list has no
-/// such range, the function must return `None`.
+/// Checks the function `bounds` for a list of five items. The function takes two values of the type
+/// `Bound`, which describe the bounds of a range of the list. It must return the start and the end
+/// of this range, or `None` if the list has no such range.
 pub fn row_18<A: Allocator + Copy>(_alloc: A) -> Outcome {
     let mut checks = Checks::new();
     for (start, end, wanted) in [
@@ -85,7 +85,7 @@ pub fn row_33<A: Allocator + Copy>(alloc: A) -> Outcome {
     Ok(checks)
 }
 
-// Compares the text that `{:?}` writes for `value` with `text`.
+// Formats `value` with `{:?}`, and checks that the result is `text`.
 fn check_text<T: Debug, A: Allocator>(
     checks: &mut Checks,
     alloc: A,
@@ -96,7 +96,7 @@ fn check_text<T: Debug, A: Allocator>(
     Ok(())
 }
 
-/// Checks the text that `{:?}` writes for a list, a `Drain` and an `IntoIter`.
+/// Checks how a list, a `Drain` and an `IntoIter` are formatted with `{:?}`.
 pub fn row_35<A: Allocator + Copy>(alloc: A) -> Outcome {
     let mut checks = Checks::new();
     let mut list = listed(alloc, [1, 2, 3])?;

@@ -20,7 +20,8 @@ pub fn row_21<A: Allocator + Copy>(alloc: A) -> Outcome {
     Ok(checks)
 }
 
-// Sets the value in column `column` of row 1, and compares the old value with `before`.
+// Writes `value` to column `column` of row 1. The call to `set` returns the old value of this
+// column, which is compared with `before`. Does nothing if the table does not have three rows.
 fn set<A: Allocator>(
     checks: &mut Checks,
     table: &mut Rows<char, A>,
@@ -34,7 +35,8 @@ fn set<A: Allocator>(
     Ok(())
 }
 
-// Removes the value in column `column` of row 1, and compares the removed value with `value`.
+// Removes the value in column `column` of row 1. The call to `remove` returns the removed value,
+// which is compared with `value`. Does nothing if the table does not have three rows.
 fn remove<A: Allocator>(
     checks: &mut Checks,
     table: &mut Rows<char, A>,
@@ -46,8 +48,9 @@ fn remove<A: Allocator>(
     }
 }
 
-// Checks that row 1 has the entries `entries`, and that the other rows have no entries. Also checks
-// that row 1 owns an allocation if and only if `owns_block` is true.
+// Checks that the table has three rows, that row 1 has the entries `entries`, and that the other
+// rows have no entries. Also checks that row 1 owns an allocation if `owns_block` is true, and owns
+// none if it is false.
 fn check_entries<A: Allocator>(
     checks: &mut Checks,
     table: &Rows<char, A>,

@@ -44,7 +44,7 @@ pub fn row_4<A: Allocator + Copy>(alloc: A) -> Outcome {
     Ok(checks)
 }
 
-// Inserts `value` at `index` if `index` is at most the length of the list.
+// Inserts `value` at `index`. If `index` is greater than the length of the list, does nothing.
 fn insert<T: Drop, A: Allocator>(
     list: &mut ThinVec<T, A>,
     index: usize,

@@ -9,7 +9,8 @@ use thin_runner::hinted::Hinted;
 use thin_vec::{SpliceRefused, ThinVec, ThinVecError};
 
 // Replaces two of five items with the three items of an iterator. The lower bound of the iterator's
-// size hint is `claim`. Checks the items and the capacity of the list afterwards.
+// size hint is `claim`. Checks the items of the list afterwards, and checks that its capacity is
+// `capacity`.
 fn check_claimed<A: Allocator + Copy>(
     checks: &mut Checks,
     alloc: A,
@@ -32,9 +33,10 @@ pub fn row_10<A: Allocator + Copy>(alloc: A) -> Outcome {
     Ok(checks)
 }
 
-// Checks the error of a failed `finish`. The cause must be `CapacityOverflow`. The fields `held`
-// and `in_hand` must be empty, which means that every item taken from the iterator was inserted.
-// The iterator must still yield its last item.
+// Checks the error of a failed call to `finish`, the method that completes a splice. The cause must
+// be `CapacityOverflow`. The field `held` must be empty, and the field `in_hand` must be `None`:
+// every item that was taken from the iterator was inserted into the list. The iterator `rest` must
+// still yield its last item.
 fn check_refused<A: Allocator>(
     checks: &mut Checks,
     refused: SpliceRefused<i32, Hinted<i32, A>, A>,
@@ -51,8 +53,9 @@ fn check_refused<A: Allocator>(
     checks.items(&[rest.next(), rest.next()], &[Some(12), None]);
 }
 
-/// Checks that `finish` of a splice fails if the size hint of the iterator is too large for any
-/// capacity. The failed call replaces the items of the range, but inserts no further item.
+/// Checks that a splice fails if the size hint of its iterator is too large for any capacity. The
+/// method `finish`, which completes the splice, returns the error. The failed call has replaced the
+/// items of the range, but has inserted no further item.
 pub fn row_11<A: Allocator + Copy>(alloc: A) -> Outcome {
     let mut checks = Checks::new();
     let mut list = listed(alloc, [1, 2, 3, 4, 5])?;

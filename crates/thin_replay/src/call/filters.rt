@@ -33,9 +33,9 @@ pub fn parse(words: &[&str]) -> Result<Option<Call>, LineError>
     }
 }
 
-// Returns `Retain`, `RetainMut`, `DedupBy` or `DedupByKey` if `name` is the name of this command,
-// and `None` otherwise. On a line with such a command, three words follow the name. They describe a
-// judge, which makes decisions in place of a closure.
+// Returns the command whose name is `name` if this command is `Retain`, `RetainMut`, `DedupBy` or
+// `DedupByKey`. Returns `None` for any other name. On a line with one of these commands, the three
+// words after the name describe a judge, which makes decisions in place of a closure.
 fn filter(name: &str) -> Option<Command<u64>>
     ensures filter { IfSome result (IsFilter name.now) }
 {

@@ -4,8 +4,8 @@ use Rattle.std.proofs.Common.{◌≡◌, [], ◌∷◌, ap, arith, ◌++◌, ◌
 use Rattle.thin_replay.proofs.RunLemmas.{headline-one, one_reply}
 use Rattle.thin_replay.proofs.carried_out.carry_out.Goals as goal
 
--- The run of the single command has exactly one reply. So `pop` returns `Some`, and the
--- precondition of the following call to `unwrap` holds.
+-- The run of the single command has exactly one reply, so the list of replies is not empty. So
+-- `pop` returns `Some`, and the precondition of the following call to `unwrap` holds.
 pub unwrap-requires : goal.unwrap-requires
 unwrap-requires g c =
     let one : c.push.new.self.items ≡ c.args.command ∷ [] =

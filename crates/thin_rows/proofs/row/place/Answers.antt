@@ -1,6 +1,6 @@
--- `place` searches for a column in a list of entries whose columns are strictly increasing. So the
--- binary search returns either the index of the entry of this column, or the index at which such an
--- entry would be inserted.
+-- This file proves the contract of `place`. The function searches for a column in a list of entries
+-- whose columns are strictly increasing. It uses a binary search. So it returns either the index of
+-- the entry of this column, or the index at which such an entry would be inserted.
 use Rattle.std.proofs.Common.{rules}
 use Rattle.std.proofs.lemmas.List.Sorted.{answers_always}
 use Rattle.thin_rows.proofs.EntriesLemmas.{searched}

@@ -1,6 +1,7 @@
--- `get_mut` searches the stored list for the entry of a column. The map that the list represents
--- has the same entries in the same order. So if the search succeeds, the returned index is also the
--- index of this entry in the map. If the search fails, the map has no value at the column.
+-- This file proves the contract of `get_mut`. The method searches the stored list of a row for the
+-- entry of a column. The list represents a map, and the map has the same entries in the same order.
+-- So if the search finds an entry, its index in the list is also its index in the map. If the
+-- search finds none, the map has no value at the column.
 use Rattle.std.proofs.Common.{nat_cmp, refl, sym}
 use Rattle.std.specs.FinMap.{entries-from_sorted}
 use Rattle.thin_rows.proofs.RowLemmas.{get_gap}

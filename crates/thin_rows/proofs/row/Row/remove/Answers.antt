@@ -1,5 +1,6 @@
--- Removing the entry of a column from the stored list removes this column from the map that the
--- list represents. If the column has no entry, neither the list nor the map changes.
+-- This file proves the contract of `remove`. The stored list of a row represents a map. If the list
+-- has an entry of the column, removing this entry from the list removes the column from the map. If
+-- it has none, neither the list nor the map changes.
 use Rattle.std.proofs.Common.{Some, sym, ap, ◌∙◌}
 use Rattle.std.proofs.lemmas.Option.{get_or_from_slice_get}
 use Rattle.thin_rows.proofs.RowLemmas.{get_at, get_gap, remove_is, remove_rises, unchanged}

@@ -4,9 +4,10 @@ use Rattle.std.proofs.Common.{◌≡◌, ◌+◌, ◌-◌, ◌^◌, ◌<◌, map
 use Rattle.std.specs.FinMap.{len}
 use Rattle.thin_rows.proofs.table.Rows.len.Given as goal
 
--- The number of entries of the table equals the count plus the number of entries in the rows that
--- have not been visited yet. For this comparison, both numbers are capped at `usize::MAX`. The
--- count fits into a `usize`.
+-- Two statements hold before each iteration. The first one is an equation: the number of entries of
+-- the table is the count, plus the number of entries in the rows that have not been visited yet. A
+-- side of this equation that is greater than `usize::MAX` is replaced with `usize::MAX`. The second
+-- statement is that the count is at most `usize::MAX`.
 abbrev pub invariant-loop-row : goal.invariant-loop-row
 invariant-loop-row g l =
     (min (l.count + sum (map (λ row. len row) l.row-iterator.rest.now)) (2 ^ 64 - 1)

@@ -1,5 +1,6 @@
--- The method `set` of a table calls the method `set` of one of its rows. If this call fails,
--- neither the row nor the table changes, and both methods return the same cause.
+-- This file proves the contract of the method `set` of a table, which calls the method `set` of one
+-- of its rows. If this call fails, neither the row nor the table changes, and both methods return
+-- the same cause.
 use Rattle.std.proofs.Common.{◌≡◌, ◌+◌, subst, ℕ, List, OnErr, Result, Ok, Err, Some, slice_get, slice_set, sym, ap, ◌∙◌}
 use Rattle.std.proofs.lemmas.List.{set-get_or}
 use Rattle.std.proofs.lemmas.Option.{get_or_from_slice_get}
@@ -11,9 +12,9 @@ use Rattle.thin_rows.specs.EntryType.{entry_type}
 use Rattle.thin_rows.specs.Table.{row_of}
 use Rattle.thin_rows.proofs.table.Rows.set.Goals as goal
 
--- Let `old` be the item at index `i` of the list `xs`, and let `new` be this item after a call with
--- the result `result`. If the call failed and `new` equals `old`, then writing `new` to index `i`
--- does not change `xs`.
+-- A call may change the item at index `i` of the list `xs`. This item is `old` before the call and
+-- `new` after the call, and the call returns `result`. Suppose that `new` equals `old` if the call
+-- fails. Then, if the call fails, writing `new` to index `i` does not change `xs`.
 left : {X Y E : Type 0} (result : Result Y E) (xs : List X) (i : ℕ) (old new : X)
     → slice_get xs i ≡ Some old → OnErr result (new ≡ old) → OnErr result (slice_set xs i new ≡ xs)
 left (Ok _) xs i old new there same = tt

@@ -1,6 +1,7 @@
--- After the loop, the list contains all rows of the table. The errors of `with_rows` are the errors
--- of `with_capacity`. The item type in the contract of `with_capacity` has the same size and
--- alignment as `row_type`, so `exact_capacity` is the same for both types.
+-- This file proves the contract of `with_rows`. After the loop, the list contains all rows of the
+-- table. The errors of `with_rows` are the errors of `with_capacity`. The contract of `with_rows`
+-- uses the item type `row_type`, and the contract of `with_capacity` uses an item type of the same
+-- size and alignment. So `exact_capacity` returns the same capacity for both types.
 use Rattle.std.proofs.Common.{◌≡◌, ◌∙◌, ap, arith, refl, replicate}
 use Rattle.std.specs.FinMap as map
 use Rattle.thin_rows.proofs.RowTypeLemmas.{error_tells, made_tells}
