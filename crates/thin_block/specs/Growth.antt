@@ -41,10 +41,11 @@ KeepsLaw rule = (s a c w n : ℕ) → c < w → w < 2 ^ 64 → rule s a c w ≡ 
 unfoldable pub fitting : ℕ → ℕ → ℕ → Option ℕ
 fitting s a n = if fits s a n then Some n else None
 
--- `doubling s a c w` is the result of the growth rule `Doubling` for the item size `s`, the item
--- alignment `a`, the old capacity `c` and the required capacity `w`. It is `2 * c`, or `first s` if
--- `c` is 0. If `w` is greater than this number, the result is `w`. If the new capacity is too
--- large, the result is `None`. `reserve` in the Rust crate thin-vec uses the same rule.
+-- `doubling s a c w` is the capacity that the growth rule `Doubling` chooses for items of size `s`
+-- and alignment `a`, if the old capacity is `c` and the required capacity is `w`. The rule computes
+-- `2 * c`, or `first s` if `c` is 0. It chooses this number or `w`, whichever is greater. If the
+-- chosen capacity is too large, the result is `None`. `reserve` in the Rust crate thin-vec uses the
+-- same rule.
 unfoldable pub doubling : Rule
 doubling s a c w = fitting s a (max w (if c == 0 then first s else 2 * c))
 

@@ -140,9 +140,10 @@ way_back None τ c b o = fwand (parts_for τ c b o) (froom (whole_of τ c) b o)
 way_back (Some w) τ c b o = fsep (header_way τ w.0 w.1 b o)
     (slots_way τ w.0 (div_ceil c w.0) c b (o + 16))
 
--- `backing_for t w τ c b o` is the backing of a block at the offset `o` of the allocation `b`. The
--- backing consists of two rights: the right `way_back` to convert the parts of the block back into
--- memory for the whole block, and the right `t` to free the block.
+-- `backing_for t w τ c b o` is the backing of a block of `c` slots for items of the type `τ`, at
+-- the offset `o` of the allocation `b`. `w` says whether and how the items form words. The backing
+-- consists of two rights: the right `way_back` to convert the parts of the block back into memory
+-- for the whole block, and the right `t` to free the block.
 abbrev pub backing_for : (Ty → Ptr → Fml) → Option (ℕ × ℕ) → Ty → ℕ → ℕ → ℕ → Fml
 backing_for t w τ c b o = fsep (way_back w τ c b o) (t (asked_for w τ c) (block_ptr b o))
 
@@ -152,10 +153,10 @@ backing_for t w τ c b o = fsep (way_back w τ c b o) (t (asked_for w τ c) (blo
 abbrev pub backing : (Ty → Ptr → Fml) → RattleType → ℕ → ℕ → ℕ → Fml
 backing t R c b o = backing_for t (words_of R) (bare R) c b o
 
--- `frame t R n c b o` is a block, except for its slots, at the offset `o` of the allocation `b`. It
--- consists of the capacity `c` and the length `n` in memory, the fact that the block is small
--- enough to be allocated, and the backing of the block. The backing includes the right `t` to free
--- the block.
+-- `frame t R n c b o` is a block without its slots, at the offset `o` of the allocation `b`. The
+-- block has `c` slots for items of the type `R`. The frame consists of the capacity `c` and the
+-- length `n` in memory, the fact that the block is small enough to be allocated, and the backing of
+-- the block. The backing includes the right `t` to free the block.
 abbrev pub frame : (Ty → Ptr → Fml) → RattleType → ℕ → ℕ → ℕ → ℕ → Fml
 frame t R n c b o =
     fsep (lies_at usize full_share (block_ptr b o) c)
@@ -187,8 +188,9 @@ places_lent R (x ∷ xs) b o = beside (place_lent R x (block_ptr b o))
     (places_lent R xs b (o + type_size R))
 
 -- `frame_lent R n c b o l` contains a `&` to the capacity `c` and a `&` to the length `n` of a
--- block at the offset `o` of the allocation `b`. The references have the lifetime `l`. `frame_lent
--- R n c b o l` also contains the fact that the block is small enough to be allocated.
+-- block at the offset `o` of the allocation `b`. The references have the lifetime `l`. The formula
+-- also contains the fact that a block of `c` slots for items of the type `R` is small enough to be
+-- allocated.
 abbrev pub frame_lent : (R : RattleType) → ℕ → ℕ → ℕ → ℕ → Lft → Fml
 frame_lent R n c b o =
     beside (lent_at usize (block_ptr b o) c)

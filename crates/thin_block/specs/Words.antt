@@ -33,9 +33,9 @@ module _ (T M : RattleType) where
   runs_at (xs ∷ xss) b o = fsep (run_at xs b o)
       (runs_at xss b (o + size (word_of (bare T) (value_of M))))
 
-  -- `runs_from xss p` contains the items of several adjacent words in memory, starting at the
-  -- pointer `p`. Each list in `xss` contains the items of one word. For each word, `runs_from xss
-  -- p` also contains the right to convert memory for the items into memory for the word.
+  -- The formula `runs_from xss p` contains the items of several adjacent words in memory, starting
+  -- at the pointer `p`. Each list in `xss` contains the items of one word. For each word, the
+  -- formula also contains the right to convert memory for the items into memory for the word.
   abbrev pub runs_from : List (List T.Denot) → Ptr → Fml
   runs_from xss null_ptr = ffalse
   runs_from xss (block_ptr b o) = runs_at xss b o

@@ -186,8 +186,8 @@ impl<T, A: Allocator> Block<T, A> {
     }
 
     // Moves the `k` items that start at slot `low + from` to the slots that start at `low + to`.
-    // `up` says whether the items move to higher slots. Except for the old slots of the items, all
-    // slots through which or into which the items move must be empty.
+    // `up` says whether the items move to higher slots. All slots that the items pass or reach must
+    // be empty, except for the old slots of the items.
     //
     // Both the address of the items and the address of their new slots are computed from the
     // address of the slot `low`. So if `from` and `to` are constants, LLVM sees that the distance

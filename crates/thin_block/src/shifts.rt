@@ -11,8 +11,8 @@ ghost use types.Logic.{sem};
 ghost use Rattle.thin_block.specs.Shifts.{IsShifted};
 
 // Moves `count` items from `source` to `target`. `up` says whether `target` is above `source`. The
-// ghost parameter `g` is a pair: the distance between the two pointers, counted in items, and the
-// list of the items.
+// ghost parameter `g` is a pair. Its first component is the distance between the two pointers,
+// counted in items. Its second component is the list of the items.
 pub(crate) unsafe fn slide<T>(source: *const T, target: *mut T, count: usize, up: bool)
     ghost g: { ℕ × List T }
     requires shifted { IsShifted T.row up g.0 source target }

@@ -82,8 +82,8 @@ impl<T, A: Allocator> Block<T, A> {
     }
 
     /// Takes the item out of slot `i` and returns this item. If `j` differs from `i`, the function
-    /// also moves the item in slot `j` into slot `i`. This counts as one move. Afterwards, slot `j`
-    /// is empty.
+    /// also moves the item in slot `j` into slot `i`, and counts this as one move. In both cases,
+    /// slot `j` is empty afterwards.
     pub fn take_replacing(&mut self, i: usize, j: usize) -> T
         requires first { IsSome (slot self.old.slots i) }
         requires second { IsSome (slot self.old.slots j) }

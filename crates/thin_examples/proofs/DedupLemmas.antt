@@ -8,9 +8,9 @@ use Rattle.thin_vec.proofs.EditLemmas.{deduped_deduped}
 use Rattle.thin_vec.specs.Edits.Dedup.{IsDedupedBy}
 use Rattle.thin_vec.specs.ThinVec.{Thin}
 
--- The relation `R` describes the calls of the closure. This module assumes that each call compares
--- a kept item `k` with a later item `x`, replaces `x` with `f x`, leaves `k` unchanged, and returns
--- `same (f x) k`.
+-- The relation `R` describes the calls of the closure. This module assumes that each call is about
+-- a later item `x` and a kept item `k`. The call replaces `x` with `f x`, does not change `k`, and
+-- returns `same (f x) k`.
 module _ {S T : Type 0} (R : S → T → T → Bool → S → T → T → Type 0) (f : T → T)
     (same : T → T → Bool)
     (says : (s : S) (x k : T) (b : Bool) (t : S) (x' k' : T) → R s x k b t x' k'
@@ -21,10 +21,10 @@ module _ {S T : Type 0} (R : S → T → T → Bool → S → T → T → Type 0
   Kept k xs zs = zs ≡ dedup_from same k (map f xs)
 
   -- This lemma is one step in the proof that `Kept` describes the result of `dedup_by`. Suppose
-  -- that the closure has compared the item `x` with the kept item `k`, and has returned `b`. If `b`
-  -- is true, `x` is removed, and `k` is still the last kept item. Otherwise `f x` is the new last
-  -- kept item. If `Kept` describes the result for the items `xs` after `x`, then it also describes
-  -- the result `zs` for `x` and `xs`.
+  -- that the closure has changed the item `x` into `x'` and the last kept item `k` into `k'`, and
+  -- has returned `b`. If `b` is true, `x'` is removed. In this case, suppose that `Kept k' xs zs`
+  -- holds. Otherwise, `x'` is the new last kept item. In this case, suppose that `zs` is `k' ∷ ys`,
+  -- and that `Kept x' xs ys` holds. Then `Kept k (x ∷ xs) zs` holds.
   one : (b : Bool) (x k x' k' : T) (xs zs : List T) → b ≡ same (f x) k → x' ≡ f x → k' ≡ k
       → MatchBool b (Kept k' xs zs) ((ys : List T) × Kept x' xs ys × (zs ≡ k' ∷ ys))
       → Kept k (x ∷ xs) zs
@@ -37,8 +37,9 @@ module _ {S T : Type 0} (R : S → T → T → Bool → S → T → T → Type 0
       ∙ ap (λ c. cond c (dedup_from same k (map f xs)) (k ∷ dedup_from same (f x) (map f xs)))
       b-is)
 
-  -- Suppose that `dedup_by` has kept the item `k`, and that `xs` are the items after `k`. If
-  -- `dedup_by` turns `k` and these items into the list `zs`, then `Kept k xs zs` holds.
+  -- Suppose that `k` is the last item that `dedup_by` has kept, and that `xs` are the items after
+  -- `k`. Let `zs` be the list that remains of `k` and these items when `dedup_by` returns. Then
+  -- `Kept k xs zs` holds: `zs` is the list `k ∷ map f xs` without repeated items.
   kept_from : (xs : List T) (s : S) (k : T) (zs : List T) → DedupsFrom R s k xs zs → Kept k xs zs
   kept_from [] s k zs h = h
   kept_from (x ∷ xs) s k zs h =
@@ -52,10 +53,10 @@ module _ {S T : Type 0} (R : S → T → T → Bool → S → T → T → Type 0
         | false ↦ λ m. (m.0, kept_from xs h.1 h.2 m.0 m.1, m.2)
       ]) h.5)
 
-  -- Let `x` be the first item of the list `xs`. Suppose that the list `v` contains the items `xs`,
-  -- but with `f x` in place of `x`. If `dedup_by` turns `v` into the list `w`, then the items of
-  -- `w` are `dedup same (map f xs)`. The result is the same as if `f` had been applied to every
-  -- item before the call.
+  -- Let `x` be the first item of the list `xs`. Suppose that the items of `v` are `xs`, except that
+  -- the first item is `f x` and not `x`. If `dedup_by` turns `v` into the list `w`, then the items
+  -- of `w` are `dedup same (map f xs)`. So the result is the same as if `f` had been applied to
+  -- every item before the call.
   pub deduped_mapped : {A : Type 0} {s : S} {v w : Thin T A} (xs : List T) (x : T)
       → x ≡ slice_index_or xs 0 x → v.items ≡ slice_set xs 0 (f x) → IsDedupedBy R s v w
       → w.items ≡ dedup same (map f xs)

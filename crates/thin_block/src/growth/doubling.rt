@@ -44,9 +44,9 @@ pub fn first_capacity<T>() -> usize
     }
 }
 
-/// Returns the capacity that a list with the growth rule `Doubling` and the old capacity `cap` has
-/// after the list has reserved room for `want` items. The result is `cap` if `cap` is at least
-/// `want`. It is `None` if the new capacity is too large.
+/// Returns the capacity of a list with the growth rule `Doubling` after the list has reserved room
+/// for `want` items. The old capacity of the list is `cap`. If `cap` is at least `want`, the result
+/// is `cap`. If the new capacity is too large, the result is `None`.
 pub fn next_capacity<T>(cap: usize, want: usize) -> Option<usize>
     ensures value { result ≡ ruled_capacity doubling T.row cap want }
 {

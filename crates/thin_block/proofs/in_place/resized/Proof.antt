@@ -122,10 +122,11 @@ module _ (E : El) (Y : Al) {M : Type 1} {𝓤 : Ura M} (𝓛 : Logic 𝓤) (at_m
   abbrev left : Ptr → Bool → ℕ → ℕ → Fml
   left x y b o = resized_if_ok (token Y r.now) (R E) x len held wanted xs (result_of y b o)
 
-  -- Ends the proof of `resized`. The pointer `x` is the address of the old block, and `y`, `b` and
-  -- `o` determine the result of the call to `grow` or `shrink`. Before this step, the proof context
-  -- contains, in this order: [the resources that this call has returned; the lifetime tokens of the
-  -- shared reference to the allocator, of `T` and of `A`].
+  -- This lemma is the last step in the proof of `resized`. Suppose that the proof context contains,
+  -- in this order: [the resources that the call to `grow` or `shrink` has returned; the lifetime
+  -- tokens of the shared reference to the allocator, of `T` and of `A`]. Then the postcondition of
+  -- `resized` holds. The pointer `x` is the address of the old block. The Boolean `y` is true if
+  -- the call has succeeded. In this case, the new block is at the offset `o` of the allocation `b`.
   exits : (x : Ptr) (y : Bool) (b o : ℕ)
       → ent 𝓤 (⋆ 𝓛 (‵ (left x y b o) ∷ ‵ (flft κ q) ∷ ‵ (flft κT qT) ∷ (‵ (flft κA qA) ⊛ ‵ ftrue)
       ∷ [])) (Post x (answer_val y b o))
@@ -139,9 +140,9 @@ module _ (E : El) (Y : Al) {M : Type 1} {𝓤 : Ura M} (𝓛 : Logic 𝓤) (at_m
       move ! (3 ∷ 0 ∷ []) $ join ! $ join ! $ done !
 
   -- `from Ev x k` is the condition that must hold at the end of each branch of the conditional. It
-  -- states that the rest of the function body, after the first `k` statements, satisfies the
-  -- postcondition. `Ev` is the environment of the local variables, and `x` is the address of the
-  -- old block.
+  -- states that the postcondition will hold after the remaining statements of the function body
+  -- have run. These are all statements except the first `k` statements. `Ev` is the environment of
+  -- the local variables, and `x` is the address of the old block.
   abbrev from : Env 𝓤 H → Ptr → ℕ → After 𝓤 H
   from Ev x k = then_runs 𝓛 C Λ Ev (after k (here E Y).body) (at_ret Ev (Post x))
 
@@ -150,8 +151,8 @@ module _ (E : El) (Y : Al) {M : Type 1} {𝓤 : Ura M} (𝓛 : Logic 𝓤) (at_m
       (owns (types_at (ended E Y).signature.params (bound x).0.0) (bound x).0.3 (bound x).0.4)
 
   -- `Given x v` is an entry of the proof context. It consists of the resources that the call to
-  -- `grow` or `shrink` has returned. The old block is at the address `x`, and `v` is the machine
-  -- value of the result.
+  -- `grow` or `shrink` has returned. The pointer `x` is the address of the block before this call,
+  -- and `v` is the machine value of the result of this call.
   abbrev Given : Ptr → Val → Item 𝓤
   Given x v = exists (λ (c : Bool × (ℕ × ℕ)). given (v ≡ answer_val c.0 c.1.0 c.1.1)
       (‵ (left x c.0 c.1.0 c.1.1)))

@@ -12,8 +12,9 @@ use denote.RattleType.{RattleType}
 use Rattle.thin_block.proofs.sizes.bytes_of_block.Goals as goal
 
 -- Suppose that a block for `c` items of the type `R` is small enough to be allocated, and that
--- `size` is the item size, capped at `usize::MAX`. Then the sum `16 + c * size`, which the code
--- computes, is the offset at which the last item ends.
+-- `size` is the size of an item, capped at `usize::MAX`. Then the sum `16 + c * size`, which the
+-- code computes, equals the offset of the first item plus the total size of `c` items. If there are
+-- items, this is the offset at which the last item ends.
 summed : (R : RattleType) (c size : ℕ) → Fits R c → size ≡ capped (type_size R)
     → 16 + c * size ≡ items_offset (type_align R) + c * type_size R
 summed R c size fits is =

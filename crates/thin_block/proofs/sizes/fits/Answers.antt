@@ -1,5 +1,7 @@
 -- This file proves that the function `fits` returns true if and only if the predicate `Fits` holds.
--- The function compares the capacity with a quotient.
+-- The predicate compares the size of a block with a limit. The function instead compares the
+-- capacity with a quotient. The quotient is the greatest capacity for which the size of a block is
+-- within the limit.
 use Rattle.std.proofs.Common.{◌≡◌, ℕ, ◌-◌, ◌*◌, ◌/◌, ◌^◌, ◌<◌, true, refl, sym, ap, ◌∙◌, arith, leb}
 use Rattle.std.specs.Mem.{type_size}
 use Rattle.std.specs.Align.{type_align}
@@ -52,10 +54,10 @@ pub overflow_sub-result-2 : goal.overflow_sub-result-2
 overflow_sub-result-2 g c = let about = rounded (param 0 g.row.T) 0 in
     let is = c.align_of_block.ensures.value in omega arith
 
--- Suppose that `align` is the alignment of a block for items of the type `R`. Then two comparisons
--- of the capacity `c` have the same result: the comparison with the quotient that the code
--- computes, and the comparison with the quotient in the lemmas `divided` and `dividing` of
--- `SizesLemmas`.
+-- Suppose that `align` is the alignment of a block for items of the type `R`. The code compares the
+-- capacity `c` with the quotient `(2 ^ 63 - align - 16) / size`. The result is the same if
+-- `block_align (type_align R)` replaces `align` in this quotient. The lemmas `divided` and
+-- `dividing` of `SizesLemmas` are about the quotient with `block_align (type_align R)`.
 same_limit : (R : RattleType) (c size align : ℕ) → align ≡ block_align (type_align R)
     → leb c ((2 ^ 63 - align - 16) / size) ≡ leb c
     ((2 ^ 63 - block_align (type_align R) - 16) / size)

@@ -37,7 +37,8 @@ use Rattle.thin_block.specs.contracts.sizes.item_align.Key.{name as #self}
 use Rattle.thin_block.proofs.sizes.item_align.Statement as stated
 use Rattle.thin_block.proofs.sizes.item_align.Code as code
 
--- The step `says_both` in this module proves an `ensures` clause that consists of two facts.
+-- The step `says_both` in this module proves two `ensures` clauses at once. Its last two arguments
+-- are the proofs of the two facts that the clauses state.
 module _ {M : Type 1} {𝓤 : Ura M} {𝓛 : Logic 𝓤} {K : Type 0} {Γ : List (Item 𝓤)} where
   says_both : K → {φ ψ : Type 0} {P : SProp 𝓤} → φ → ψ
       → Step K 𝓛 Γ (prop P) Γ (prop (sep 𝓤 P (sep 𝓤 (fact 𝓤 φ) (fact 𝓤 ψ))))
@@ -47,8 +48,8 @@ module _ {M : Type 1} {𝓤 : Ura M} {𝓛 : Logic 𝓤} {K : Type 0} {Γ : List
         use0 𝓛 (raw (fact 𝓤 φ)) (fact_i 𝓤 φ (emp 𝓤) x) $ done !));
   })
 
--- Every alignment is the number of bytes of an integer width `w`: 1, 2, 4, 8 or 16. So every
--- alignment is less than `2 ^ 64`.
+-- An integer of the width `w` takes 1, 2, 4, 8 or 16 bytes, so it takes fewer than `2 ^ 64` bytes.
+-- The same is true of alignments: every alignment equals the number of bytes of some integer width.
 below : (w : Width) → bytes w < 2 ^ 64
 below w8 = omega arith
 below w16 = omega arith

@@ -112,7 +112,7 @@ module _ (E : El) (m : ℕ) where
   word_fits v fits = (both (has_ty (ty_array (layout E.row) m) v) _ fits.0 tt, (fits.1, (tt, tt)))
 
   -- Suppose that `v` is the machine value of an array of the items `xs`. Then the resources that
-  -- this array owns can be converted into the resources that the word of these items owns. The
+  -- this array owns can be converted into the resources that the word of the items `xs` owns. The
   -- machine value of this word is `word_val v`.
   word_made : {M : Type 1} {𝓤 : Ura M} (𝓛 : Logic 𝓤) (xs : List (el_x E)) (v : Val)
       → ent 𝓤 (sem 𝓛 (Arr.own_val xs (v ∷ [])))
@@ -171,9 +171,9 @@ module _ (E : El) (m : ℕ) {M : Type 1} {𝓤 : Ura M} (𝓛 : Logic 𝓤) (at_
     abbrev To : Fml
     To = Made g o
 
-    -- Suppose that `xss` lists the items of words that begin at the offset `at`. Then `Then xss at`
-    -- is the right to join these words with the words before them. The result of joining them is
-    -- the memory of all words.
+    -- Suppose that some words begin at the offset `at`, and that `xss` lists the items of each of
+    -- these words. Then the formula `Then xss at` is the right to join these words with the words
+    -- before them. The result is the memory of all words.
     abbrev Then : Runs E m → ℕ → SProp 𝓤
     Then xss at = wand 𝓤 (sem 𝓛 (Made xss at)) (sem 𝓛 To)
 
@@ -187,9 +187,10 @@ module _ (E : El) (m : ℕ) {M : Type 1} {𝓤 : Ura M} (𝓛 : Logic 𝓤) (at_
         feq_i ! (List Val) (vunit ∷ []) (vunit ∷ []) refl $ nothing ! $ nothing ! $ fjoin ! $
         nothing ! $ fjoin ! $ join ! $ move ! (2 ∷ 0 ∷ []) $ join ! $ join ! $ done !
 
-    -- A value of the type `Left` is a state of the loop. It consists of a number `i`, a list `xss`
-    -- and a proof. The loop has already made `i` words, and `xss` lists the items of the words that
-    -- it has not made yet. The proof says that these are `n` words in total.
+    -- A value of the type `Left` is a state of the loop. It consists of a number `i`, a list `xss`,
+    -- and a proof that `i` plus the length of `xss` equals `n`. The loop has already made `i`
+    -- words. The list `xss` contains the items of each word that the loop has not made yet, and `n`
+    -- is the total number of words.
     abbrev Left : Type 0
     Left = (i : ℕ) × ((xss : Runs E m) × (i + length xss ≡ n))
 

@@ -43,23 +43,25 @@ abbrev pub on_slot : {X Y : Type 0} → (X → Y) → Option X → Option Y
 on_slot h None = None
 on_slot h (Some x) = Some (h x)
 
--- This module builds the type former of slots from the type former `g` of items. The type former of
--- slots states which values of a type `X` a slot contains.
+-- This module defines the type former of slots. The type former `g` of items states which values of
+-- a type `X` an item contains. From `g`, the module constructs the type former of slots, which
+-- states which values of the type `X` a slot contains.
 module _ (g : Former {0}) where
   -- `slot_count a n` is `n` plus the number of values in a slot of the shape `a`. The shape of a
-  -- slot is what remains of the slot if its values are left out.
+  -- slot describes everything about the slot except for its values.
   abbrev pub slot_count : Option g.Shape → Count → Count
   slot_count None n = n
   slot_count (Some a) n = g.count a n
 
-  -- `slot_put X o n t` prepends the values in the slot `o` to the row `t` of `n` values.
+  -- `slot_put X o n t` is the row of values that begins with the values in the slot `o`, followed
+  -- by the `n` values of the row `t`.
   abbrev pub slot_put : (X : Type 0) (o : Option (g.Of X)) (n : Count) → Row X n
       → Row X (slot_count (on_slot (g.shape X) o) n)
   slot_put X None n t = t
   slot_put X (Some y) n t = g.put X y n t
 
-  -- `slot_get X a n v` splits the row `v` of values into a slot of the shape `a` and a row of `n`
-  -- values. The slot contains the first values of `v`.
+  -- `slot_get X a n v` splits the row `v` of values into two parts: a slot of the shape `a`, and a
+  -- row of `n` values. The slot contains the first values of `v`.
   abbrev pub slot_get : (X : Type 0) (a : Option g.Shape) (n : Count) → Row X (slot_count a n)
       → Option (g.Of X) × Row X n
   slot_get X None n v = (None, v)
@@ -112,32 +114,35 @@ module _ (g : Former {0}) where
 
 module _ {g : Former {0}} (w : Weighed g) where
   -- `slot_weight X μ x` is the depth of the slot `x`. The depth of a filled slot is the depth of
-  -- its item, and the depth of an empty slot is 0. The function `μ` computes the depth of a value
-  -- of the type `X`.
+  -- its item, and the depth of an empty slot is 0. The function `μ` assigns a depth to each value
+  -- of the type `X`. The depth of an item is the greatest depth of a value in the item.
   abbrev pub slot_weight : (X : Type 0) → (X → ℕ) → Option (g.Of X) → ℕ
   slot_weight X μ None = 0
   slot_weight X μ (Some y) = w.weight X μ y
 
-  -- If the values in the slot `o` are prepended to the row `t`, then the depth of the new row is
-  -- the maximum of the depth of `o` and the depth of `t`.
+  -- The depth of a row is the greatest depth of a value in the row, or 0 if the row is empty.
+  -- Suppose that the values in the slot `o` are prepended to the row `t`. Then the depth of the new
+  -- row is the maximum of the depth of `o` and the depth of `t`.
   pub slot_puts : (X : Type 0) (μ : X → ℕ) (o : Option (g.Of X)) (n : Count) (t : Row X n)
       → deepest μ (slot_count g (on_slot (g.shape X) o) n) (slot_put g X o n t) ≡ max
       (slot_weight X μ o) (deepest μ n t)
   slot_puts X μ None n t = none_max (deepest μ n t)
   slot_puts X μ (Some y) n t = w.puts X μ y n t
 
-  -- `w_slot` equips the type former of slots with a depth. It contains the function that computes
-  -- the depth of a slot.
+  -- `w_slot` adds depths to the type former of slots. It consists of the function `slot_weight`,
+  -- which computes the depth of a slot, and the lemma `slot_puts` about this function.
   abbrev pub w_slot : Weighed (slot g)
   w_slot = record { weight = slot_weight; puts = slot_puts }
 
 module _ {X Y Z : Type 0} (d : Block X Z) where
-  -- `Fits ys` holds if the block `d` may have the slots `ys`. For this, the length of `ys` must be
-  -- at least the stored length of `d`, and `ys` must be empty if and only if `d` has no allocation.
+  -- The block `d` is a parameter of this module. `Fits ys` holds if `ys` is a possible list of
+  -- slots for `d`. This is the case if the length of `ys` is at least the stored length of `d`, and
+  -- if `ys` is empty exactly when `d` has no allocation.
   abbrev pub Fits : List (Option Y) → Type 0
   Fits ys = (d.len ≤ length ys) × (is_some d.alloc ≡ any ys)
 
-  -- `holding ys` is the block `d` after its slots have been replaced with `ys`.
+  -- `holding ys` is the block `d` of this module after its slots have been replaced with `ys`. The
+  -- second argument is a proof that `d` may have the slots `ys`.
   abbrev pub holding : (ys : List (Option Y)) → Fits ys → Block Y Z
   holding ys sound = record {
     at = d.at;
@@ -150,20 +155,22 @@ module _ {X Y Z : Type 0} (d : Block X Z) where
     sound = sound;
   }
 
-  -- If the length of `ys` is the number of slots of the block `d`, then `Fits ys` holds: the block
-  -- `d` may have the slots `ys`.
+  -- If the list `ys` is as long as the list of slots of the block `d`, then `Fits ys` holds: the
+  -- block `d` may have the slots `ys`. The block `d` is a parameter of this module.
   pub fits : (ys : List (Option Y)) → length ys ≡ length d.slots → Fits ys
   fits ys e = (let le = d.sound.0 in omega (arith, e, le), d.sound.1 ∙ sym (any_same d.slots ys e))
 
-  -- Suppose that the lists `ys` and `zs` are equal. Then every proof `p` of `Fits ys` equals every
-  -- proof `q` of `Fits zs`.
+  -- There is at most one proof that the block `d` of this module may have given slots. More
+  -- precisely, suppose that the lists `ys` and `zs` are equal. Then any proof `p` of `Fits ys`
+  -- equals any proof `q` of `Fits zs`.
   pub Fits-along : (ys zs : List (Option Y)) (e : ys ≡ zs) (p : Fits ys) (q : Fits zs)
       → PathP (λ i. Fits (e i)) p q
   Fits-along ys zs e = is_prop→PathP (λ i. Fits (e i))
       (λ i p q j. (le_prop p.0 q.0 j, Coded-set coded_bool _ _ p.1 q.1 j))
 
   -- Suppose that the lists `ys` and `zs` are equal. Then the block `d` with the slots `ys` equals
-  -- the block `d` with the slots `zs`, whatever the proofs `p` and `q` are.
+  -- the block `d` with the slots `zs`. It does not matter which proofs `p` and `q` show that `d`
+  -- may have these slots.
   abbrev pub holding_along : (ys zs : List (Option Y)) (e : ys ≡ zs) (p : Fits ys) (q : Fits zs)
       → holding ys p ≡ holding zs q
   holding_along ys zs e p q = λ i. holding (e i) (Fits-along ys zs e p q i)
@@ -174,16 +181,18 @@ mapped h d = holding d (map (on_slot h) d.slots)
     (fits d (map (on_slot h) d.slots) (length-map d.slots (on_slot h)))
 
 module _ (g : Former {0}) (Z : Type 0) where
-  -- Suppose that the values in a row are split into slots, and that `a` lists the shapes of these
-  -- slots. Then the number of these slots is the length of `a`.
+  -- Suppose that a row of values is split into slots, and that `a` lists the shapes of these slots.
+  -- Then the number of these slots is the length of `a`. The shape of a slot describes everything
+  -- about the slot except for its values.
   pub length_got : (X : Type 0) (a : List (Option g.Shape)) (n : Count)
       (v : Row X (list_count (slot g) a n)) → length (list_get (slot g) X a n v).0 ≡ length a
   length_got X [] n v = refl
   length_got X (a ∷ as') n v =
       ap suc (length_got X as' n ((slot g).get X a (list_count (slot g) as' n) v).1)
 
-  -- `got X a n v` splits the row `v` of values into a block of the shape `a` and a row of `n`
-  -- values. The block contains the first values of `v`.
+  -- `got X a n v` splits the row `v` of values into two parts: a block of the shape `a`, and a row
+  -- of `n` values. The block contains the first values of `v`. The shape of a block describes
+  -- everything about the block except for its values.
   abbrev pub got : (X : Type 0) (a : Block g.Shape Z) (n : Count)
       → Row X (list_count (slot g) a.slots n) → Block (g.Of X) Z × Row X n
   got X a n v = let r : List (Option (g.Of X)) × Row X n = list_get (slot g) X a.slots n v in
@@ -243,8 +252,9 @@ module _ (g : Former {0}) (Z : Type 0) where
     get-map = got-map;
   }
 
--- `the_weighed` equips the type former of blocks with a depth. It contains the function that
--- computes the depth of a block. The depth of a block is the depth of its deepest item.
+-- `the_weighed` adds depths to the type former of blocks. It contains the function that computes
+-- the depth of a block. The depth of a block is the depth of its deepest item, or 0 if the block
+-- contains no items.
 abbrev pub the_weighed : {g : Former {0}} → Weighed g → (Z : Type 0) → Weighed (the_former g Z)
 the_weighed w Z = record {
   weight = λ X μ d. most (slot_weight w X μ) d.slots;
@@ -265,8 +275,8 @@ the_empty Z z = record {
   sound = (omega arith, refl);
 }
 
--- According to the type former `this`, each item contains exactly one value, which is the item
--- itself. So the values in the slots `xs` are the items in these slots, in order.
+-- Under the type former `this`, the only value in an item is the item itself. So the values in the
+-- slots `xs` are the items in these slots, in order.
 pub items_listed : (X : Type 0) (xs : List (Option X))
     → listed _ (children (list (slot this)) X xs) ≡ items_in xs
 items_listed X [] = refl
@@ -277,15 +287,15 @@ items_listed X (Some x ∷ xs) = ap (λ l. x ∷ l) (items_listed X xs)
 abbrev pub the_items : (Z X : Type 0) → Block X Z → List X
 the_items Z X d = items_in d.slots
 
--- According to the type former `this`, each item contains exactly one value, which is the item
--- itself. So the values in the block `d` are the items of `d`, in order.
+-- Under the type former `this`, the only value in an item is the item itself. So the values in the
+-- block `d` are the items of `d`, in order.
 pub the_items_listed : (Z X : Type 0) (d : Block X Z)
     → listed _ (children (the_former this Z) X d) ≡ the_items Z X d
 the_items_listed Z X d = items_listed X d.slots
 
--- Suppose that the encoding of `h x` equals the encoding of `x` for every item `x`. Then mapping
--- `h` over a list does not change the encoding of the list. The proofs for `ThinVec` use this
--- lemma.
+-- Suppose that for every item `x`, the encoding of `h x` under `c'` equals the encoding of `x`
+-- under `c`. Then mapping `h` over a list does not change the encoding of the list. The proofs for
+-- `ThinVec` use this lemma.
 pub codes_of : {X Y : Type 0} (c : X → Gv) (c' : Y → Gv) (h : X → Y) → ((x : X) → c' (h x) ≡ c x)
     → (xs : List X) → code_l c' (map h xs) ≡ code_l c xs
 codes_of = codes_placed
@@ -301,18 +311,20 @@ second : {a b c : Gv} → a ≡ b → gcons c a ≡ gcons c b
 second {c = c} e = λ i. gcons c (e i)
 
 module _ (R R' : RattleType) (h : R.Denot → R'.Denot) (a : Alike R R' h) where
-  -- The assumption `Alike R R' h` implies that the item types `R` and `R'` have the same size.
+  -- This module assumes `Alike R R' h`. This means that for each item `y` of the type `R`, the item
+  -- `h y` of the type `R'` has the same layout and owns the same memory, and that a `&` to `h y`
+  -- lends the same memory as a `&` to `y`. So the types `R` and `R'` have the same size.
   abbrev width : type_size R' ≡ type_size R
   width = λ i. size (lone (a.mir_same i))
 
-  -- Suppose that each item `y` owns the same memory as the item `h y`. Then applying `h` to the
-  -- item in the slot `x` does not change which memory the slot owns.
+  -- Suppose that each item `y` has the same layout as the item `h y`, and owns the same memory.
+  -- Then applying `h` to the item in the slot `x` does not change which memory the slot owns.
   place_placed : (x : Option R.Denot) (b o : ℕ) → place R' (on_slot h x) b o ≡ place R x b o
   place_placed None b o = λ i. room_for (raw (lone (a.mir_same i))) (block_ptr b o)
   place_placed (Some x) b o = lies_placed R R' h a full_share (block_ptr b o) x
 
-  -- Suppose that each item `y` owns the same memory as the item `h y`. Then applying `h` to the
-  -- items in the slots `xs` does not change which memory these slots own.
+  -- Suppose that each item `y` has the same layout as the item `h y`, and owns the same memory.
+  -- Then applying `h` to the items in the slots `xs` does not change which memory these slots own.
   places_placed : (xs : List (Option R.Denot)) (b o : ℕ)
       → places R' (map (on_slot h) xs) b o ≡ places R xs b o
   places_placed [] b o = refl
@@ -320,8 +332,8 @@ module _ (R R' : RattleType) (h : R.Denot → R'.Denot) (a : Alike R R' h) where
       (λ i. fsep (place_placed x b o i) (places R' (map (on_slot h) xs) b (o + width i)))
       ∙ ap (fsep (place R x b o)) (places_placed xs b (o + type_size R))
 
-  -- Suppose that each item `y` owns the same memory as the item `h y`. Then applying `h` to the
-  -- items of a block does not change which memory the block owns.
+  -- Suppose that each item `y` has the same layout as the item `h y`, and owns the same memory.
+  -- Then applying `h` to the items of a block does not change which memory the block owns.
   pub block_placed : {D : Type 0} (t : D → Ty → Ptr → Fml) (p : Ptr) (n : ℕ)
       (xs : List (Option R.Denot)) (w : Option D) → block_owns t R' p n (map (on_slot h) xs)
       w ≡ block_owns t R p n xs w

@@ -12,9 +12,10 @@ use Rattle.thin_runner.specs.declared.command.Command.{Command}
 use Rattle.thin_runner.specs.declared.command.Reply.{Reply}
 use Rattle.thin_examples.proofs.commands.carry_out.Goals as goal
 
--- Suppose that no reply to the commands reports a failed call, and that every clone equals its
--- original. If the commands turn the list `old` into the list `new`, then the items of `new` are
--- `fold (items_after here) old.items commands`.
+-- Suppose that the commands turn the list `old` into the list `new`, and that every clone equals
+-- its original. Suppose also that `result` is `Ok` only if no reply reports a failed call. Then, if
+-- `result` is `Ok`, the items of `new` are `fold (items_after here) old.items commands`. This fold
+-- applies the function `items_after here` once for each command, in order.
 carried : {T A G J E : Type 0} (here : Setting T A J) (old new : Thin T A)
     (commands : List (Command T A G)) (before after seen : List (Reply T A G))
     (result : Result (Unit {0}) E) → ClonesEqual here.clones → before ≡ [] → seen ≡ after

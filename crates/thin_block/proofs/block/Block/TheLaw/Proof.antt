@@ -73,8 +73,8 @@ module _ {M : Type 1} {𝓤 : Ura M} (𝓛 : Logic 𝓤) where
   open 𝓛 use {H, A}
 
   -- Suppose that `t l` describes what is lent for the lifetime `l`, and that `t` satisfies the laws
-  -- of shared references (`ShrLaws`). Then the owner of `t []`, which is lent for the lifetime
-  -- `'static`, can lend `t l` for any lifetime `l`.
+  -- of shared references (`ShrLaws`). The lifetime `[]` is `'static`, so `t []` describes what is
+  -- lent for the lifetime `'static`. Then an owner of `t []` can lend `t l` for every lifetime `l`.
   Lends-kept : (t : Lft → Fml) → ShrLaws t → (l : Lft) → Lends 𝓛 (t []) t l
   Lends-kept t L l κ ts inc sp =
       let P : Fml = t [] in

@@ -1,5 +1,6 @@
--- This file proves the contract of `charge_as`. At run time, `charge_as` does nothing. It only sets
--- the recorded cost of the block, and this cost is ghost state. The proof assumes the laws of
+-- This file proves the contract of `charge_as`, which does nothing at run time. The function
+-- changes only ghost state: it sets the recorded cost of the block to the cost of the block `from`,
+-- plus one request for memory and `from.len()` copied items. The proof assumes the laws of
 -- separation logic, which the type `Logic` states.
 use Rattle.std.proofs.Common.{ℕ, ◌∷◌, [], ◌++◌, refl}
 use mir.Val.{vptr, vunit}

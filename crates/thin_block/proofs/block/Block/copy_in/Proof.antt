@@ -109,8 +109,8 @@ copy_in_spec 𝓤 𝓛 𝓜 𝓡 wired T A LT LA copies gc dc g d dd metc met md
     -- The proof has separated the empty slots for the copies from the other slots. The proof
     -- context now contains, in this order: [the empty slots for the copies; the lifetime tokens of
     -- `T`, of the slice `items` and of `A`; the other slots; the header; the memory that stores the
-    -- block's pointer; the open borrow of the block; two ghost resources that record the value of
-    -- the block; the slice `items`].
+    -- block's pointer; the right to close the borrow of the block; two ghost resources that record
+    -- the value of the block; the slice `items`].
     let y₁ = at_from V 𝓛 𝓜.mem 𝓡.returns κ₂ q₂ b here n xs (replicate n false) in
     use2 𝓛 (raw ((From V 𝓛 𝓜.mem 𝓡.returns).pre y₁))
     (from_goes V 𝓛 𝓜.mem 𝓡.returns κ₂ q₂ b here n xs (replicate n false) lives refl
@@ -130,8 +130,8 @@ copy_in_spec 𝓤 𝓛 𝓜 𝓡 wired T A LT LA copies gc dc g d dd metc met md
     -- The call to `from_raw_parts` has converted the empty slots into a value of core's type
     -- `Slots`. The proof context now contains, in this order: [the value of the type `Slots`; the
     -- lifetime tokens of `T`, of the slice `items` and of `A`; the other slots; the header; the
-    -- memory that stores the block's pointer; the open borrow of the block; two ghost resources
-    -- that record the value of the block; the slice `items`].
+    -- memory that stores the block's pointer; the right to close the borrow of the block; two ghost
+    -- resources that record the value of the block; the slice `items`].
     move ! (2 ∷ 1 ∷ []) $ join ! $ move ! (1 ∷ 9 ∷ 0 ∷ []) $
     let Cp = Copied V gc dc 𝓛 𝓜.mem 𝓡.returns in
     let y₂ : Cp.Ghost = at_copied V gc dc 𝓛 𝓜.mem 𝓡.returns κ₁ κ₂ q₁ q₂
@@ -156,8 +156,8 @@ copy_in_spec 𝓤 𝓛 𝓜 𝓡 wired T A LT LA copies gc dc g d dd metc met md
     -- The call to `copied` has copied the items into the value of core's type `Slots`. The proof
     -- context now contains, in this order: [the value of the type `Slots`; the lifetime tokens of
     -- the slice `items`, of `T` and of `A`; the other slots; the header; the memory that stores the
-    -- block's pointer; the open borrow of the block; two ghost resources that record the value of
-    -- the block].
+    -- block's pointer; the right to close the borrow of the block; two ghost resources that record
+    -- the value of the block].
     let y₃ = at_into V 𝓛 𝓜.mem 𝓡.returns κ₂ q₂ f b here in
     move ! (0 ∷ 2 ∷ []) $
     use2 𝓛 (raw ((Into V 𝓛 𝓜.mem 𝓡.returns).pre y₃))
@@ -175,8 +175,8 @@ copy_in_spec 𝓤 𝓛 𝓜 𝓡 wired T A LT LA copies gc dc g d dd metc met md
     -- The call to `into_raw_parts` has converted the value of core's type `Slots` back into slots
     -- of the block. The proof context now contains, in this order: [these slots; the lifetime
     -- tokens of `T`, of the slice `items` and of `A`; the other slots; the header; the memory that
-    -- stores the block's pointer; the open borrow of the block; two ghost resources that record the
-    -- value of the block].
+    -- stores the block's pointer; the right to close the borrow of the block; two ghost resources
+    -- that record the value of the block].
     let many : slots_len f ≡ n = copy.same.count ∙ made.1.1 in
     let flags : length (slots_filled f) ≡ n = sym (slots_counts f).1 ∙ many in
     let filled : Filled (slots_filled f) 0 n =
@@ -193,8 +193,8 @@ copy_in_spec 𝓤 𝓛 𝓜 𝓡 wired T A LT LA copies gc dc g d dd metc met md
     (run_in E 𝓛 b (o + 16) x.slots i n within (full xs) long_full) $
     -- The proof has joined the filled slots with the other slots. The proof context now contains,
     -- in this order: [all slots; the lifetime tokens of `T`, of the slice `items` and of `A`; the
-    -- header; the memory that stores the block's pointer; the open borrow of the block; two ghost
-    -- resources that record the value of the block].
+    -- header; the memory that stores the block's pointer; the right to close the borrow of the
+    -- block; two ghost resources that record the value of the block].
     move ! (0 ∷ 4 ∷ 5 ∷ 6 ∷ 7 ∷ 8 ∷ []) $
     closes_over E Y ! tt self y b o at long $
     -- The proof has closed the borrow of the block. The proof context now contains, in this order:

@@ -84,8 +84,8 @@ move_apart_spec 𝓤 𝓛 𝓜 𝓡 wired T A LT LA g d dd met md =
     -- The proof has separated the old slots and the new slots of the items from all other slots.
     -- The proof context now contains, in this order: [the items in their old slots; the empty new
     -- slots; the lifetime tokens of `T` and `A`; the other slots; the header; the memory that
-    -- stores the block's pointer; the open borrow of the block; two ghost resources that record the
-    -- value of the block].
+    -- stores the block's pointer; the right to close the borrow of the block; two ghost resources
+    -- that record the value of the block].
     let G = Copies T 𝓛 𝓜.mem 𝓡.returns in
     let y₀ : G.Ghost = at_copies T 𝓛 𝓜.mem 𝓡.returns κ₁ q₁ b src b dst k xs in
     use3 𝓛 (raw (G.pre y₀)) (Copies-goes T 𝓛 𝓜.mem 𝓡.returns κ₁ q₁ b src b dst k xs lives fk light)

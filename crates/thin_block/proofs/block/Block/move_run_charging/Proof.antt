@@ -145,9 +145,9 @@ move_run_charging_spec 𝓤 𝓛 𝓜 𝓡 wired T A LT LA g d dd met md =
     block_opens E Y ! tt x rb ro (λ b o at fits. move ! (6 ∷ 7 ∷ 8 ∷ []) $
     block_opens E Y ! tt y sb so (λ b' o' at' fits'.
     -- The proof has split both blocks into their parts. The proof context now contains, in this
-    -- order: [the header, the slots, the memory that stores the pointer, the open borrow and two
-    -- ghost resources of `to_block`; the same six entries for `self`; the lifetime tokens of `T`
-    -- and `A`].
+    -- order: [the header, the slots, the memory that stores the pointer, the right to close the
+    -- borrow, and two ghost resources of `to_block`; the same six entries for `self`; the lifetime
+    -- tokens of `T` and `A`].
     let src : ℕ = from * s + (o + 16) in
     let dst : ℕ = to * s + (o' + 16) in
     let light : k * s < 2 ^ 63 = reach (R E) k (length x.slots) fits (omega arith) in
@@ -171,8 +171,8 @@ move_run_charging_spec 𝓤 𝓛 𝓜 𝓡 wired T A LT LA g d dd met md =
     -- The proof has separated the items in `self` and their new slots in `to_block` from all other
     -- slots. The proof context now contains, in this order: [the items; the empty new slots; the
     -- lifetime tokens of `T` and `A`; the other slots of `self`; the other slots of `to_block`; the
-    -- header, the memory that stores the pointer, the open borrow and two ghost resources of
-    -- `to_block`; the same five entries for `self`].
+    -- header, the memory that stores the pointer, the right to close the borrow, and two ghost
+    -- resources of `to_block`; the same five entries for `self`].
     let G = Copies T 𝓛 𝓜.mem 𝓡.returns in
     let y₀ : G.Ghost = at_copies T 𝓛 𝓜.mem 𝓡.returns κ₂ q₂ b src b' dst k xs in
     use3 𝓛 (raw (G.pre y₀)) (Copies-goes T 𝓛 𝓜.mem 𝓡.returns κ₂ q₂ b src b' dst k xs lives fk light)
@@ -191,8 +191,8 @@ move_run_charging_spec 𝓤 𝓛 𝓜 𝓡 wired T A LT LA g d dd met md =
     -- The items have been copied to their new address. The proof context now contains, in this
     -- order: [the items at their new address; the memory at their old address; the lifetime tokens
     -- of `T` and `A`; the other slots of `self`; the other slots of `to_block`; the header, the
-    -- memory that stores the pointer, the open borrow and two ghost resources of `to_block`; the
-    -- same five entries for `self`].
+    -- memory that stores the pointer, the right to close the borrow, and two ghost resources of
+    -- `to_block`; the same five entries for `self`].
     let laid_to : List (Option T.Denot) = laid to (full xs) y.slots in
     let long_full : length (full xs) ≡ k = length-map xs Some ∙ long in
     let long_to : length laid_to ≡ length y.slots =
@@ -208,7 +208,7 @@ move_run_charging_spec 𝓤 𝓛 𝓜 𝓡 wired T A LT LA g d dd met md =
     -- [a ghost resource that records the current value of `to_block`; the borrow of `to_block`; the
     -- lifetime token of this borrow; the memory at the old address of the items; the lifetime
     -- tokens of `T` and `A`; the other slots of `self`; the header, the memory that stores the
-    -- pointer, the open borrow and two ghost resources of `self`].
+    -- pointer, the right to close the borrow, and two ghost resources of `self`].
     let left : List (Option T.Denot) = emptied from k x.slots in
     let long_empty : length (empty {T = T.Denot} k) ≡ k = length-replicate k None in
     let long_left : length left ≡ length x.slots =

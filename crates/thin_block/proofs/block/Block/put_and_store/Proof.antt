@@ -65,9 +65,9 @@ put_and_store_spec 𝓤 𝓛 𝓜 𝓡 wired T A LT LA g d dd met md =
     use1 𝓛 (‵ (froom (layout T) b here)) (𝓛.laws.raw-room (layout T) b here) $
     -- The proof has separated the empty slot from the other slots. The proof context now contains,
     -- in this order: [memory for the item; the other slots; the header; the memory that stores the
-    -- block's pointer; the open borrow of the block, together with its lifetime token; two ghost
-    -- resources that record the value of the block; the other lifetime tokens; the resources that
-    -- the item owns].
+    -- block's pointer; the right to close the borrow of the block, together with the lifetime token
+    -- of this borrow; two ghost resources that record the value of the block; the other lifetime
+    -- tokens; the resources that the item owns].
     sets ! (of_opd ! (get ! refl)) refl good $
     assigns ! (of_opd ! (get ! refl)) (through ! refl (stop !)) (init ! 0 refl good) $
     move ! (0 ∷ 8 ∷ []) $ use2 𝓛 (‵ (place (R E) (Some value) b here)) (el_in E 𝓛 b value here v) $
@@ -84,8 +84,9 @@ put_and_store_spec 𝓤 𝓛 𝓜 𝓡 wired T A LT LA g d dd met md =
     -- The proof has joined the filled slot with the other slots, and has split the header. The
     -- proof context now contains, in this order: [the length; the rest of the header, which
     -- includes the right to free the block; the capacity; the slots; the memory that stores the
-    -- block's pointer; the open borrow of the block, together with its lifetime token; two ghost
-    -- resources that record the value of the block; the other lifetime tokens].
+    -- block's pointer; the right to close the borrow of the block, together with the lifetime token
+    -- of this borrow; two ghost resources that record the value of the block; the other lifetime
+    -- tokens].
     sets ! (bin ! (get ! refl) (lit ! tt) tt) refl (tt, tt) $
     assigns_last ! (of_opd ! (get ! refl)) (through ! refl (stop !))
     (store ! 0 refl (tt, record { fits = fl })) $

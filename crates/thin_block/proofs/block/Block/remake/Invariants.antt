@@ -1,6 +1,6 @@
--- This file contains the ghost argument with which `remake` calls `move_run_charging`. This
--- argument is the recorded cost (requests for memory, copied items and moves) that the new block
--- has after the items of the old block have been moved to the new block.
+-- This file contains the ghost argument with which `remake` calls `move_run_charging`. The argument
+-- is the recorded cost of the new block after this call. A cost consists of three counts: requests
+-- for memory, copied items and moves.
 use Rattle.thin_block.specs.Cost.{growing}
 use Rattle.thin_block.proofs.block.Block.remake.Given as goal
 

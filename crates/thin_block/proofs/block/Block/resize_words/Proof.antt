@@ -1,8 +1,8 @@
 -- This file proves the contract of `resize_words`. The function first converts the items of a block
--- into words. Then it moves the last one or two words into the memory of the header, so that the
--- block begins with one array of words. It passes this array to the function `resized`, and
--- converts the returned array back into a block of items. The proof assumes the laws of separation
--- logic, which the type `Logic` states.
+-- into words. Then it moves the last one or two words into the memory of the header. After that,
+-- all words form one array, which begins at the start of the block. The function passes this array
+-- to the function `resized`, and converts the returned array back into a block of items. The proof
+-- assumes the laws of separation logic, which the type `Logic` states.
 use Rattle.std.proofs.Common.{◌≡◌, ℕ, ◌+◌, ◌-◌, ◌*◌, ◌^◌, ◌<◌, ◌≤◌, List, [], ◌∷◌, ◌++◌, length, true, refl, sym, ap, subst, ◌∙◌, arith, lit<, w64, Some, None, Option}
 use Rattle.std.specs.Prelude.{take, drop as rest}
 use Rattle.std.specs.Int.{div_ceil}
@@ -485,10 +485,10 @@ resize_words_spec 𝓤 𝓛 𝓜 𝓡 wired T A m k LT LA fits_m fits_k g d dd m
     returns ! (look_at ! 0 refl) $ free_all ! refl $
     -- The call to `resized` has succeeded. The function has copied the bytes of the last `k` words
     -- to the memory directly after the preceding words, and has written the header. The proof
-    -- context now contains, in this order: [the two halves of the header; the right to convert the
-    -- memory of the header back into memory for words; the resources that the last `k` words own;
-    -- the bytes of these words; the empty words; the right to free the block; the preceding words;
-    -- the lifetime tokens].
+    -- context now contains, in this order: [the capacity in the header; the length in the header;
+    -- the right to convert the memory of the header back into memory for words; the resources that
+    -- the last `k` words own; the bytes of these words; the empty words; the right to free the
+    -- block; the preceding words; the lifetime tokens].
     rewrite ! 1 (λ (n : ℕ). ‵ (fat full_share (ty_int w64) b' n (vint w64 len)))
     (let turned : 8 + o' ≡ o' + 8 = omega arith in turned) refl $
     use1 𝓛 (‵ (lies_at usize full_share (block_ptr b' o') cap))
@@ -571,10 +571,10 @@ resize_words_spec 𝓤 𝓛 𝓜 𝓡 wired T A m k LT LA fits_m fits_k g d dd m
     returns ! (look_at ! 0 refl) $ free_all ! refl $
     -- The call to `resized` has failed. The function has copied the bytes of the last `k` words to
     -- the memory directly after the preceding words, and has written the header. The proof context
-    -- now contains, in this order: [the two halves of the header; the right to convert the memory
-    -- of the header back into memory for words; the resources that the last `k` words own; the
-    -- bytes of these words; the empty words; the right to free the block; the preceding words; the
-    -- lifetime tokens].
+    -- now contains, in this order: [the capacity in the header; the length in the header; the right
+    -- to convert the memory of the header back into memory for words; the resources that the last
+    -- `k` words own; the bytes of these words; the empty words; the right to free the block; the
+    -- preceding words; the lifetime tokens].
     rewrite ! 1 (λ (n : ℕ). ‵ (fat full_share (ty_int w64) b n (vint w64 len)))
     (let turned : 8 + o ≡ o + 8 = omega arith in turned) refl $
     use1 𝓛 (‵ (lies_at usize full_share (block_ptr b o) old)) (uint_in 𝓛 full_share w64 old b o) $

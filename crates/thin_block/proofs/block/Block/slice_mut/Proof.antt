@@ -86,8 +86,9 @@ slice_mut_spec 𝓤 𝓛 𝓜 𝓡 wired T A LT LA g d dd met md =
     use1 𝓛 (‵ (cells (mem (R E)) xs b here)) (to_cells E 𝓛 b xs here) $
     -- The proof has separated the items of the slice from the other slots. The proof context now
     -- contains, in this order: [the items; the other slots; the header; the memory that stores the
-    -- block's pointer; the open borrow of the block, together with its lifetime token; two ghost
-    -- resources that record the value of the block; the other lifetime tokens].
+    -- block's pointer; the right to close the borrow of the block, together with the lifetime token
+    -- of this borrow; two ghost resources that record the value of the block; the other lifetime
+    -- tokens].
     let Rest : Fml = fsep (around E 𝓛 b (o + 16) x.slots i k)
     (Waiting E Y 𝓛 x b o r.ref_ptr.0 r.ref_ptr.1 at) in
     let Back : List T.Denot → Type 1 =
@@ -109,9 +110,9 @@ slice_mut_spec 𝓤 𝓛 𝓜 𝓡 wired T A LT LA g d dd met md =
     back ((Br E Y).coded.code x) ((Br E Y).coded.code x)) $
     await ! tt $ pick ! (λ γ'. split3 ! $ returns ! (look_at ! 0 refl) $ free_all ! refl $
     -- The function has lent the items, and is about to return. The proof context now contains, in
-    -- this order: [the `&mut` to the items; the lifetime token of this `&mut`; the rule that
-    -- determines the final value of the block from the final value of this `&mut`; the other
-    -- lifetime tokens].
+    -- this order: [the `&mut` to the items; the lifetime token of this `&mut`; a resource which
+    -- states that the block will contain the final items of this `&mut` when the borrow ends; the
+    -- other lifetime tokens].
     rewrite ! 0 (λ (n : ℕ). ‵
     ((MutSlice (named 0) κ (R E)).own_val
     (record { ref_ptr = (b, here); ghost_name = γ'; now = xs }) (slice_val (b, here) n ∷ [])))

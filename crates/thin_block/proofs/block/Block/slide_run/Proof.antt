@@ -1,7 +1,8 @@
--- This file proves the contract of `slide_run`, which calls `slide` to move items through the empty
--- slots next to the items. The proof separates the items and these empty slots from the other
--- slots, and joins all slots again at the end. The proof assumes the laws of separation logic,
--- which the type `Logic` states.
+-- This file proves the contract of `slide_run`, which calls `slide` to move adjacent items up or
+-- down within a block. If the items move by `d` slots, then the `d` slots next to them in this
+-- direction are empty. The proof separates the items and these empty slots from the other slots,
+-- and joins all slots again at the end. The proof assumes the laws of separation logic, which the
+-- type `Logic` states.
 use Rattle.std.proofs.Common.{◌≡◌, ℕ, Some, ◌+◌, ◌*◌, ◌^◌, ◌<◌, ◌≤◌, List, ◌∷◌, [], ◌++◌, length, refl, sym, ap, subst, ◌∙◌, arith, w64}
 use lib.ListN.{length-map}
 use lib.Dec.{T as Holds}
@@ -126,8 +127,8 @@ slide_run_spec 𝓤 𝓛 𝓜 𝓡 wired T A LT LA g d dd met md =
     -- The proof has separated the items and the empty slots next to the items from the other slots.
     -- The proof context now contains, in this order: [the items and the empty slots; the lifetime
     -- tokens of `T` and `A`; the other slots; the header; the memory that stores the block's
-    -- pointer; the open borrow of the block; two ghost resources that record the value of the
-    -- block].
+    -- pointer; the right to close the borrow of the block; two ghost resources that record the
+    -- value of the block].
     let G = triple_of 𝓛 (slide.signature T) (slide.spec T 𝓛 𝓜.mem 𝓡.returns) in
     let y₀ : G.Ghost = (
       (

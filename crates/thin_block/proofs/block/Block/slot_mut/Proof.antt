@@ -53,8 +53,8 @@ slot_mut_spec 𝓤 𝓛 𝓜 𝓡 wired T A LT LA g d dd met md =
     takes_slot E ! b (o + 16) x.slots i within item.1 $
     -- The proof has separated the filled slot from the other slots. The proof context now contains,
     -- in this order: [the item; the other slots; the header; the memory that stores the block's
-    -- pointer; the open borrow of the block, together with its lifetime token; two ghost resources
-    -- that record the value of the block; the other lifetime tokens].
+    -- pointer; the right to close the borrow of the block, together with the lifetime token of this
+    -- borrow; two ghost resources that record the value of the block; the other lifetime tokens].
     sets_last ! (addr ! (through ! refl (stop !))) refl (tt, tt) $
     continues ! 𝓜 𝓡 fn l 2 ((walk_of 𝓛 En₀ hs c).post z) $
     sets ! (of_opd ! (get ! refl)) refl (tt, tt) $
@@ -73,9 +73,9 @@ slot_mut_spec 𝓤 𝓛 𝓜 𝓡 wired T A LT LA g d dd met md =
     ((Br E Y).coded.code x) ((Br E Y).coded.code x) value) $
     await ! tt $ pick ! (λ γ'. split3 ! $ returns ! (look_at ! 0 refl) $ free_all ! refl $
     -- The function has lent the item, and is about to return. The proof context now contains, in
-    -- this order: [the `&mut` to the item; the lifetime token of this `&mut`; the rule that
-    -- determines the final value of the block from the final value of this `&mut`; the other
-    -- lifetime tokens].
+    -- this order: [the `&mut` to the item; the lifetime token of this `&mut`; a resource which
+    -- states that slot `i` of the block will contain the final value of this `&mut` when the borrow
+    -- ends; the other lifetime tokens].
     use0 𝓛 (raw (fact 𝓤 (get_or x.slots i None ≡ Some value)))
     (fact_i 𝓤 (get_or x.slots i None ≡ Some value) (emp 𝓤) item.1) $
     move ! (3 ∷ 0 ∷ []) $ join ! $

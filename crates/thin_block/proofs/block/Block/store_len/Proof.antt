@@ -50,9 +50,9 @@ store_len_spec 𝓤 𝓛 𝓜 𝓡 wired T A LT LA g d dd met md =
     (let turned : o + 8 ≡ 8 + o = omega arith in turned) refl $
     -- The proof has split the header. The proof context now contains, in this order: [the length;
     -- the rest of the header, which includes the right to free the block; the capacity; the slots;
-    -- the memory that stores the block's pointer; the open borrow of the block, together with its
-    -- lifetime token; two ghost resources that record the value of the block; the other lifetime
-    -- tokens].
+    -- the memory that stores the block's pointer; the right to close the borrow of the block,
+    -- together with the lifetime token of this borrow; two ghost resources that record the value of
+    -- the block; the other lifetime tokens].
     sets ! (of_opd ! (load ! (through ! refl (fld ! refl (stop !)))
     (look_in ! 4 (sub ! 0 refl (whole !))))) refl (tt, tt) $
     first ! $ blocks ! $

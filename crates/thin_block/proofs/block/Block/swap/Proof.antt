@@ -71,9 +71,9 @@ swap_spec 𝓤 𝓛 𝓜 𝓡 wired T A LT LA g d dd met md =
           -- The proof has separated the slots `i` and `j` from the other slots. The proof context
           -- now contains, in this order: [the bytes of the item in slot `j`; the resources that
           -- this item owns; the bytes of the item in slot `i`; the resources that this item owns;
-          -- the other slots; the header; the memory that stores the block's pointer; the open
-          -- borrow of the block, together with its lifetime token; two ghost resources that record
-          -- the value of the block; the other lifetime tokens].
+          -- the other slots; the header; the memory that stores the block's pointer; the right to
+          -- close the borrow of the block, together with the lifetime token of this borrow; two
+          -- ghost resources that record the value of the block; the other lifetime tokens].
           sets ! (of_opd ! (load ! (through ! refl (stop !)) (look ! 2 refl))) refl good $
           sets ! (of_opd ! (load ! (through ! refl (stop !)) (look ! 0 refl))) refl good' $
           assigns ! (of_opd ! (get ! refl)) (through ! refl (stop !)) (store ! 2 refl good') $
@@ -96,9 +96,9 @@ swap_spec 𝓤 𝓛 𝓜 𝓡 wired T A LT LA g d dd met md =
           -- In this case, the slots `i` and `j` are the same slot. The proof has separated this
           -- slot from the other slots. The proof context now contains, in this order: [the bytes of
           -- the item; the resources that the item owns; the other slots; the header; the memory
-          -- that stores the block's pointer; the open borrow of the block, together with its
-          -- lifetime token; two ghost resources that record the value of the block; the other
-          -- lifetime tokens].
+          -- that stores the block's pointer; the right to close the borrow of the block, together
+          -- with the lifetime token of this borrow; two ghost resources that record the value of
+          -- the block; the other lifetime tokens].
           let Bits = λ (k : ℕ). ‵ (fat full_share (layout T) b (k * sz E + (o + 16)) v) in
           sets ! (of_opd ! (load ! (through ! refl (stop !)) (look ! 0 refl))) refl good $
           rewrite ! 0 Bits same refl $

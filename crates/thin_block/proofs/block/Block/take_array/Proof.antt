@@ -76,8 +76,8 @@ take_array_spec 𝓤 𝓛 𝓜 𝓡 wired T A N LT LA fits_N g d dd met md =
     -- The proof has separated the items from the other slots, and has joined them into one array.
     -- The proof context now contains, in this order: [the bytes of the array; the resources that
     -- the array owns; the other slots; the header; the memory that stores the block's pointer; the
-    -- open borrow of the block, together with its lifetime token; two ghost resources that record
-    -- the value of the block; the other lifetime tokens].
+    -- right to close the borrow of the block, together with the lifetime token of this borrow; two
+    -- ghost resources that record the value of the block; the other lifetime tokens].
     sets_last ! (of_opd ! (load ! (through ! refl (stop !)) (look ! 0 refl))) refl good $
     continues ! 𝓜 𝓡 fn l 2 ((walk_of 𝓛 En₀ hs c).post z) $
     sets ! (of_opd ! (get ! refl)) refl good $

@@ -1,6 +1,7 @@
--- This file proves that `next_capacity` returns the result of the rule `power_bytes`. The code caps
--- sizes and capacities at `usize::MAX`, but the rule does not. If this makes a difference, then the
--- new block would be too large to be allocated, and both the code and the rule return `None`.
+-- This file proves that `next_capacity` returns the result of the rule `power_bytes`. The code
+-- limits sizes and capacities to `usize::MAX`, but the rule computes without a limit. If a size or
+-- a capacity exceeds this limit, then the new block is too large to be allocated. In this case,
+-- both the code and the rule return `None`.
 use Rattle.std.proofs.Common.{◌≡◌, ◌+◌, ◌*◌, ◌^◌, ◌<◌, ◌≤◌, ◌∙◌, ap, max, subst, sym}
 use Rattle.std.specs.Mem.{type_size}
 use Rattle.std.specs.Align.{type_align}
