@@ -1,6 +1,6 @@
 -- A run is a sequence of commands with their replies. Suppose that each clone equals its source,
--- and that no call of a run fails. Then two functions on plain lists of items predict the run. For
--- each command, `items_after` computes the items after the command, and `reply_to` computes the
+-- and that no command of a run fails. Then two functions on plain lists of items predict the run.
+-- For each command, `items_after` computes the items after the command, and `reply_to` computes the
 -- reply.
 use Rattle.std.proofs.Common.{◌≡◌, ℕ, ◌+◌, ◌-◌, ◌&&◌, ◌<◌, ◌≤◌, ◌↔◌, List, [], ◌∷◌, ◌++◌, All, Decides, IsSome, Option, Some, None, length, map, take, drop, true, arith, ap, nat_le, refl, slice_get, sym, take_all, ◌∙◌, inl, inr, append_assoc, length-append}
 use Rattle.std.proofs.lemmas.Bool.{and_from, and_parts, cases_lt, cond-false, cond-true, false_from_ne_true, false≢true, le-leb, leb-true, lt-ltb, ltb-true}
@@ -45,8 +45,9 @@ range-decides a b n = (
 )
 
 module _ {T A G : Type 0} where
-  -- `in_range` is the Boolean function for the statement `IsInRange`. That is, `in_range xs
-  -- command` is true if and only if `IsInRange xs command` holds.
+  -- `IsInRange xs command` holds if the index or the range of `command` is in bounds for the items
+  -- `xs`, or if `command` has neither. The Boolean function `in_range` tests this:
+  -- `in_range xs command` is true if and only if `IsInRange xs command` holds.
   in_range-decides : (xs : List T) (command : Command T A G)
       → Decides (in_range xs command) (IsInRange xs command)
   in_range-decides xs (Insert i v) = (leb-true i (length xs), le-leb i (length xs))
@@ -119,9 +120,10 @@ module _ {T : Type 0} where
       ap (λ (t : List T). (t ++ ys) ++ drop (length xs) xs) (take-length xs)
       ∙ (ap (λ (t : List T). (xs ++ ys) ++ t) (drop-length xs) ∙ append-nil (xs ++ ys))
 
-  -- Suppose that only the items `a..b` of the list `xs` are tested, and that `verdicts` contains
-  -- the results of these tests. Then the following items remain in `xs`: the items before the index
-  -- `a`, the tested items that are kept, and the items from the index `b` on.
+  -- Suppose that a command tests only the items `a..b` of the list `xs`, and removes some of them.
+  -- The list `verdicts` says which of the tested items are kept. Then the list after the command
+  -- contains the items of `xs` before the index `a`, the kept items, and the items of `xs` from the
+  -- index `b` on.
   left-around : (xs : List T) (a b : ℕ) (verdicts : Verdicts T)
       → left_at true (around xs a b verdicts) ≡ replace_range xs a b (left_at true verdicts)
   left-around xs a b verdicts =
@@ -133,10 +135,10 @@ module _ {T : Type 0} where
       ∙ ((λ i. before ++ (kept ++ left_at-stay after i)) ∙ sym (append_assoc before kept after)))
 
 module _ {T A G J : Type 0} (here : Setting T A J) (equal : ClonesEqual here.clones) where
-  -- Suppose that each clone equals its source. Suppose also that a command turns the list `v` into
-  -- `w` and does not fail, and that its index or range is in bounds. Then the function `granted`
-  -- computes `seen reply` and the items of `w` from the command and the items of `v`. (Here, `seen
-  -- reply` is the part of the reply that the main theorem determines.)
+  -- Suppose that each clone equals its source. Suppose also that `command` turns the list `v` into
+  -- `w` and does not fail, and that its index or range is in bounds. Then, from `command` and the
+  -- items of `v`, the function `granted` computes `seen reply` and the items of `w`. Here,
+  -- `seen reply` is the part of the reply that the main theorem determines.
   does-granted : (v w : Thin T A) (command : Command T A G) (reply : Reply T A G)
       → IsGranted reply → Does here v command reply w
       → (seen reply, w.items) ≡ granted here v.items command
@@ -196,11 +198,11 @@ module _ {T A G J : Type 0} (here : Setting T A J) (equal : ClonesEqual here.clo
       λ j. (yields (d.0 j), d.1.items j)
   does-granted v w command reply ok d = absurd d
 
-  -- Suppose that each clone equals its source. If a command turns the list `v` into `w` and does
-  -- not fail, then the function `plain_step` computes `seen reply` and the items of `w` from the
-  -- command and the items of `v`. (Here, `seen reply` is the part of the reply that the main
-  -- theorem determines.) A command whose index or range is out of bounds does not fail: its reply
-  -- is `OutOfRange`.
+  -- Suppose that each clone equals its source, and that `command` turns the list `v` into `w` and
+  -- does not fail. Then, from `command` and the items of `v`, the function `plain_step` computes
+  -- `seen reply` and the items of `w`. Here, `seen reply` is the part of the reply that the main
+  -- theorem determines. (A command whose index or range is out of bounds does not fail. Its reply
+  -- is `OutOfRange`.)
   step-plain : (v w : Thin T A) (command : Command T A G) (reply : Reply T A G)
       → IsGranted reply → Steps here v command reply w
       → (seen reply, w.items) ≡ plain_step here v.items command
@@ -216,11 +218,12 @@ module _ {T A G J : Type 0} (here : Setting T A J) (equal : ClonesEqual here.clo
       ∙ sym (cond-true (in_range v.items command) (granted here v.items command)
       (says (OutOfRange command), v.items) inside)
 
-  -- Suppose that each clone equals its source, and that no call of a run fails. Then two functions
-  -- on plain lists of items predict the run. The final items are the result of applying
-  -- `items_after` for each command, in order. The reply to a command is the result of applying
-  -- `reply_to` to the command and to the items that the list has before this command. (More
-  -- exactly, `reply_to` computes the part of each reply that `seen` extracts.)
+  -- A run is a sequence of commands with their replies. Suppose that each clone equals its source,
+  -- and that no command of a run fails. Then two functions on plain lists of items predict the run.
+  -- The final items are the result of applying `items_after` for each command, in order. The reply
+  -- to a command is the result of applying `reply_to` to the command and to the items that the list
+  -- has before this command. (More exactly, `reply_to` computes the part of each reply that `seen`
+  -- extracts.)
   pub run-plain : (v w : Thin T A) (commands : List (Command T A G)) (replies : List (Reply T A G))
       → All IsGranted replies → Runs here v commands replies w
       → (w.items ≡ fold (items_after here) v.items commands)

@@ -20,10 +20,10 @@ module _ {T A G : Type 0} (count : Command T A G → Reply T A G → ℕ) where
   counted commands replies = 0
 
 module _ {T A G J : Type 0} (here : Setting T A J) where
-  -- `HasRun` describes the state in the middle of a run. The list `left` contains the commands that
-  -- have not been carried out yet, which are the last ones of `commands`. The other commands have
-  -- turned the list `old` into `new`. Their replies were appended to the replies in `before`, which
-  -- results in the list `after`.
+  -- `HasRun` describes the state in the middle of a run. The list `left` contains the last commands
+  -- of `commands`, which have not been carried out yet. The other commands have turned the list
+  -- `old` into `new`. The list `after` contains the replies in `before`, followed by the replies to
+  -- these other commands.
   pub record HasRun (old : Thin T A) (commands left : List (Command T A G))
       (before after : List (Reply T A G)) (new : Thin T A) : Type 0 where
     pub done : List (Command T A G)
@@ -61,10 +61,11 @@ module _ {T A G J : Type 0} (here : Setting T A J) where
   -- In this module, `command` turns the list `mid` into `new`, and its reply is `reply`.
   module _ (mid new : Thin T A) (command : Command T A G) (reply : Reply T A G)
       (stepped : Steps here mid command reply new) where
-    -- Suppose that `HasRun` holds for the list `mid`, and that `command` is the first command in
-    -- `left`. If `command` turns `mid` into `new`, then `HasRun` holds for the list `new`. In this
-    -- state, `left'` contains the commands that follow `command` in `left`, and `after'` contains
-    -- the replies in `after` and the reply to `command`.
+    -- `HasRun` describes the state in the middle of a run. Suppose that it holds for the list
+    -- `mid`, and that the next command in `left` is `command`, which turns `mid` into `new`. Then
+    -- `HasRun` also holds after this command, for the list `new`. The list `left'` contains the
+    -- commands that follow `command` in `left`. The list `after'` contains the replies in `after`,
+    -- followed by the reply to `command`.
     pub HasRun-push : {old : Thin T A} {commands left left' : List (Command T A G)}
         {before after after' : List (Reply T A G)} → HasRun old commands left before after mid
         → left ≡ command ∷ left' → after' ≡ after ++ reply ∷ []

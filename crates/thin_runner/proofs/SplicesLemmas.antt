@@ -1,6 +1,7 @@
--- These lemmas help to prove that `Splice::finish` and `ThinVec::extend` satisfy the predicates
--- `Replaces` and `StopsBetween`. The predicates describe a splice that succeeds and a splice that
--- fails.
+-- The predicate `Replaces` describes a splice that succeeds, and `StopsBetween` describes a splice
+-- that fails. These lemmas help to prove that one of these predicates holds after each call to
+-- `Splice::finish` or `ThinVec::extend`. (A call to `extend` is described as a splice that replaces
+-- the empty range at the end of the list.)
 use Rattle.std.proofs.Common.{◌≡◌, ℕ, ◌-◌, ◌*◌, ◌<◌, List, [], ◌∷◌, ◌++◌, None, Option, Some, ap, append_assoc, arith, drop, inl, inr, length, refl, subst, sym, take, ◌∙◌}
 use Rattle.std.proofs.lemmas.Bool.{false≢true}
 use Rattle.std.proofs.Math.Seq.{drop-length, take-length}
@@ -96,9 +97,10 @@ module _ {T A : Type 0} (s : Hinted T A) (placed : List T)
 
 module _ {T A : Type 0} (old : Thin T A) (a b : ℕ) where
   -- An open block is a block that was taken out of its list, and that may have a gap between its
-  -- items. Suppose that a splice replaces the items `a..b` of the list `old`. Then `IsOpened block
-  -- alloc` holds if `block` is the open block of this splice, and `alloc` is the allocator of
-  -- `old`. The front and the tail of the block are the items of `old` before and after the range.
+  -- items. `IsOpened block alloc` states that `block` is the open block of a splice that replaces
+  -- the items `a..b` of the list `old`. The front of `block` contains the items of `old` before the
+  -- range, and its tail contains the items after the range. `block` has the capacity and the cost
+  -- of `old`, and `alloc` is the allocator of `old`.
   pub record IsOpened (block : Open T A) (alloc : A) : Type 0 where
     pub front : block.front ≡ take a old.items
     pub tail : block.tail ≡ drop b old.items
@@ -132,11 +134,11 @@ module _ {T A : Type 0} (old : Thin T A) (a b : ℕ) where
         subst (λ (v : Thin T A). CostsAdding v new (2 * (length old.items - b))) left-is
         (subst (λ (n : ℕ). CostsAdding (left_of block alloc) new (2 * n)) tail-count cost)
 
-    -- `IsExtended` states which capacity a list may have after it was extended with the items of an
-    -- iterator. A limit bounds the number of items that the iterator could yield. Suppose that
-    -- `IsExtended` holds for the list `left_of block alloc` and the limit `left`, and that `left`
-    -- equals `at_most most`. Then `IsExtended` also holds for the limit `at_most most` and the list
-    -- `cut old a b`, which equals `left_of block alloc`.
+    -- `IsExtended` states which capacity a list may have after the items of an iterator were added
+    -- to it. The last argument of `IsExtended` limits the number of items that the iterator could
+    -- yield. Suppose that `IsExtended` holds for the list `left_of block alloc`, which equals
+    -- `cut old a b`, and for the limit `left`. If `left` equals `at_most most`, then `IsExtended`
+    -- also holds for the list `cut old a b` and the limit `at_most most`.
     pub ruled : (rule : Rule) (R : RattleType) (new : Thin T A) (most : ℕ) (left : Count)
         → left ≡ at_most most
         → IsExtended rule R (left_of block alloc) new.capacity (length new.items) left

@@ -1,5 +1,6 @@
--- A step on a range is a call to `next` or `next_back`. These lemmas compute the results of a
--- sequence of steps whose first step is `next_back`.
+-- A step is a value that describes a call to `next` or `next_back` on an iterator over a range of
+-- items. The function `walked` computes the results of a sequence of steps. These lemmas are about
+-- sequences whose first step is `Back`, which describes a call to `next_back`.
 use Rattle.std.proofs.Common.{◌≡◌, ◌-◌, List, [], ◌∷◌, ◌++◌, Option, None, Some, ap, arith, length, refl, subst, sym, take, ◌∙◌}
 use Rattle.std.proofs.Math.Seq.{take-append_seam}
 use Rattle.std.proofs.lemmas.List.{length_push}

@@ -15,8 +15,8 @@ use Rattle.thin_runner.specs.declared.command.Reply.{Reply}
 
 module _ {T A G J : Type 0} (here : Setting T A J) where
   -- `Headline` states the main theorem about one run, which is a sequence of commands with their
-  -- replies. The run carried out `commands`, and turned the list `old` into `new`. Its replies were
-  -- appended to the replies in `before`, which results in the list `after`.
+  -- replies. The run carried out `commands`, and turned the list `old` into `new`. The list `after`
+  -- contains the replies in `before`, followed by the replies of the run.
   pub record Headline (old : Thin T A) (commands : List (Command T A G))
       (before after : List (Reply T A G)) (new : Thin T A) : Type 0 where
     -- `replies` contains the replies to the commands of the run. They were appended to the replies
@@ -31,8 +31,8 @@ module _ {T A G J : Type 0} (here : Setting T A J) where
     pub plain : ClonesEqual here.clones → All IsGranted replies
         → (new.items ≡ fold (items_after here) old.items commands)
         × (map seen replies ≡ scan (items_after here) (reply_to here) old.items commands)
-    -- The predicate `Runs` allows the result of the run, even if calls failed. `Runs` says which
-    -- replies are possible, and which items, capacity and cost the list `new` may have.
+    -- The predicate `Runs` holds for this run, even if calls failed. `Runs` states which replies
+    -- are possible, and which items, capacity and cost the list `new` may have.
     pub allowed : Runs here old commands replies new
     -- The items of the list `new` fit into its capacity. An allocation with this capacity does not
     -- exceed the size limit for allocations.

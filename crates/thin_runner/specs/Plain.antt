@@ -14,9 +14,9 @@ use Rattle.thin_runner.specs.declared.command.Reply.{Reply}
 use Rattle.thin_runner.specs.declared.command.Reply.TheVariants.{Answers, Done, Item, List as Made, Other, OutOfRange}
 use Rattle.thin_runner.specs.declared.command.Step.TheVariants.{Front}
 
--- Suppose that a command does not fail. Then the main theorem determines a part of its reply. This
--- part is a value of the type `Seen`. For the reply `Answers`, it is the list of the results in the
--- vector of the reply. For any other reply, it is the whole reply.
+-- If a command does not fail, the main theorem determines a part of its reply. `Seen` is the type
+-- of this part. For the reply `Answers`, the part is the list of the results in the vector of the
+-- reply. For any other reply, it is the whole reply.
 pub data Seen (T A G : Type 0) : Type 0 where
   says : Reply T A G → Seen T A G
   yields : List (Option T) → Seen T A G

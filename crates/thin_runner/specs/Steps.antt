@@ -117,8 +117,9 @@ module _ {T A G J : Type 0} (here : Setting T A J) where
       × StopsBetween here.rule here.R old a b xs.items held.items lower cause in_hand rest new
   Does old (Splice a b steps xs lower) (Refused cause) new =
       (0 < length steps.items) × (cause ≡ OutOfMemory) × (new ≡ old)
-  -- This case is about `Retain`, `RetainMut`, `Dedup`, `DedupBy` and `DedupByKey`. After such a
-  -- command, the list contains only the items that its tests keep.
+  -- This case is about `Retain`, `RetainMut`, `Dedup`, `DedupBy` and `DedupByKey`. Such a command
+  -- tests the items. The verdict of each test says whether the item is kept. After the command, the
+  -- list contains only the kept items.
   Does old command Done new =
       MatchOption (answered here old.items command) ⊥ (λ verdicts. new ≡ sifted old verdicts)
   Does old command reply new = ⊥

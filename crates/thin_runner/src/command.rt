@@ -132,7 +132,8 @@ impl<T, A: Allocator, G: Growth> Reply<T, A, G> {
     ghost use Rattle.thin_runner.specs.Replies.{refusal_of};
 
     /// Returns the cause of the failure if the call failed, and `None` if the call succeeded. If
-    /// the command was out of range, no call was made, and the result is `None`, too.
+    /// the index or the range of the command was out of bounds, no call was made, and the result is
+    /// `None`, too.
     pub fn refusal(&self) -> Option<ThinVecError>
         ensures value { result ≡ refusal_of self.now }
     {

@@ -119,8 +119,8 @@ pub fn run<T: Clone + Eq, A: Allocator + Copy, G: Growth, J: Judge<T>>(
     ensures cause { IfErr result (λ cause. cause ≡ ThinVecError.OutOfMemory) }
 {
     // The program does not use the result of this call, but the proof uses the contract of
-    // `capacity`. It states that the items of the list fit into its capacity. The proof of the
-    // clause `ok` needs this fact about the list before the first command.
+    // `capacity`. This contract states that the items of the list fit into its capacity. The proof
+    // of the clause `ok` needs this fact about the list before the first command.
     let _capacity = list.capacity();
     match replies.reserve(commands.len()) {
         Ok(()) => (),

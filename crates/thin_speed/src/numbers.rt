@@ -10,8 +10,8 @@ use std::alloc::{AllocError, Global};
 /// same work with both.
 pub type Outcome = Result<u64, AllocError>;
 
-/// Computes a new sum from the sum `sum` and `number`, and returns it. In this way, `number` is
-/// mixed into the sum. The sum depends on the order in which numbers are mixed into it.
+/// Mixes `number` into `sum`, and returns the new sum. The result depends on the order in which
+/// numbers are mixed into a sum.
 pub fn mixed(sum: u64, number: u64) -> u64 {
     sum.wrapping_mul(31).wrapping_add(number)
 }

@@ -1,7 +1,7 @@
 -- The function `refuses` returns whether the allocator `Refusing` refuses a request. These lemmas
--- are about calls to this function. If the caller has a shared reference to the counts of the
--- allocator, then the precondition of the call holds. The call returns a Boolean. The lemmas assume
--- the laws of the separation logic (`Logic`).
+-- are about calls to this function. If the caller has a shared reference to the field `counts` of
+-- the allocator, which contains its counters, then the precondition of the call holds. The call
+-- returns a Boolean. The lemmas assume the laws of the separation logic (`Logic`).
 use Rattle.std.proofs.Common.{◌≡◌, ℕ, Bool, List, [], ◌∷◌, refl, ap}
 use seplogic.Ra.Ura.{Ura}
 use mir.Val.{Val, vbool, vptr}

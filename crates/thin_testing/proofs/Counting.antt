@@ -38,10 +38,11 @@ module _ {M : Type 1} {𝓤 : Ura M} (𝓛 : Logic 𝓤) (at_mem : Memory → SP
   Returned = triple_of 𝓛 RE.signature (RE.spec 𝓛 at_mem run)
 
   -- `at_granted κ q c k y v` contains the ghost arguments for a call to `granted`. Ghost arguments
-  -- exist only in the proof. The call passes the answer `y`, whose machine value is `v`. It also
-  -- passes a shared reference to the counts. Here, `κ` is the lifetime of the reference, `c` is the
-  -- address of the counts, and `k` is their value. The caller has a share `q` of a token, which
-  -- proves that `κ` has not ended.
+  -- exist only in the proof. The call has two arguments. The first is a shared reference to the
+  -- counts of the allocator: `κ` is the lifetime of the reference, `c` is the address of the
+  -- counts, and `k` is their value. The second is `y`, the answer of the inner allocator to a
+  -- request, and `v` is its machine value. The caller has a share `q` of a token, which proves that
+  -- `κ` has not ended.
   abbrev pub at_granted : Lft → Share → ℕ × ℕ → Row.Denot → Answer.Denot → Val → Granted.Ghost
   at_granted κ q c k y v = (
     (
@@ -67,8 +68,9 @@ module _ {M : Type 1} {𝓤 : Ura M} (𝓛 : Logic 𝓤) (at_mem : Memory → SP
   open 𝓛 use {H, A}
 
   -- Suppose that the caller has a shared reference to the counts with the lifetime `κ`, and a token
-  -- that proves that `κ` has not ended. Then the precondition of `granted` holds for each answer
-  -- `y` whose machine value is `v`.
+  -- that proves that `κ` has not ended. Let `y` be an answer of the inner allocator to a request,
+  -- and let `v` be its machine value. Then the precondition of `granted` holds for a call with this
+  -- answer.
   pub Granted-goes : (y : Answer.Denot) (v : Val)
       → ent 𝓤 (emp 𝓤) (sem 𝓛 (Answer.own_val y (v ∷ [])))
       → ent 𝓤 (sep 𝓤 (sem 𝓛 (hidden_shr Row κ k c.0 c.1)) (A.lft κ q))

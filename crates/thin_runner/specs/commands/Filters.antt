@@ -36,12 +36,13 @@ module _ {T J : Type 0} (ask : J → T → Bool × T × J) where
       let a = ask j x in (not a.0, a.1) ∷ extracting a.2 (if a.0 then k else suc k) xs
 
 module _ {T J : Type 0} (same : J → T → T → Bool × T × T × J) where
-  -- `asked_last j k xs` describes how `dedup_by` compares the items `xs`. The item `k` is the last
-  -- item that was kept before `xs`. Each item of `xs` is compared with the last item that was kept
-  -- before it, so the first item is compared with `k`. If the judge decides that the two items are
-  -- the same, the later item is removed. The judge is in the state `j` before the first comparison.
-  -- The result contains the item `k` as it is after its comparisons, and the verdicts on the items
-  -- of `xs`.
+  -- `asked_last j k xs` describes how `dedup_by` compares the items `xs` with items that it has
+  -- kept before. The value is a pair. The first part is the item `k` as it is after its
+  -- comparisons, and the second part is the list of the verdicts on the items `xs`. Here, `k` is
+  -- the last item that was kept before `xs`, and the judge is in the state `j` before the first
+  -- comparison. Each item of `xs` is compared with the last item that was kept before it, so the
+  -- first item is compared with `k`. If the judge decides that the two items are the same, the
+  -- later item is removed.
   abbrev pub asked_last : J → T → List T → T × Verdicts T
   asked_last j k [] = (k, [])
   asked_last j k (x ∷ xs) =
@@ -62,9 +63,9 @@ module _ {T : Type 0} where
   abbrev pub around : List T → ℕ → ℕ → Verdicts T → Verdicts T
   around xs a b verdicts = stay (take a xs) ++ (verdicts ++ stay (drop b xs))
 
-  -- `sifted old verdicts` is the list that results from `old` if the verdicts decide which items
-  -- are kept. Each kept item is in the list as it is after its test. Each kept item that is moved
-  -- to another index counts as one move.
+  -- `sifted old verdicts` is the list `old` after all its items were tested, and some of them were
+  -- removed. For each item, `verdicts` says whether the item is kept, and contains the item as it
+  -- is after its test. Each kept item that is moved to another index counts as one move.
   abbrev pub sifted : {A : Type 0} → Thin T A → Verdicts T → Thin T A
   sifted old verdicts = edited old (left_at true verdicts) (moved_down (flags_of verdicts))
 

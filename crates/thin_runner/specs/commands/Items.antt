@@ -21,16 +21,17 @@ module _ {T A : Type 0} where
 
   -- `Refuses named old k cause new` holds if a call may fail with `cause` because the list `old`
   -- has no room for `k` more items. The list does not change, so `new` equals `old`. The option
-  -- `named` contains the capacity that the call needs. It is `None` if the call needs a capacity
-  -- that is too large. The cause is `CapacityOverflow` if and only if `named` is `None`.
+  -- `named` contains the capacity that the call needs, or `None` if this capacity would be too
+  -- large to be allocated. The cause is `CapacityOverflow` if and only if `named` is `None`.
   abbrev pub Refuses : Option ℕ → Thin T A → ℕ → ThinVecError → Thin T A → Type 0
   Refuses named old k cause new =
       ¬ (HasRoomFor old k) × ((named ≡ None) ↔ (cause ≡ CapacityOverflow)) × (new ≡ old)
 
 module _ {T A J : Type 0} (here : Setting T A J) where
-  -- `Grows old k xs m new` holds if a call may turn the list `old` into `new` in the following way.
-  -- The call reserves room for `k` more items, which determines the capacity of `new`
-  -- (`capacity_for`). Then it replaces the items with `xs`, and adds `m` moves to the cost.
+  -- `Grows old k xs m new` holds if a call may turn the list `old` into `new` in two steps. First,
+  -- the call reserves room for `k` more items. The capacity of `new` is the capacity after this
+  -- step (`capacity_for`). Second, the call replaces all items with `xs`, and adds `m` moves to the
+  -- cost.
   abbrev pub Grows : Thin T A → ℕ → List T → ℕ → Thin T A → Type 0
   Grows old k xs m new = (capacity_for here.rule here.R old k ≡ Some new.capacity)
       × (new ≡ edited (at_capacity old new.capacity) xs m)

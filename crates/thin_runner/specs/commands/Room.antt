@@ -1,4 +1,4 @@
--- This file defines the new lists that `split_off` and `clone` make. The capacity of such a list
+-- This file describes the new lists that `split_off` and `clone` make. The capacity of such a list
 -- equals its length. (std: `Vec::split_off`, `Clone`)
 use Rattle.std.specs.Prelude.{List, length}
 use Rattle.thin_vec.specs.Cost.{moving}

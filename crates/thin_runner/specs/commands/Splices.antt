@@ -29,11 +29,13 @@ module _ {T A : Type 0} (old : Thin T A) (a b : ℕ) where
 
 module _ {T A : Type 0} (rule : Rule) (R : RattleType) (old : Thin T A) (a b : ℕ) where
   -- `Replaces placed most new` holds if a call may replace the items `a..b` of the list `old` with
-  -- the items `placed`, so that the list becomes `new`. The iterator could yield at most `most`
-  -- items. Each placed item counts as one move. Each item after the range counts as at most two
-  -- moves. If the capacity changed, then the growth rule chose the new capacity. There are two
-  -- cases. In the first case, the rule chose the capacity for at most as many items as `new` has.
-  -- In the second case, it chose the capacity for a size hint with a lower bound of at most `most`.
+  -- the items `placed`, so that the list becomes `new`. The new items come from an iterator that
+  -- could yield at most `most` items. Each placed item counts as one move. Each item after the
+  -- range counts as at most two moves.
+  --
+  -- If the capacity changed, then the growth rule chose the new capacity. Either it chose this
+  -- capacity for at most as many items as `new` has. Or it chose this capacity when the call
+  -- reserved room for the lower bound of a size hint, which is at most `most`.
   pub record Replaces (placed : List T) (most : ℕ) (new : Thin T A) : Type 0 where
     pub items : new.items ≡ (take a old.items ++ placed) ++ drop b old.items
     pub capacity : IsLoose rule R old.capacity new.capacity
@@ -56,10 +58,10 @@ module _ {T A : Type 0} (rule : Rule) (R : RattleType) (old : Thin T A) (a b : �
     pub filled : Replaces placed (lower + length xs) new
     pub no_room : ¬ (HasPlacesFor old a b (lower + length xs))
     -- Suppose that `held` is empty, and that `in_hand` is `None`. Then the call failed because it
-    -- could not reserve room for `h` more items in the list `new`, where `h` is a possible lower
-    -- bound of the size hint of `rest`. That is, `h` is at most the sum of `rest.lower` and the
-    -- number of items that are left in `rest`. The cause is `CapacityOverflow` if and only if the
-    -- growth rule chooses no capacity for `h` more items.
+    -- could not reserve room for `h` more items in the list `new`. Here, `h` is a lower bound that
+    -- the size hint of `rest` may have. It is at most the sum of `rest.lower` and the number of
+    -- items that are left in `rest`. The cause is `CapacityOverflow` if and only if the growth rule
+    -- chooses no capacity for `h` more items.
     pub by_hint : held ≡ [] → in_hand ≡ None
         → FailsAtHint rule R new (at_most (rest.lower + length (into_iter_items rest.items))) cause
     -- Suppose that `held` contains items, and that `in_hand` is `None`. Then the cause is

@@ -76,8 +76,8 @@ impl<L: Numbers> Work<L, u64> for InsertFirst {
     }
 }
 
-/// A workload that removes the first item, or the middle item if `IN_MIDDLE` is true. Then the
-/// workload pushes the removed number plus 1.
+/// A workload that removes an item, and then pushes the removed number plus 1. The removed item is
+/// the middle one if `IN_MIDDLE` is true, and the first one otherwise.
 pub struct Remove<const IN_MIDDLE: bool>;
 
 impl<L: Numbers, const IN_MIDDLE: bool> Work<L, u64> for Remove<IN_MIDDLE> {
@@ -144,8 +144,8 @@ impl<L: Numbers> Work<L, u64> for Drain {
     }
 }
 
-/// A workload that drains the items from `START` up to, but not including, `END`. Then the workload
-/// pushes the same number of items.
+/// A workload that drains the items from `START` up to, but not including, `END`, and then pushes
+/// the same number of items.
 pub struct DrainFew<const START: usize, const END: usize>;
 
 impl<L: Numbers, const START: usize, const END: usize> Work<L, u64> for DrainFew<START, END> {
@@ -189,8 +189,9 @@ impl<L: Numbers> Work<L, u64> for SpliceMore {
     }
 }
 
-/// A workload that replaces two items with four items, and then pops two items. Alternately, the
-/// replaced items are at the indices 5 and 6, or at the indices 6 and 7.
+/// A workload that replaces two items with four items, and then pops two items. In every other
+/// round, the replaced items are at the indices 5 and 6. In the remaining rounds, they are at the
+/// indices 6 and 7.
 pub struct ReplaceMore;
 
 impl<L: Numbers> Work<L, u64> for ReplaceMore {
@@ -202,8 +203,8 @@ impl<L: Numbers> Work<L, u64> for ReplaceMore {
     }
 }
 
-/// A workload that shrinks the capacity of a list to its length. Then the workload pushes a number,
-/// so that the list has to grow, and pops this number.
+/// A workload that shrinks the capacity of a list to its length, and then pushes a number. For this
+/// push, the list has to grow. At the end, the workload pops the number again.
 pub struct ShrinkPush;
 
 impl<L: Numbers> Work<L, u64> for ShrinkPush {

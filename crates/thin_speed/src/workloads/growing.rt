@@ -171,8 +171,8 @@ impl<L: Numbers> Make<L> for ExtendFilter {
     }
 }
 
-/// A workload that makes a list with enough capacity for a slice. Then the workload extends the
-/// list with the two halves of the slice, using two calls to `extend`.
+/// A workload that makes a list with enough capacity for a slice, and then extends the list with
+/// the two halves of the slice. The workload calls `extend` once for each half.
 pub struct ExtendTwice;
 
 impl<L: Numbers> Make<L> for ExtendTwice {

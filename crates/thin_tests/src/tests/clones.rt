@@ -57,8 +57,8 @@ fn assert_extended<'a>(
 }
 
 // Tries twice to append clones of three items to a list of one item. In the first attempt, only one
-// item can be cloned, so the call fails and drops this clone. In the second attempt, all three
-// items can be cloned, so the call succeeds.
+// item can be cloned. Asserts that this attempt fails and drops the clone. In the second attempt,
+// all three items can be cloned. Asserts that this attempt succeeds.
 fn assert_extended_at_second_try(
     rt: &impl Abort,
     alloc: Global,

@@ -9,14 +9,14 @@ use std::process::Abort;
 use std::rc::Rc;
 use thin_vec::ThinVec;
 
-// Returns whether `item` is not 2. A closure that calls this function owns the value that it passes
-// as `_owned`.
+// Returns whether `item` is not 2. The tests call this function in closures. Each of these closures
+// owns a value, and passes a reference to this value as `_owned`.
 fn is_not_two(_owned: &Counted<'_>, item: i32) -> bool {
     item != 2
 }
 
-// Asserts that the list contains 1 and 3, and that the value that the closure owned has been
-// dropped exactly once.
+// Asserts that the list contains 1 and 3 after a call that took a closure. Also asserts that the
+// value that this closure owned has been dropped exactly once. The number of drops is in `drops`.
 fn assert_without_two(rt: &impl Abort, list: &ThinVec<i32>, drops: &Cell<u32>) {
     assert_items(rt, list.as_slice(), &[1, 3]);
     assert_same(rt, drops.get(), 1);

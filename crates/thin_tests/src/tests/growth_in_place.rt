@@ -14,10 +14,10 @@ trait Numbered: Copy + PartialEq + Debug + Drop {
     fn numbered(number: usize) -> Self;
 }
 
-// The value is the number modulo 251. If a list contains the values of consecutive numbers, then
-// any two neighboring 8-byte words of the list contain different bytes. The modulus is not 256,
-// because the values would then repeat every 256 bytes. A test would not notice if bytes were moved
-// by 256.
+// For `u8`, the function `numbered` returns its argument modulo 251. If a list contains the values
+// of consecutive numbers, then any two neighboring 8-byte words of the list contain different
+// bytes. The modulus is not 256. Otherwise, the values would repeat every 256 bytes, and a test
+// would not notice if bytes were moved by 256.
 impl Numbered for u8 {
     fn numbered(number: usize) -> u8 {
         (number % 251) as u8
@@ -181,8 +181,9 @@ fn assert_capacities<T: Numbered, B: Allocator>(
 
 // Runs `assert_pushes` and `assert_capacities` for an item type of `size` bytes. A list can grow in
 // place only if its items take at least 256 bytes. For this reason, `assert_capacities` is run with
-// lists whose items take about 256 bytes. If an item is smaller than 8 bytes, the items of some
-// tested capacities fill a whole number of 8-byte words, and the items of others do not.
+// lists whose items take about 256 bytes. If an item is smaller than 8 bytes, then at some of the
+// tested capacities the items fill a whole number of 8-byte words. At the other tested capacities,
+// they fill the last word only in part.
 fn assert_type<T: Numbered>(rt: &impl Abort, alloc: Global, size: usize) {
     let refusing = Refusing::new(alloc, 0);
     for first in [0, 5, 261] {

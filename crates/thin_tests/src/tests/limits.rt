@@ -67,9 +67,9 @@ fn errors_print_their_texts(rt: HostRuntime) {
     assert_same(&rt, cause, ThinVecError::OutOfMemory);
 }
 
-// Proves the limits for alignments above 16, that is, the largest capacities. They are proved
-// instead of tested, because no type of Rattle has such an alignment. Also proves the offset at
-// which the items begin in an allocation.
+// Proves the largest capacity of a list of one-byte items for two alignments above 16, namely 32
+// and 256. These limits are proved instead of tested, because no type of Rattle has such an
+// alignment. Also proves the offset at which the items begin in an allocation.
 #[tactic(auto, unfolding(thin_block::specs::Capacity::fits))]
 fn states_limits_at_greater_alignments()
     ensures byte_items { items_offset 1 ≡ 16 }

@@ -1,8 +1,8 @@
--- `Steps` states how a command may change a list, and which replies it may get. Each arm of the
--- `match` in `step` calls the method that carries out a command. The clause `allowed` of this
--- method states `Steps` for the command that the pattern of the arm describes. In the arm,
--- `command` equals this pattern. So the clause `allowed` of `step`, which states `Steps` for
--- `command`, follows.
+-- `Steps` states how a command may change a list, and which replies it may get. The function `step`
+-- has a `match` with one arm for each kind of command. Each arm calls the method that carries out
+-- the command. The clause `allowed` of this method states `Steps` for the pattern of the arm. In
+-- the arm, `command` equals this pattern. So `Steps` also holds for `command`, as the clause
+-- `allowed` of `step` states.
 use Rattle.thin_runner.proofs.runner.step.Goals as goal
 
 pub returns-in-Push : goal.returns-in-Push

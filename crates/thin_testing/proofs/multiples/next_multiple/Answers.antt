@@ -1,6 +1,6 @@
 -- `next_multiple` multiplies `cap` by `times`. If the product exceeds `usize::MAX`, the function
--- continues with `usize::MAX` instead of the product. Blocks of these two capacities are both too
--- large to be allocated, so the result is `None` in both cases.
+-- continues with `usize::MAX` instead of the product. A block of either capacity would be too large
+-- to be allocated, so the result is `None` in both cases.
 use Rattle.std.proofs.Common.{◌≡◌, ℕ, ◌-◌, ◌*◌, ◌≤◌, ◌^◌, Some, inl, inr, max, min, mul_comm, refl, sym, ap, ◌∙◌, arith}
 use Rattle.std.proofs.lemmas.Bool.{cases_lt, false≢true}
 use Rattle.std.specs.Mem.{type_size}

@@ -137,9 +137,9 @@ module _ (Z : Al) (X : RattleType) {M : Type 1} {𝓤 : Ura M} (𝓛 : Logic �
     abbrev left : ℕ → ℕ → Answer.Denot → Fml
     left b o = left_by Z X (Shrinks X) 𝓛 at_mem run κ κT q qT p r.now.inner b o len old new xs
 
-    -- If the caller owns the block that `left` describes and the tokens of the three lifetimes,
-    -- then the postcondition of `shrink` holds for every result. This is the case no matter whether
-    -- the request was refused or passed on to the inner allocator.
+    -- Suppose that the caller owns the block that `left` describes, and the tokens of the lifetimes
+    -- `κ`, `κT` and `ρ`. Then the postcondition of `shrink` holds. The lemma applies both to a
+    -- request that was refused and to a request that was passed on to the inner allocator.
     ends : (b o : ℕ) (y : Bool) (b' o' : ℕ)
         → Sq 𝓛 (‵ (left b o (result_of y b' o')) ∷ ‵ (flft κ q) ∷ ‵ (flft κT qT) ∷ ‵ (flft ρ s)
         ∷ []) (prop (Post (block_ptr b o) (answer_val y b' o')))
