@@ -12,9 +12,9 @@ if_true x y e = ap (λ (b : Bool). if b then x else y) e
 if_false : {b : Bool} (x y : ℕ) → b ≡ false → (if b then x else y) ≡ y
 if_false x y e = ap (λ (b : Bool). if b then x else y) e
 
--- Suppose that the functions `f` and `g` map a row and a column to a number, and that they may
--- differ only at row `i` and column `j`. If `f i j` is `v`, then, for all `k` and `l`, the value of
--- `f k l` is `if k == i && l == j then v else g k l`.
+-- Suppose that the functions `f` and `g` map a row and a column to a number. Suppose also that
+-- `f i j` is `v`, and that `f` and `g` agree at every place except possibly at row `i` and column
+-- `j`. Then, for all `k` and `l`, the value of `f k l` is `if k == i && l == j then v else g k l`.
 pub at_place : (f g : ℕ → ℕ → ℕ) (i j v : ℕ) → f i j ≡ v → ((k l : ℕ) → l ≢ j → f k l ≡ g k l)
     → ((k l : ℕ) → k ≢ i → f k l ≡ g k l)
     → (k l : ℕ) → f k l ≡ (if k == i && l == j then v else g k l)
@@ -67,9 +67,8 @@ module _ (t : Table ℕ) (i j : ℕ) where
       (λ k l other. ap (λ o. unwrap_or o 0) (columns_unchanged t i j k l v other))
       (λ k l other. ap (λ o. unwrap_or o 0) (rows_unchanged t i j k l v other))
 
-  -- If the entry at row `i` and column `j` of the table `t` is removed, then the number at this
-  -- place is 0, and all other numbers are unchanged. In the statement, the variable `v` stands for
-  -- this 0.
+  -- Suppose that `v` is 0, and that the entry at row `i` and column `j` of the table `t` is
+  -- removed. Then the number at this place is `v`, and all other numbers are unchanged.
   pub number-without_value : (v : ℕ) → v ≡ 0 → (k l : ℕ)
       → number_at (without_value t i j) k l ≡ (if k == i && l == j then v else number_at t k l)
   number-without_value v zero =
@@ -94,10 +93,10 @@ pub still_small : (t u : Table ℕ) (i j v : ℕ) → v < 2 ^ 64
 still_small t u i j v fits small told k l =
     rw (told k l) (either_below (k == i && l == j) v (number_at t k l) (2 ^ 64) fits (small k l))
 
--- Suppose that a call with the result `result` turns the table `t`, which has a row `i`, into the
--- table `u`. If the call succeeds, it writes `v` at row `i` and column `j`. If it fails, it changes
--- nothing. If `v` and all numbers of `t` are less than `2 ^ 64`, then, in both cases, all numbers
--- of `u` are less than `2 ^ 64`, too.
+-- Suppose that the table `t` has a row `i`, and that `v` and all numbers of `t` are less than
+-- `2 ^ 64`. Suppose also that a call returns `result`, and that `u` is the table after the call. If
+-- the call succeeds, `u` is `t` with `v` written at row `i` and column `j`. If the call fails, `u`
+-- is `t`. Then, in both cases, all numbers of `u` are less than `2 ^ 64`.
 pub small_if_written : {X E : Type 0} (result : Result X E) (t u : Table ℕ) (i j v : ℕ)
     → i < length t → v < 2 ^ 64 → ((k l : ℕ) → number_at t k l < 2 ^ 64)
     → OnOk result (u ≡ with_value t i j v) → OnErr result (u ≡ t)

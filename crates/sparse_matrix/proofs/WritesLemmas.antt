@@ -1,5 +1,5 @@
--- Lemmas about loops that write the entries of a row into a matrix. Each iteration writes one
--- entry, and no two entries are written at the same place.
+-- These lemmas are about loops that write the entries of a row into a matrix. Each iteration writes
+-- one entry, and no two entries are written at the same place.
 use Rattle.std.proofs.Common.{◌≡◌, ◌≢◌, ℕ, ◌+◌, ◌<◌, ◌≤◌, List, Some, None, inl, inr, length, ap, arith, refl, subst, sym, ◌∙◌}
 use Rattle.std.specs.FinMap as columns
 use Rattle.std.specs.Option.{unwrap_or}
@@ -12,10 +12,10 @@ use Rattle.thin_rows.proofs.TableLemmas.{in_order, is_listed, listed}
 never : {P : Type 0} {x : ℕ} → None ≡ Some x → P
 never e = cc
 
--- In this module, a loop writes the entries of `row` into a matrix. For each column `j`, the matrix
--- has one place to which an entry of this column is written. Before the loop, this place contains
--- the number `old j`. If a place contains the number `u`, and the number `v` is written there, then
--- the place contains the number `write u v` afterward.
+-- In this module, a loop writes the entries of `row` into a matrix. Each column `j` of `row` has
+-- its own place in the matrix, and an entry in column `j` is written at this place. Before the
+-- loop, this place contains the number `old j`. Suppose that the number `v` is written at a place
+-- that contains the number `u`. Then the place contains the number `write u v` afterward.
 module _ (write : ℕ → ℕ → ℕ) (row : Columns ℕ) (old : ℕ → ℕ) where
   abbrev column : ℕ → ℕ
   column k = (slice_index_or (columns.entries row) k (0, 0)).0
@@ -34,9 +34,9 @@ module _ (write : ℕ → ℕ → ℕ) (row : Columns ℕ) (old : ℕ → ℕ) w
   none_written = record { done = λ k less. absurd (omega arith); left = λ j none. refl }
 
   -- Suppose that `IsWritten n now` holds: for each column `j`, `now j` is the number at column `j`
-  -- after the first `n` entries have been written. Writing the entry at index `n` changes only the
-  -- number at the column of this entry. If `next j` is the number at each column `j` after this
-  -- write, then `IsWritten (n + 1) next` holds.
+  -- after the first `n` entries have been written. Suppose also that the entry at index `n` is
+  -- written next, and that this changes only the number at the column of this entry. If `next j` is
+  -- the number at each column `j` after this write, then `IsWritten (n + 1) next` holds.
   pub one_more : (n : ℕ) (now next : ℕ → ℕ) → n < length (columns.entries row) → IsWritten n now
       → next (column n) ≡ write (now (column n)) (number n)
       → ((j : ℕ) → j ≢ column n → next j ≡ now j) → IsWritten (n + 1) next
@@ -54,11 +54,12 @@ module _ (write : ℕ → ℕ → ℕ) (row : Columns ℕ) (old : ℕ → ℕ) w
         ∙ h.left j (λ k less. none k (omega (arith, less)));
   }
 
-  -- This lemma restates the lemma `one_more` with a variable `entries` for the list of the entries
-  -- of `row`. Suppose that `IsWritten n now` holds: for each column `j`, `now j` is the number at
-  -- column `j` after the first `n` entries have been written. Writing the entry at index `n`
-  -- changes only the number at the column of this entry. If `next j` is the number at each column
-  -- `j` after this write, then `IsWritten (n + 1) next` holds.
+  -- Suppose that `entries` is the list of the entries of `row`, and that `IsWritten n now` holds:
+  -- for each column `j`, `now j` is the number at column `j` after the first `n` entries have been
+  -- written. Suppose also that the entry at index `n` is written next, and that this changes only
+  -- the number at the column of this entry. If `next j` is the number at each column `j` after this
+  -- write, then `IsWritten (n + 1) next` holds. This is the lemma `one_more`, restated with the
+  -- variable `entries`.
   pub next_written : (entries : List (ℕ × ℕ)) → entries ≡ columns.entries row → (n : ℕ)
       (now next : ℕ → ℕ) → n < length entries → IsWritten n now
       → next (slice_index_or entries n (0, 0)).0
@@ -67,10 +68,10 @@ module _ (write : ℕ → ℕ → ℕ) (row : Columns ℕ) (old : ℕ → ℕ) w
       → IsWritten (n + 1) next
   next_written entries is = rw is one_more
 
-  -- Suppose that all `n` entries of the row have been written, and that `now j` is the number at
-  -- each column `j` after this. Suppose also that writing 0 at column `j` would change nothing:
-  -- `write (old j) 0` is `old j`. Then `now j` is `write (old j) v`, where `v` is the number of the
-  -- row in column `j`, or 0 if the row has no entry in this column.
+  -- Suppose that `row` has `n` entries, and that `IsWritten n now` holds: after all entries have
+  -- been written, `now j` is the number at each column `j`. For a column `j`, let `v` be the number
+  -- of `row` in this column, or 0 if `row` has no entry there. If writing 0 at column `j` would
+  -- change nothing, so that `write (old j) 0` is `old j`, then `now j` is `write (old j) v`.
   pub all_written : (n : ℕ) (now : ℕ → ℕ) → n ≡ length (columns.entries row) → IsWritten n now
       → (j : ℕ) → write (old j) 0 ≡ old j
       → now j ≡ write (old j) (unwrap_or (columns.get row j) 0)

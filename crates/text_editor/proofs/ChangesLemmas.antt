@@ -59,17 +59,21 @@ module _ (changes rest : List Change) (change : Change) (text after : List ℕ)
   turned : reverse changes ≡ change ∷ reverse rest
   turned = ap (λ (cs : List Change). reverse cs) is ∙ reverse-append rest (change ∷ [])
 
-  -- `texts_of` applies the last change in the list `changes` first. This change turns `text` into
-  -- `after`, so `after` is the first resulting text. The other changes, which are the list `rest`,
-  -- then result in the texts `texts_of rest after`.
+  -- Suppose that `changes` are applied to `text` one after another, from the last change in the
+  -- list to the first. `texts_of changes text` is the list of the texts after each change. The last
+  -- change in the list turns `text` into `after`, so `after` is the first of these texts. The other
+  -- changes are `rest`, and they are applied to `after`. So the remaining texts are
+  -- `texts_of rest after`.
   pub texts_of-last : texts_of changes text ≡ after ∷ texts_of rest after
   texts_of-last =
       ap (λ (cs : List Change). texts_along cs text) turned
       ∙ ap (λ (t : List ℕ). t ∷ texts_along (reverse rest) t) (sym made)
 
-  -- `AllFit` considers the last change in the list `changes` first. This change turns `text` into
-  -- `after`, and the other changes are `rest`. If the last change fits `text`, and
-  -- `AllFit rest after` holds, then `AllFit changes text` holds.
+  -- Suppose that `changes` are applied to `text` one after another, from the last change in the
+  -- list to the first. `AllFit changes text` states that each change fits the text to which it is
+  -- applied. The last change in the list is `change`. It turns `text` into `after`, and the other
+  -- changes are `rest`. If `change` fits `text`, and `AllFit rest after` holds, then
+  -- `AllFit changes text` holds.
   pub AllFit-last : Fits change text → AllFit rest after → AllFit changes text
   AllFit-last fits all =
       subst (λ (cs : List Change). FitAlong cs text) (sym turned)
@@ -137,8 +141,10 @@ module _ (m : ℕ) (changes : List Change) (text : List ℕ) where
       ap (λ (cs : List Change). texts_along cs text) (reverse-drop m changes)
       ∙ texts_along-take (length changes - m) (reverse changes) text
 
-  -- `AllFit` considers the changes of a list from the last to the first. So if all changes of the
-  -- list fit a text, then all changes except the first `m` fit the text, too.
+  -- Suppose that `changes` are applied to `text` one after another, from the last change in the
+  -- list to the first, and that each change fits the text to which it is applied (`AllFit`). Then
+  -- the same holds for the list `changes` without its first `m` changes, because these changes are
+  -- applied last.
   pub AllFit-drop : AllFit changes text → AllFit (drop m changes) text
   AllFit-drop all =
       subst (λ (cs : List Change). FitAlong cs text) (sym (reverse-drop m changes))

@@ -9,9 +9,15 @@ use thin_vec::ThinVec;
 /// A command of the editor. Each line of the input is parsed as one command.
 #[derive(Drop)]
 pub enum Command {
-    /// Replaces the characters from the index in the first field up to, but not including, the
-    /// index in the second field. The third field contains the new characters. In the input, the
-    /// command is written `insert AT TEXT`, `delete FROM TO` or `replace FROM TO TEXT`.
+    /// Replaces a range of the characters with new characters. The first field is the index at
+    /// which the range begins. The second field is the index directly after the range. The third
+    /// field contains the new characters.
+    ///
+    /// In the input, the command is written in one of three ways:
+    ///
+    /// - `insert AT TEXT` inserts `TEXT` at the index `AT`. Both indices are `AT`.
+    /// - `delete FROM TO` removes the characters `FROM..TO`. The third field is empty.
+    /// - `replace FROM TO TEXT` replaces the characters `FROM..TO` with `TEXT`.
     Replace(usize, usize, ThinVec<char>),
     /// Undoes the last edit that has not been undone. In the input, the command is written `undo`.
     Undo,

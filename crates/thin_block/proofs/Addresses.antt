@@ -2,9 +2,10 @@
 -- computes the address of a slot. The other steps separate the memory of one or two slots from the
 -- memory of the other slots. All lemmas assume the laws of the separation logic (`Logic`).
 --
--- - `its_ptr` evaluates an operand that reads the pointer of a block.
--- - `slot_found` executes the statements that compute `(p.add(HEADER_WORDS) as *mut T).add(i)`.
--- - `moves_on` executes the statements that compute `p.add(i)`.
+-- - `its_ptr` symbolically evaluates an operand that reads the pointer of a block.
+-- - `slot_found` symbolically executes the statements that compute the address of a slot:
+--   `(p.add(HEADER_WORDS) as *mut T).add(i)`.
+-- - `moves_on` symbolically executes the statements that compute `p.add(i)`.
 -- - `takes_slot` separates one slot from the other slots.
 -- - `takes_item` separates one filled slot from the other slots.
 -- - `takes_two` separates two filled slots from the other slots.
@@ -41,8 +42,9 @@ near E xs i fits le = let low = reach (R E) i (length xs) fits le in omega arith
 module _ (E : El) (Y : Al) {M : Type 1} {𝓤 : Ura M} {𝓛 : Logic 𝓤} {K : Type 0}
     {Γ : List (Item 𝓤)} {h s : Item 𝓤} where
   -- Symbolically evaluates an operand that reads the pointer of a block through a reference. The
-  -- local variable `p` holds the reference. The value of the operand is the pointer to the offset
-  -- `o` of the allocation `b`.
+  -- local variable `p` holds the reference, which points to the offset `ro` of the allocation `rb`.
+  -- The block's pointer is stored there. The value of the operand is this pointer, which points to
+  -- the offset `o` of the allocation `b`.
   pub its_ptr : K → {Ev : Env 𝓤 𝓛.H} {p b o rb ro : ℕ} {q : Share}
       → at 𝓛 p (h ∷ s ∷ ‵
       (cell_at full_share (Br E Y).mir (block_val (block_ptr b o) ∷ []) rb ro) ∷ Γ)
@@ -83,16 +85,17 @@ module _ {M : Type 1} {𝓤 : Ura M} (𝓛 : Logic 𝓤) (Ev : Env 𝓤 𝓛.H) 
     gone = set 𝓛 p₄ (holds p₄ (vptr b (i * sz E + o))) far
 
     -- The computation of `p.add(i)` reads and assigns several local variables. `goes_by p pᵢ` lists
-    -- the entries of the proof context for these variables, in the order in which the computation
-    -- uses them. The local variable `p` holds the address of the first item, and `pᵢ` holds the
-    -- index `i`.
+    -- the entries that the proof context contains for these variables, in the order in which the
+    -- computation uses the variables. The local variable `p` holds the address of the first item,
+    -- and `pᵢ` holds the index `i`. The lemma `moves_on` requires that this list equals
+    -- `goes_with p pᵢ`, which lists the entries that the computation needs.
     abbrev pub goes_by : ℕ → ℕ → List (Item 𝓤)
     goes_by p pᵢ = at 𝓛 pᵢ Γ ∷ at 𝓛 p₃ Γ ∷ at 𝓛 p far ∷ at 𝓛 p₃ far ∷ at 𝓛 p₄ far ∷ []
 
     -- `goes_with p pᵢ` lists the entries of the proof context that the computation of `p.add(i)`
-    -- needs. They state which values the local variables hold, and to which local variables the
-    -- code may assign a value. The lemma `moves_on` requires that the entries in `goes_by p pᵢ`,
-    -- which the proof context contains, are these entries.
+    -- needs. The entries state which values the local variables hold, and to which local variables
+    -- the code may assign a value. The lemma `moves_on` requires that this list equals
+    -- `goes_by p pᵢ`, which lists the entries that the proof context contains.
     abbrev pub goes_with : ℕ → ℕ → List (Item 𝓤)
     goes_with p pᵢ = holds pᵢ (vint w64 i) ∷ free p₃ Γ ∷ holds p (vptr b o)
         ∷ holds p₃ (vint w64 (i * sz E)) ∷ free p₄ far ∷ []
@@ -109,10 +112,11 @@ module _ {M : Type 1} {𝓤 : Ura M} (𝓛 : Logic 𝓤) (Ev : Env 𝓤 𝓛.H) 
     abbrev pub turned : List (Item 𝓤)
     turned = set 𝓛 p₂ (holds p₂ (vptr b (o + 16))) first
 
-    -- Four statements compute the address of a slot. `meets p₃ p₄ p pᵢ` lists the entries of the
-    -- proof context for the local variables that these statements use. The local variable `p` holds
-    -- the pointer of the block, and `pᵢ` holds the index of the slot. The statements assign values
-    -- to `p₁`, `p₂`, `p₃` and `p₄`.
+    -- Four statements compute the address of a slot. `meets p₃ p₄ p pᵢ` lists the entries that the
+    -- proof context contains for the local variables that these statements use. The local variable
+    -- `p` holds the pointer of the block, and `pᵢ` holds the index of the slot. The statements
+    -- assign values to `p₁`, `p₂`, `p₃` and `p₄`. The lemma `slot_found` requires that this list
+    -- equals `needs p₃ p₄ p pᵢ`, which lists the entries that the statements need.
     abbrev pub meets : ℕ → ℕ → ℕ → ℕ → List (Item 𝓤)
     meets p₃ p₄ p pᵢ = at 𝓛 p Γ ∷ at 𝓛 p₁ Γ ∷ at 𝓛 p₁ first ∷ at 𝓛 p₂ first
         ∷ goes_by turned E b (o + 16) i p₃ p₄ p₂ pᵢ
@@ -120,8 +124,8 @@ module _ {M : Type 1} {𝓤 : Ura M} (𝓛 : Logic 𝓤) (Ev : Env 𝓤 𝓛.H) 
     -- Four statements compute the address of a slot. `needs p₃ p₄ p pᵢ` lists the entries of the
     -- proof context that these statements need. The entries state which values the local variables
     -- hold, and to which local variables the code may assign a value. The lemma `slot_found`
-    -- requires that the entries in `meets p₃ p₄ p pᵢ`, which the proof context contains, are these
-    -- entries.
+    -- requires that this list equals `meets p₃ p₄ p pᵢ`, which lists the entries that the proof
+    -- context contains.
     abbrev pub needs : ℕ → ℕ → ℕ → ℕ → List (Item 𝓤)
     needs p₃ p₄ p pᵢ = holds p (vptr b o) ∷ free p₁ Γ ∷ holds p₁ (vptr b (o + 16)) ∷ free p₂ first
         ∷ goes_with turned E b (o + 16) i p₃ p₄ p₂ pᵢ

@@ -1,6 +1,6 @@
--- Two lemmas about records of the type `Seen`. Such a record contains the parts of a block that
--- contracts mention. The first lemma is about the field `slots`, and the second lemma is about the
--- field `len`.
+-- These two lemmas are about records of the type `Seen`. Such a record contains the parts of a
+-- block that contracts mention. The first lemma is about the field `slots`, and the second lemma is
+-- about the field `len`.
 use Rattle.std.proofs.Common.{◌≡◌, ℕ, List, ap, ◌∙◌}
 use Rattle.std.specs.Prelude.{Option}
 use Rattle.thin_block.specs.Block.{Seen}

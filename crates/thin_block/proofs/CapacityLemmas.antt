@@ -1,6 +1,6 @@
--- Lemmas about the functions that choose the new capacity of a block. `ruled_capacity` uses a
--- growth rule, and `exact_capacity` chooses exactly the wanted capacity. `Fits` says that a block
--- of a given capacity is small enough to be allocated.
+-- These lemmas are about the functions that choose the new capacity of a block. `ruled_capacity`
+-- uses a growth rule, and `exact_capacity` chooses exactly the wanted capacity. `Fits` says that a
+-- block of a given capacity is small enough to be allocated.
 use Rattle.std.proofs.Common.{if◌then◌else◌, Bool, true, false, IsTrue, ◌≡◌, ℕ, zero, suc, ◌*◌, ◌^◌, ◌<◌, ◌≤◌, ap, refl, subst, sym, ◌∙◌, arith}
 use Rattle.std.specs.declared.option.Option.TheVariants.{Some, None}
 use borrow.Author.Tests.{lt-ltb, le-ltb, le-leb, lt-leb}

@@ -48,8 +48,9 @@ use Rattle.std.specs.Align.{type_align}
 use Rattle.thin_block.specs.Capacity.{block_align, block_bytes}
 use Rattle.thin_block.proofs.SizesLemmas.{fits_none}
 
--- `plainly Rs` is the struct type with the field types `Rs` and an empty name. What a struct owns
--- does not depend on its name.
+-- `plainly Rs` is the struct type with the field types `Rs` and an empty name. This type can stand
+-- for any struct type with these field types, because what a struct owns does not depend on its
+-- name.
 abbrev pub plainly : List RattleType → RattleType
 plainly Rs = Struct (record { name = []; args = []; types = []; fields = Rs })
 
@@ -78,9 +79,11 @@ block_own_made 𝓛 p =
       (refl, (refl, ((tt, (refl, tt)), ((tt, (refl, tt)), tt)))),
     )
 
--- The following lemmas are about the layout of a block in memory. A width `w` is 8, 16, 32, 64 or
--- 128 bits. The alignment of every type is `bytes w` for some width `w`. So if `P` holds for `bytes
--- w` for every width `w`, then `P` holds for the alignment of every type `τ`.
+-- The following lemmas are about the layout of a block in memory.
+--
+-- The alignment of every type is `bytes w` for some width `w`, where a width is 8, 16, 32, 64 or
+-- 128 bits. So if `P (bytes w)` holds for every width `w`, then `P (align τ)` holds for every type
+-- `τ`.
 by_width : (P : ℕ → Type 0) → ((w : Width) → P (bytes w)) → (τ : Ty) → P (align τ)
 by_width P each τ = subst P (sym (align-bytes τ)) (each (align_w τ))
 
@@ -273,8 +276,8 @@ module _ (E : El) (Y : Al) {M : Type 1} {𝓤 : Ura M} {𝓛 : Logic 𝓤} {K : 
     {Γ : List (Item 𝓤)} {G : Goal 𝓤 𝓛.H} where
   -- Splits the block behind a `&mut` into its parts. After this step, the proof context begins with
   -- these entries, in this order: the header; the slots; the memory that holds the block's pointer;
-  -- three entries for the open borrow of the block. The last three entries include the lifetime
-  -- token of the borrow.
+  -- the open borrow of the block, which includes its lifetime token; the current value of the
+  -- block, as the `&mut` records it; the same value, as the borrow records it.
   pub block_opens : K → Soaks G → {κ : Lft} {q : Share} {γ : GName} (x : (Br E Y).Denot) (rb ro : ℕ)
       → ((b o : ℕ) → x.at ≡ block_ptr b o → fits_block (R E) (length x.slots) ≡ true
       → Seq K 𝓛 (‵ (Header E Y x b o) ∷ ‵ (Slots E Y x b o) ∷ ‵

@@ -1,10 +1,12 @@
--- These lemmas begin and end the proofs of methods that take `&mut self` or `&self`. The lemmas
--- assume the laws of the separation logic (`Logic`). Each proof chooses which arguments the method
--- gives back to its caller when it returns.
+-- These lemmas begin and end the proofs of methods that take `&mut self` or `&self`. Each proof
+-- chooses which arguments the method gives back to its caller when it returns. The lemmas assume
+-- the laws of the separation logic (`Logic`).
 --
--- - `dropped` is the choice to give back no argument. The lemma `all_go` allows this choice.
+-- - `dropped` is the choice to give back no argument. The lemma `all_go` states when a proof may
+--   make this choice.
 -- - `heard_all` splits a `requires` clause that consists of several facts.
--- - `block_stays` is the choice to give back only the `&mut`. The lemma `goes` allows this choice.
+-- - `block_stays` is the choice to give back only the `&mut`. The lemma `goes` states when a proof
+--   may make this choice.
 -- - `arrives` begins the proof of any function.
 -- - `starts`, `begins` and `begins_with` begin the proof of a method that takes `&mut self`.
 -- - `token_out` separates the first lifetime token from the other lifetime tokens.
@@ -13,7 +15,8 @@
 -- - `closes_over` puts the parts of the block back together. The slots may have changed.
 -- - `continues` continues the proof after the first statements of a body.
 -- - `seen` begins the proof of a method that takes `&self`.
--- - `leaves`, `leaves_with` and `leaves_unit` end a proof.
+-- - `leaves` ends the proof of a function that gives back no argument. `leaves_with` and
+--   `leaves_unit` end the proof of a method that takes `&mut self`.
 use Rattle.std.proofs.Common.{◌≡◌, true, ℕ, zero, suc, ◌+◌, ◌^◌, ◌<◌, List, [], ◌∷◌, length, refl, sym, w64}
 use lib.Dec.{T}
 use seplogic.Ra.Ura.{Ura}
@@ -59,15 +62,16 @@ others (s ∷ ss) = ss
 module _ {n : ℕ} where
   -- The proof of a function chooses which arguments the function gives back to its caller when it
   -- returns. `dropped ss ks` is the choice to give back none of the arguments for the parameters
-  -- `ss`. For each lifetime in the type of a parameter, `ks` says whether the contract mentions the
-  -- final values of the references with this lifetime.
+  -- `ss`. For each parameter, `ks` contains a set of lifetimes: the contract may mention the final
+  -- values only of references with these lifetimes.
   abbrev pub dropped : (ss : List (Slot n)) (ks : Kepts ss) → Stays ss ks
   dropped [] ks = tt
   dropped (s ∷ ss) ks = (stay_dropped s ks.0, dropped ss ks.1)
 
 module _ {M : Type 1} {𝓤 : Ura M} (𝓛 : Logic 𝓤) {n : ℕ} where
-  -- `AllSilent ss ks` holds if the contract does not say which values the arguments for the
-  -- parameters `ss` have after the call.
+  -- `AllSilent ss ks` holds if the contract says nothing about the values that the arguments for
+  -- the parameters `ss` have after the call. For each parameter, `ks` contains a set of lifetimes:
+  -- the contract may mention the final values only of references with these lifetimes.
   abbrev pub AllSilent : (ss : List (Slot n)) → Kepts ss → Type 1
   AllSilent [] ks = Unit {1}
   AllSilent (s ∷ ss) ks = Silent 𝓛 n s ks.0 × AllSilent ss ks.1
@@ -134,7 +138,9 @@ module _ (E : El) (Y : Al) {n : ℕ} (ss : List (Slot (suc n))) where
   on_block = mut_ref_to (0 ∷ []) tt (plain (λ _. Br E Y)) ∷ ss
 
   -- The proof of a method chooses which arguments the method gives back to its caller when it
-  -- returns. `block_stays ks` is the choice to give back only the `&mut Block`.
+  -- returns. `block_stays ks` is the choice to give back only the `&mut Block`. For each other
+  -- parameter, `ks` contains a set of lifetimes: the contract may mention the final values only of
+  -- references with these lifetimes.
   abbrev pub block_stays : (ks : Kepts ss) → Stays on_block (yes, ks)
   block_stays ks = (stay_ref (0 ∷ []) tt (plain (λ _. Br E Y)), dropped ss ks)
 
@@ -159,7 +165,8 @@ module _ {M : Type 1} {𝓤 : Ura M} {𝓛 : Logic 𝓤} {K : Type 0} {Γ : List
 
 module _ {n : ℕ} (s : Slot (suc n)) (ss : List (Slot (suc n))) where
   -- `Passed Bd` is the type of everything that is passed to a function: lifetimes, shares of
-  -- lifetime tokens, bounds on the lifetimes, and the arguments with their machine values.
+  -- lifetime tokens, a proof that the lifetimes satisfy the bounds `Bd`, and the arguments with
+  -- their machine values.
   abbrev Passed : (Lfts (suc n) → Type 0) → Type 0
   Passed Bd = (κs : Lfts (suc n)) × Shares (suc n) × Bd κs × Denots (types_at (s ∷ ss) κs)
       × Valss (types_at (s ∷ ss) κs)
@@ -249,9 +256,9 @@ module _ {M : Type 1} {𝓤 : Ura M} {𝓛 : Logic 𝓤} {K : Type 0} {Γ : List
   token_out k n κs qs = step (λ s.
       use1 𝓛 (‵ (flft κs.0 qs.0) ⊛ raw (toks 𝓛 n κs.1 qs.1)) (id⊢ 𝓤 _) $ split k $ s)
 
--- Suppose that a function does not give `m` of its arguments back to its caller. At the end of the
--- proof of this function, `blanks m` must be proved about these arguments. It consists of one
--- trivially true formula for each of them.
+-- Suppose that a function does not give `m` of its arguments back to its caller. `blanks m` is the
+-- formula about these arguments that must be proved at the end of the proof of the function.
+-- `blanks m` consists of one trivially true formula for each of these arguments.
 abbrev pub blanks : ℕ → Fml
 blanks zero = ftrue
 blanks (suc m) = fsep ftrue (blanks m)
@@ -278,8 +285,8 @@ module _ (E : El) (Y : Al) {M : Type 1} {𝓤 : Ura M} {𝓛 : Logic 𝓤} {K : 
     {G : Goal 𝓤 𝓛.H} where
   -- Splits the block behind the `&mut` reference `r` into its parts. After this step, the proof
   -- context begins with these entries, in this order: the header; the slots; the memory that holds
-  -- the block's pointer; three entries for the open borrow of the block. The last three entries
-  -- include the lifetime token of the borrow.
+  -- the block's pointer; the open borrow of the block, which includes its lifetime token; the
+  -- current value of the block, as the `&mut` records it; the same value, as the borrow records it.
   pub opens_self : K → Soaks G → {Γ : List (Item 𝓤)} {κ : Lft} {q : Share}
       (r : MutBor (Br E Y).Denot)
       → ((b o : ℕ) → r.now.at ≡ block_ptr b o → fits_block (R E) (length r.now.slots) ≡ true
@@ -292,10 +299,11 @@ module _ (E : El) (Y : Al) {M : Type 1} {𝓤 : Ura M} {𝓛 : Logic 𝓤} {K : 
       (fbor κ (Body (mem (Br E Y)) r.ref_ptr.0 r.ref_ptr.1 r.ghost_name)) ∷ ‵ (flft κ q) ∷ Γ) G
   opens_self k z r next = block_opens E Y k z r.now r.ref_ptr.0 r.ref_ptr.1 next
 
-  -- Puts the parts of the block behind a `&mut` back together. Before this step, the proof context
-  -- begins with these entries, in this order: the slots, which may have changed; the header; the
-  -- memory that holds the block's pointer; three entries for the open borrow of the block. The last
-  -- three entries include the lifetime token of the borrow.
+  -- Puts the parts of the block behind the `&mut` reference `r` back together. The result is the
+  -- block `y`. Before this step, the proof context begins with these entries, in this order: the
+  -- slots, which may have changed; the header; the memory that holds the block's pointer; the open
+  -- borrow of the block, which includes its lifetime token; the value of the block, as the `&mut`
+  -- records it; the value of the block, as the borrow records it.
   pub closes_over : K → Soaks G → {Γ : List (Item 𝓤)} {κ : Lft} {q : Share} {u v : Gv} {c : ℕ}
       (r : MutBor (Br E Y).Denot) (y : (Br E Y).Denot) (b o : ℕ) → y.at ≡ block_ptr b o
       → length y.slots ≡ c

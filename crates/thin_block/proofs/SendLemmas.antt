@@ -28,8 +28,9 @@ number_send = search sendable
 number_sync : IsSync usize
 number_sync = search sendable
 
--- The right to convert memory for items into memory for words does not depend on the thread that
--- owns this right. A word is a struct of 8 or 16 bytes that consists of whole items.
+-- The rights to convert memory for items into memory for `w` words do not depend on the thread that
+-- owns these rights. A word is a struct of 8 or 16 bytes that consists of whole items. Here, it
+-- consists of `m` items of the type `τ`.
 ways_Keyless : (τ : Ty) (m w b o : ℕ) → Keyless (ways τ m w b o)
 ways_Keyless τ m zero b o = tt
 ways_Keyless τ m (suc w) b o = ((tt, tt), ways_Keyless τ m w b (o + size (word_of τ m)))

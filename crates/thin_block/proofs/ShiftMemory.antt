@@ -408,10 +408,10 @@ module _ (E : El) {M : Type 1} {𝓤 : Ura M} (𝓛 : Logic 𝓤) (b o : ℕ) (s
       slides_down (from - to) (omega arith) source
       (empty-run slots to (from - to) within gap.1)
 
-  -- Suppose that all slots through which the items are moved are empty. Then `IsShifted` holds for
-  -- the old and the new address of the items. If `up` is true, this means that the new address is
-  -- `distance up` slots above the old address. If `up` is false, it means that the new address is
-  -- `distance up` slots below the old address.
+  -- Suppose that all slots through which the items are moved are empty (`GapAbove` and `GapBelow`).
+  -- If `up` is true, then the new address of the items is `distance up` slots above the old
+  -- address. If `up` is false, then the new address is `distance up` slots below the old address.
+  -- `IsShifted` states exactly this.
   pub shifted : (up : Bool) → GapAbove up → GapBelow up → IsShifted (R E) up (distance up)
       (block_ptr b src) (block_ptr b dst)
   shifted true above below = let le : from ≤ to = (above refl).0 in

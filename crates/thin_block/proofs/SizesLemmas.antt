@@ -1,5 +1,5 @@
--- Arithmetic lemmas about the size of a block in bytes, and about the capacities for which a block
--- is small enough to be allocated.
+-- These arithmetic lemmas are about the size of a block in bytes, and about the capacities for
+-- which a block is small enough to be allocated.
 use Rattle.std.proofs.Common.{◌≡◌, ℕ, zero, suc, ◌+◌, ◌-◌, ◌*◌, ◌/◌, ◌^◌, ◌<◌, ◌≤◌, Bool, true, false, refl, sym, ap, subst, ◌∙◌, arith, ltb, zero-mul, suc-mul}
 use borrow.Author.Tests.{lt-ltb, le-ltb, ltb-true}
 use mathlib.Core.Bool.{◌&&◌}
@@ -272,8 +272,10 @@ fits_no s a c many = first_false (ltb c (2 ^ 63)) (ltb (block_bytes s a c) (2 ^ 
 abbrev pub tried : ℕ → ℕ → ℕ → ℕ
 tried s c w = max w (if c == 0 then first s else 2 * c)
 
--- Suppose that the old capacity `c` is 0, and that `d` is `first s`. Then `tried s c w`, which is
--- the capacity that the rule `doubling` computes, is the greater of `w` and `d`.
+-- `tried s c w` is the capacity that the rule `doubling` computes from the item size `s`, the old
+-- capacity `c` and the required capacity `w`. Suppose that `c` is 0, and that `d` is `first s`, the
+-- least capacity that the rule chooses for the first allocation of a block. Then `tried s c w` is
+-- the greater of `w` and `d`.
 pub tried_first : (s c w d : ℕ) → c ≡ 0 → d ≡ first s → max w d ≡ tried s c w
 tried_first s c w d none is = grind (arith, nat_tests)
 
@@ -288,10 +290,11 @@ pub fitting_past : (s a n : ℕ) → 2 ^ 63 ≤ n → fitting s a n ≡ None
 unfolding fitting
 fitting_past s a n many = λ i. if fits_no s a n many i then Some n else None
 
--- Suppose that `c < w`. Then the code of the growth rule `Doubling` chooses the same capacity as
--- the function `doubling`. The code first computes the number `d`. If `c` is 0, `d` is `first s`.
--- Otherwise, `d` is `2 * c`, or `usize::MAX` if `2 * c` is greater. Replacing `2 * c` with
--- `usize::MAX` does not change the capacity that the code chooses.
+-- Suppose that the old capacity `c` is less than the required capacity `w`. The code of the growth
+-- rule `Doubling` first computes a number `d`. If `c` is 0, then `d` is `first s`, the least
+-- capacity that the rule chooses for the first allocation of a block with items of size `s`.
+-- Otherwise, `d` is `2 * c`, or `usize::MAX` if `2 * c` is greater. In both cases, the code chooses
+-- the same capacity as the function `doubling`, which always uses `2 * c` if `c` is not 0.
 pub doubling_is : (s a c w d : ℕ) → c < w → (c ≡ 0 → d ≡ first s)
     → ((c ≡ 0 → ⊥) → d ≡ min (c * 2) (2 ^ 64 - 1)) → fitting s a (max w d) ≡ doubling s a c w
 unfolding doubling

@@ -1,6 +1,6 @@
--- Lemmas about the definitions in specs/Slots.antt. `run` selects adjacent slots, `laid` replaces
--- slots, and `moved` moves items to other slots. `IsPacked s n` states that the first `n` slots of
--- the list `s` are filled, and that all other slots of `s` are empty.
+-- These lemmas are about the definitions in specs/Slots.antt. `run` selects adjacent slots, `laid`
+-- replaces slots, and `moved` moves items to other slots. `IsPacked s n` states that the first `n`
+-- slots of the list `s` are filled, and that all other slots of `s` are empty.
 use Rattle.std.proofs.Common.{◌⊎◌, ◌≡◌, ℕ, zero, suc, ◌+◌, ◌-◌, ◌<◌, ◌≤◌, List, [], ◌∷◌, ◌++◌, length, Some, None, refl, sym, ap, subst, ◌∙◌, arith, append_assoc}
 use Rattle.std.proofs.lemmas.List.{take-append-drop, drop-drop, set_at, get_or-append_right, get_or-drop, length-replicate, length-map, length-append, length-take, length-drop, take_at, drop_at, drop-replicate, replicate-append-replicate}
 use mathlib.Core.Logic.{inl, inr, ⊎_elim}
@@ -20,8 +20,8 @@ same_or_not i j =
     (λ (q : i ≤ j). inl (let e : i ≡ j = omega arith in e)) (order j i)) (order i j)
 
 module _ {T : Type 0} where
-  -- Suppose that `i` and `j` are the same index. Then swapping the contents of the slots `i` and
-  -- `j` yields the list `s` in which slot `i` has been overwritten with its own contents.
+  -- If `i` and `j` are the same index, then swapping the contents of the slots `i` and `j` of the
+  -- list `s` results in the same list as overwriting slot `i` with its own contents.
   pub set-same : (s : List (Option T)) (i j : ℕ) → i ≡ j
       → set s i (slot s i) ≡ set (set s i (slot s j)) j (slot s i)
   set-same s i j same =
@@ -138,8 +138,8 @@ module _ {T : Type 0} where
       (sym (append_assoc ys (y ∷ []) (drop (suc k) s)))
       ∙ ap (λ (n : ℕ). take i s ++ ((ys ++ y ∷ []) ++ drop n s)) long))))
 
-  -- Suppose that `i ≤ length s`, and that the slots of the list `s` from index `i` onward are
-  -- replaced with `ys`. Then each slot whose index `k` is at least `i + length ys` is unchanged.
+  -- `laid i ys s` is the list `s` with the slots `i..i + length ys` replaced with `ys`. If
+  -- `i ≤ length s`, then each slot of `s` whose index `k` is at least `i + length ys` is unchanged.
   pub slot-laid : (i : ℕ) (ys s : List (Option T)) (k : ℕ) → i ≤ length s → i + length ys ≤ k
       → slot (laid i ys s) k ≡ slot s k
   slot-laid i ys s k low past =
@@ -185,9 +185,9 @@ module _ {T : Type 0} where
 
   module _ (from to k : ℕ) where
     -- `moved from to k s` is the list `s` after the contents of the slots `from..from + k` have
-    -- been moved to the slots `to..to + k`. Suppose that the slots `from..from + k` of `s` are
-    -- `ys`, and that `s` becomes `bare` if these slots are emptied. If `bare` becomes `result` when
-    -- its slots from index `to` onward are replaced with `ys`, then `moved from to k s` is
+    -- been moved to the slots `to..to + k`. Suppose that `ys` is the list of the slots
+    -- `from..from + k` of `s`, and that `bare` is `s` with these slots emptied. If `result` is
+    -- `bare` with the slots `to..to + length ys` replaced with `ys`, then `moved from to k s` is
     -- `result`.
     moved-by : (s ys bare result : List (Option T)) → run from k s ≡ ys → emptied from k s ≡ bare
         → laid to ys bare ≡ result → moved from to k s ≡ result
@@ -364,15 +364,17 @@ module _ {T : Type 0} (s : List (Option T)) (n : ℕ) (packed : IsPacked s n) wh
       let long = full-long in
       omega (arith, length-append (full xs) (empty {T = T} (length s - n)))
 
-  -- If `IsPacked s n` holds, then each of the first `n` slots of `s` is filled.
+  -- If exactly the first `n` slots of `s` are filled, then slot `i` of `s` is filled for each index
+  -- `i` less than `n`.
   pub packed-filled : (i : ℕ) → i < n → IsSome (slot s i)
   packed-filled i low =
       let len = packed.len in
       subst (λ (l : Row). IsSome (slot l i)) (sym packed.row)
       (full-filled xs (empty (length s - length xs)) i (omega arith))
 
-  -- If exactly the first `n` slots of `s` are filled, then these slots hold all items of `s`, in
-  -- order.
+  -- Suppose that exactly the first `n` slots of `s` are filled, and that `xs` is the list of all
+  -- items in `s`. Then `run 0 n s`, the list of these slots, is `full xs`: the slots hold the items
+  -- `xs`, in order.
   pub packed-run : run 0 n s ≡ full xs
   packed-run = ap (λ (l : Row). take n l) parted
       ∙ take_at (full xs) (empty (length s - n)) n full-long

@@ -8,8 +8,10 @@
 --   inverse.
 -- - `turn_up` forms the array that an allocator can grow, and `turn_down` is the inverse.
 -- - `units_out` converts memory for `k` words into memory for the capacity and the length.
--- - `header_apart` splits the header into memory for words and the rights that belong to a block,
---   and `header_whole` is the inverse.
+-- - `header_apart` splits what a block owns besides its slots into three parts: memory for words,
+--   the right to convert memory for the slots into memory for words, and the right to free the
+--   block. `header_whole` combines the capacity, the length and three rights into what a block owns
+--   besides its slots.
 use Rattle.std.proofs.Common.{◌≡◌, true, ℕ, Some, None, ◌+◌, ◌-◌, ◌*◌, List, [], ◌∷◌, ◌++◌, length, refl, sym, ap, ◌∙◌, arith, w64, append_assoc}
 use Rattle.std.proofs.lemmas.List.{length-map, length-append, length-replicate, map-append, replicate-append-replicate}
 use Rattle.std.specs.Prelude.{Bool}
@@ -103,10 +105,10 @@ module _ {M : Type 1} {𝓤 : Ura M} (𝓛 : Logic 𝓤) (E : El) (b c o : ℕ) 
   Parts w = sep 𝓤 (H.room half b o) (sep 𝓤 (H.room half b (o + 8))
       (sep 𝓤 (H.room (array_of (R E) c) b (o + 16)) (sem 𝓛 (way_back w (bare (R E)) c b o))))
 
-  -- Suppose that `in_words` returns the pair `w` for the size of the item type. The pair contains
-  -- two numbers: the number of items in a word, and the number of words that take as many bytes as
-  -- the header. Then `InWords` holds for these two numbers and for the bare item type, which is the
-  -- item type with all field names erased.
+  -- A word is a struct of 8 or 16 bytes that consists of whole items. Suppose that `in_words`
+  -- returns the pair `w` for the size of the item type. Then `InWords` holds for the bare item
+  -- type, which is the item type with all field names erased: `w.0` items make a word, and the
+  -- header takes as many bytes as `w.1` words.
   known : (w : ℕ × ℕ) → in_words (type_size (R E)) ≡ Some w
       → InWords (size (bare (R E))) (align (bare (R E))) w.0 w.1
   known w e = nameless (elτ E) w.0 w.1 (words_told (R E) w.0 w.1 e)
@@ -358,9 +360,9 @@ module _ {M : Type 1} {𝓤 : Ura M} (𝓛 : Logic 𝓤) (T : RattleType) (L : L
     asked_words : words_of (R Item) ≡ Some (m, k)
     asked_words = same_words (R Item) c ∙ is
 
-    -- Splits a block without the memory of its slots into three parts: uninitialized memory for `k`
-    -- words at the address of the header, the right to convert memory for the slots into memory for
-    -- words, and the right to free the block.
+    -- Splits what a block owns besides its slots into three parts: uninitialized memory for `k`
+    -- words at the address of the header; the right to convert memory for the slots into memory for
+    -- words; the right to free the block. The block has the length `n` and the capacity `c`.
     pub header_apart : ent 𝓤 (sem 𝓛 (frame t (R Item) n c b o))
         (sep 𝓤 (H.room units b o) (sep 𝓤 (sem 𝓛 Rest) (sem 𝓛 Right)))
     header_apart =
@@ -384,9 +386,10 @@ module _ {M : Type 1} {𝓤 : Ura M} (𝓛 : Logic 𝓤) (T : RattleType) (L : L
         rewrite ! 0 (λ (j : ℕ). ‵ (t (array_of (R W) j) (block_ptr b o))) (sym total) refl $
         move ! (1 ∷ 2 ∷ 0 ∷ []) $ done !
 
-    -- Combines five parts into a block without the memory of its slots. The parts are: the
-    -- capacity; the length; the right to convert memory for the header into memory for words; the
-    -- right to convert memory for the slots into memory for words; the right to free the block.
+    -- Combines five parts into what a block owns besides its slots. The parts are: the capacity;
+    -- the length; the right to convert memory for the header into memory for words; the right to
+    -- convert memory for the slots into memory for words; the right to free the block. The block
+    -- must be small enough to be allocated.
     pub header_whole : fits_block (R Item) c ≡ true
         → ent 𝓤 (sep 𝓤 (sem 𝓛 (lies_at usize full_share (block_ptr b o) c))
         (sep 𝓤 (sem 𝓛 (lies_at usize full_share (block_ptr b (o + 8)) n))

@@ -1,6 +1,6 @@
--- Lemmas for proofs about function bodies. Some lemmas are about the parts of a body. Others are
--- about the conditions that must hold before or after a part is executed, or about the proof of the
--- `ensures` clauses. The lemmas assume the laws of the separation logic (`Logic`).
+-- These lemmas are used by proofs about function bodies. Some lemmas are about the parts of a body.
+-- Others are about the conditions that must hold before or after a part is executed, or about the
+-- proof of the `ensures` clauses. The lemmas assume the laws of the separation logic (`Logic`).
 pub use Rattle.core.proofs.alloc.Shapes.{after, head, inside, arm_body}
 use Rattle.std.proofs.Common.{◌≡◌, ℕ, zero, suc, List, [], ◌∷◌, refl, T}
 use seplogic.Ra.Ura.{Ura}

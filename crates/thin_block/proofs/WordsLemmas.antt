@@ -1,7 +1,8 @@
--- Arithmetic lemmas about words. A word is a struct of 8 or 16 bytes that consists of whole items.
--- The lemmas say which item sizes allow words, and what the size and the alignment of a word are.
+-- These arithmetic lemmas are about words. A word is a struct of 8 or 16 bytes that consists of
+-- whole items. The lemmas say which item sizes allow words, and what the size and the alignment of
+-- a word are.
 --
--- - `InWords` collects facts about words of `m` items of `s` bytes, if the header takes as many
+-- - `InWords` states that `m` items of `s` bytes make a word, and that the header takes as many
 --   bytes as `k` words.
 -- - `words_told` says that `InWords` holds for the pair that `in_words` returns, if any.
 -- - `nameless` says that `InWords` also holds for a type with all field names erased.
@@ -167,9 +168,10 @@ abbrev pair : Option (ℕ × ℕ) → ℕ × ℕ
 pair None = (0, 0)
 pair (Some p) = p
 
--- Suppose that the item sizes `s` and `t` are equal, and that the pairs `p` and `q` are equal. If
--- `AtAny` holds for `t` and the two numbers in `p`, then `AtAny` holds for `s` and the two numbers
--- in `q`.
+-- `AtAny s m k` states that, for every alignment that divides the item size `s`, `m` items make a
+-- word, and the header takes as many bytes as `k` words. If `AtAny` holds for the size `t` and the
+-- two numbers in the pair `p`, then `AtAny` also holds for an equal size `s` and the two numbers in
+-- an equal pair `q`.
 at_size : (s t : ℕ) (p q : ℕ × ℕ) → s ≡ t → ◌≡◌ {A = Option (ℕ × ℕ)} (Some p) (Some q)
     → AtAny t p.0 p.1 → AtAny s q.0 q.1
 at_size s t p q es e all =
@@ -183,8 +185,10 @@ abbrev tested : Bool → Bool → Bool → Bool → Bool → Option (ℕ × ℕ)
 tested x y z u v = if x then Some (8, 2) else (if y then Some (4, 2) else
     (if z then Some (2, 2) else (if u then Some (1, 2) else (if v then Some (1, 1) else None))))
 
--- Suppose that `tested` returns the pair `q` for the item size `s`. Then `InWords` holds for `s`,
--- for the two numbers in `q`, and for every alignment that divides `s`.
+-- The booleans `x`, `y`, `z`, `u` and `v` say whether the item size `s` is 1, 2, 4, 8 or 16, in
+-- this order. Suppose that `tested x y z u v`, which is the result of `in_words` for the size `s`,
+-- is the pair `q`. Then `AtAny s q.0 q.1` holds: for every alignment that divides `s`, `q.0` items
+-- of size `s` make a word, and the header takes as many bytes as `q.1` words.
 by_test : (x y z u v : Bool) (s : ℕ) (q : ℕ × ℕ) → (s == 1) ≡ x → (s == 2) ≡ y → (s == 4) ≡ z
     → (s == 8) ≡ u → (s == 16) ≡ v → tested x y z u v ≡ Some q → AtAny s q.0 q.1
 by_test true y z u v s q ex ey ez eu ev e =
@@ -204,8 +208,9 @@ by_test false false false false true s q ex ey ez eu ev e =
     (λ w d. in_words_by 16 (bytes w) 1 1 counts_1 (omega arith) refl (laid_16 w d))
 by_test false false false false false s q ex ey ez eu ev e = absurd (clash (ap is_some e))
 
--- If `in_words (type_size R)` is `Some (m, k)`, then `InWords` holds for the size and the alignment
--- of the type `R`, and for `m` and `k`.
+-- A word is a struct of 8 or 16 bytes that consists of whole items. If `in_words (type_size R)` is
+-- `Some (m, k)`, then `InWords` holds for the size and the alignment of the type `R`: `m` items of
+-- this type make a word, and the header takes as many bytes as `k` words.
 pub words_told : (R : RattleType) (m k : ℕ) → in_words (type_size R) ≡ Some (m, k)
     → InWords (type_size R) (type_align R) m k
 words_told R m k e =
@@ -216,7 +221,8 @@ words_told R m k e =
     subst (λ (a : ℕ). InWords s a m k) (sym known)
     (at_width (align_w (layout R)) (subst (λ (a : ℕ). Dv a s) known (align_size (layout R))))
 
--- If `InWords` holds for a type, then `InWords` also holds for this type with all field names
+-- `InWords` states that `m` items of a type make a word, and that the header takes as many bytes as
+-- `k` words. If `InWords` holds for the type `τ`, then it also holds for `τ` with all field names
 -- erased.
 pub nameless : (τ : Ty) (m k : ℕ) → InWords (size τ) (align τ) m k
     → InWords (size (raw τ)) (align (raw τ)) m k

@@ -362,9 +362,9 @@ module _ {M : Type 1} {𝓤 : Ura M} (𝓛 : Logic 𝓤) (T : RattleType) (L : L
     abbrev Rooms : SProp 𝓤
     Rooms = rooms_for 𝓤 H fields zero b o
 
-    -- Suppose that memory for the fields of a word can be converted into memory for the word. Then
-    -- memory for the items of the word can be converted into memory for the word, too, because the
-    -- other field of a word takes no bytes.
+    -- Suppose that memory for all fields of a word can be converted into memory for the word. Then
+    -- memory for the items of the word can be converted into memory for the word, too (`way`),
+    -- because the only other field of a word takes no bytes.
     way_out : ent 𝓤 (RoomBack 𝓤 H (the_type (R E) N).name fields b o) (sem 𝓛 (way τ' m b o))
     way_out =
         qed 𝓛 (raw (RoomBack 𝓤 H (the_type (R E) N).name fields b o) ∷ []) ∵
@@ -423,10 +423,10 @@ module _ {M : Type 1} {𝓤 : Ura M} (𝓛 : Logic 𝓤) (T : RattleType) (L : L
         ap (λ (n : ℕ). n * s) (length-map (take m xs) Some ∙ first_long) in
         let e = wide in omega arith
 
-  -- Groups the slots that hold the items `xs` of `n` words. The slots of each word form one group.
-  -- Each group is combined with the right (`way`) to convert the memory of the group into memory
-  -- for a word. Before this step, there are such rights (`ways`) for `w` words. After this step,
-  -- the rights for the last `j` words are left over.
+  -- Groups the slots that hold the items `xs` of `n` words. Each group consists of the slots of one
+  -- word. It is combined with the right (`way`) to convert the memory of these slots into memory
+  -- for a word. Before this step, there are rights (`ways`) for `w` words: the `n` words and the
+  -- `j` words directly after them. After this step, the rights for the `j` words are left over.
   to_runs : (n w j : ℕ) (xs : List X) (o at : ℕ) → length xs ≡ n * m → w ≡ j + n → at ≡ n * u' + o
       → ent 𝓤 (sep 𝓤 (sem 𝓛 (places (R E) (full xs) b o)) (sem 𝓛 (ways τ' m w b o)))
       (sep 𝓤 (sem 𝓛 (runs_at (R E) N (chunks n xs) b o)) (sem 𝓛 (ways τ' m j b at)))
@@ -456,9 +456,10 @@ module _ {M : Type 1} {𝓤 : Ura M} (𝓛 : Logic 𝓤) (T : RattleType) (L : L
       (to_runs n (j + n) j (rest m xs) far at (rest_long n xs o long) refl
       (omega (arith, ea, suc-mul n u'))) $ split ! $ move ! (2 ∷ 0 ∷ []) $ fjoin ! $ done !
 
-  -- Converts `n` adjacent words into slots that hold the items `xs` of the words, and into rights
-  -- to convert these slots back into words. The lemma also takes such rights (`ways`) for the `j`
-  -- words directly after the `n` words. So the result contains the rights for all `w` words.
+  -- Converts `n` adjacent words into slots that hold the items `xs` of the words, and into the
+  -- rights to convert these slots back into words. Before this step, there are such rights (`ways`)
+  -- for the `j` words directly after the `n` words. After this step, there are rights for all `w`
+  -- words, where `w` is `j + n`.
   of_runs : (n w j : ℕ) (xs : List X) (o at : ℕ) → length xs ≡ n * m → w ≡ j + n → at ≡ n * u' + o
       → ent 𝓤 (sep 𝓤 (sem 𝓛 (places (R W) (full (words n xs)) b o)) (sem 𝓛 (ways τ' m j b at)))
       (sep 𝓤 (sem 𝓛 (places (R E) (full xs) b o)) (sem 𝓛 (ways τ' m w b o)))
