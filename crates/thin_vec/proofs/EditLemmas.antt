@@ -19,14 +19,14 @@ use Rattle.thin_vec.specs.declared.edits.holder.Holds.{Ghosts as HoldsGhosts}
 
 -- The following lemmas are about `dedup_by` and `dedup_by_key`.
 
--- In this module, `R` describes the calls to a closure that compares two items. For each call, `R`
--- relates the old state of the closure, the two items, the result, the new state, and the two items
--- after the call.
+-- In this module, `R` describes the calls to a closure that compares two items. `R` has seven
+-- arguments: the state of the closure before the call, the two items, the result of the call, the
+-- state after the call, and the two items as the call left them.
 module _ {S T : Type 0} (R : S → T → T → Bool → S → T → T → Type 0) where
-  -- Suppose that the items `xs` follow the kept item `k`, and that each item of `xs` was compared
-  -- with the last item kept before it. Suppose also that `ys` is the list of all kept items,
-  -- including `k`. Then std's `DedupsFrom` holds: `ys` is what remains of `k ∷ xs` if the
-  -- duplicates are removed.
+  -- Suppose that a closure tested the items `xs` in order, each against the last item kept before
+  -- it. (For the first item of `xs`, this is the item `k`.) The flags `stays` say which items of
+  -- `xs` were kept, and `ys` is the list of `k` and the kept items. Then std's `DedupsFrom` holds:
+  -- `ys` is what remains of `k ∷ xs` after the duplicates are removed.
   dedups_from : (xs : List T) (s : S) (k : T) (stays : List Bool) (ys : List T) (t : S)
       → AskedLast R s k xs stays ys t → DedupsFrom R s k xs ys
   dedups_from [] s k stays ys t h = h.1
@@ -46,9 +46,10 @@ module _ {S T : Type 0} (R : S → T → T → Bool → S → T → T → Type 0
         ]) h.7,
   )
 
-  -- Suppose that each item of the list `xs`, except the first, was compared with the last item kept
-  -- before it, and that `ys` is the list of the kept items. Then std's `DedupsAll` holds: `ys` is
-  -- what remains of `xs` if the duplicates are removed.
+  -- Suppose that a closure tested each item of the list `xs`, except the first, against the last
+  -- item kept before it. The flags `stays` say which of the tested items were kept, and `ys` is the
+  -- list of all kept items, including the first item. Then std's `DedupsAll` holds: `ys` is what
+  -- remains of `xs` after the duplicates are removed.
   dedups_all : (xs : List T) (s : S) (stays : List Bool) (ys : List T) (t : S)
       → AskedPairs R s xs stays ys t → DedupsAll R s xs ys
   dedups_all [] s stays ys t h = h.1
@@ -144,7 +145,10 @@ module _ {T F A G : Type 0} {g : Ghosts G}
     {h : HoldsGhosts (Holder (Extracting T F A)) (Extracting T F A)} (test : T → Bool) where
   -- `IsExtracting` is the invariant of a loop that appends each item yielded by an `ExtractIf` to a
   -- list. When the loop began, the `ExtractIf` was `start` and the list was `old`. At present, the
-  -- `ExtractIf` is `now` and the list is `held`.
+  -- `ExtractIf` is `now` and the list is `held`. The invariant states that `held`, followed by the
+  -- untested items of `now` that pass `test`, is `old`, followed by the untested items of `start`
+  -- that pass `test`. A similar equation holds for the items that do not pass. The items after the
+  -- range are the same in `start` and `now`, and `start` and `now` borrow the same `ThinVec`.
   pub record IsExtracting (start now : ExtractIf T F A G (Holder (Extracting T F A)) g h)
       (old held : List T) : Type 0 where
     pub gone : held ++ filter test (extract_rest now) ≡ old ++ filter test (extract_rest start)
@@ -155,8 +159,8 @@ module _ {T F A G : Type 0} {g : Ghosts G}
     pub count : length held + length (extract_rest now)
         ≤ length old + length (extract_rest start)
 
-  -- `IsExtracting` holds at the start of a loop over an `ExtractIf`, before any item has been
-  -- yielded.
+  -- `IsExtracting` is the invariant of a loop that appends each item yielded by an `ExtractIf` to a
+  -- list. It holds at the start of the loop, before any item has been yielded.
   pub extract_start : (e : ExtractIf T F A G (Holder (Extracting T F A)) g h) (old : List T)
       → IsExtracting e e old old
   extract_start e old =
@@ -165,8 +169,9 @@ module _ {T F A G : Type 0} {g : Ghosts G}
   module _ (R : F → T → Bool → F → T → Type 0)
       (says : (s : F) (x : T) (b : Bool) (t : F) (y : T) → R s x b t y
       → (b ≡ test x) × (y ≡ x)) where
-    -- If `IsExtracting` holds and `next` yields an item, then `IsExtracting` holds again after this
-    -- item is appended to the list.
+    -- Suppose that `IsExtracting`, the invariant of the loop, holds. Suppose also that a call to
+    -- `next` yields the item `x` and turns the `ExtractIf` from `now` into `new`. Then the
+    -- invariant still holds after `x` is appended to the list `held`.
     pub extract_step : {start now new : ExtractIf T F A G (Holder (Extracting T F A)) g h}
         {old held more : List T} {item : Option T} {x : T} → IsExtracting start now old held
         → ExtractSteps R now item new → item ≡ Some x → more ≡ held ++ x ∷ []

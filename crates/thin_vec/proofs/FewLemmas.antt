@@ -52,8 +52,8 @@ either_few : (b : Bool) (m n : ℕ) → m < 2 ^ 31 → n < 2 ^ 31 → (if b then
 either_few true m n few less = few
 either_few false m n few less = less
 
--- The least capacity that the growth rule `doubling` chooses for the first block of a list is
--- `first s`, where `s` is the size of an item in bytes. This capacity is less than `2 ^ 31`.
+-- If a list of capacity 0 grows under the growth rule `doubling`, then its new capacity is at least
+-- `first s`, where `s` is the size of an item in bytes. The number `first s` is less than `2 ^ 31`.
 first_few : (s : ℕ) → first s < 2 ^ 31
 unfolding first
 first_few s = either_few (nat_lt (2 ^ 61 - 1) s) 1 4 (omega arith) (omega arith)
@@ -97,15 +97,16 @@ either_most : (b : Bool) → (if b then 1 else 4) ≤ 4
 either_most true = omega arith
 either_most false = omega arith
 
--- The least capacity that the growth rule `doubling` chooses for the first block of a list is
--- `first s`, where `s` is the size of an item in bytes. This capacity is at most 4.
+-- If a list of capacity 0 grows under the growth rule `doubling`, then its new capacity is at least
+-- `first s`, where `s` is the size of an item in bytes. The number `first s` is at most 4.
 first_most : (s : ℕ) → first s ≤ 4
 unfolding first
 first_most s = either_most (nat_lt (2 ^ 61 - 1) s)
 
--- If `c < w`, then each of the numbers `first s` and `2 * c` is at most `max 4 (2 * w)`. Here,
--- `first s` is the least capacity of the first block of a list with items of `s` bytes. The flag
--- `b` selects one of the two numbers.
+-- Suppose that a list of capacity `c` has to grow to make room for `w` items, so `c < w`. Under the
+-- growth rule `doubling`, its new capacity is at least `2 * c`, or at least `first s` if `c` is 0
+-- and an item takes `s` bytes. Both of these numbers are at most `max 4 (2 * w)`. The flag `b`
+-- selects one of them.
 twice-most : (b : Bool) (s c w : ℕ) → c < w → (if b then first s else 2 * c) ≤ max 4 (2 * w)
 twice-most true s c w more = omega (arith, first_most s)
 twice-most false s c w more = omega (arith, more)

@@ -85,8 +85,9 @@ module _ {T : Type 0} where
       ∙ ap (λ (n : ℕ). full (xs ++ v ∷ []) ++ replicate n None) m)))
 
   -- Suppose that `i` is less than the length of `xs`, and that slot `i` of `full xs ++ s` is
-  -- emptied. Then all other slots remain unchanged. They hold the first `i` items of `xs` before
-  -- slot `i`, and the later items of `xs`, followed by the slots `s`, after slot `i`.
+  -- emptied. Then all other slots remain unchanged. The slots before slot `i` hold the first `i`
+  -- items of `xs`. The slots after slot `i` hold the later items of `xs`, and are followed by the
+  -- slots `s`.
   pub full-take : (xs : List T) (s : List (Option T)) (i : ℕ) (d : T) → i < length xs
       → set (full xs ++ s) i None ≡ full (take i xs) ++ (None ∷ (full (drop (suc i) xs) ++ s))
   full-take [] s i d h = absurd (omega arith)
@@ -142,10 +143,11 @@ module _ {T A : Type 0} where
     pub items : items_in b.slots ≡ xs
     pub cap : length b.slots ≡ c
 
-  -- Suppose that the slots of the block `b` are `front xs c`: the slots of at most `c` items `xs`,
-  -- followed by empty slots up to the capacity `c`. Suppose also that the stored length of `b` is
-  -- the length of `xs`, and that the memory of `b` came from the allocator `a`. Then `b` is the
-  -- block of a list with the items `xs` and the capacity `c`.
+  -- Suppose that the slots of the block `b` are `front xs c`: they hold the items `xs`, and all
+  -- later slots up to the capacity `c` are empty. Suppose also that `xs` has at most `c` items,
+  -- that the stored length of `b` is the length of `xs`, and that the memory of `b` came from the
+  -- allocator `a`. Then `Settled` holds: `b` is the block of a list with the items `xs`, the
+  -- capacity `c` and the allocator `a`.
   pub settled : (b : Block T A) (a : A) (xs : List T) (c : ℕ) → b.slots ≡ front xs c
       → b.len ≡ length xs → length xs ≤ c → IsFrom b.alloc a → Settled b a xs c
   settled b a xs c e n h f =
@@ -164,10 +166,10 @@ module _ {T A : Type 0} where
         cap = l;
       }
 
-  -- Suppose that the block of the list `v` is replaced with the block `b'`. If `b'` has `c` slots,
-  -- the items `xs` and the cost `k`, then contracts describe the new list as `v` with the capacity
-  -- `c`, the items `xs` and the cost `k`. The premise `w ≡ v` says that `w` is the same list as
-  -- `v`.
+  -- Suppose that the block of the list `v` is replaced with the block `b'`, which has `c` slots,
+  -- the items `xs` and the cost `k`. (The cost counts requests for memory, copied items and moves.)
+  -- Then contracts describe the new list as `v` with the capacity `c`, the items `xs` and the cost
+  -- `k`. Since `w` is equal to `v`, the new list has the allocator `w.alloc`.
   pub thin_of-becomes : {w v : Thin T A} → w ≡ v → (b' : Block T A) {xs : List T} {c : ℕ} {k : Cost}
       → length b'.slots ≡ c → items_in b'.slots ≡ xs → b'.cost ≡ k
       → thin_of b' w.alloc ≡ record v { items = xs; capacity = c; cost = k }
@@ -178,10 +180,10 @@ module _ {T A : Type 0} where
     cost = cost i;
   }
 
-  -- Suppose that the block of the list `v` is replaced with the block `b'`, which has the same
-  -- number of slots as the old block. If `b'` has the items `xs` and the cost `k`, then contracts
-  -- describe the new list as `v` with the items `xs` and the cost `k`. The premise `w ≡ v` says
-  -- that `w` is the same list as `v`.
+  -- Suppose that the block of the list `v` is replaced with the block `b'`, which has the items
+  -- `xs`, the cost `k`, and as many slots as the old block. (The cost counts requests for memory,
+  -- copied items and moves.) Then contracts describe the new list as `v` with the items `xs` and
+  -- the cost `k`. Since `w` is equal to `v`, the new list has the allocator `w.alloc`.
   pub thin_of-keeps : {w v : Thin T A} → w ≡ v → (b' : Block T A) {xs : List T} {k : Cost}
       → length b'.slots ≡ w.capacity → items_in b'.slots ≡ xs → b'.cost ≡ k
       → thin_of b' w.alloc ≡ record v { items = xs; cost = k }
@@ -208,7 +210,8 @@ module _ {T A : Type 0} where
   from-same b b' a f e = λ x h. f x (sym e ∙ h)
 
   -- `IsWritten b b' s n k` holds if the block `b'` is the block `b` with the new slots `s`, the new
-  -- stored length `n` and the new cost `k`.
+  -- stored length `n` and the new cost `k`. (The cost counts requests for memory, copied items and
+  -- moves.)
   abbrev pub IsWritten : Block T A → Block T A → List (Option T) → ℕ → Cost → Type 0
   IsWritten b b' s n k = seen b' ≡ record (seen b) { slots = s; len = n; cost = k }
 

@@ -59,7 +59,7 @@ module _ {T : Type 0} where
 
 module _ {T A : Type 0} where
   -- An open block is the block of a list during an edit. `Found h v` holds if `h` is a valid open
-  -- block, and `v` is the open block `h` as it appears in contracts.
+  -- block, and contracts describe `h` as `v`.
   pub record Found (h : Inside T A) (v : Open T A) : Type 0 where
     pub lies : IsOpen h
     pub view : open_of h ≡ v
@@ -100,17 +100,20 @@ module _ {T A : Type 0} where
     by_rest = s.row ∙ sym
         (append_assoc (full v.front) (empty v.gap) (full v.rest ++ past_rest v))
 
-    -- The slots of the open block `h` are `to_after v` (the slots up to the end of the middle
-    -- items), followed by `past_rest v` (the slots after the middle items).
+    -- Suppose that `v` describes the layout of the open block `h`. Then the slots of `h` are
+    -- `to_after v` (the slots up to the end of the middle items), followed by `past_rest v` (the
+    -- slots after the middle items).
     by_after : h.block.slots ≡ to_after v ++ past_rest v
     by_after = by_rest ∙ sym (append_assoc (to_rest v) (full v.rest) (past_rest v))
 
-    -- The slots of the open block `h` are `to_tail v` (the slots before the tail items), followed
-    -- by `past_after v` (the slots from the first tail item onward).
+    -- Suppose that `v` describes the layout of the open block `h`. Then the slots of `h` are
+    -- `to_tail v` (the slots before the tail items), followed by `past_after v` (the slots from the
+    -- first tail item onward).
     by_tail : h.block.slots ≡ to_tail v ++ past_after v
     by_tail = by_after ∙ sym (append_assoc (to_after v) (empty v.gap_after) (past_after v))
 
-    -- The number of slots before the middle items is `h.rest_start`.
+    -- Suppose that `v` describes the layout of the open block `h`. Then `to_rest v`, the list of
+    -- the slots before the middle items, has the length `h.rest_start`.
     pub at_rest : length (to_rest v) ≡ h.rest_start
     at_rest = omega (
       arith,
@@ -121,8 +124,8 @@ module _ {T A : Type 0} where
       s.gap,
     )
 
-    -- `to_after v` contains all slots up to the end of the middle items. The number of these slots
-    -- is `h.rest_end`.
+    -- Suppose that `v` describes the layout of the open block `h`. Then `to_after v`, the list of
+    -- the slots up to the end of the middle items, has the length `h.rest_end`.
     at_after : length (to_after v) ≡ h.rest_end
     at_after = omega (
       arith,
@@ -132,7 +135,9 @@ module _ {T A : Type 0} where
       s.rest,
     )
 
-    -- The number of slots before the tail items is `h.tail_start`.
+    -- Suppose that `v` describes the layout of the open block `h`. Then `to_tail v`, the list of
+    -- the slots before the tail items, has the length `h.tail_start`. (The tail items are the items
+    -- after the edited range.)
     at_tail : length (to_tail v) ≡ h.tail_start
     at_tail = omega (
       arith,
@@ -148,7 +153,8 @@ module _ {T A : Type 0} where
     pub reached : reach v ≡ h.len
     reached = omega (arith, s.front, s.gap, s.rest, s.gap_after, s.tail)
 
-    -- The number of slots of the open block `h` is `v.capacity`.
+    -- If `v` describes the layout of the open block `h`, then the number of slots of `h` is
+    -- `v.capacity`.
     shown-cap : length h.block.slots ≡ v.capacity
     shown-cap =
         omega (
@@ -246,15 +252,16 @@ module _ {T A : Type 0} where
       → xs ≡ (open_of h).rest
   rest-run h xs e = sym (items-full-alone xs) ∙ ap items_in e
 
-  -- The following lemmas are about the steps of an edit, such as the removal of one item. For each
-  -- step, there are two definitions and one lemma. The first definition is the stored open block
-  -- after the step. The second definition is this open block as it appears in contracts. The lemma
-  -- proves that the two definitions agree.
+  -- The following definitions and lemmas are about the steps of an edit, such as the removal of one
+  -- item. For most steps, there are two definitions and one lemma. The first definition is the open
+  -- block after the step, with the slot indices that it stores. The second definition is the value
+  -- that describes this open block in contracts. The lemma states that the open block is valid, and
+  -- that contracts describe it as this value.
 
   module _ (h : Inside T A) (o : IsOpen h) (b : Block T A)
       (some : 0 < length (open_of h).rest) where
-    -- `v` is the open block `h` as it appears in contracts, before one of its middle items is
-    -- removed.
+    -- `v` is the value that describes the open block `h` in contracts, before one of the middle
+    -- items of `h` is removed.
     abbrev v : Open T A
     v = open_of h
 

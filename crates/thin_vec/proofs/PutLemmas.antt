@@ -1,7 +1,7 @@
--- These lemmas are about loops that put items into the empty slots of a block. Some of the lemmas
--- are about loops that take the items from an iterator, and bound the number of these items. Other
--- lemmas are about a loop that moves the items of a `Vec` into the slots one by one, beginning with
--- the last item. They state what the slots contain during this loop.
+-- These lemmas are about loops that put items into the empty slots of a block. The first lemmas are
+-- about loops that take the items from an iterator. These lemmas bound the number of items that the
+-- loop takes. The other lemmas are about a loop that moves the items of a `Vec` into the slots one
+-- by one, beginning with the last item. They state what the slots contain during this loop.
 use Rattle.std.proofs.Common.{◌≡◌, ℕ, ◌+◌, ◌<◌, ◌≤◌, List, [], ◌∷◌, ◌++◌, length, take, drop, Option, Some, None, sym, ap, ◌∙◌, append_assoc, arith, get_or, length-append}
 use Rattle.std.proofs.lemmas.List.{append-nil, length-take-le, length_push, set_at, take_more}
 use lib.ListN.{set}
@@ -63,8 +63,9 @@ module _ {T : Type 0} where
     pub parts : xs ≡ left ++ rest
     pub row : s ≡ laid (start + length left) (full rest) r
 
-  -- `IsMoving` holds before the first item is moved. At this point, all items of `xs` still have to
-  -- be moved, and the slots `s` have not changed.
+  -- `IsMoving` is the invariant of a loop that moves the items `xs` into slots, beginning with the
+  -- last item. It holds before the first item is moved. At this point, all items of `xs` still have
+  -- to be moved, and the slots `s` have not changed.
   pub moving-first : (xs : List T) (start : ℕ) (s : List (Option T)) → IsMoving xs xs start s s
   moving-first xs start s =
       record {
@@ -73,9 +74,11 @@ module _ {T : Type 0} where
         row = sym (laid-none (start + length xs) s);
       }
 
-  -- Suppose that `IsMoving` holds, and that `v` is the last item that has not been moved yet. If
-  -- `v` is moved into its slot, then `IsMoving` still holds, and only the items `left`, which
-  -- precede `v`, still have to be moved.
+  -- `IsMoving` is the invariant of a loop that moves the items `xs` into slots, beginning with the
+  -- last item. Suppose that it holds, and that the items that have not been moved yet are `left`,
+  -- followed by `v`. Suppose also that there are enough slots for all items `xs`. If `v` is moved
+  -- into its slot, which is slot `i`, then `IsMoving` holds again, and only the items `left` have
+  -- not been moved yet.
   pub moving-next : {xs : List T} (left : List T) {start : ℕ} (i : ℕ) (v : T)
       {r s : List (Option T)} → IsMoving xs (left ++ v ∷ []) start r s → i ≡ start + length left
       → start + length xs ≤ length r → IsMoving xs left start r (set s i (Some v))

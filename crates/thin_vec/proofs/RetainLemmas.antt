@@ -80,8 +80,8 @@ module _ {T : Type 0} where
   trues-append ((true, x) ∷ a) b = let e = trues-append a b in omega arith
   trues-append ((false, x) ∷ a) b = trues-append a b
 
-  -- `stay xs` is a list of verdicts that keep every item. The list `xs` contains the items as the
-  -- tests left them. So the list of the kept items is `xs`.
+  -- `stay xs` is a list of verdicts which say that all items are kept, and that the tests left
+  -- these items as `xs`. So the list of the kept items, `left_at true (stay xs)`, is equal to `xs`.
   pub left_at-stay : (xs : List T) → left_at true (stay xs) ≡ xs
   left_at-stay [] = refl
   left_at-stay (x ∷ xs) = ap (λ (l : List T). x ∷ l) (left_at-stay xs)
@@ -92,9 +92,9 @@ module _ {T : Type 0} where
   trues-stay [] = refl
   trues-stay (x ∷ xs) = ap suc (trues-stay xs)
 
-  -- Only items after the first removed item are moved down. So if the tests keep all items `xs` at
-  -- the start of a list, then none of the items `xs` is moved down. The number of moved items
-  -- depends only on `a`, the verdicts on the items after `xs`.
+  -- `moved_down` counts the kept items after the first removed item, because these items are moved
+  -- down. If the tests keep all items `xs` at the start of a list, then none of the items `xs` is
+  -- moved down. So the count depends only on `a`, the list of the verdicts on the items after `xs`.
   pub moved_down-stay : (xs : List T) (a : Verdicts T) → moved_down (flags_of (stay xs ++ a))
       ≡ moved_down (flags_of a)
   moved_down-stay [] a = refl
@@ -160,8 +160,8 @@ module _ {S T : Type 0} (R : S → T → Bool → S → T → Type 0) where
       }
 
   module _ (k m : ℕ) (s : S) (xs : List T) (t : S) (ys : List T) (h : Stays k m s xs t ys) where
-    -- `asked-part` is the list of all items before index `m`. The items that were tested are in
-    -- this list as the tests left them.
+    -- `asked-part` is the list of all items before index `m`. It consists of the items before index
+    -- `k`, which were not tested, followed by the items `k..m` as the tests left them.
     abbrev asked-part : List T
     asked-part = h.before ++ h.left
 
@@ -173,9 +173,9 @@ module _ {S T : Type 0} (R : S → T → Bool → S → T → Type 0) where
     parted : ys ≡ asked-part ++ h.more
     parted = h.now ∙ sym (append_assoc h.before h.left h.more)
 
-    -- Suppose that the next test, `a`, tests the item at index `m`. Then `asked-part` is the list
-    -- of the items before this item. The list `h.more` contains the items that had not been tested
-    -- before `a`. Its first item is the item that `a` tests.
+    -- Suppose that the next test, `a`, is the test of the item at index `m`. Then `asked-part` is
+    -- the list of the items before this item. The list `h.more` of the items that were untested
+    -- before `a` consists of the item that `a` tests, followed by `a.after`.
     next-parts : (b : Bool) (u : S) (zs : List T) (a : IsAskedAt R m t ys b u zs)
         → (a.before ≡ asked-part) × (h.more ≡ a.item ∷ a.after)
     next-parts b u zs a =
@@ -282,9 +282,9 @@ module _ {S T : Type 0} (R : S → T → Bool → S → T → Type 0) where
       ap suc (stay-count xs h.2 t ys
       (subst (λ (a : Verdicts T). Asked R h.2 xs a t) (sym (cons-tail h.6)) h.5))
 
-  -- A closure tests the items of a list until it decides to remove an item, or until the end of the
-  -- list. Suppose that `b` is the list of the items after the kept items, and that the last test
-  -- turned `b` into `e`. Then `e` has the same length as `b`.
+  -- `Stops` describes the end of a sequence of tests. The items `b` follow the kept items. If `b`
+  -- is not empty, then its first item is tested, and is to be removed. The list `e` is `b` as this
+  -- test left it. The lemma states that `e` has the same length as `b`.
   stop-count : (u : S) (b : List T) (t : S) (e : List T) → Stops R u b t e → length e ≡ length b
   stop-count u [] t e h = ap length h.0
   stop-count u (x ∷ b) t e h = ap length h.2
@@ -371,8 +371,8 @@ module _ {S T : Type 0} (R : S → T → Bool → S → T → Type 0) where
     pub count : trues (flags_of verdicts) ≡ m
 
   module _ (m : ℕ) (s : S) (xs : List T) (t : S) (ys : List T) (r : AskedUpTo R 0 m s xs t ys) where
-    -- The premise `r` describes the tests of the items of `xs`, and `r.before` is the list of the
-    -- items before the first tested item. This list is empty, because the tests began at index 0.
+    -- `r` describes tests of the items of the list `xs`, beginning at index 0. So `r.before`, the
+    -- list of the items before the first tested item, is empty.
     run-none : r.before ≡ []
     run-none = nil_from_length r.before r.place
 
@@ -400,9 +400,10 @@ module _ {S T : Type 0} (R : S → T → Bool → S → T → Type 0) where
     pub run-end : drop m ys ≡ r.end
     run-end = ap (drop m) run-now ∙ drop_at r.left r.end m run-long
 
-    -- Suppose that `b` is the list of the items after the kept items, and that the last test turned
-    -- `b` into `v ∷ rest`. Then `b` is `x ∷ rest` for some item `x`. The closure returned false for
-    -- `x`, and left `x` as `v`.
+    -- `Stops` describes the end of a sequence of tests. If any items `b` follow the kept items,
+    -- then the first of these items is tested, and is to be removed. Suppose that this test turned
+    -- the list `b` into `v ∷ rest`. Then `b` is `x ∷ rest` for some item `x`. The closure returned
+    -- false for `x`, and left `x` as `v`.
     pub stop-goes : (u : S) (b e : List T) (v : T) (rest : List T) → Stops R u b t e → e ≡ v ∷ rest
         → (x : T) × (b ≡ x ∷ rest) × R u x false t v
     stop-goes u [] e v rest h k = absurd (cons-not-nil (sym k ∙ h.0))
@@ -438,10 +439,11 @@ module _ {S T : Type 0} (R : S → T → Bool → S → T → Type 0) where
               );
         }
 
-    -- Suppose that `b` is the list of the items after the kept items, and that `e` is this list
-    -- after the tests. If `e` is empty, then `b` was also empty, so no test took place after the
-    -- test of the last kept item. The state `t` after the tests is then equal to the state `u`
-    -- after that test.
+    -- `Stops` describes the end of a sequence of tests. If any items `b` follow the kept items,
+    -- then the first of these items is tested, and is to be removed. The list `e` is `b` as this
+    -- test left it. If `e` is empty, then `b` is also empty, so no such test took place. In this
+    -- case, the state `t` at the end is equal to the state `u` after the test of the last kept
+    -- item.
     pub stop-ends : (u : S) (b e : List T) → Stops R u b t e → e ≡ [] → (b ≡ []) × (t ≡ u)
     stop-ends u [] e h k = (refl, h.1)
     stop-ends u (x ∷ b) e h k = absurd (cons-not-nil (sym h.2 ∙ k))
@@ -463,10 +465,10 @@ module _ {S T : Type 0} (R : S → T → Bool → S → T → Type 0) where
   -- list during an edit.
 
   module _ {A : Type 0} (v w : Open T A) where
-    -- `Sifts` describes a stage in which middle items of an open block are tested in order. The
-    -- kept items are moved to the end of the front items, at the cost of one move each, and the
-    -- other tested items are removed. Suppose that such a stage keeps `m` items and turns the open
-    -- block `v` into the open block `w`, which has a gap. Then `Sifts` relates `v` to `w`.
+    -- `Sifts` relates an open block before some tests and removals to the open block after them.
+    -- Suppose that middle items of the open block `v` are tested in order. The `m` kept items are
+    -- moved to the end of the front items, at the cost of one move each, and the other tested items
+    -- are removed. If the resulting open block `w` has a gap, then `Sifts` relates `v` to `w`.
     pub sifts-of : (m : ℕ) (s t : S) (kept : List T) → Part m s v.rest t kept w.rest
         → 0 < w.gap → w ≡ record v {
           front = v.front ++ kept;
@@ -503,9 +505,9 @@ module _ {S T : Type 0} (R : S → T → Bool → S → T → Type 0) where
     moved : w.cost ≡ moving h.count v.cost
     moved = ap (λ u. u.cost) h.now ∙ moving-after v.gap h.count v.cost gap
 
-    -- Suppose that after the tests, the last tested item `value` is removed from the open block
-    -- `w`. Then `Sifts`, which describes a stage of tests and removals, relates the open block `v`
-    -- before the tests to the open block `z`, which is `w` without `value`.
+    -- `Sifts` relates an open block before some tests and removals to the open block after them.
+    -- Suppose that `w` is the open block after the tests, and that removing the last tested item,
+    -- `value`, turns `w` into `z`. Then `Sifts` relates the open block `v` before the tests to `z`.
     pub advanced-goes : (value : T) (z : Open T A) → w.rest ≡ value ∷ z.rest
         → z ≡ record w { rest = z.rest; gap = w.gap + 1 } → Sifts R s v t z
     advanced-goes value z rest same =
@@ -516,9 +518,9 @@ module _ {S T : Type 0} (R : S → T → Bool → S → T → Type 0) where
         (same ∙ (λ i. record (h.now i)
         { gap = sym (ap (λ u. u.gap) same) i; rest = z.rest; cost = moved i }))
 
-    -- If the open block `w` after the tests has no middle items, then the tests found no item to be
-    -- removed. In this case, `Sifts`, which describes a stage of tests and removals, relates the
-    -- open block `v` before the tests to `w`.
+    -- `Sifts` relates an open block before some tests and removals to the open block after them. If
+    -- the open block `w` after the tests has no middle items, then the tests found no item to be
+    -- removed. In this case, `Sifts` relates the open block `v` before the tests to `w`.
     pub advanced-ends : w.rest ≡ [] → Sifts R s v t w
     advanced-ends none =
         sifts-of v w h.count s t kept
@@ -536,8 +538,9 @@ module _ {S T : Type 0} (R : S → T → Bool → S → T → Type 0) where
       runs-count 0 h.count s v.rest t h.left h.run,
     )
 
-  -- `Sifts` describes a stage of tests and removals, which turns one open block into another.
-  -- Before the first test, it relates an open block `v` with a gap of empty slots to `v` itself.
+  -- `Sifts` relates an open block before some tests and removals to the open block after them.
+  -- Before the first test, `Sifts` relates an open block `v` to `v` itself if `v` has a gap of
+  -- empty slots before its middle items.
   pub sifts-start : {A : Type 0} (s : S) (v : Open T A) → 0 < v.gap → Sifts R s v s v
   sifts-start s v gap =
       record {
@@ -550,8 +553,8 @@ module _ {S T : Type 0} (R : S → T → Bool → S → T → Type 0) where
             { front = sym (append-nil v.front) i; cost = sym (moving-none v.cost) i };
       }
 
-  -- `Sifts` describes a stage of tests and removals, which turns one open block into another. It is
-  -- transitive: if it relates `v` to `w`, and `w` to `z`, then it relates `v` to `z`.
+  -- `Sifts` relates an open block before some tests and removals to the open block after them. It
+  -- is transitive: if `Sifts` relates `v` to `w`, and `w` to `z`, then it relates `v` to `z`.
   pub sifts-then : {A : Type 0} {s t u : S} {v w z : Open T A} → Sifts R s v t w
       → Sifts R t w u z → Sifts R s v u z
   sifts-then {s = s} {t} {u} {v} {w} {z} h k =
@@ -589,9 +592,10 @@ module _ {S T : Type 0} (R : S → T → Bool → S → T → Type 0) where
         { front = v.front ++ take m ys; gap = w.gap; rest = w.rest }
 
     -- `IsSifted` describes tests of all middle items of an open block, and the removal of the items
-    -- that are not kept. Suppose that `value`, the first item after the `m` kept items, was
-    -- removed, and that all later items were then tested. Then `IsSifted` relates the open block
-    -- `v` before all tests to the open block `z` after them.
+    -- that are not kept. Suppose that the first `m` middle items were kept, and that the next
+    -- middle item, `value`, was removed. Suppose also that all later middle items were then tested,
+    -- and were removed unless they were kept. Then `IsSifted` relates the open block `v` before all
+    -- tests to the open block `z` after them.
     pub sifted-goes : (value : T) (u : S) (z : Open T A) → Passed → drop m ys ≡ value ∷ w.rest
         → Sifts R t w u z → z.rest ≡ [] → IsSifted R s v u z
     unfolding part-goes
@@ -704,10 +708,10 @@ module _ {S T : Type 0} (R : S → T → Bool → S → Type 0) where
       let left : y ≡ x = ap (λ (p : Bool × T). p.1) same ∙ h.4.1 in
       (ap suc rest.0, (h.2, answer, rest.1), first b y x a xs left rest.2)
     where
-      -- This is the induction step of the lemma `told`. Suppose that the items that the verdicts
-      -- `a` keep are the items of `xs` whose flag is true. Suppose also that the test left the item
-      -- `x` unchanged, so `y` is equal to `x`. Then the same statement holds for `x ∷ xs`, with the
-      -- flag `b` for `x`.
+      -- This is the induction step of the lemma `told`. Suppose that the verdicts `a` keep exactly
+      -- the items of `xs` whose flag is true. Suppose also that the test left the item `x`
+      -- unchanged, so `y` is equal to `x`. Then the same statement holds for the list `x ∷ xs` and
+      -- its verdicts, where `b` is the flag for `x`.
       first : (b : Bool) (y x : T) (a : Verdicts T) (xs : List T) → y ≡ x
           → left_at true a ≡ items_where_true (flags_of a) xs
           → left_at true ((b, y) ∷ a) ≡ items_where_true (b ∷ flags_of a) (x ∷ xs)

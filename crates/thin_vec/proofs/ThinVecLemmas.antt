@@ -104,10 +104,10 @@ module _ {T A : Type 0} (v : Thin T A) (c : ℕ) where
 -- capacities before and after the growth.
 pub ruleset costs = (cost_at-same, cost_at-more)
 
--- `IsCheapAt` bounds the requests for memory and the copied items that are recorded in the cost of
--- a list, depending on its capacity. Suppose that it holds for the capacity `c` and the cost `k`.
--- Suppose also that the list grows from the capacity `c` to `c'`, and that at most `c` items are
--- copied. If `c < c'` and `2 * c ≤ c'`, then `IsCheapAt` holds for `c'` and the new cost.
+-- `IsCheapAt c k` bounds the requests for memory and the copied items in the cost `k` of a list
+-- that has the capacity `c`. Suppose that this bound holds. Suppose also that the list then grows
+-- to the capacity `c'`, and that `n` items are copied. If `n ≤ c`, `c < c'` and `2 * c ≤ c'`, then
+-- the bound also holds for the capacity `c'` and the new cost.
 cheap-growing : {c : ℕ} {k : Cost} (n c' : ℕ) → IsCheapAt c k → n ≤ c → c < c' → 2 * c ≤ c'
     → IsCheapAt c' (growing n k)
 cheap-growing {c = zero} {k} n c' h le larger doubled =

@@ -1,6 +1,6 @@
 //! The functions in this file call `splice`. Their contracts show what a caller can conclude from
-//! the contract of `splice`. The tests check which items a list has after a splice, and what a
-//! failed call to `finish`, the method that completes a splice, returns.
+//! the contract of `splice`. The tests check which items a list has after a splice. They also check
+//! the error that `finish`, the method that completes a splice, returns on failure.
 ghost use Rattle.std.specs.Prelude.{◌≡◌, ◌≤◌, ◌++◌, OnOk, drop, length, take};
 
 use crate::tests::support::assertions::{assert_items, assert_len, assert_list, assert_same};
@@ -67,10 +67,10 @@ fn second_splice_undoes_the_first(rt: HostRuntime) {
     }
 }
 
-// Asserts that `refused`, the error of a failed call to `finish`, has the expected contents. The
-// tuple `wanted` lists these contents, in this order: the cause of the failure, the items in the
-// vector `held`, the item in the option `in_hand`, and the items that the iterator `rest` still
-// yields. All four are fields of the error.
+// Asserts that the four fields of `refused`, the error of a failed call to `finish`, have the
+// values in the tuple `wanted`. These values are, in this order: the cause of the failure, the
+// items that the vector `held` contains, the option `in_hand`, and the items that the iterator
+// `rest` still yields.
 fn assert_refused<A: Allocator>(
     rt: &impl Abort,
     refused: SpliceRefused<i32, Claims<'_>, A>,
@@ -90,10 +90,10 @@ fn assert_refused<A: Allocator>(
     assert_same(rt, rest.next(), None);
 }
 
-// Makes a list of the items `items`, tries to replace its range `range` with the items of `iter`,
-// and asserts that this fails. Then asserts that the list has the items and the capacity in the
-// pair `left`. Finally, asserts that the error has the contents `wanted`, which `assert_refused`
-// describes.
+// Makes a list with the items `items`, tries to replace the range `range` of the list with the
+// items of `iter`, and asserts that this attempt fails. Then asserts that the list has the items
+// `left.0` and the capacity `left.1`. Finally, calls `assert_refused` to assert that the fields of
+// the error have the values in `wanted`.
 fn assert_range_refused<A: Allocator + Copy>(
     rt: &impl Abort,
     alloc: A,

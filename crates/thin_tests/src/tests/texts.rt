@@ -67,8 +67,9 @@ fn prints_a_drain_of_many_items(rt: HostRuntime) {
     assert_text(&rt, rt.alloc(), &drain, "Drain([2, 3, 4, 5, 6, 7])");
 }
 
-// Asserts that `{:?}`, `{:#?}` and `{:04?}` print the name of the error and its cause, and that
-// `{}` prints only the cause.
+// Asserts that `{:?}`, `{:#?}` and `{:04?}` print the error `refused` as the name of its type,
+// which is `name`, followed by its cause, which is `cause`. Also asserts that `{}` prints only the
+// cause.
 fn assert_prints_cause<E: Debug + Display>(
     rt: &impl Abort,
     alloc: Global,

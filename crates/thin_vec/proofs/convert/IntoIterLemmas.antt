@@ -35,9 +35,10 @@ module _ {T : Type 0} where
       ∙ ap (λ (s : List (Option T)). s ++ (full xs ++ empty k))
       (replicate-append-replicate start 1 None))
 
-  -- Suppose that the slots are, in this order: `start` empty slots, the items `xs`, the item `x`,
-  -- and `k` empty slots. Then this list of slots consists of `empty start ++ full xs`, followed by
-  -- the slot of `x` and the `k` empty slots.
+  -- Suppose that a list of slots consists of `start` empty slots, the slots of the items `xs`, the
+  -- slot of the item `x`, and `k` empty slots. This list can be split directly before the slot of
+  -- `x`. The first part is `empty start ++ full xs`. The second part is the slot of `x`, followed
+  -- by the `k` empty slots.
   row-last : (start k : ℕ) (xs : List T) (x : T) → empty start ++ (full (xs ++ x ∷ []) ++ empty k)
       ≡ (empty start ++ full xs) ++ (Some x ∷ empty k)
   row-last start k xs x =
@@ -286,8 +287,8 @@ module _ {T A : Type 0} where
       (from-same b b' a t.from (ap (λ v. v.alloc) w))
 
   -- Suppose that the items `ws` are written into the block `b` of an iterator from slot `start`
-  -- onward. Then contracts describe the new iterator as the old one with `ws` in place of the first
-  -- items that have not been yielded yet. Nothing else about the iterator changes.
+  -- onward. Then contracts describe the new iterator as the old iterator, except that `ws` replaces
+  -- the first of the items that have not been yielded yet. Nothing else about the iterator changes.
   pub view-written : (b : Block T A) (a : A) (start end : ℕ) (ws : List T) → IsWalked b a start end
       → thin_of (block_with_items b start ws) a ≡ with_items (thin_of b a) ws
   view-written b a start end ws t =

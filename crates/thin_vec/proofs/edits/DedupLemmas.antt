@@ -46,8 +46,9 @@ trues-all : (n : ℕ) → trues (replicate n true) ≡ n
 trues-all zero = refl
 trues-all (suc n) = ap suc (trues-all n)
 
--- If the first `n` items of a list are kept, then none of them is moved. So `n` true flags at the
--- start of a list of flags do not change `moved_down`, the number of items that are moved.
+-- `moved_down` counts the kept items after the first removed item, because only these items are
+-- moved. If the first `n` items of a list are kept, then none of them is moved. So `n` true flags
+-- at the start of a list of flags do not change `moved_down`.
 moved-all : (n : ℕ) (b : List Bool) → moved_down (replicate n true ++ b) ≡ moved_down b
 moved-all zero b = refl
 moved-all (suc n) b = moved-all n b
@@ -97,10 +98,11 @@ module _ {S T : Type 0} (R : OnPairs S T) where
   -- In this module, the items `zs` were tested after the kept item `l`. The tests changed the state
   -- of the closure from `t` to `u`, and `ws` is the list of the kept items, including `l`.
   module _ (t u : S) (l : T) (g : List Bool) (ws zs : List T) (m : AskedLast R t l zs g ws u) where
-    -- Suppose that the tests of the items `xs` after the kept item `k` changed the state of the
-    -- closure from `s` to `t`, and that the kept items were then `pre`, followed by `l`. If the
-    -- tests of `zs` changed the state from `t` to `u`, then the tests of `xs ++ zs` changed the
-    -- state from `s` to `u`, and the kept items are `pre ++ ws`.
+    -- Suppose that the items `xs` were tested after the kept item `k`, and that these tests changed
+    -- the state of the closure from `s` to `t`. The kept items, including `k`, are `pre`, followed
+    -- by `l`. Suppose also that the items `zs` were then tested after `l`, and that these tests
+    -- changed the state from `t` to `u`. Here, the kept items, including `l`, are `ws`. Then the
+    -- tests of `xs ++ zs` changed the state from `s` to `u`, and the kept items are `pre ++ ws`.
     last-append : (xs : List T) (s : S) (k : T) (f : List Bool) (pre : List T)
         → AskedLast R s k xs f (pre ++ l ∷ []) t → AskedLast R s k (xs ++ zs) (f ++ g) (pre ++ ws) u
     last-append [] s k f pre h =
@@ -163,8 +165,8 @@ module _ {S T : Type 0} (R : OnPairs S T) where
       }
 
   module _ (m : ℕ) (s : S) (xs : List T) (t : S) (ys : List T) (h : PairStays m s xs t ys) where
-    -- `NextPair` describes the next test, `a`. It states that `a` compared the first untested item,
-    -- `a.later`, with the last kept item, `h.last`.
+    -- `NextPair b u zs a` holds if the next test, `a`, compared the first untested item with the
+    -- last kept item. The first untested item is `a.later`, and the last kept item is `h.last`.
     pub record NextPair (b : Bool) (u : S) (zs : List T)
         (a : IsPairAskedAt R m t ys b u zs) : Type 0 where
       pub front : a.before ≡ h.pre
@@ -243,8 +245,9 @@ module _ {S T : Type 0} (R : OnPairs S T) where
           now = next-now false u zs a;
         }
 
-    -- If the test of the item at index `m` decides to remove this item, then `PairsAskedUpTo`
-    -- holds: the first `m` items were kept, and the tests stopped at the next item.
+    -- Suppose that the first `m` items were kept. If the test of the item at index `m` decides to
+    -- remove this item, then `PairsAskedUpTo` holds: the first `m` items were kept, and the tests
+    -- stopped at the item at index `m`.
     pub pair-goes : (u : S) (zs : List T) → IsPairAskedAt R m t ys true u zs
         → PairsAskedUpTo R m s xs u zs
     pair-goes u zs a =
@@ -304,8 +307,10 @@ module _ {S T : Type 0} (R : OnPairs S T) where
           | inr q ↦ (q.1.0, q.1.1)
         ]
 
-    -- The first item is kept without a test. So the number `m` of kept items is 1 plus the number
-    -- of tested items that are kept.
+    -- The list `r.stays` contains one flag for each tested item, which is true if the item is kept.
+    -- Suppose that this list consists of `r.more` true flags, followed by the flags `f`, which are
+    -- all false. Then the number `m` of kept items is 1 plus the number of true flags, because the
+    -- first item is kept without a test.
     pub run-count : (f : List Bool) → trues f ≡ 0 → r.stays ≡ all-stay r.more ++ f
         → suc (trues r.stays) ≡ m
     run-count f none e =
@@ -317,8 +322,9 @@ module _ {S T : Type 0} (R : OnPairs S T) where
   module _ {A : Type 0} (v w : Open T A) where
     -- An open block is the block of a list during an edit. It holds front items, middle items and
     -- tail items, with gaps of empty slots between these groups. `Moved front cost` holds if the
-    -- open block `w` has the front items `front` and the cost `cost`, and otherwise differs from
-    -- the open block `v` at most in the gap and the middle items.
+    -- open block `w` has the front items `front` and the cost `cost`. The first gap and the middle
+    -- items of `w` may also differ from those of the open block `v`. Everything else is the same in
+    -- `v` and `w`.
     abbrev Moved : List T → Cost → Type 0
     Moved front cost = w ≡ record v
         { front = front; gap = w.gap; rest = w.rest; cost = cost }
@@ -331,11 +337,12 @@ module _ {S T : Type 0} (R : OnPairs S T) where
     moved e n = λ i. record v { front = e i; gap = w.gap; rest = w.rest; cost = n i }
 
     module _ (s t : S) where
-      -- `Dedups` describes a stage in which duplicates are removed from the middle items of an open
-      -- block. The middle items are tested in order. The kept items are moved to the end of the
-      -- front items, at the cost of one move each, and the other tested items are removed. Suppose
-      -- that such a stage tests the items `done`, that `first` is the last front item before it,
-      -- and that it turns the open block `v` into `w`. Then `Dedups` relates `v` to `w`.
+      -- `Dedups` relates an open block before some tests for duplicates to the open block after
+      -- them. Suppose that the first middle items of the open block `v`, which are `done`, are
+      -- tested in order. The first test compares an item with `first`, the last front item. The
+      -- kept items are moved to the end of the front items, at the cost of one move each, and the
+      -- other tested items are removed. If the resulting open block `w` has a gap, then `Dedups`
+      -- relates `v` to `w`.
       dedups-of : (before : List T) (first : T) (done : List T) (stays : List Bool) (kept : List T)
           → v.front ≡ before ++ first ∷ [] → v.rest ≡ done ++ w.rest
           → AskedLast R s first done stays kept t → 0 < w.gap
@@ -354,9 +361,9 @@ module _ {S T : Type 0} (R : OnPairs S T) where
             now = now;
           }
 
-    -- `Dedups` describes a stage in which duplicates are removed from the middle items of an open
-    -- block. If the first middle item `x` was tested and removed, then `Dedups` relates the open
-    -- block `v` before this test to the open block `w` after the removal.
+    -- `Dedups` relates an open block before some tests for duplicates to the open block after them.
+    -- If the first middle item `x` was tested and removed, then `Dedups` relates the open block `v`
+    -- before this test to the open block `w` after the removal.
     pub dedups-goes : {s t : S} (x y : T) (front : List T)
         → IsLastAsked R s x v.front true t y front → v.rest ≡ x ∷ w.rest → 0 < w.gap
         → Moved front v.cost → Dedups R s v t w
@@ -365,10 +372,10 @@ module _ {S T : Type 0} (R : OnPairs S T) where
         (last-goes s t a.kept x y a.kept_left a.asked) gap
         (now ∙ moved (λ i. a.now i) (sym (moving-none v.cost)))
 
-    -- `Dedups` describes a stage in which duplicates are removed from the middle items of an open
-    -- block. Suppose that the first middle item `x` was tested and kept, and that it was moved to
-    -- the end of the front items at the cost of one move. Then `Dedups` relates the open block `v`
-    -- before this test to the open block `w` after this move.
+    -- `Dedups` relates an open block before some tests for duplicates to the open block after them.
+    -- Suppose that the first middle item `x` was tested and kept, and that it was moved to the end
+    -- of the front items, at the cost of one move. Then `Dedups` relates the open block `v` before
+    -- this test to the open block `w` after this move.
     pub dedups-stays : {s t : S} (x y : T) (front : List T)
         → IsLastAsked R s x v.front false t y front → v.rest ≡ x ∷ w.rest
         → 0 < w.gap → Moved (front ++ y ∷ []) (moving 1 v.cost) → Dedups R s v t w
@@ -381,18 +388,18 @@ module _ {S T : Type 0} (R : OnPairs S T) where
     module _ (s t u : S) (x y z : T) (front ys zs : List T)
         (a : IsLastAsked R s x v.front false t y front) (b : Bool)
         (n : IsNextAsked R t y ys b u z zs) (whole : v.rest ≡ x ∷ ys) where
-      -- Suppose that the first middle item was tested and kept, and that the second middle item was
-      -- then tested. `z` is the first middle item as these two tests left it, and is now the last
-      -- front item. The front item before `z` is `a.kept_left`, the old last front item as the
-      -- tests left it.
+      -- Suppose that the first middle item was tested and kept, so it became the last front item.
+      -- Suppose also that the second middle item was then tested. Then the last front item is `z`,
+      -- which is the old first middle item as the two tests left it. The item before `z` is
+      -- `a.kept_left`, which is the old last front item as the first test left it.
       two-front : (front ++ z ∷ [] ≡ a.before ++ a.kept_left ∷ z ∷ [])
       two-front = ap (λ (l : List T). l ++ z ∷ []) a.now
           ∙ append_assoc a.before (a.kept_left ∷ []) (z ∷ [])
 
-      -- Suppose that the first middle item was tested, kept and moved to the end of the front
-      -- items. Suppose also that the second middle item was then tested and removed. Then `Dedups`,
-      -- which describes a stage of the removal of duplicates, relates the open block `v` before
-      -- these two tests to the open block `w` after them.
+      -- `Dedups` relates an open block before some tests for duplicates to the open block after
+      -- them. Suppose that the first middle item was tested, kept and moved to the end of the front
+      -- items. Suppose also that the second middle item was then tested and removed. Then `Dedups`
+      -- relates the open block `v` before these two tests to the open block `w` after them.
       pub dedups-two : b ≡ true → (value : T) → zs ≡ value ∷ w.rest → 0 < w.gap
           → Moved (front ++ z ∷ []) (moving 1 v.cost) → Dedups R s v u w
       dedups-two e value rest gap now =
@@ -406,10 +413,11 @@ module _ {S T : Type 0} (R : OnPairs S T) where
           (a.kept_left ∷ z ∷ []) a.was (whole ∙ ap (λ (l : List T). x ∷ l)
           (n.was ∙ ap (λ (l : List T). n.later ∷ l) same)) asked gap (now ∙ moved two-front refl)
 
-      -- Suppose that the first `m + 1` middle items were tested, kept and moved to the end of the
-      -- front items. Suppose also that the next middle item, if there is one, was tested and
-      -- removed. Then `Dedups`, which describes a stage of the removal of duplicates, relates the
-      -- open block `v` before these tests to the open block `w` after them.
+      -- `Dedups` relates an open block before some tests for duplicates to the open block after
+      -- them. Suppose that the first `m + 1` middle items were tested, kept and moved to the end of
+      -- the front items. Suppose also that the next middle item, if there is one, was tested and
+      -- removed. Then `Dedups` relates the open block `v` before these tests to the open block `w`
+      -- after them.
       pub dedups-run : b ≡ false → (m : ℕ) (q : S) (ws : List T) (r : PairsAskedUpTo R m u zs q ws)
           → r.after ≡ w.rest → suc (trues r.stays) ≡ m
           → 0 < w.gap → Moved ((front ++ z ∷ []) ++ take m ws) (moving m (moving 1 v.cost))
@@ -438,9 +446,9 @@ module _ {S T : Type 0} (R : OnPairs S T) where
           ∙ append_assoc a.before (a.kept_left ∷ z ∷ []) r.left)
           (moving-more m 1 v.cost ∙ ap (λ (k : ℕ). moving k v.cost) paid))
 
-  -- `Dedups` describes a stage of the removal of duplicates, which turns one open block into
-  -- another. Before the first test, it relates an open block `v` to `v` itself if `v` has a gap of
-  -- empty slots and at least one front item.
+  -- `Dedups` relates an open block before some tests for duplicates to the open block after them.
+  -- Before the first test, `Dedups` relates an open block `v` to `v` itself if `v` has at least one
+  -- front item, and a gap of empty slots before its middle items.
   pub dedups-start : {A : Type 0} (s : S) (v : Open T A) → 0 < length v.front
       → 0 < v.gap → Dedups R s v s v
   dedups-start s v some gap =
@@ -458,9 +466,8 @@ module _ {S T : Type 0} (R : OnPairs S T) where
         now = λ i. record v { front = p.2 i; cost = sym (moving-none v.cost) i };
       }
 
-  -- `Dedups` describes a stage of the removal of duplicates, which turns one open block into
-  -- another. It is transitive: if it relates `v` to `w`, and `w` to `z`, then it relates `v` to
-  -- `z`.
+  -- `Dedups` relates an open block before some tests for duplicates to the open block after them.
+  -- It is transitive: if `Dedups` relates `v` to `w`, and `w` to `z`, then it relates `v` to `z`.
   pub dedups-then : {A : Type 0} {s t u : S} {v w z : Open T A} → Dedups R s v t w
       → Dedups R t w u z → Dedups R s v u z
   dedups-then {s = s} {t} {u} {v} {w} {z} h k =
@@ -505,10 +512,11 @@ module _ {S T : Type 0} (R : OnPairs S T) where
     abbrev RunPassed : Type 0
     RunPassed = Moved v w (take m ys) v.cost
 
-    -- `IsDeduped` describes the removal of all duplicates from an open block. Suppose that `value`,
-    -- the first item after the `m` kept items, was removed, and that all later items were then
-    -- tested. Then `IsDeduped` relates the open block `v` before all tests to the open block `z`
-    -- after them.
+    -- `IsDeduped` describes the removal of all duplicates from an open block. Suppose that the
+    -- first `m` middle items were kept, and that the next middle item, `value`, was removed.
+    -- Suppose also that all later middle items were then tested, and that the duplicates among them
+    -- were removed. Then `IsDeduped` relates the open block `v` before all tests to the open block
+    -- `z` after them.
     pub deduped-goes : (value : T) (u : S) (z : Open T A) → RunPassed → drop m ys ≡ value ∷ w.rest
         → Dedups R t w u z → z.rest ≡ [] → IsDeduped R s v u z
     deduped-goes value u z p k h none =

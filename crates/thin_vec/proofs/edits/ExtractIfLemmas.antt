@@ -92,8 +92,8 @@ module _ {F T : Type 0} (R : F → T → Bool → F → T → Type 0) where
 
     module _ (m : ℕ) (s : S) (xs : List T) (t : S) (ys : List T)
         (h : AskedUpTo J 0 m s xs t ys) where
-      -- The premise `h` describes the tests of the items of `xs`, and `h.before` is the list of the
-      -- items before the first tested item. This list is empty, because the tests began at index 0.
+      -- `h` describes tests of the items of the list `xs`, beginning at index 0. So `h.before`, the
+      -- list of the items before the first tested item, is empty.
       none-before : h.before ≡ []
       none-before = nil_from_length h.before h.place
 
@@ -154,8 +154,8 @@ module _ {F T : Type 0} (R : F → T → Bool → F → T → Type 0) where
           h.stops (sym end-is ∙ some))
 
 -- Suppose that the list `xs` contains at least `k` items, so `take k xs` has the length `k`. Then
--- moving `k` items across a gap costs the same as moving the items `take k xs` across it. If the
--- gap is empty, then no item is moved, and the cost does not change.
+-- moving `k` items across a gap of `gap` empty slots costs the same as moving the items `take k xs`
+-- across it. If `gap` is 0, then no item is moved, and the cost does not change.
 pub cost-of : {T : Type 0} (gap : ℕ) (cost : Cost) (k : ℕ) (xs : List T) → k ≤ length xs
     → (if gap == 0 then cost else moving k cost)
     ≡ (if gap == 0 then cost else moving (length (take k xs)) cost)

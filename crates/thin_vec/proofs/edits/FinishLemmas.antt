@@ -65,9 +65,10 @@ module _ {S T A : Type 0} {steps : S → Option T → S → Type 0} {can : S →
     pub filled-long : length w.items ≡ length v.front + length v.tail + length p.0.items
     filled-long = omega (arith, ap length p.1.items, between-length v p.0.items)
 
-    -- Suppose that items of an iterator were put into the gap, and that the iterator has not ended
-    -- yet, so the gap is full. Then `IsReached`, which describes such a state during a call to
-    -- `finish`, holds for the list `w` and the inserted items.
+    -- `IsReached` describes a state during a call to `finish` in which enough items were inserted
+    -- to fill the gap. Suppose that items of an iterator were put into the gap, and that the
+    -- iterator has not ended yet. Then the gap is full, and `IsReached` holds for the list `w` and
+    -- the inserted items.
     pub filled-reached : f.ended ≡ false
         → IsReached steps can remaining v s w p.0.items f.end f.rest
     filled-reached more = record {
@@ -87,19 +88,20 @@ module _ {S T A : Type 0} {steps : S → Option T → S → Type 0} {can : S →
 
     module _ (rule : Rule) (R : RattleType) (n : ℕ) (left : Count) where
       -- `HasTaken` describes how adding items of an iterator changed a list, and bounds the number
-      -- of moves of old items. If closing the gap moved old items at most `n` times in total, then
-      -- `HasTaken` holds with the bound `n`. It relates the list of the old items, `left_of v a`,
-      -- to the new list `w`.
+      -- of moves of old items. Suppose that items were put into the gap, and that closing the gap
+      -- then moved old items at most `n` times in total. Then `HasTaken` relates the list of the
+      -- old items, `left_of v a`, to the new list `w`, with the bound `n`.
       pub filled-taken : p.1.cost.0 ≤ n → HasTaken rule R (left_of v a) w n left
       filled-taken few =
           taken-spare rule R (left_of v a) w (length p.0.items) p.1.cost.0 n left p.1.cost.1
           p.1.capacity (omega (arith, filled-long, length-append v.front v.tail)) few p.1.alloc
 
       -- Suppose that a gap was opened in the list `u` before index `at`, that items of an iterator
-      -- were put into it, and that it was then closed. Suppose also that `n` is at least the number
-      -- of moves of old items when the gap was closed, plus the number of items of `u` from index
-      -- `at` onward. Then `HasTaken` relates `u` to the new list `w`: it describes how adding the
-      -- items changed the list, and states that old items were moved at most `n` times.
+      -- were put into the gap, and that the gap was then closed. Let `w` be the resulting list.
+      -- Suppose also that the number of moves of old items when the gap was closed, plus the number
+      -- of items of `u` from index `at` onward, is at most `n`. Then `HasTaken` relates `u` to `w`.
+      -- It describes how adding the items changed the list, and states that old items were moved at
+      -- most `n` times.
       pub wide-taken : (u : Thin T A) (at count : ℕ) → IsWide v u at count → a ≡ u.alloc
           → p.1.cost.0 + (length u.items - at) ≤ n → HasTaken rule R u w n left
       wide-taken u at count wide from few =
@@ -195,10 +197,10 @@ module _ {S T A : Type 0} {steps : S → Option T → S → Type 0} {can : S →
         }
 
   module _ {rule : Rule} {R : RattleType} (v : Open T A) (a : A) (s : S) (w : Thin T A) where
-    -- Suppose that `finish` returned `Ok` and placed all items that the iterator yields. Suppose
-    -- also that the new list `w` satisfies `HasTaken`, which is mainly about its cost, and
-    -- `IsExtended`, which is about its capacity. Then `IsFinished`, which describes the whole call,
-    -- also holds.
+    -- `IsFinished` describes a whole call to `finish`. Suppose that the call returned `Ok`, and
+    -- inserted all items that the iterator yields. Suppose also that the new list `w` satisfies
+    -- `HasTaken` and `IsExtended`. `HasTaken` bounds the moves of old items, among other things.
+    -- `IsExtended` states which capacity the list may have. Then `IsFinished` holds for this call.
     pub finished-ok : (x : Unit {0})
         → (xs : List T) × Drains steps s xs × (w.items ≡ with_between v xs)
         → HasTaken rule R (left_of v a) w (2 * length v.tail) (remaining s)
@@ -216,10 +218,12 @@ module _ {S T A : Type 0} {steps : S → Option T → S → Type 0} {can : S →
       cause = tt;
     }
 
-    -- Suppose that a call to `finish` first placed the items `xs`, and that at least one tail item
-    -- follows them. The other premises describe the rest of the call, which returned `r`, and the
-    -- cost and the capacity of the new list `w`. Then `IsFinished`, which describes a whole call to
-    -- `finish`, holds with the result `r`.
+    -- `IsFinished` describes a whole call to `finish`. Suppose that the call first inserted the
+    -- items `xs`, and that at least one tail item follows them. The rest of the call returned `r`,
+    -- which is `Ok` if the iterator had no more items to yield. On success, the rest of the call
+    -- inserted all remaining items of the iterator after `xs`. On failure, it left the list
+    -- unchanged. If the error, and the cost and the capacity of the new list `w`, are as
+    -- `IsFinished` requires, then `IsFinished` holds with the result `r`.
     pub finished-from : {t : S} {u : Thin T A} {xs : List T} {end : ℕ}
         (r : Result (Unit {0}) (SpliceRefused T S A))
         → IsReached steps can remaining v s u xs end t → 0 < length v.tail

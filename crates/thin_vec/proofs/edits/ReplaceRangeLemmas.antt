@@ -95,7 +95,8 @@ module _ {T : Type 0} (xs : List T) (i j : ℕ) (order : i ≤ j) (within : j �
 
 module _ {T A : Type 0} (h : Inside T A) (o : IsOpen h) (b : Block T A) (k : ℕ)
     (few : k ≤ length (open_of h).tail) (room : k ≤ (open_of h).gap) where
-  -- `v` is the open block `h` as it appears in contracts, before its last `k` tail items are moved.
+  -- `v` is the value that describes the open block `h` in contracts, before the last `k` tail items
+  -- of `h` are moved.
   abbrev v : Open T A
   v = open_of h
 
@@ -280,11 +281,11 @@ pub record IsParted (k r k1 k2 : ℕ) : Type 0 where
   -- The number of all clones is `k1 + k2`.
   pub all : k1 + k2 ≡ k
 
--- Suppose that `k` clones replace a range of `r` items, and that `t` items follow the range. The
--- first `k1` clones are appended to the list, and are later moved into the range. The other `k2`
--- clones are inserted directly after the range, so `u` items then follow the range. (They replace
--- an empty range, whose length is `z`.) All these steps together take `min k r` more moves than a
--- replacement of the range with `k` items that already exist.
+-- Suppose that `k` clones replace a range of `r` items, and that `t` items follow the range. First,
+-- the last `k2` clones are inserted directly after the range. (They replace an empty range, whose
+-- length is `z`.) So `u` items, where `u` is `t + k2`, follow the range. Then the first `k1` clones
+-- are appended to the list, and are moved into the range. In total, these steps take `min k r` more
+-- moves than replacing the range with `k` items that already exist.
 pub cloning-moves : {k r k1 k2 : ℕ} → IsParted k r k1 k2 → (t : ℕ) {z u : ℕ} → z ≡ 0 → u ≡ t + k2
     → ((k2 + (if eqb k2 z then 0 else t)) + k1) + (k1 + (if eqb k1 r then 0 else u))
     ≡ (k + (if eqb k r then 0 else t)) + min k r

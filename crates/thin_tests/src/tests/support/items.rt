@@ -7,8 +7,8 @@ use std::process::Abort;
 use thin_testing::Refusing;
 use thin_vec::{Growth, ThinVec};
 
-/// Returns an allocator that refuses the request for memory with the number `number`. The first
-/// request has the number 1. If `number` is 0, no request is refused. The allocator is leaked so
+/// Returns an allocator that numbers the requests for memory from 1 onward, and refuses request
+/// number `number`. If `number` is 0, the allocator refuses no request. The allocator is leaked so
 /// that tests can hold a `'static` reference to it.
 pub fn refusing_nth(rt: &impl Abort, alloc: Global, number: u64) -> &'static Refusing<Global> {
     let refusing = Refusing::new(alloc, number);
