@@ -1,12 +1,12 @@
 -- An open block is the block of a list during an edit. It consists of three parts (the front, the
 -- middle run and the tail) with empty slots between them. The comment of `OpenBlock` in
--- `src/open_block.rt` shows a picture.
+-- `src/open_block.rt` contains a diagram of these parts.
 use Rattle.std.specs.Prelude.{ℕ, ◌+◌, ◌-◌, ◌==◌, List, ◌++◌, Option, if◌then◌else◌, length, refl}
 use Rattle.std.specs.Coded.{Coded, code_by, coded×, coded_ℕ, coded_list, coded_option}
 use Rattle.thin_block.specs.Cost.{Cost, cost_code, moving}
 use Rattle.thin_block.specs.Slots.{empty, full}
 
--- A value of the type `Open` describes an open block in contracts. An open block is the block of a
+-- Contracts describe an open block by a value of the type `Open`. An open block is the block of a
 -- list while a method such as `retain` or `drain` works on the list.
 pub record Open (T A : Type 0) : Type 0 where
   -- The front items: the items before the edited range, and the items that have been kept or

@@ -24,8 +24,9 @@ module _ {T A : Type 0} where
       }
 
   -- `Shows h v` states that the value `v` describes the open block `h`. The slots of `h` contain
-  -- the parts of `v` in order, and the indices that are stored in `h` say where each part begins
-  -- and ends. The number of slots is at least the index at which the last part ends.
+  -- the items of the three parts of `v` (the front, the middle run and the tail), and empty slots
+  -- between these parts. The indices that are stored in `h` say where each part begins and ends.
+  -- The last part ends at or before the end of the block.
   pub record Shows (h : Inside T A) (v : Open T A) : Type 0 where
     pub row : h.block.slots ≡ row_of v
     pub front : length v.front ≡ h.front_end

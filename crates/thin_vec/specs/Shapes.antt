@@ -57,9 +57,9 @@ all_none (x ∷ s) zero e = let n = ap length e in absurd (omega (arith, n))
 all_none (Some x ∷ s) (suc m) e = let n : 1 ≡ 2 = ap head_of e in absurd (omega (arith, n))
 all_none (None ∷ s) (suc m) e = ap (λ l. None ∷ l) (all_none s m (ap tail_of e))
 
--- Consider the row of slots `None ∷ s`, whose first slot is empty. If its flags, which say which
--- slots are filled, are equal to the flags of the row `full ys ++ empty m`, then the two rows are
--- equal. (In this case, `ys` is empty.)
+-- Suppose that the row of slots `None ∷ s` has the same flags as the row `full ys ++ empty m`. (The
+-- flags of a row say which slots are filled.) Then the two rows are equal. (In this case, `ys` is
+-- empty, because the first slot of `None ∷ s` is empty.)
 none_first : {X : Type 0} (s : List (Option X)) (ys : List X) (m : ℕ)
     → false ∷ map is_some s ≡ shape (length ys) m → None ∷ s ≡ full ys ++ empty m
 unfolding head_of

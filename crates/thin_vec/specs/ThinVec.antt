@@ -102,9 +102,9 @@ module _ {T A : Type 0} where
   abbrev pub cost_shrunk : Thin T A → Cost
   cost_shrunk v = cost_shrunk_to v (length v.items)
 
--- `IsCause named cause` states that a call fails with the error `CapacityOverflow` only if the
--- capacity that the call needs is too large. Here, `cause` is the error of the call. The value
--- `named` is the capacity that the call needs, or `None` if this capacity is too large.
+-- Consider a call that needs a certain capacity, and that fails with the error `cause`. The value
+-- `named` is this capacity, or `None` if this capacity is too large. `IsCause named cause` states
+-- that `cause` is `CapacityOverflow` only if this capacity is too large.
 abbrev pub IsCause : Option ℕ → ThinVecError → Type 0
 IsCause named cause = cause ≡ CapacityOverflow → named ≡ None
 

@@ -27,8 +27,8 @@ pub struct ExtendRefused<T, I> {
     /// The reason why the call failed.
     pub cause: ThinVecError,
     /// The last item that was taken from the iterator. The list was full, and could not grow to
-    /// hold this item. If the call could not even reserve room for the lower bound of the size
-    /// hint, no item was taken, and `in_hand` is `None`.
+    /// hold this item. At its start, the call reserves room for `n` items, where `n` is the lower
+    /// bound of the size hint. If this fails, the call takes no item, and `in_hand` is `None`.
     pub in_hand: Option<T>,
     /// The rest of the iterator, which yields the items that have not been taken yet.
     pub rest: I,
@@ -43,14 +43,16 @@ pub struct CollectRefused<T, I, A: Allocator = Global> {
     /// The reason why the call failed.
     pub cause: ThinVecError,
     /// The last item that was taken from the iterator. The list was full, and could not grow to
-    /// hold this item. If the call could not even allocate the first block, whose capacity is the
-    /// lower bound of the size hint, no item was taken, and `in_hand` is `None`.
+    /// hold this item. At its start, the call allocates the first block. The capacity of this block
+    /// is the lower bound of the size hint. If this fails, the call takes no item, and `in_hand` is
+    /// `None`.
     pub in_hand: Option<T>,
     /// The rest of the iterator, which yields the items that have not been taken yet.
     pub rest: I,
 }
 
-/// The error of `Splice::finish`. The items that were placed before the failure stay in the list.
+/// The error of `Splice::finish`. The items that were moved into the list before the failure stay
+/// in the list.
 #[derive(Drop)]
 pub struct SpliceRefused<T, I, A: Allocator = Global> {
     /// The reason why the call failed.
@@ -58,9 +60,10 @@ pub struct SpliceRefused<T, I, A: Allocator = Global> {
     /// The items that were collected from the iterator, but could not be moved into the list. The
     /// vector uses the allocator that was passed to `finish`.
     pub held: Vec<T, A>,
-    /// The last item that was taken from the iterator, after the items in `held`. There was no room
-    /// for this item. `in_hand` is `None` if the call failed because it could not reserve room in
-    /// the list, either for the lower bound of the size hint or for the items in `held`.
+    /// The last item that was taken from the iterator, after the items in `held`. The call failed
+    /// because there was no room for this item. If `in_hand` is `None`, the call failed because it
+    /// could not reserve room in the list. It needed this room for the items in `held`, or for `n`
+    /// items, where `n` is the lower bound of the size hint.
     pub in_hand: Option<T>,
     /// The rest of the iterator, which yields the items that have not been taken yet. If `held` is
     /// not empty and `in_hand` is `None`, the iterator has returned `None`, and `next` must not be
@@ -135,8 +138,8 @@ impl<T: Drop, I: Drop, A: Allocator> From<SpliceRefused<T, I, A>> for AllocError
 impl<S: Drop> From<Rejected<S>> for io::Error {
     ghost from_gives = { λ _ error. error_kind error ≡ Kind.OutOfMemory };
 
-    // Drops all fields of the old error. The kind of the new error is `OutOfMemory`, even if the
-    // cause was `CapacityOverflow`, because std has no `ErrorKind` for a capacity overflow.
+    // Drops all fields of the argument. The kind of the returned error is `OutOfMemory`, even if
+    // the cause was `CapacityOverflow`, because std has no `ErrorKind` for a capacity overflow.
     fn from(_refused: Rejected<S>) -> io::Error {
         io::Error::from(ErrorKind::OutOfMemory)
     }
@@ -145,8 +148,8 @@ impl<S: Drop> From<Rejected<S>> for io::Error {
 impl<T: Drop, I: Drop> From<ExtendRefused<T, I>> for io::Error {
     ghost from_gives = { λ _ error. error_kind error ≡ Kind.OutOfMemory };
 
-    // Drops all fields of the old error. The kind of the new error is `OutOfMemory`, even if the
-    // cause was `CapacityOverflow`, because std has no `ErrorKind` for a capacity overflow.
+    // Drops all fields of the argument. The kind of the returned error is `OutOfMemory`, even if
+    // the cause was `CapacityOverflow`, because std has no `ErrorKind` for a capacity overflow.
     fn from(_refused: ExtendRefused<T, I>) -> io::Error {
         io::Error::from(ErrorKind::OutOfMemory)
     }
@@ -155,8 +158,8 @@ impl<T: Drop, I: Drop> From<ExtendRefused<T, I>> for io::Error {
 impl<T: Drop, I: Drop, A: Allocator> From<CollectRefused<T, I, A>> for io::Error {
     ghost from_gives = { λ _ error. error_kind error ≡ Kind.OutOfMemory };
 
-    // Drops all fields of the old error. The kind of the new error is `OutOfMemory`, even if the
-    // cause was `CapacityOverflow`, because std has no `ErrorKind` for a capacity overflow.
+    // Drops all fields of the argument. The kind of the returned error is `OutOfMemory`, even if
+    // the cause was `CapacityOverflow`, because std has no `ErrorKind` for a capacity overflow.
     fn from(_refused: CollectRefused<T, I, A>) -> io::Error {
         io::Error::from(ErrorKind::OutOfMemory)
     }
@@ -165,8 +168,8 @@ impl<T: Drop, I: Drop, A: Allocator> From<CollectRefused<T, I, A>> for io::Error
 impl<T: Drop, I: Drop, A: Allocator> From<SpliceRefused<T, I, A>> for io::Error {
     ghost from_gives = { λ _ error. error_kind error ≡ Kind.OutOfMemory };
 
-    // Drops all fields of the old error. The kind of the new error is `OutOfMemory`, even if the
-    // cause was `CapacityOverflow`, because std has no `ErrorKind` for a capacity overflow.
+    // Drops all fields of the argument. The kind of the returned error is `OutOfMemory`, even if
+    // the cause was `CapacityOverflow`, because std has no `ErrorKind` for a capacity overflow.
     fn from(_refused: SpliceRefused<T, I, A>) -> io::Error {
         io::Error::from(ErrorKind::OutOfMemory)
     }

@@ -29,10 +29,10 @@ use thin_block::{Block, Doubling, Growth, ThinVecError};
 /// only one pointer wide. The length and the capacity are stored at the start of the allocation,
 /// which is called the *block* of the list. A list of capacity 0 has no block.
 ///
-/// The list owns its items, its block and its allocator. It needs the allocator to grow, and to
+/// The list owns its items, its block and its allocator. It uses the allocator to make, grow and
 /// free the block. Dropping a list drops its items and frees its block.
 ///
-/// The type `G` is the growth rule: it chooses the new capacity if there is too little room for new
+/// The type `G` is the growth rule. It chooses the new capacity if the list has no room for new
 /// items. The default `Doubling` is the rule of the Rust crate thin-vec.
 pub struct ThinVec<T, A: Allocator = Global, G: Growth = Doubling> {
     pub(crate) block: Block<T, A>,
@@ -83,7 +83,7 @@ impl<T, A: Allocator, G: Growth> ThinVec<T, A, G> {
     /// Returns an empty list of capacity 0 with the growth rule `G`. The list owns the allocator
     /// `alloc`. The call allocates nothing.
     ///
-    /// This method is our own: the Rust crate thin-vec has a single growth rule.
+    /// The Rust crate thin-vec has no such method, because it has a single growth rule.
     pub fn ruled(alloc: A) -> ThinVec<T, A, G>
         ensures new { IsNew result alloc }
         ensures within { IsWithin T.row result }
@@ -140,8 +140,7 @@ impl<T, A: Allocator, G: Growth> ThinVec<T, A, G> {
 
     /// Appends `value`, which the list then owns. If there is no spare capacity, the list first
     /// grows to the capacity that the growth rule chooses. A push takes amortized constant time,
-    /// because the growth rule at least doubles the capacity. This is also true after calls to
-    /// `reserve_exact`.
+    /// even after calls to `reserve_exact`, because the growth rule at least doubles the capacity.
     ///
     /// # Errors
     ///

@@ -59,9 +59,10 @@ pub record IsResized {T : Type 0} (clones : T → T → Type 0) (xs : List T) (n
 
 -- `StopsAtClone infallible sources before after` describes a call that clones the items of
 -- `sources` in order, until cloning an item fails. Here, `infallible x` states that cloning `x`
--- cannot fail. Let `at` be the index of the item whose clone failed. This item does not satisfy
--- `infallible`. Before the failure, the call made `at` clones, and each of them counts as one move.
--- So if the cost was `before` when the call began, the cost `after` is `before` plus `at` moves.
+-- cannot fail. Let `at` be the index of the item that could not be cloned. This item does not
+-- satisfy `infallible`. Before the failure, the call made `at` clones, and each clone counts as one
+-- move. `before` is the recorded cost before the first clone, and `after` is the recorded cost
+-- after the failure. So `after` is `before` plus `at` moves.
 pub record StopsAtClone {T : Type 0} (infallible : T → Type 0) (sources : List T)
     (before after : Cost) : Type 0 where
   pub at : ℕ
@@ -71,9 +72,9 @@ pub record StopsAtClone {T : Type 0} (infallible : T → Type 0) (sources : List
 
 -- `CostsUpToClone infallible sources v w` describes the cost of a call that cloned the items of
 -- `sources` into a list in order, until cloning an item failed. The call changed the list from `v`
--- to `w`. The cost of the call is one move for each clone that was made before the failure, and one
--- request for memory if the capacity changed. Such a request also counts each item of `v` as
--- copied. (`infallible x` states that cloning `x` cannot fail.)
+-- to `w`. Each clone that was made before the failure counts as one move. If the capacity changed,
+-- the cost also includes one request for memory, and each item of `v` counts as copied.
+-- (`infallible x` states that cloning `x` cannot fail.)
 abbrev pub CostsUpToClone : {T A : Type 0} → (T → Type 0) → List T → Thin T A → Thin T A → Type 0
 CostsUpToClone infallible sources v w =
     StopsAtClone infallible sources (cost_at v w.capacity) w.cost

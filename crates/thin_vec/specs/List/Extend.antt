@@ -18,9 +18,9 @@ use Rattle.thin_vec.specs.declared.errors.ExtendRefused.{ExtendRefused}
 
 -- `PausedAfter steps can remaining s ys t` states that calls to `next` on the iterator `s` yielded
 -- the items `ys` and changed the iterator to `t`. It also states that `next` may be called on `t`
--- again, and that the number of items that `t` still yields has a finite upper bound. Here, `steps`
--- describes a single call to `next`, `can x` states that `next` may be called on the iterator `x`,
--- and `remaining x` is the upper bound for `x`.
+-- again, and that `remaining t` is finite. Here, `steps` describes a single call to `next`, `can x`
+-- states that `next` may be called on the iterator `x`, and `remaining x` is an upper bound on the
+-- number of items that `x` still yields.
 pub record PausedAfter {S X : Type 0} (steps : S → Option X → S → Type 0) (can : S → Type 0)
     (remaining : S → Count) (s : S) (ys : List X) (t : S) : Type 0 where
   pub gave : Yields steps s ys t
@@ -28,43 +28,46 @@ pub record PausedAfter {S X : Type 0} (steps : S → Option X → S → Type 0) 
   pub finite : IsFinite (remaining t)
 
 -- `IsLoose rule R c d` compares an old capacity `c` with a new capacity `d` of a list of items of
--- the type `R`. It holds in two cases. In the first case, `d` equals `c`. In the second case, `d`
--- is at least `n`, where `n` is a capacity that the growth rule `rule` chooses when a block of
--- capacity `c` has to grow. A growth rule at least doubles the capacity. So in the second case, `d`
--- is at least `2 * c`.
+-- the type `R`. It holds in two cases. In the first case, the two capacities are equal. In the
+-- second case, there is a capacity `n` that the growth rule `rule` chooses for a block of capacity
+-- `c` that needs room for more than `c` items, and `d` is at least `n`. A growth rule at least
+-- doubles the capacity. So in the second case, `d` is at least `2 * c`.
 abbrev pub IsLoose : Rule → RattleType → ℕ → ℕ → Type 0
 IsLoose rule R c d =
     (d ≡ c) ⊎ ((w : ℕ) × (n : ℕ) × (c < w) × (ruled_capacity rule R c w ≡ Some n) × (n ≤ d))
 
--- `IsRuled rule R d n` states that the growth rule `rule` may choose the capacity `d` when a list
--- needs room for at most `n` items of the type `R`. More exactly, there are numbers `e` and `w`
--- with `e < w <= n` such that the rule chooses `d` if a block of capacity `e` needs room for `w`
--- items. (With the rule `Doubling`, `d` is then at most 4 or at most `2 * n`.)
+-- `IsRuled rule R d n` states that the growth rule `rule` may choose the capacity `d` for a list
+-- that needs room for at most `n` items of the type `R`. More exactly, there are numbers `e` and
+-- `w` with `e < w <= n` such that the rule chooses `d` for a block of capacity `e` that needs room
+-- for `w` items. (With the rule `Doubling`, `d` is then at most the greater of the numbers 4 and
+-- `2 * n`.)
 abbrev pub IsRuled : Rule → RattleType → ℕ → ℕ → Type 0
 IsRuled rule R d n = (e w : ℕ) × (e < w) × (w ≤ n) × (ruled_capacity rule R e w ≡ Some d)
 
 -- `IsKeptOrRuled rule R c d n` compares an old capacity `c` with a new capacity `d`. It holds if
--- the two capacities are equal, or if the growth rule `rule` may choose `d` when a list needs room
--- for at most `n` items of the type `R` (`IsRuled`).
+-- the two capacities are equal, or if the growth rule `rule` may choose `d` for a list that needs
+-- room for at most `n` items of the type `R` (`IsRuled`).
 abbrev pub IsKeptOrRuled : Rule → RattleType → ℕ → ℕ → ℕ → Type 0
 IsKeptOrRuled rule R c d n = (d ≡ c) ⊎ IsRuled rule R d n
 
--- `IsExtended rule R v d n left` states that a list may have the capacity `d` after items of an
--- iterator were added to the list `v`. After the call, the list has `n` items of the type `R`. The
--- iterator could yield at most `left` items. There are two cases. In the first case, `d` is the old
--- capacity, or a capacity that the growth rule `rule` may choose when a list needs room for at most
--- `n` items (`IsKeptOrRuled`). In the second case, `d` is the capacity of `v` after the call
--- `reserve(h)`, where `h` is a possible lower bound in the size hint of the iterator.
+-- `IsExtended rule R v d n left` states that `d` is a possible capacity of a list after a call that
+-- added items of an iterator. The list was `v` before the call, and has `n` items after it. The
+-- items have the type `R`, and the iterator could yield at most `left` items. There are two cases.
+-- In the first case, `d` is the old capacity, or a capacity that the growth rule `rule` may choose
+-- for a list that needs room for at most `n` items (`IsKeptOrRuled`). In the second case, `d` is
+-- the capacity that the call `reserve(h)` gives to `v`, where `h` is a possible lower bound in the
+-- size hint of the iterator.
 abbrev pub IsExtended : {T A : Type 0} → Rule → RattleType → Thin T A → ℕ → ℕ → Count → Type 0
 IsExtended rule R v d n left =
     IsKeptOrRuled rule R v.capacity d n
     ⊎ ((h : ℕ) × IsWithinCount h left × (capacity_for rule R v h ≡ Some d))
 
--- `IsCollected rule R d n left` states that a new list of `n` items of the type `R` may have the
--- capacity `d`. The items come from an iterator that could yield at most `left` items. There are
--- two cases. In the first case, the growth rule `rule` may choose `d` when a list needs room for at
--- most `n` items (`IsRuled`). In the second case, the list was made with room for exactly `d`
--- items, and `d` is a possible lower bound in the size hint of the iterator.
+-- `IsCollected rule R d n left` states that `d` is a possible capacity of a new list that was made
+-- from the items of an iterator. The list has `n` items of the type `R`, and the iterator could
+-- yield at most `left` items. There are two cases. In the first case, the growth rule `rule` may
+-- choose `d` for a list that needs room for at most `n` items (`IsRuled`). In the second case, the
+-- list was made with room for exactly `d` items, and `d` is a possible lower bound in the size hint
+-- of the iterator.
 abbrev pub IsCollected : Rule → RattleType → ℕ → ℕ → Count → Type 0
 IsCollected rule R d n left =
     IsRuled rule R d n ⊎ ((h : ℕ) × IsWithinCount h left × (exact_capacity R 0 h ≡ Some d))
@@ -77,20 +80,22 @@ module _ {T A : Type 0} where
     -- If `v` has room for all items that the iterator may yield, the capacity does not change.
     pub had_room : HasRoomFor v (size left) → w.capacity ≡ v.capacity
     -- There are two cases. In the first case, the capacity does not change. In the second case, the
-    -- new capacity is at least a capacity that the growth rule chooses when a block of the old
-    -- capacity has to grow. A growth rule at least doubles the capacity. So in the second case, the
-    -- capacity at least doubles.
+    -- new capacity is at least a capacity that the growth rule chooses for a block that has the old
+    -- capacity and needs room for more items. A growth rule at least doubles the capacity. So in
+    -- the second case, the capacity at least doubles.
     pub loose : IsLoose rule R v.capacity w.capacity
     -- There are three cases. In the first case, the capacity does not change. In the second case,
-    -- the new capacity is one that the growth rule may choose when a list needs room for at most
-    -- `length w.items` items. In the third case, the new capacity is the capacity of `v` after the
-    -- call `reserve(h)`, where `h` is a possible lower bound in the size hint of the iterator.
+    -- the new capacity is one that the growth rule may choose for a list that needs room for at
+    -- most `length w.items` items. In the third case, the new capacity is the one that the call
+    -- `reserve(h)` gives to `v`, where `h` is a possible lower bound in the size hint of the
+    -- iterator.
     pub ruled : IsExtended rule R v w.capacity (length w.items) left
 
   -- `CostsAdding v w n` bounds the recorded cost of a call that added items to a list and changed
   -- the list from `v` to `w`. The cost counts requests for memory, copied items and moves. Each
-  -- added item counts as one move, and the old items of `v` are moved at most `n` times in total.
-  -- Some clauses have sums on both sides, because subtraction of natural numbers stops at 0.
+  -- added item counts as one move. The moves of the old items (the items of `v`) add up to at most
+  -- `n`. Some inequalities have sums on both sides, because the subtraction of natural numbers
+  -- stops at 0.
   pub record CostsAdding (v w : Thin T A) (n : ℕ) : Type 0 where
     pub least : v.cost.moves + length w.items ≤ w.cost.moves + length v.items
     pub moves : w.cost.moves + length v.items ≤ v.cost.moves + n + length w.items
@@ -114,15 +119,15 @@ module _ {T A : Type 0} where
     -- If the iterator cannot yield any item, the list has the capacity 0.
     pub none : size left ≡ 0 → w.capacity ≡ 0
     -- There are two cases. In the first case, the capacity is one that the growth rule may choose
-    -- when a list needs room for at most `length w.items` items. In the second case, the list was
-    -- made with room for exactly `h` items, where `h` is a possible lower bound in the size hint of
-    -- the iterator.
+    -- for a list that needs room for at most `length w.items` items. In the second case, the list
+    -- was made with room for exactly `h` items, where `h` is a possible lower bound in the size
+    -- hint of the iterator.
     pub ruled : IsCollected rule R w.capacity (length w.items) left
     -- Each item was moved exactly once.
     pub moves : w.cost.moves ≡ length w.items
-    -- The list has the allocator `a`. Its cost is bounded: the numbers of requests for memory and
-    -- of copied items are small compared with its capacity (`IsCheap`). Its length is at most its
-    -- capacity, and its block is small enough to be allocated (`IsWithin`).
+    -- The list has the allocator `a`. The numbers of requests for memory and of copied items have
+    -- upper bounds that depend only on the capacity of the list (`IsCheap`). The length is at most
+    -- the capacity, and the block is small enough to be allocated (`IsWithin`).
     pub made : IsMade R a w
 
   -- `Extends rule R v xs w` states what std's `Extend` guarantees about a call that appended the

@@ -93,13 +93,13 @@ module _ {S T : Type 0} (R : S → T → T → Bool → S → T → T → Type 0
         ⊎ ((over ≡ []) × ((after ≡ []) × (stays ≡ replicate more true)))
 
   -- `Dedups s v t w` states that some or all middle items of an open block were tested for
-  -- duplicates, and that this changed the block from `v` to `w`. (The middle items are the items
-  -- that have not been tested yet.) The items were tested in order, starting with the first middle
-  -- item of `v`, each against the last item that was kept before it. For the first middle item,
-  -- this kept item is the last item of the front, which is the first part of the block. Each kept
-  -- item was moved to the end of the front, and counts as one move. The other tested items were
-  -- removed. In `w`, there is at least one empty slot after the front. The test changed its state
-  -- from `s` to `t`.
+  -- duplicates, and that this changed the block from `v` to `w`. The middle items are the items
+  -- that have not been tested yet. They were tested in order, starting with the first middle item
+  -- of `v`. Each item was tested against the last item that was kept before it. (The first middle
+  -- item was tested against the last item of the front, which is the first part of the block.) Each
+  -- kept item was moved to the end of the front. Each of these items counts as one move. The other
+  -- tested items were removed. In `w`, there is at least one empty slot after the front. The test
+  -- changed its state from `s` to `t`.
   pub record Dedups {A : Type 0} (s : S) (v : Open T A) (t : S) (w : Open T A) : Type 0 where
     pub before : List T
     pub first : T
@@ -118,12 +118,13 @@ module _ {S T : Type 0} (R : S → T → T → Bool → S → T → T → Type 0
     }
 
   -- `IsDeduped s v t w` states that all duplicates among the middle items of an open block were
-  -- removed, and that this changed the block from `v` to `w`. (The middle items are the items that
-  -- have not been tested yet.) All middle items of `v` except the first were tested in order, each
-  -- against the last item that was kept before it. The front of `w`, which is the first part of the
-  -- block, consists of the first middle item and the kept items. The middle run of `w` is empty.
-  -- Each kept item that follows the first removed item counts as one move. The test changed its
-  -- state from `s` to `t`.
+  -- removed, and that this changed the block from `v` to `w`. The middle items are the items that
+  -- have not been tested yet. The first middle item of `v` was kept without a test. Each later
+  -- middle item was tested, in order, against the last item that was kept before it. The front of
+  -- `w`, which is the first part of the block, consists of the kept items. (The front of `v` is
+  -- empty: the function `dedup_rest`, whose contract uses this statement, requires this.) The
+  -- middle run of `w` is empty. Each kept item that follows the first removed item counts as one
+  -- move. The test changed its state from `s` to `t`.
   pub record IsDeduped {A : Type 0} (s : S) (v : Open T A) (t : S) (w : Open T A) : Type 0 where
     pub stays : List Bool
     pub asked : AskedPairs R s v.rest stays w.front t

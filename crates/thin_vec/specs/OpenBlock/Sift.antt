@@ -22,10 +22,11 @@ module _ {S T : Type 0} (R : S → T → Bool → S → T → Type 0) where
     pub asked : R s item b t left
     pub now : ys ≡ before ++ left ∷ after
 
-  -- `Stops s xs t ys` describes two cases. If the list `xs` is empty, no test takes place, so `ys`
-  -- is empty and `t` is `s`. Otherwise, the first item of `xs` was tested, and it is to be removed.
-  -- In this case, the test changed its own state from `s` to `t`. It may also have changed the
-  -- item, and `ys` is the list after this change.
+  -- `Stops s xs t ys` describes how a series of tests ended, where `xs` is the list of the items
+  -- that had not been tested. If `xs` is empty, there was no further test, so `ys` is empty and `t`
+  -- is `s`. Otherwise, the first item of `xs` was tested, and it is to be removed. In this case,
+  -- the test changed its own state from `s` to `t`. It may also have changed the item, and `ys` is
+  -- the list after this change.
   abbrev pub Stops : S → List T → S → List T → Type 0
   Stops s [] t ys = (ys ≡ []) × (t ≡ s)
   Stops s (x ∷ xs) t ys = (y : T) × R s x false t y × (ys ≡ y ∷ xs)
@@ -49,13 +50,13 @@ module _ {S T : Type 0} (R : S → T → Bool → S → T → Type 0) where
     pub stops : Stops between after t end
     pub now : ys ≡ before ++ (left ++ end)
 
-  -- `Advances s v t w` states that the middle items of an open block were searched for the next
-  -- item to remove, and that this changed the block from `v` to `w`. (The middle items are the
-  -- items that have not been tested yet.) The middle items of `v` were tested in order, up to the
-  -- first item that is to be removed. All items before this item are kept, and are now at the end
-  -- of the front, which is the first part of the block. If `v` has empty slots between its front
-  -- and its middle items, each of the kept items counts as one move. The item to remove is the
-  -- first middle item of `w`. If there is no item to remove, `w` has no middle items. The test
+  -- `Advances s v t w` describes a search for the next item to remove among the middle items of an
+  -- open block. The middle items are the items that have not been tested yet. The search changed
+  -- the block from `v` to `w`. It tested the middle items of `v` in order, up to the first item
+  -- that is to be removed. This item is the first middle item of `w`. If there is no such item, the
+  -- search tested all middle items, and `w` has no middle items. All other tested items are kept.
+  -- In `w`, they are at the end of the front, which is the first part of the block. If `v` has
+  -- empty slots between its front and its middle items, each kept item counts as one move. The test
   -- changed its state from `s` to `t`.
   pub record Advances {A : Type 0} (s : S) (v : Open T A) (t : S) (w : Open T A) : Type 0 where
     pub count : ℕ
@@ -68,11 +69,11 @@ module _ {S T : Type 0} (R : S → T → Bool → S → T → Type 0) where
     }
 
   -- `Sifts s v t w` states that some or all middle items of an open block were tested, and that
-  -- this changed the block from `v` to `w`. (The middle items are the items that have not been
-  -- tested yet.) The items were tested in order, starting with the first middle item of `v`. Each
-  -- kept item was moved to the end of the front, which is the first part of the block, and counts
-  -- as one move. The other tested items were removed. In `w`, there is at least one empty slot
-  -- after the front. The test changed its state from `s` to `t`.
+  -- this changed the block from `v` to `w`. The middle items are the items that have not been
+  -- tested yet. They were tested in order, starting with the first middle item of `v`. Each kept
+  -- item was moved to the end of the front, which is the first part of the block. Each of these
+  -- items counts as one move. The other tested items were removed. In `w`, there is at least one
+  -- empty slot after the front. The test changed its state from `s` to `t`.
   pub record Sifts {A : Type 0} (s : S) (v : Open T A) (t : S) (w : Open T A) : Type 0 where
     pub done : List T
     pub verdicts : Verdicts T
@@ -87,8 +88,8 @@ module _ {S T : Type 0} (R : S → T → Bool → S → T → Type 0) where
     }
 
   -- `IsSifted s v t w` states that all middle items of an open block were tested in order, and that
-  -- this changed the block from `v` to `w`. (The middle items are the items that have not been
-  -- tested yet.) The kept items were added to the end of the front, which is the first part of the
+  -- this changed the block from `v` to `w`. The middle items are the items that have not been
+  -- tested yet. The kept items were added to the end of the front, which is the first part of the
   -- block. The other middle items were removed, so `w` has no middle items. Each kept item that
   -- follows the first removed item counts as one move. The test changed its state from `s` to `t`.
   pub record IsSifted {A : Type 0} (s : S) (v : Open T A) (t : S) (w : Open T A) : Type 0 where

@@ -1,5 +1,5 @@
-//! The method `from_str` of lists of bytes, and the implementation of std's trait `Write` for lists
-//! of bytes.
+//! The method `from_str`, which makes a list of the bytes of a text, and the implementation of
+//! std's trait `Write` for lists of bytes.
 ghost use Rattle.std.specs.Prelude.{◌≡◌, ◌+◌, ◌++◌, IfErr, IfOk, IsErr, IsOk, None, OnErr, OnOk, Some, length};
 ghost use Rattle.std.specs.Borrow.{u8};
 ghost use Rattle.std.specs.IoError.{error_kind};

@@ -17,12 +17,12 @@ use thin_block::{ThinVecError, fits};
 
 impl<T, A: Allocator> ThinVec<T, A> {
     /// Moves the items of an array into a new list, in order. The capacity of the list is exactly
-    /// `N`. An empty array needs no allocation.
+    /// `N`. If the array is empty, the call allocates nothing.
     ///
     /// Like every array, `items` must occupy fewer than 2^63 bytes. If `T` is a concrete type, the
-    /// prover proves this without help. A caller that is generic in `T` needs the precondition `N *
-    /// type_size T.row < 2 ^ 63`. (`type_size` is defined in `Rattle.std.specs.Mem`.) The macro
-    /// `thin_vec!` has no such condition.
+    /// prover proves this without help. If `T` is a type parameter of the caller, the caller needs
+    /// the precondition `N * type_size T.row < 2 ^ 63`. (`type_size` is defined in
+    /// `Rattle.std.specs.Mem`.) The macro `thin_vec!` does not need this precondition.
     ///
     /// # Errors
     ///
@@ -61,9 +61,9 @@ impl<T, A: Allocator> ThinVec<T, A> {
         }
     }
 
-    /// Moves the items of a vector into a new list, in order. The capacity of the list is exactly
-    /// the number of items. The vector may use any allocator, and its allocation is freed. An empty
-    /// vector needs no allocation.
+    /// Moves the items of a vector into a new list, in order, and frees the allocation of the
+    /// vector. The vector may use any allocator. The capacity of the list is exactly the number of
+    /// items. If the vector is empty, the call allocates nothing.
     ///
     /// # Errors
     ///
@@ -101,9 +101,9 @@ impl<T, A: Allocator> ThinVec<T, A> {
         }
     }
 
-    /// Moves the items of a boxed slice into a new list, in order. The capacity of the list is
-    /// exactly the number of items. The boxed slice may use any allocator, and its allocation is
-    /// freed. An empty slice needs no allocation.
+    /// Moves the items of a boxed slice into a new list, in order, and frees the allocation of the
+    /// boxed slice. The boxed slice may use any allocator. The capacity of the list is exactly the
+    /// number of items. If the boxed slice is empty, the call allocates nothing.
     ///
     /// # Errors
     ///
@@ -163,11 +163,11 @@ impl<T, A: Allocator> ThinVec<T, A> {
 }
 
 impl<T: Copy, A: Allocator> ThinVec<T, A> {
-    /// Copies the items of a slice into a new list, in order. The capacity of the list is exactly
-    /// the number of items. An empty slice needs no allocation. The items are copied byte for byte,
-    /// which is faster than `from_slice`.
+    /// Makes a list of copies of the items of a slice, in order. The capacity of the list is
+    /// exactly the number of items. If the slice is empty, the call allocates nothing. The items
+    /// are copied byte for byte, so this method is faster than `from_slice`.
     ///
-    /// This method is our own: neither Rust's `Vec` nor the Rust crate thin-vec has it.
+    /// This method exists neither in Rust's `Vec` nor in the Rust crate thin-vec.
     ///
     /// # Errors
     ///
@@ -201,16 +201,16 @@ impl<T: Copy, A: Allocator> ThinVec<T, A> {
 
 impl<T: Clone, A: Allocator> ThinVec<T, A> {
     /// Makes a list of clones of the items of a slice, in order. The capacity of the list is
-    /// exactly the number of items. An empty slice needs no allocation. For items that are `Copy`,
-    /// `from_copies` is faster.
+    /// exactly the number of items. If the slice is empty, the call allocates nothing. For items
+    /// that are `Copy`, `from_copies` is faster.
     ///
     /// # Errors
     ///
-    /// On failure, no list is made. The clones that were already made are dropped, and so is
-    /// `alloc`.
+    /// On failure, no list is made. The clones that were already made are dropped, and `alloc` is
+    /// dropped, too.
     ///
     /// - `CapacityOverflow`: the capacity would be too large.
-    /// - `OutOfMemory`: the allocator or a clone failed.
+    /// - `OutOfMemory`: the allocator failed, or an item could not be cloned.
     #[tactic(auto, using(thin_block::proofs::CapacityLemmas::exact))]
     pub fn from_slice(alloc: A, items: &[T]) -> Result<ThinVec<T, A>, ThinVecError>
         // On success.
@@ -235,8 +235,8 @@ impl<T: Clone, A: Allocator> ThinVec<T, A> {
     }
 }
 
-// Returns the number of items in the array `items`. The prover needs this function because its
-// contract states that this number is `N`.
+// Returns the number of items in the array `items`. The contract of this function states that the
+// number is `N`. The proof of `from_array`, which calls this function, needs this statement.
 fn count<T, const N: usize>(items: &[T; N]) -> usize
     ensures value { result ≡ N }
     ensures length { result ≡ length items.now }

@@ -12,7 +12,7 @@ use thin_block::{Growth, ThinVecError};
 impl<T, A: Allocator, G: Growth> ThinVec<T, A, G> {
     /// Moves the items of the list, in order, into a new `Vec` that uses the allocator `alloc`. The
     /// capacity of the `Vec` is exactly the number of items. The allocation of the list is freed.
-    /// An empty list needs no allocation.
+    /// If the list is empty, the call allocates nothing.
     ///
     /// # Errors
     ///
@@ -59,7 +59,8 @@ impl<T, A: Allocator, G: Growth> ThinVec<T, A, G> {
     }
 
     /// Moves the items of the list, in order, into a new boxed slice that uses the allocator
-    /// `alloc`. The allocation of the list is freed. An empty list needs no allocation.
+    /// `alloc`. The allocation of the list is freed. If the list is empty, the call allocates
+    /// nothing.
     ///
     /// # Errors
     ///
@@ -85,9 +86,10 @@ impl<T, A: Allocator, G: Growth> ThinVec<T, A, G> {
     /// allocation of the list. The call allocates nothing.
     ///
     /// Like every array, the result must occupy fewer than 2^63 bytes. If `T` is a concrete type,
-    /// the prover proves this without help. A caller that is generic in `T` needs the precondition
-    /// `N * type_size T.row < 2 ^ 63`. (`type_size` is defined in `Rattle.std.specs.Mem`.) The
-    /// methods `into_vec` and `into_iter` have no such condition.
+    /// the prover proves this without help. If `T` is a type parameter of the caller, the caller
+    /// needs the precondition `N * type_size T.row < 2 ^ 63`. (`type_size` is defined in
+    /// `Rattle.std.specs.Mem`.) The methods `into_vec` and `into_iter` do not need this
+    /// precondition.
     ///
     /// # Errors
     ///

@@ -14,12 +14,13 @@ use std::iter::FusedIterator;
 use std::marker::{Model, PhantomData};
 use thin_block::{Block, Doubling, Growth, ThinVecError};
 
-/// An iterator that yields the items of a list from either end. It owns the allocation and the
-/// allocator of the list, and the items that have not been yielded yet. Dropping the iterator drops
-/// these items, and frees the allocation. No item is moved before it is yielded.
+/// An iterator that yields the items of a list from either end. It owns the items that have not
+/// been yielded yet. It also owns the allocation and the allocator of the list. Dropping the
+/// iterator drops the remaining items, and frees the allocation. No item is moved before it is
+/// yielded.
 ///
-/// In contracts, an `IntoIter` has the same fields as a list. Its field `items` contains the items
-/// that have not been yielded yet.
+/// Contracts describe an `IntoIter` by the same fields as a list. The field `items` contains the
+/// items that have not been yielded yet.
 pub struct IntoIter<T, A: Allocator = Global, G: Growth = Doubling> {
     // The items that have not been yielded yet are in the slots `start..end` of the block. An
     // `IntoIter` does not use the length that is stored in the block.
@@ -181,15 +182,16 @@ impl<T: Clone, A: Allocator, G: Growth> IntoIter<T, A, G> {
     ghost use Rattle.thin_vec.specs.Cheap.{IsCheap};
     ghost use Rattle.thin_vec.specs.ThinVec.{cost_new};
 
-    /// Makes a new iterator that uses the allocator `alloc`. The new iterator yields clones of the
-    /// items that this iterator has not yielded yet, in order. The allocation of the new iterator
-    /// has room for exactly these clones. If there are no clones, the call allocates nothing. This
+    /// Makes a new iterator that yields clones of the items that this iterator has not yielded yet,
+    /// in order. The new iterator uses the allocator `alloc`, and its allocation has room for
+    /// exactly these clones. If all items have been yielded, the call allocates nothing. This
     /// iterator is unchanged.
     ///
     /// # Errors
     ///
-    /// Fails with `OutOfMemory` if `alloc` or a clone fails. On failure, no iterator is made. The
-    /// clones that were already made are dropped, and so is `alloc`.
+    /// Fails with `OutOfMemory` if `alloc` cannot allocate the memory, or if an item cannot be
+    /// cloned. On failure, no iterator is made. The clones that were already made are dropped, and
+    /// `alloc` is dropped, too.
     pub fn clone(&self, alloc: A) -> Result<IntoIter<T, A, G>, ThinVecError>
         // On success.
         ensures items { IfOk result (λ it. AllZip T.is_clone self.now.items it.items) }

@@ -16,14 +16,14 @@ impl<T: Drop, A: Allocator, G: Growth> ThinVec<T, A, G> {
     ghost use Rattle.thin_vec.specs.ThinVec.{IsWithin};
 
     /// Calls `same` once for each item except the first, in order. If `same` returns true, the item
-    /// is removed and dropped. So the list keeps only the first of adjacent items that are the
-    /// same.
+    /// is removed and dropped. So the list keeps only the first of several adjacent duplicates.
     ///
     /// The first argument of `same` is the item, and the second argument is the last item that was
-    /// kept before it. This is the order of arguments in Rust's `Vec::dedup_by`. `same` may write
-    /// to both items.
+    /// kept before it. Rust's `Vec::dedup_by` passes the arguments in the same order. `same` may
+    /// write to both items.
     ///
-    /// Each kept item that follows the first removed item moves once. No other item moves.
+    /// Each kept item that follows the first removed item is moved once. No other item is moved
+    /// within the list.
     pub fn dedup_by<F: FnMut(&mut T, &mut T) -> bool>(&mut self, same: F)
         requires callable { F.IsAlwaysCallable same }
         ensures deduped { IsDedupedBy (CalledAtPairMut F.FnMut) same self.old self.new }
@@ -57,13 +57,14 @@ impl<T: Drop, A: Allocator, G: Growth> ThinVec<T, A, G> {
     }
 
     /// Removes and drops each item whose key is equal to the key of the last item that was kept
-    /// before it.
+    /// before it. The closure `key` computes the key of an item.
     ///
-    /// For each item except the first, in order, `key` is called twice: first with the item, and
-    /// then with the last item that was kept before it. Rust's `Vec::dedup_by_key` makes the same
-    /// calls. `key` may write to the items.
+    /// For each item except the first, in order, `key` is called twice: first with this item, and
+    /// then with the last item that was kept before this item. Rust's `Vec::dedup_by_key` makes the
+    /// same calls. `key` may write to the items.
     ///
-    /// Each kept item that follows the first removed item moves once. No other item moves.
+    /// Each kept item that follows the first removed item is moved once. No other item is moved
+    /// within the list.
     pub fn dedup_by_key<K: PartialEq + Drop, F: FnMut(&mut T) -> K>(&mut self, key: F)
         requires callable { F.IsAlwaysCallable key }
         ensures deduped { IsDedupedBy (ComparesKeys F.FnMut K.eq) key self.old self.new }
@@ -85,8 +86,9 @@ impl<T: PartialEq + Drop, A: Allocator, G: Growth> ThinVec<T, A, G> {
     /// Removes and drops each item that is equal to the last item that was kept before it, like
     /// Rust's `Vec::dedup`. If the list is sorted, one item of each value remains.
     ///
-    /// Each item except the first is compared once. Each kept item that follows the first removed
-    /// item moves once. No other item moves.
+    /// Each item except the first is compared once, with the last item that was kept before it.
+    /// Each kept item that follows the first removed item is moved once. No other item is moved
+    /// within the list.
     pub fn dedup(&mut self)
         ensures items { self.new.items ≡ dedup T.eq self.old.items }
         ensures cost { self.new.cost ≡ moving (moved_down (unlike T.eq self.old.items))

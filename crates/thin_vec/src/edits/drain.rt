@@ -68,9 +68,9 @@ impl<T: Drop, A: Allocator, G: Growth> ThinVec<T, A, G> {
     /// list holds the items before the range and the items after the range. If the iterator is
     /// leaked, the list stays empty.
     ///
-    /// Neither the call nor the drop allocates memory, and neither can fail. The call moves no
-    /// item. The drop moves each item after the range once. If the range is empty, the drop moves
-    /// no item, either.
+    /// Neither this call nor dropping the iterator allocates memory, and neither can fail. This
+    /// call moves no item. When the iterator is dropped, each item after the range is moved once.
+    /// If the range is empty, no item is moved.
     pub fn drain(&mut self, start: usize, end: usize) -> Drain<'_, T, A, G>
         requires start_le_end { start ≤ end }
         requires in_bounds { end ≤ length self.old.items }
@@ -89,8 +89,9 @@ impl<T: Drop, A: Allocator, G: Growth> ThinVec<T, A, G> {
         ensures cost { drain_cost result ≡ (if start == end then self.old.cost else moving
             (length self.old.items - end) self.old.cost) }
 
-        // The `Drain` borrows this list. Calls to `next` do not change the value that the list will
-        // have after the `Drain` is dropped.
+        // The `Drain` borrows this list: its reference to the list has the same ghost name as
+        // `self`. Calls to `next` do not change the value that the list will have after the `Drain`
+        // is dropped.
         ensures same_reference { drain_lender result ≡ self.entry.ghost_name }
         ensures stays { DrainKeepsAlong result }
     {
@@ -138,7 +139,7 @@ impl<'a, T, A: Allocator, G: Growth> Drain<'a, T, A, G> {
         self.holder.value.next_back()
     }
 
-    /// Returns the items that have not been yielded yet, in order.
+    /// Returns the items that have not been yielded yet, in order, as a slice.
     pub fn as_slice(&self) -> &[T]
         ensures value { result.now ≡ drain_rest self.now }
     {

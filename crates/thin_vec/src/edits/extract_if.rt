@@ -1,9 +1,10 @@
 //! The method `extract_if`, and the iterator `ExtractIf` that it returns. The iterator tests the
 //! items of a range with a closure, and removes each item for which the closure returns true.
 //!
-//! No item moves before the first item is removed. The removed items leave a gap of empty slots.
-//! When the next item is removed, or when all items of the range have been tested, the items that
-//! were kept since the previous removal are moved down to the start of the gap.
+//! No item is moved until the first item is removed. After that, there is a gap of empty slots
+//! where items were removed. An item that is kept later is not moved at once. When the next item is
+//! removed, or when all items of the range have been tested, the items that were kept since the
+//! previous removal are moved down to the start of the gap.
 ghost use Rattle.std.specs.Prelude.{◌≡◌, ◌≤◌, IfSome, Some, drop, length, not, slice_range, take};
 ghost use Rattle.std.specs.Fn.{CalledAtMut};
 ghost use Rattle.std.specs.Iterator.{UpTo, at_most};
@@ -20,8 +21,8 @@ use thin_block::{Doubling, Growth};
 
 /// An iterator that tests the items of a range of a list with a closure. It removes each item for
 /// which the closure returns true, and yields the removed items in order. The closure may change
-/// each item that it tests. Both the yielded items and the kept items include these changes. The
-/// method `extract_if` returns this iterator.
+/// each item that it tests. The changed item is then yielded or kept. The method `extract_if`
+/// returns this iterator.
 ///
 /// Until the `ExtractIf` is dropped, it owns the allocation of the list, and the list is empty and
 /// has capacity 0. After the drop, the list holds every item that was not yielded. Items that were
@@ -41,8 +42,9 @@ pub struct ExtractIf<
     ghost from: { IsFrom (H.inner holder).block.alloc list.now.alloc },
 }
 
-/// The block and the closure that an `ExtractIf` owns. The middle run, which is the second of the
-/// three parts of the block, consists of the items that have not been tested yet.
+/// The two values that an `ExtractIf` owns: the block of the list, and the test that contains the
+/// closure. The second of the three parts of the block is called the middle run. It consists of the
+/// items of the range that have not been tested yet.
 pub struct Extracting<T, F, A: Allocator> {
     block: OpenBlock<T, A>,
     picks: Picks<F>,
@@ -124,8 +126,8 @@ impl<T: Drop, A: Allocator, G: Growth> ThinVec<T, A, G> {
     /// its old capacity and allocator. Items that were not tested are kept, as with Rust's
     /// `Vec::extract_if`.
     ///
-    /// No memory is allocated. Each kept item that follows the first removed item moves once. This
-    /// includes the items after the range. No other item moves.
+    /// No memory is allocated. Each item that stays in the list and follows the first removed item
+    /// is moved once, even if it is not in the range. No other item is moved within the list.
     ///
     /// The function `bounds` converts a Rust range into `start` and `end`, and checks them.
     pub fn extract_if<F: FnMut(&mut T) -> bool>(
@@ -137,16 +139,18 @@ impl<T: Drop, A: Allocator, G: Growth> ThinVec<T, A, G> {
         requires start_le_end { start ≤ end }
         requires in_bounds { end ≤ length self.old.items }
 
-        // The `ExtractIf` owns the items before the range, the items of the range, the items after
-        // the range, and the closure. No item has been removed yet.
+        // The `ExtractIf` owns the items before the range (`front`), the items of the range
+        // (`rest`), the items after the range (`tail`), and the closure (`callee`). No item has
+        // been removed yet (`gone`).
         ensures front { extract_front result ≡ take start self.old.items }
         ensures rest { extract_rest result ≡ slice_range self.old.items start end }
         ensures tail { extract_tail result ≡ drop end self.old.items }
         ensures gone { extract_gone result ≡ 0 }
         ensures callee { extract_callee result ≡ pick }
 
-        // The `ExtractIf` borrows this list. It keeps the capacity, the allocator and the recorded
-        // cost that the list had before the call.
+        // The `ExtractIf` borrows this list: its reference to the list has the same ghost name as
+        // `self`. The capacity, the allocator and the recorded cost of the `ExtractIf` are those
+        // that the list had before the call.
         ensures same_reference { extract_lender result ≡ self.entry.ghost_name }
         ensures capacity { extract_capacity result ≡ self.old.capacity }
         ensures alloc { extract_alloc result ≡ self.old.alloc }

@@ -1,10 +1,11 @@
-//! The steps of `Splice::finish`, which puts the items of an iterator in place of a removed range.
-//! First, `fill_gap` fills the empty slots of the range. Then `insert_hinted` reserves room for `n`
-//! more items, where `n` is the lower bound of the iterator's size hint, and fills this room. Last,
-//! `insert_held` collects the remaining items in a vector, and moves them into the list.
+//! The functions that `Splice::finish` calls to put the items of an iterator in place of a removed
+//! range. If items follow the range, there are up to three steps. First, `fill_gap` fills the empty
+//! slots of the range. Then `insert_hinted` reserves room for `n` more items, where `n` is the
+//! lower bound of the iterator's size hint, and fills this room. Finally, `insert_held` collects
+//! the remaining items in a vector, and moves them into the list.
 //!
-//! The steps are inlined into `finish`. So the list and the iterator need not be stored in memory
-//! between two steps.
+//! The functions of the three steps are inlined. So the compiled code need not store the list and
+//! the iterator in memory between two steps.
 ghost use Rattle.std.specs.Prelude.{◌≡◌, ◌+◌, ◌-◌, ◌*◌, ◌<◌, ◌≤◌, [], ◌++◌, ◌∷◌, IfErr, IfOk, IsOk, IsSome, List, MatchOption, None, OnErr, OnOk, OnSome, Some, drop, false, length, take, ℕ};
 ghost use Rattle.std.specs.Iterator.{Drains, IsFinite, Yields, YieldsThen, size};
 ghost use Rattle.std.specs.Iterator.SizeHint.{IsWithinCount};
@@ -48,7 +49,7 @@ impl<T, A: Allocator, G: Growth> ThinVec<T, A, G> {
 
     // Makes a gap of empty slots before the item at index `at`, and moves items of `iter` into the
     // gap. The gap has `n` slots, where `n` is the lower bound of the size hint of `iter`. If the
-    // room for this gap cannot be reserved, the list is unchanged, and the error holds `iter`.
+    // call cannot reserve room for this gap, the list is unchanged, and the error holds `iter`.
     #[inline(always)]
     fn insert_hinted<I: Iterator<Item = T>>(
         &mut self,
@@ -76,8 +77,8 @@ impl<T, A: Allocator, G: Growth> ThinVec<T, A, G> {
         ensures cause { IfErr result
             (λ rejected. FailsAtHint G.rule T.row self.new (I.remaining iter) rejected.cause) }
 
-        // In every case, each item from index `at` onward moves at most twice. If the call succeeds
-        // and fills the whole gap, each of these items moves at most once.
+        // In every case, each item from index `at` onward is moved at most twice. If the call
+        // succeeds and fills the whole gap, each of these items is moved at most once.
         ensures taken { HasTaken G.rule T.row self.old self.new
             (2 * (length self.old.items - at)) (I.remaining iter) }
         ensures taken_full { IfOk result (λ filled. filled.ended ≡ false
@@ -174,8 +175,9 @@ impl<T: Drop, A: Allocator, G: Growth> ThinVec<T, A, G> {
     }
 
     // Fills the empty slots of the removed range with items of `iter`. If `iter` yields more items,
-    // they are inserted before the items that follow the range: first by `insert_hinted`, in room
-    // that is reserved according to the size hint, and then by `insert_held`.
+    // two functions insert them before the items that follow the range. First, `insert_hinted`
+    // reserves room according to the size hint of `iter`, and fills this room. Then `insert_held`
+    // inserts the remaining items.
     #[inline(always)]
     pub(crate) fn finish_before_tail<I: Iterator<Item = T>>(
         &mut self,
@@ -196,7 +198,8 @@ impl<T: Drop, A: Allocator, G: Growth> ThinVec<T, A, G> {
         requires can_next { I.can_next iter }
         requires finite { IsFinite (I.remaining iter) }
 
-        // All `ensures` clauses of `Splice::finish` follow from this clause.
+        // `IsFinished` states how the call changes the list, when it succeeds, and what it returns
+        // on failure. All `ensures` clauses of `Splice::finish` follow from this clause.
         ensures { IsFinished I.next_gives I.can_next I.remaining G.rule T.row block self.old.alloc
             iter self.new result }
     {
@@ -245,7 +248,8 @@ impl<T: Drop, A: Allocator, G: Growth> ThinVec<T, A, G> {
         requires can_next { I.can_next iter }
         requires finite { IsFinite (I.remaining iter) }
 
-        // All `ensures` clauses of `Splice::finish` follow from this clause.
+        // `IsFinished` states how the call changes the list, when it succeeds, and what it returns
+        // on failure. All `ensures` clauses of `Splice::finish` follow from this clause.
         ensures { IsFinished I.next_gives I.can_next I.remaining G.rule T.row block self.old.alloc
             iter self.new result }
     {

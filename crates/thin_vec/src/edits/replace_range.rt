@@ -16,28 +16,29 @@ impl<T: Clone, A: Allocator, G: Growth> ThinVec<T, A, G> {
     /// Replaces the items `start..end` with clones of `items`, in order. The old items of the range
     /// are dropped after the last clone is made.
     ///
-    /// This method is our own: neither Rust's `Vec` nor the Rust crate thin-vec has it.
+    /// This method exists neither in Rust's `Vec` nor in the Rust crate thin-vec.
     ///
-    /// Making a clone can fail, and in this case the list must keep its old items. So the clones
+    /// Cloning an item can fail, and in this case the list must keep its old items. So the clones
     /// are made in empty slots, and the old items are dropped only after the last clone is made.
     /// That is why the call needs a capacity of at least `self.len() + items.len()`, even if the
     /// range is longer than `items`.
     ///
-    /// The clones that will replace the old items of the range are made directly after the last
-    /// item of the list. If `items` is longer than the range, the surplus clones are made in a gap
-    /// directly after the range. On success, each item after the range moves at most once, and the
-    /// clones that were made at the end of the list move into the range. On failure, each item
-    /// after the range moves at most three times: once when the gap is made, and twice while the
-    /// gap is closed.
+    /// If `items` is longer than the range, the surplus clones are made in a gap directly after the
+    /// range. The other clones are made directly after the last item of the list. They will replace
+    /// the old items of the range.
+    ///
+    /// On success, the clones at the end of the list are moved into the range, and each item after
+    /// the range is moved at most once. On failure, each item after the range is moved at most
+    /// three times: once to make the gap, and twice while the gap is closed.
     ///
     /// # Errors
     ///
     /// - `CapacityOverflow`: there is no room for `items.len()` more items, and the growth rule
     ///   chooses no capacity for them. The list is unchanged.
-    /// - `OutOfMemory`: there is no room for `items.len()` more items, and the allocator refused
-    ///   the memory for them. The list is unchanged.
-    /// - `OutOfMemory`: a clone failed. The clones that were already made are dropped, and the list
-    ///   has its old items. The list keeps the capacity that was reserved for the clones.
+    /// - `OutOfMemory`: there is no room for `items.len()` more items, and the allocator failed.
+    ///   The list is unchanged.
+    /// - `OutOfMemory`: an item could not be cloned. The clones that were already made are dropped.
+    ///   The list keeps its old items, and the capacity that was reserved for the clones.
     pub fn replace_range(
         &mut self,
         start: usize,
@@ -89,7 +90,7 @@ impl<T: Clone, A: Allocator, G: Growth> ThinVec<T, A, G> {
         requires room { HasRoomFor self.old (length items.now) }
         requires within { IsWithin T.row self.old }
 
-        // If no clone can fail, the call succeeds.
+        // If cloning cannot fail for any item of `items`, the call succeeds.
         ensures succeeds { All T.is_infallible items.now → IsOk result }
 
         // On success.
@@ -124,14 +125,14 @@ impl<T: Clone, A: Allocator, G: Growth> ThinVec<T, A, G> {
     }
 
     // Inserts clones of `items` before the item at index `at`. The list must have room for the
-    // clones. If a clone fails, the clones that were already made are dropped, and the list has its
-    // old items.
+    // clones. If an item cannot be cloned, the clones that were already made are dropped, and the
+    // list keeps its old items.
     fn insert_clones_reserved(&mut self, at: usize, items: &[T]) -> Result<(), ThinVecError>
         requires in_bounds { at ≤ length self.old.items }
         requires room { HasRoomFor self.old (length items.now) }
         requires within { IsWithin T.row self.old }
 
-        // If no clone can fail, the call succeeds.
+        // If cloning cannot fail for any item of `items`, the call succeeds.
         ensures succeeds { All T.is_infallible items.now → IsOk result }
 
         // On success.

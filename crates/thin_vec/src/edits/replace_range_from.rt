@@ -1,6 +1,6 @@
 //! The methods `replace_range_from_copies` and `replace_range_from_list`. They replace the items of
-//! a range with copies of given items, or with the items of another list. If a call fails, nothing
-//! changes.
+//! a range with copies of given items, or with the items of another list. If a call fails, no list
+//! is changed.
 ghost use Rattle.std.specs.Prelude.{◌≡◌, ◌+◌, ◌-◌, ◌==◌, ◌<◌, ◌≤◌, ◌++◌, [], IsOk, OnErr, OnOk, drop, if◌then◌else◌, length, take};
 ghost use Rattle.std.specs.List.{replace_range};
 ghost use Rattle.thin_block.specs.Cost.{moving, no_cost};
@@ -18,20 +18,21 @@ impl<T: Copy, A: Allocator, G: Growth> ThinVec<T, A, G> {
     /// Replaces the items `start..end` with copies of `items`, in order. The old items of the range
     /// are dropped.
     ///
-    /// This method is our own: neither Rust's `Vec` nor the Rust crate thin-vec has it.
+    /// This method exists neither in Rust's `Vec` nor in the Rust crate thin-vec.
     ///
     /// Copying an item cannot fail. So the old items are dropped before the new items are copied,
-    /// and the call needs room for only `items.len() - (end - start)` more items. If this number is
-    /// 0 or less, the call cannot fail. Each item after the range moves at most once.
+    /// and the call needs room for only `items.len() - (end - start)` more items. If `items` is not
+    /// longer than the range, the call needs no additional room, and cannot fail. Each item after
+    /// the range is moved at most once.
     ///
     /// # Errors
     ///
     /// On failure, the list is unchanged.
     ///
-    /// - `CapacityOverflow`: there is no room for the additional items, and the growth rule chooses
-    ///   no capacity for them.
-    /// - `OutOfMemory`: there is no room for the additional items, and the allocator refused the
-    ///   memory for them.
+    /// - `CapacityOverflow`: there is not enough room for the additional items, and the growth rule
+    ///   chooses no capacity for them.
+    /// - `OutOfMemory`: there is not enough room for the additional items, and the allocator
+    ///   failed.
     pub fn replace_range_from_copies(
         &mut self,
         start: usize,
@@ -90,20 +91,21 @@ impl<T: Drop, A: Allocator, G: Growth> ThinVec<T, A, G> {
     /// range are dropped. The items of `other` are moved: after the call, `other` is empty, and
     /// keeps its capacity.
     ///
-    /// This method is our own: neither Rust's `Vec` nor the Rust crate thin-vec has it.
+    /// This method exists neither in Rust's `Vec` nor in the Rust crate thin-vec.
     ///
     /// Moving an item cannot fail. So the old items are dropped before the new items are moved, and
-    /// the call needs room for only `other.len() - (end - start)` more items. If this number is 0
-    /// or less, the call cannot fail. Each item after the range moves at most once.
+    /// the call needs room for only `other.len() - (end - start)` more items. If `other` is not
+    /// longer than the range, the call needs no additional room, and cannot fail. Each item after
+    /// the range is moved at most once.
     ///
     /// # Errors
     ///
     /// On failure, both lists are unchanged.
     ///
-    /// - `CapacityOverflow`: there is no room for the additional items, and the growth rule chooses
-    ///   no capacity for them.
-    /// - `OutOfMemory`: there is no room for the additional items, and the allocator refused the
-    ///   memory for them.
+    /// - `CapacityOverflow`: there is not enough room for the additional items, and the growth rule
+    ///   chooses no capacity for them.
+    /// - `OutOfMemory`: there is not enough room for the additional items, and the allocator
+    ///   failed.
     pub fn replace_range_from_list(
         &mut self,
         start: usize,

@@ -55,20 +55,22 @@ impl<T, A: Allocator, G: Growth> ThinVec<T, A, G> {
         requires in_bounds { end ≤ length self.old.items }
 
         // The `Splice` yields the items of the range. It also stores the length of the range, and
-        // the iterator `iter`.
+        // the iterator `iter`, which yields the new items.
         ensures rest { splice_rest result ≡ slice_range self.old.items start end }
         ensures range { splice_range result ≡ end - start }
         ensures iter { splice_iter result ≡ iter }
 
-        // The `Splice` owns the items before the range and the items after the range. It keeps the
-        // capacity, the allocator and the recorded cost that the list had before the call.
+        // The `Splice` owns the items before the range and the items after the range. The capacity,
+        // the allocator and the recorded cost of the `Splice` are those that the list had before
+        // the call.
         ensures front { (splice_block result).front ≡ take start self.old.items }
         ensures tail { (splice_block result).tail ≡ drop end self.old.items }
         ensures capacity { (splice_block result).capacity ≡ self.old.capacity }
         ensures alloc { splice_alloc result ≡ self.old.alloc }
         ensures cost { (splice_block result).cost ≡ self.old.cost }
 
-        // The `Splice` borrows this list.
+        // The `Splice` borrows this list: its reference to the list has the same ghost name as
+        // `self`.
         ensures same_reference { splice_lender result ≡ self.entry.ghost_name }
     {
         let block = self.open(start, end);
@@ -128,9 +130,9 @@ impl<
     ghost use Rattle.thin_vec.specs.Edits.Splice.{FailsAsExtend, HasPlacesFor, IsStopCause, Stopped, splice_block, splice_iter, splice_left, splice_range, splice_replaced};
 
     /// Drops the items of the range that were not yielded, and puts the items of the iterator in
-    /// their place. After the call, the list holds the items before the range, the items of the
-    /// iterator, and the items after the range. `next` is called on the iterator until it first
-    /// returns `None`, so the iterator must not be endless.
+    /// their place. After the call, the list holds the items before the range, then the items of
+    /// the iterator, and then the items after the range. `next` is called on the iterator until it
+    /// returns `None` for the first time. So the iterator must not be endless.
     ///
     /// If items follow the range, `finish` takes up to three steps. If the iterator ends during a
     /// step, no further step is taken:
@@ -148,20 +150,23 @@ impl<
     ///
     /// # Cost
     ///
-    /// Each item of the iterator moves into the list once, and each item after the range moves at
-    /// most twice. Steps 2 and 3 each grow the list at most once, and each growth copies the items
-    /// of the list. The cost of the vector in step 3 is not counted. If the iterator cannot yield
-    /// more items than the range has slots, `finish` allocates nothing.
+    /// Each item of the iterator is moved into the list once, and each item after the range is
+    /// moved at most twice. Step 2 and step 3 each grow the list at most once. Whenever the list
+    /// grows, all its items are copied. The cost of the vector in step 3 is not counted. If the
+    /// iterator cannot yield more items than the range has slots, `finish` allocates nothing.
     ///
     /// # Errors
     ///
-    /// `finish` cannot fail if the iterator cannot yield more items than the range has slots. It
-    /// also cannot fail if no item follows the range and there is room for all items. (If items
-    /// follow the range, such room does not guarantee success: `size_hint` may return a lower bound
-    /// that is too low, and then step 3 allocates.)
+    /// There are two situations in which `finish` cannot fail:
     ///
-    /// On failure, no item is lost. The list keeps the items that were placed in it. The error
-    /// holds the items that were taken from the iterator later, first in `held` and then in
+    /// - The iterator cannot yield more items than the range has slots.
+    /// - No item follows the range, and the list has room for all items of the iterator.
+    ///
+    /// If items follow the range, room for all items does not guarantee success. The lower bound of
+    /// the size hint may be too low, and then step 3 allocates memory.
+    ///
+    /// On failure, no item is lost. The items that were moved into the list stay there. The items
+    /// that were taken from the iterator after them are in the error, first in `held` and then in
     /// `in_hand`. There are five cases. In cases 1 and 2, no item follows the range. In cases 3, 4
     /// and 5, items follow the range.
     ///
@@ -169,28 +174,29 @@ impl<
     /// |---|---|---|---|---|
     /// | 1 | reserving room for the size hint | empty | `None` | all items |
     /// | 2 | pushing an item | empty | the next item | the remaining items |
-    /// | 3 | step 2: reserving | empty | `None` | the remaining items |
-    /// | 4 | step 3: collecting | the collected items | the next item | the remaining items |
-    /// | 5 | step 3: reserving | all collected items | `None` | nothing: it has ended |
+    /// | 3 | step 2: reserving room | empty | `None` | the remaining items |
+    /// | 4 | step 3: collecting items | the collected items | the next item | the remaining items |
+    /// | 5 | step 3: reserving room | all collected items | `None` | nothing: `rest` has ended |
     ///
-    /// In case 1, the list no longer has the range. In case 2, the list is full; it holds all items
-    /// placed so far. In cases 3, 4 and 5, all slots of the range are filled.
+    /// In case 1, the list contains exactly the items before the range. In case 2, the list is
+    /// full, and contains all items that were appended so far. In cases 3, 4 and 5, all slots of
+    /// the range are filled.
     ///
     /// In cases 1, 2, 3 and 5, the `cause` is `CapacityOverflow` if the growth rule chooses no
     /// capacity for the required length, and `OutOfMemory` if the allocator of the list failed. In
     /// case 4, the `cause` is `OutOfMemory`. In case 5, `next` must not be called on `rest`.
     ///
-    /// Rust's `Vec` does all this when a `Splice` is dropped. Here, a separate call is needed,
-    /// because the replacement can fail.
+    /// In Rust, a `Splice` puts the new items into the list when it is dropped. Here, a call to
+    /// `finish` is needed instead, because the replacement can fail.
     #[inline(always)]
     pub fn finish(self, alloc: A) -> Result<(), SpliceRefused<T, I, A>>
         requires can_next { I.can_next (splice_iter self) }
         requires finite { IsFinite (I.remaining (splice_iter self)) }
 
         // On success, the list contains the items before the range, then the items `xs` of the
-        // iterator, and then the items after the range (`splice_replaced`). In this clause,
-        // `self.exit.0` is the first field of the `Splice`, which is the reference to the list. So
-        // `self.exit.0.now` is the list after the call.
+        // iterator, and then the items after the range. (`splice_replaced` puts these items
+        // together.) The value `self.exit.0` is the first field of the `Splice`, which is the
+        // reference to the list. So `self.exit.0.now` is the list after the call.
         ensures items { OnOk result ((xs : List T) × Drains I.next_gives (splice_iter self.entry) xs
             × (self.exit.0.now.items ≡ splice_replaced self.entry xs)) }
         ensures runs { OnOk result (WholeRun I.next_gives (splice_iter self.entry)
@@ -201,9 +207,9 @@ impl<
             → IsOk result }
 
         // On failure, every item that the iterator yielded is in the list or in the error. If items
-        // follow the range, the clause `before_tail` says that all slots of the range are filled.
-        // If no item follows the range, the clause `without_tail` says that the call placed no
-        // item, or that the list is full.
+        // follow the range, all slots of the range are filled (`before_tail`). If no item follows
+        // the range, the list is full, or the call has taken no item from the iterator
+        // (`without_tail`).
         ensures placed { IfErr result (λ error. (xs : List T)
             × (self.exit.0.now.items ≡ splice_replaced self.entry xs)
             × Stopped I.next_gives I.can_next I.remaining (splice_iter self.entry) xs error) }
@@ -234,8 +240,8 @@ impl<
         } else {
             list.finish_at_end(block, iter, alloc)
         };
-        // This call is needed only for the proof: the contract of `len` says that the list
-        // satisfies `IsWithin`, which limits its length and its capacity.
+        // This call is needed only for the proof: the contract of `len` states that the length and
+        // the capacity of the list are within certain limits (`IsWithin`).
         let _len = list.len();
         answer
     }

@@ -1,5 +1,5 @@
 //! The methods `append`, which moves the items of one list to the end of another, and `split_off`,
-//! which cuts a list in two.
+//! which splits a list in two.
 ghost use Rattle.std.specs.Prelude.{◌≡◌, ◌+◌, ◌-◌, ◌≤◌, ◌++◌, [], IfErr, IfOk, IsOk, OnErr, OnOk, drop, length, take};
 ghost use Rattle.thin_block.specs.Cost.{moving};
 ghost use Rattle.thin_vec.specs.List.Capacity.{Costs, Keeps, Reserves, IsMade};
@@ -48,10 +48,10 @@ impl<T, A: Allocator, G: Growth> ThinVec<T, A, G> {
         Ok(())
     }
 
-    /// Moves the items from index `at` onward to a new list, in order, and returns the new list.
-    /// The new list uses the allocator `alloc`, and its capacity is exactly the number of these
-    /// items. This list keeps its first `at` items and its capacity. If `at` is the length, the
-    /// call needs no allocation.
+    /// Moves the items at the indices `at..self.len()` to a new list, in order, and returns the new
+    /// list. The new list uses the allocator `alloc`, and its capacity is exactly the number of
+    /// these items. This list keeps its first `at` items and its capacity. If `at` is the length,
+    /// the call allocates nothing.
     ///
     /// # Errors
     ///
@@ -88,7 +88,7 @@ impl<T, A: Allocator, G: Growth> ThinVec<T, A, G> {
     /// empty, and keeps its capacity. This list must already have room for the items; `reserve`
     /// makes such room. So this list does not grow, and the call cannot fail.
     ///
-    /// This method is our own: neither Rust's `Vec` nor the Rust crate thin-vec has it.
+    /// This method exists neither in Rust's `Vec` nor in the Rust crate thin-vec.
     pub fn append_reserved(&mut self, other: &mut ThinVec<T, A, G>)
         requires room { HasRoomFor self.old (length other.old.items) }
         ensures items { self.new.items ≡ self.old.items ++ other.old.items }

@@ -135,8 +135,8 @@ impl<T, A: Allocator, G: Growth> ThinVec<T, A, G> {
 
     // Reserves room for at least `additional` more items, with the same contract as `reserve`. This
     // function is meant for calls that add several items. If `additional` is known at compile time,
-    // for example as the length of a literal, the compiled test for room is a single comparison.
-    // (In `reserve`, the compiled test is a single comparison only if `additional` is 1.)
+    // for example because it is the length of a literal, the compiled code checks for room with a
+    // single comparison. (The compiled code of `reserve` does this only if `additional` is 1.)
     #[tactic(auto, using(thin_block::proofs::CapacityLemmas::ruled))]
     pub(crate) fn reserve_run(&mut self, additional: usize) -> Result<(), ThinVecError>
         // On success.
@@ -160,9 +160,10 @@ impl<T, A: Allocator, G: Growth> ThinVec<T, A, G> {
         Ok(())
     }
 
-    // Returns whether there is room for `additional` more items. The length and `additional` are
-    // added only if `additional` is at most `isize::MAX`. The length is at most `isize::MAX`, too,
-    // so this addition cannot overflow.
+    // Returns whether there is room for `additional` more items. If `additional` exceeds
+    // `isize::MAX`, the function returns false, because no list has so much room. Otherwise, it
+    // adds `additional` to the length. The length is also at most `isize::MAX`, so this addition
+    // cannot overflow.
     fn has_room_for(&self, additional: usize) -> bool
         ensures within { IsWithin T.row self.now }
         ensures room { IsTrue result → HasRoomFor self.now additional }
@@ -177,8 +178,9 @@ impl<T, A: Allocator, G: Growth> ThinVec<T, A, G> {
     }
 
     // Grows the list to make room for `additional` more items. The list must not have room for
-    // these items yet. This function is a part of `reserve`. It is a separate function, which is
-    // marked as cold, because most calls to `reserve` find enough room.
+    // these items yet. This function does the part of `reserve` that is needed only if there is not
+    // enough room. Most calls to `reserve` find enough room. That is why this part is a separate
+    // function, and is marked as cold.
     #[cold]
     fn grow_for(&mut self, additional: usize) -> Result<(), ThinVecError>
         requires more { self.old.capacity < length self.old.items + additional }
@@ -225,8 +227,8 @@ impl<T, A: Allocator, G: Growth> ThinVec<T, A, G> {
     }
 
     // Grows the list to the capacity `cap`. No other function grows a list. Both this function and
-    // `Block::grow` are inlined, so that a call that grows a new list does not test at run time
-    // whether the list already has a block.
+    // `Block::grow` are inlined. So if a caller grows a list that it has just made, the compiled
+    // code does not test whether the list already has a block.
     #[inline(always)]
     pub(crate) fn grow_to(&mut self, cap: usize) -> Result<(), ThinVecError>
         requires larger { self.old.capacity < cap }

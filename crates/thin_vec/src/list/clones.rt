@@ -26,8 +26,8 @@ impl<T: Clone, A: Allocator, G: Growth> ThinVec<T, A, G> {
     ///   large. The list is unchanged.
     /// - `OutOfMemory`: there is not enough spare capacity, and the allocator failed. The list is
     ///   unchanged.
-    /// - `OutOfMemory`: a clone failed. The clones that were already made are dropped, and the list
-    ///   has its old items. If the list has grown, it keeps the new capacity.
+    /// - `OutOfMemory`: an item could not be cloned. The clones that were already made are dropped,
+    ///   so the list keeps only its old items. If the list has grown, it keeps the new capacity.
     pub fn extend_from_slice(&mut self, items: &[T]) -> Result<(), ThinVecError>
         // On success.
         ensures items { OnOk result
@@ -63,8 +63,9 @@ impl<T: Clone, A: Allocator, G: Growth> ThinVec<T, A, G> {
     ///
     /// # Errors
     ///
-    /// Fails with `OutOfMemory` if `alloc` or a clone fails. On failure, no list is made. The
-    /// clones that were already made are dropped, and so is `alloc`.
+    /// Fails with `OutOfMemory` if `alloc` cannot allocate the memory, or if an item cannot be
+    /// cloned. On failure, no list is made. The clones that were already made are dropped, and
+    /// `alloc` is dropped, too.
     pub fn clone(&self, alloc: A) -> Result<ThinVec<T, A, G>, ThinVecError>
         // On success.
         ensures items { IfOk result (λ list. AllZip T.is_clone self.now.items list.items) }
@@ -120,12 +121,13 @@ impl<T: Clone, A: Allocator, G: Growth> ThinVec<T, A, G> {
     /// Appends a clone of each item of `items`, in order. The list must already have room for the
     /// clones; `reserve` makes such room. So the list does not grow.
     ///
-    /// This method is our own: neither Rust's `Vec` nor the Rust crate thin-vec has it.
+    /// This method exists neither in Rust's `Vec` nor in the Rust crate thin-vec.
     ///
     /// # Errors
     ///
-    /// Fails with `OutOfMemory` if a clone fails. On failure, the clones that were already made are
-    /// dropped, and the list has its old items and its old capacity.
+    /// Fails with `OutOfMemory` if an item cannot be cloned. On failure, the clones that were
+    /// already made are dropped, so the list keeps only its old items. Its capacity does not
+    /// change.
     pub fn extend_from_slice_reserved(&mut self, items: &[T]) -> Result<(), ThinVecError>
         requires room { HasRoomFor self.old (length items.now) }
 
@@ -157,8 +159,8 @@ impl<T: Clone, A: Allocator, G: Growth> ThinVec<T, A, G> {
         Ok(())
     }
 
-    // Appends clones of `items`, in order, until a clone fails. Returns the number of clones that
-    // were made. The list must have room for clones of all these items.
+    // Appends clones of `items`, in order. Stops at the first item that cannot be cloned. Returns
+    // the number of clones that were made. The list must have room for clones of all these items.
     fn push_clones_reserved(&mut self, items: &[T]) -> usize
         requires room { HasRoomFor self.old (length items.now) }
         ensures in_bounds { result ≤ length items.now }
@@ -189,8 +191,8 @@ impl<T: Clone, A: Allocator, G: Growth> ThinVec<T, A, G> {
     ///   large. The list is unchanged.
     /// - `OutOfMemory`: there is not enough spare capacity, and the allocator failed. The list is
     ///   unchanged.
-    /// - `OutOfMemory`: a clone failed. The clones that were already made are dropped, and the list
-    ///   has its old items. If the list has grown, it keeps the new capacity.
+    /// - `OutOfMemory`: an item could not be cloned. The clones that were already made are dropped,
+    ///   so the list keeps only its old items. If the list has grown, it keeps the new capacity.
     pub fn extend_from_within(&mut self, start: usize, end: usize) -> Result<(), ThinVecError>
         requires start_le_end { start ≤ end }
         requires in_bounds { end ≤ length self.old.items }
@@ -226,14 +228,15 @@ impl<T: Clone, A: Allocator, G: Growth> ThinVec<T, A, G> {
     }
 
     // Appends clones of the items `start..end` of the list, in order. The list must already have
-    // room for the clones, so it does not grow. If a clone fails, the clones that were already made
-    // are dropped.
+    // room for the clones, so it does not grow. If an item cannot be cloned, the call fails, and
+    // the clones that were already made are dropped.
     fn extend_from_within_reserved(&mut self, start: usize, end: usize) -> Result<(), ThinVecError>
         requires start_le_end { start ≤ end }
         requires in_bounds { end ≤ length self.old.items }
         requires room { HasRoomFor self.old (end - start) }
 
-        // The call succeeds if no clone can fail. On success, the clones are appended.
+        // If cloning cannot fail for any item of the range, the call succeeds. On success, the
+        // clones are appended.
         ensures succeeds { All T.is_infallible (slice_range self.old.items start end)
             → IsOk result }
         ensures items { OnOk result (AppendsClones T.is_clone self.old.items self.new.items
@@ -265,9 +268,10 @@ impl<T: Clone, A: Allocator, G: Growth> ThinVec<T, A, G> {
         Ok(())
     }
 
-    // Appends clones of the items `start..end` of the list, in order, until a clone fails. Returns
-    // the number of clones that were made. The list must have room for all these clones. The stored
-    // length is updated after each clone, because the items to clone are read from the list itself.
+    // Appends clones of the items `start..end` of the list, in order. Stops at the first item that
+    // cannot be cloned. Returns the number of clones that were made. The list must have room for
+    // all these clones. The stored length is updated after each clone, because the items to clone
+    // are read from the list itself.
     fn push_clones_within(&mut self, start: usize, end: usize) -> usize
         requires start_le_end { start ≤ end }
         requires in_bounds { end ≤ length self.old.items }
@@ -285,9 +289,9 @@ impl<T: Clone, A: Allocator, G: Growth> ThinVec<T, A, G> {
           cost = moving result self.old.cost;
         } }
 
-        // If `result` is less than the length of the range, the call stopped because a clone
-        // failed. In this case, the item at index `result` of the range is an item whose cloning
-        // can fail.
+        // Suppose that `result` is less than the length of the range. Then the call stopped because
+        // the item at index `result` of the range could not be cloned. So this item does not
+        // satisfy `T.is_infallible`, which states that cloning an item cannot fail.
         ensures refused { result < end - start → HoldsAt (λ x. ¬ (T.is_infallible x))
             (slice_range self.old.items start end) result }
 
@@ -310,8 +314,8 @@ impl<T: Clone, A: Allocator + Copy, G: Growth> Clone for ThinVec<T, A, G> {
 
     ghost is_infallible = { λ list. list.items ≡ [] };
 
-    // Clones the list. The new list uses a copy of the allocator. The cause of a failure is lost,
-    // because `AllocError` has no field for it.
+    // Makes a list of clones of all items of this list. The allocator is `Copy`, and the new list
+    // uses a copy of it. On failure, the cause is lost, because `AllocError` has no field for it.
     fn clone(&self) -> Result<Self, AllocError> {
         match ThinVec::clone(self, *self.allocator()) {
             Ok(other) => Ok(other),

@@ -75,8 +75,8 @@ impl<T: fmt::Debug, A: Allocator, G: Growth> fmt::Debug for ThinVec<T, A, G> {
 impl<T, A: Allocator + Clone, G: Growth> Emptied for ThinVec<T, A, G> {
     ghost is_emptied = { λ list. list.items ≡ [] };
 
-    // Makes an empty list that owns a clone of the allocator of the list `like`. Fails if the
-    // allocator cannot be cloned. The function `mem::try_take` of Rattle's std calls this function.
+    // Makes an empty list that owns a clone of the allocator of `like`. Fails if the allocator
+    // cannot be cloned. In Rattle's std, the function `mem::try_take` calls this function.
     fn emptied(like: &ThinVec<T, A, G>) -> Result<ThinVec<T, A, G>, AllocError> {
         Ok(ThinVec::ruled(like.allocator().clone()?))
     }
@@ -85,8 +85,8 @@ impl<T, A: Allocator + Clone, G: Growth> Emptied for ThinVec<T, A, G> {
 impl<T, A: Allocator, G: Growth> MadeWith<A> for ThinVec<T, A, G> {
     ghost is_made_with = { λ list. list.items ≡ [] };
 
-    // Makes an empty list that owns the allocator `alloc`. The method `or_default` of the maps in
-    // Rattle's std calls this function.
+    // Makes an empty list that owns the allocator `alloc`. In Rattle's std, the method `or_default`
+    // of the maps calls this function.
     fn made_with(alloc: A) -> ThinVec<T, A, G> {
         ThinVec::ruled(alloc)
     }

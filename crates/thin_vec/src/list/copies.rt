@@ -13,9 +13,9 @@ impl<T: Copy, A: Allocator, G: Growth> ThinVec<T, A, G> {
 
     /// Appends a copy of each item of `items`, in order. If there is not enough spare capacity, the
     /// list first grows to the capacity that the growth rule chooses. The items are copied byte for
-    /// byte, which is faster than `extend_from_slice`.
+    /// byte, so this method is faster than `extend_from_slice`.
     ///
-    /// This method is our own: neither Rust's `Vec` nor the Rust crate thin-vec has it.
+    /// This method exists neither in Rust's `Vec` nor in the Rust crate thin-vec.
     ///
     /// # Errors
     ///
@@ -49,10 +49,10 @@ impl<T: Copy, A: Allocator, G: Growth> ThinVec<T, A, G> {
 
     /// Makes a list of copies of all items of this list, in order. The new list uses the allocator
     /// `alloc` and the same growth rule as this list, and its capacity is exactly the number of
-    /// items. If there are no items, nothing is allocated. The items are copied byte for byte,
-    /// which is faster than `clone`.
+    /// items. If there are no items, nothing is allocated. The items are copied byte for byte, so
+    /// this method is faster than `clone`.
     ///
-    /// This method is our own: neither Rust's `Vec` nor the Rust crate thin-vec has it.
+    /// This method exists neither in Rust's `Vec` nor in the Rust crate thin-vec.
     ///
     /// # Errors
     ///
@@ -80,7 +80,7 @@ impl<T: Copy, A: Allocator, G: Growth> ThinVec<T, A, G> {
     /// Appends a copy of each item of `items`, in order. The list must already have room for the
     /// items; `reserve` makes such room. So the list does not grow, and the call cannot fail.
     ///
-    /// This method is our own: neither Rust's `Vec` nor the Rust crate thin-vec has it.
+    /// This method exists neither in Rust's `Vec` nor in the Rust crate thin-vec.
     pub fn extend_from_copies_reserved(&mut self, items: &[T])
         requires room { HasRoomFor self.old (length items.now) }
         ensures items { self.new.items ≡ self.old.items ++ items.now }

@@ -23,21 +23,21 @@ impl<T, A: Allocator, G: Growth> ThinVec<T, A, G> {
     /// Appends the items that `iter` yields before its first `None`. After this `None`, `next` is
     /// not called again.
     ///
-    /// First, the call asks `iter` for its size hint, once, and reserves room for `n` more items,
-    /// where `n` is the lower bound. Then it moves items into the spare capacity, and pushes each
-    /// further item. So the call cannot fail if there is room for all items that the iterator may
-    /// yield.
+    /// First, the call gets the size hint of `iter` once, and reserves room for `n` more items,
+    /// where `n` is the lower bound of the size hint. Then it moves items into the spare capacity,
+    /// and pushes each further item. So the call cannot fail if there is room for all items that
+    /// the iterator may yield.
     ///
     /// # Errors
     ///
     /// The cause is `CapacityOverflow` if the new capacity would be too large, and `OutOfMemory` if
     /// the allocator failed. There are two cases:
     ///
-    /// - Room for the lower bound of the size hint cannot be reserved. In this case, the list is
-    ///   unchanged, `in_hand` is `None`, and `rest` is the whole iterator.
-    /// - A further item cannot be pushed. In this case, the list keeps the items that were appended
-    ///   before, and is full. `in_hand` is the item that could not be pushed, and `rest` yields the
-    ///   items after it.
+    /// - The call cannot reserve room for `n` more items. In this case, the list is unchanged,
+    ///   `in_hand` is `None`, and `rest` is the whole iterator.
+    /// - The call cannot push a further item. In this case, the list keeps the items that were
+    ///   appended before, and is full. `in_hand` is the item that could not be pushed, and `rest`
+    ///   yields the items after it.
     pub fn extend<I: Iterator<Item = T>>(&mut self, iter: I) -> Result<(), ExtendRefused<T, I>>
         requires can_next { I.can_next iter }
         requires finite { IsFinite (I.remaining iter) }
@@ -137,9 +137,9 @@ impl<T, A: Allocator, G: Growth> ThinVec<T, A, G> {
         }
     }
 
-    // Moves items of `iter` into the spare capacity until the list is full or `iter` ends. If the
-    // list is full, takes one more item from `iter`. Returns the rest of the iterator, and this
-    // further item if there is one.
+    // Moves items of `iter` into the spare capacity until the list is full or `iter` ends. If
+    // `iter` has not ended, calls `next` on it once more. Returns the rest of the iterator, and the
+    // result of this last call. If `iter` ended before, returns `None` instead of this result.
     fn extend_reserved<I: Iterator<Item = T>>(&mut self, iter: I) -> (I, Option<T>)
         requires can_next { I.can_next iter }
         requires finite { IsFinite (I.remaining iter) }
@@ -154,9 +154,9 @@ impl<T, A: Allocator, G: Growth> ThinVec<T, A, G> {
         } }
 
         // Suppose that the call returns an item. Then the list is full, and `next` may be called on
-        // the returned iterator. The upper bound on the number of items that the iterator may still
-        // yield has decreased by more than the number of appended items, because the returned item
-        // was also taken.
+        // the returned iterator. The number of items that the iterator may still yield has a finite
+        // upper bound. The call has decreased this bound by more than the number of appended items,
+        // because it also took the returned item.
         ensures full { OnSome result.1 (length self.new.items ≡ self.new.capacity) }
         ensures rest { OnSome result.1 (I.can_next result.0 × IsFinite (I.remaining result.0)) }
         ensures nearer { OnSome result.1
@@ -210,20 +210,21 @@ impl<T, A: Allocator> ThinVec<T, A> {
     /// Makes a list of the items that `iter` yields before its first `None`. After this `None`,
     /// `next` is not called again. The list uses the allocator `alloc`.
     ///
-    /// First, the call asks `iter` for its size hint, once, and makes a block whose capacity is
-    /// exactly the lower bound. Then it moves items into the block until it is full, and pushes
-    /// each further item. So the call cannot fail if the iterator cannot yield any item.
+    /// First, the call gets the size hint of `iter` once, and makes a block whose capacity is
+    /// exactly the lower bound of the size hint. Then it moves items into the block until it is
+    /// full, and pushes each further item. So the call cannot fail if the iterator cannot yield any
+    /// item.
     ///
     /// # Errors
     ///
     /// The cause is `CapacityOverflow` if the capacity would be too large, and `OutOfMemory` if the
     /// allocator failed. There are two cases:
     ///
-    /// - The first block cannot be made. In this case, `list` is a new empty list, `in_hand` is
-    ///   `None`, and `rest` is the whole iterator.
-    /// - A further item cannot be pushed. In this case, `list` holds the items that were appended
-    ///   before, and is full. `in_hand` is the item that could not be pushed, and `rest` yields the
-    ///   items after it.
+    /// - The call cannot make the first block. In this case, `list` is a new empty list, `in_hand`
+    ///   is `None`, and `rest` is the whole iterator.
+    /// - The call cannot push a further item. In this case, `list` holds the items that were
+    ///   appended before, and is full. `in_hand` is the item that could not be pushed, and `rest`
+    ///   yields the items after it.
     pub fn from_iter<I: Iterator<Item = T>>(
         alloc: A,
         iter: I,
@@ -290,9 +291,9 @@ impl<T, A: Allocator> ThinVec<T, A> {
 impl<T: Drop, A: Allocator, G: Growth> Extend<T> for ThinVec<T, A, G> {
     ghost extend_gives = { Extends G.rule T.row };
 
-    // Appends the items of `iter`, like the method `ThinVec::extend`. On failure, drops the item
-    // that could not be appended, and the iterator. The items that were appended before the failure
-    // stay in the list.
+    // Appends the items of `iter`, like the method `ThinVec::extend`. On failure, drops the
+    // iterator. If an item was taken from the iterator but could not be appended, this item is also
+    // dropped. The items that were appended before the failure stay in the list.
     fn extend<U: IntoIterator<Item = T>>(&mut self, iter: U) -> Result<(), AllocError> {
         match ThinVec::extend(self, iter.into_iter()) {
             Ok(()) => Ok(()),

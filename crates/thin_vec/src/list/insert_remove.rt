@@ -15,8 +15,8 @@ use thin_block::{Growth, ThinVecError};
 impl<T, A: Allocator, G: Growth> ThinVec<T, A, G> {
     ghost use Rattle.thin_vec.specs.ThinVec.{HasRoomFor, IsWithin, capacity_for};
 
-    /// Inserts `value` at `index`. The list then owns `value`. Each item from this index onward
-    /// moves to the next higher index. `index` must be at most the length. If there is no spare
+    /// Inserts `value` at `index`, which must be at most the length. The list then owns `value`.
+    /// Each item from `index` onward is moved to the next higher index. If there is no spare
     /// capacity, the list first grows to the capacity that the growth rule chooses.
     ///
     /// # Errors
@@ -52,12 +52,12 @@ impl<T, A: Allocator, G: Growth> ThinVec<T, A, G> {
         Ok(())
     }
 
-    /// Inserts `value` at `index`. The list then owns `value`. Each item from this index onward
-    /// moves to the next higher index. `index` must be at most the length. The list must already
-    /// have room for one more item; `reserve(1)` makes such room. So the list does not grow, and
-    /// the call cannot fail.
+    /// Inserts `value` at `index`, which must be at most the length. The list then owns `value`.
+    /// Each item from `index` onward is moved to the next higher index. The list must already have
+    /// room for one more item; `reserve(1)` makes such room. So the list does not grow, and the
+    /// call cannot fail.
     ///
-    /// This method is our own: neither Rust's `Vec` nor the Rust crate thin-vec has it.
+    /// This method exists neither in Rust's `Vec` nor in the Rust crate thin-vec.
     pub fn insert_reserved(&mut self, index: usize, value: T)
         requires in_bounds { index ≤ length self.old.items }
         requires room { HasRoomFor self.old 1 }
@@ -71,9 +71,9 @@ impl<T, A: Allocator, G: Growth> ThinVec<T, A, G> {
         self.block.put_and_store(index, value, len + 1);
     }
 
-    /// Appends `value`, and returns a mutable reference to `value` in the list. The list then owns
-    /// `value`. Writing through the reference changes the item of the list. If there is no spare
-    /// capacity, the list first grows to the capacity that the growth rule chooses.
+    /// Appends `value`, which the list then owns. Returns a mutable reference to the new item.
+    /// Writing through the reference changes the item of the list. If there is no spare capacity,
+    /// the list first grows to the capacity that the growth rule chooses.
     ///
     /// Rust's `Vec` has a method of this name, but the Rust crate thin-vec does not.
     ///
@@ -85,9 +85,9 @@ impl<T, A: Allocator, G: Growth> ThinVec<T, A, G> {
     /// - `CapacityOverflow`: the new capacity would be too large.
     /// - `OutOfMemory`: the allocator failed.
     pub fn push_mut(&mut self, value: T) -> Result<&mut T, Rejected<T>>
-        // On success, `value` is appended, and the returned reference borrows `value` in the list.
-        // On failure, the list is unchanged. The clause `writes_back` states both, and it describes
-        // the list after the borrow has ended.
+        // On success, `value` is appended, and the returned reference borrows the new item. When
+        // the borrow ends, the list contains the value that the item has at that time. On failure,
+        // the list is unchanged. The clause `writes_back` states all this.
         ensures* writes_back { sem 𝓛
             (LendsAdded T.row A.row G.row A.Allocator G.Growth self.entry
             (λ x. self.old.items ++ x ∷ []) 1 result) }
@@ -108,11 +108,10 @@ impl<T, A: Allocator, G: Growth> ThinVec<T, A, G> {
         Ok(&mut self[len])
     }
 
-    /// Inserts `value` at `index`, and returns a mutable reference to `value` in the list. The list
-    /// then owns `value`. Writing through the reference changes the item of the list. Each item
-    /// from this index onward moves to the next higher index. `index` must be at most the length.
-    /// If there is no spare capacity, the list first grows to the capacity that the growth rule
-    /// chooses.
+    /// Inserts `value` at `index`, which must be at most the length. The list then owns `value`.
+    /// Returns a mutable reference to the new item. Writing through the reference changes the item
+    /// of the list. Each item from `index` onward is moved to the next higher index. If there is no
+    /// spare capacity, the list first grows to the capacity that the growth rule chooses.
     ///
     /// Rust's `Vec` has a method of this name, but the Rust crate thin-vec does not.
     ///
@@ -126,9 +125,9 @@ impl<T, A: Allocator, G: Growth> ThinVec<T, A, G> {
     pub fn insert_mut(&mut self, index: usize, value: T) -> Result<&mut T, Rejected<T>>
         requires in_bounds { index ≤ length self.old.items }
 
-        // On success, `value` is inserted, and the returned reference borrows `value` in the list.
-        // On failure, the list is unchanged. The clause `writes_back` states both, and it describes
-        // the list after the borrow has ended.
+        // On success, `value` is inserted, and the returned reference borrows the new item. When
+        // the borrow ends, the list contains the value that the item has at that time. On failure,
+        // the list is unchanged. The clause `writes_back` states all this.
         ensures* writes_back { sem 𝓛
             (LendsAdded T.row A.row G.row A.Allocator G.Growth self.entry
             (insert self.old.items index) (length self.old.items - index + 1) result) }
@@ -148,8 +147,8 @@ impl<T, A: Allocator, G: Growth> ThinVec<T, A, G> {
         Ok(&mut self[index])
     }
 
-    /// Removes the item at `index` and returns it. Each later item moves to the next lower index.
-    /// The capacity does not change.
+    /// Removes the item at `index` and returns it. Each later item is moved to the next lower
+    /// index. The capacity does not change.
     pub fn remove(&mut self, index: usize) -> T
         requires in_bounds { index < length self.old.items }
         ensures value { slice_get self.old.items index ≡ Some result }
@@ -183,10 +182,11 @@ impl<T, A: Allocator, G: Growth> ThinVec<T, A, G> {
         value
     }
 
-    /// Calls `predicate` with the last item. If `predicate` returns true, the item is removed and
-    /// returned. Otherwise, the item stays in the list, with any change that `predicate` made to
-    /// it, and the call returns `None`. If the list is empty, `predicate` is not called, and the
-    /// call returns `None`. The capacity does not change.
+    /// Calls `predicate` with a mutable reference to the last item. If `predicate` returns true,
+    /// the item is removed and returned. Otherwise, the item stays in the list, and the call
+    /// returns `None`. In both cases, changes that `predicate` made to the item are kept. If the
+    /// list is empty, `predicate` is not called, and the call returns `None`. The capacity does not
+    /// change.
     ///
     /// Rust's `Vec` has a method of this name, but the Rust crate thin-vec does not.
     pub fn pop_if<P: FnOnce(&mut T) -> bool>(&mut self, predicate: P) -> Option<T>

@@ -27,8 +27,8 @@ impl<T: Clone, A: Allocator, G: Growth> ThinVec<T, A, G> {
     ///   large. The list is unchanged.
     /// - `OutOfMemory`: there is not enough spare capacity, and the allocator failed. The list is
     ///   unchanged.
-    /// - `OutOfMemory`: a clone failed. The clones that were already made are dropped, and the list
-    ///   has its old items. If the list has grown, it keeps the new capacity.
+    /// - `OutOfMemory`: `value` could not be cloned. The clones that were already made are dropped,
+    ///   so the list keeps only its old items. If the list has grown, it keeps the new capacity.
     pub fn resize(&mut self, len: usize, value: T) -> Result<(), ThinVecError>
         // On success.
         ensures items { OnOk result (IsResized T.is_clone self.old.items len value self.new.items) }
@@ -66,8 +66,8 @@ impl<T: Clone, A: Allocator, G: Growth> ThinVec<T, A, G> {
     }
 
     // Appends `count - 1` clones of `value`, and then `value` itself. The list must have room for
-    // these items. If a clone fails, the clones that were already made are dropped, and so is
-    // `value`.
+    // these items. If cloning `value` fails, the clones that were already made are dropped, and
+    // `value` is dropped, too.
     fn resize_reserved(&mut self, value: T, count: usize) -> Result<(), ThinVecError>
         requires some { 0 < count }
         requires room { HasRoomFor self.old count }
@@ -108,8 +108,8 @@ impl<T: Clone, A: Allocator, G: Growth> ThinVec<T, A, G> {
         Ok(())
     }
 
-    // Appends `count` clones of `value`, but stops if a clone fails. Returns the number of clones
-    // that were made. The list must have room for `count` clones.
+    // Appends `count` clones of `value`, but stops if cloning `value` fails. Returns the number of
+    // clones that were made. The list must have room for `count` clones.
     fn push_repeated_reserved(&mut self, value: &T, count: usize) -> usize
         requires room { HasRoomFor self.old count }
         ensures in_bounds { result ≤ count }

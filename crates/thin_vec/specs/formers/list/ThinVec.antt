@@ -1,9 +1,8 @@
--- This file defines the type former of `ThinVec`, which says which values a list contains. Because
--- of the type former, the prover accepts a type that contains lists of itself. The type former is
--- sound because a list consists of its items and of other parts that contain no items. In each
--- list, the items are in the first slots. Whether the items are in the first slots depends only on
--- which slots are filled, and not on the values of the items. The lemmas of `specs/Shapes.antt`
--- prove this.
+-- This file defines the type former of `ThinVec`, which says that a list contains its items.
+-- Because of the type former, the prover accepts a type that contains lists of itself. The type
+-- former is sound because a list consists of its items and of other parts, which contain no items.
+-- In each list, the items are in the first slots. This condition depends only on which slots are
+-- filled, and not on the values of the items. The lemmas of `specs/Shapes.antt` prove this.
 use Rattle.std.specs.Prelude.{◌≡◌, ℕ, ◌-◌, List, [], ◌∷◌, Option, length, map}
 use Rattle.std.specs.declared.option.Option.TheVariants.{Some, None}
 use mathlib.Core.Path.{refl, sym, ap, ◌∙◌}
@@ -43,10 +42,10 @@ the_former g Z Q =
     (λ X p. record { items = p.0; capacity = p.1.0; alloc = p.1.1.0; cost = p.1.1.1 })
     (λ X v. refl) (λ X p. refl)
 
--- A depth function computes how deeply values are nested in a value of a recursive type.
--- `the_weighed w Z Q` extends the depth function `w`, which is for items, to lists. The depth of a
--- list is the depth of its deepest item, or 0 if the list is empty. `Z` is the type of the
--- allocator, and `Q` is the type of the growth rule.
+-- A depth function computes how deeply values are nested in a value of a recursive type. Let `w` be
+-- a depth function for items. Then `the_weighed w Z Q` is a depth function for lists of such items.
+-- The depth of a list is the depth of its deepest item, or 0 if the list is empty. `Z` is the type
+-- of the allocator, and `Q` is the type of the growth rule.
 abbrev pub the_weighed : {g : Former {0}} → Weighed g → (Z Q : Type 0) → Weighed (the_former g Z Q)
 the_weighed w Z Q =
     record {
@@ -71,10 +70,10 @@ pub the_items_listed : (Z Q X : Type 0) (v : Thin X Z)
     → listed _ (children (the_former this Z Q) X v) ≡ the_items Z Q X v
 the_items_listed Z Q X v = list-listed X v.items
 
--- `fields Z Q` is the type former of the fields of a list, which are the block and the allocator.
--- (The third field, for the growth rule, contains no data.) The type former says that the fields
--- contain exactly the items in the block. `Z` is the type of the allocator, and `Q` is the type of
--- the growth rule.
+-- The struct `ThinVec` has three fields: the block, the allocator and the growth rule. (The field
+-- for the growth rule contains no data.) `fields Z Q` is the type former of these fields. It says
+-- that they contain exactly the items in the block. `Z` is the type of the allocator, and `Q` is
+-- the type of the growth rule.
 abbrev fields : Type 0 → Type 0 → Former {0}
 fields Z Q =
     via (pair (block.the_former this Z) (const Z)) (λ X. Inside X Z Q) (λ X a. (a.block, a.alloc))
@@ -140,8 +139,9 @@ module _ {X Y : Type 0} (h : X → Y) where
     thin_from : IsThin (block.mapped h b) a → IsThin b a
     thin_from t = record { packed = packed_from b.slots b.len t.packed; from = t.from }
 
--- Consider a row of slots `s` and the list `items_in s` of the items in these slots. According to
--- their type formers, the row and the list contain the same values in the same order.
+-- Let `items_in s` be the list of the items in the row of slots `s`. The type formers of rows and
+-- of lists say which values a row and a list contain. According to them, `s` and `items_in s`
+-- contain the same values in the same order.
 items_in-held : (X : Type 0) (s : List (Option X))
     → held (list this) X (items_in s) ≡ held (list (slot this)) X s
 items_in-held X [] = refl
@@ -166,9 +166,9 @@ module _ (Z Q : RattleType) (G : AllocatorGhosts Z.Denot) (K : GrowthGhosts Q.De
   }
 
   module _ (R S : RattleType) (h : R.Denot → S.Denot) where
-    -- Suppose that applying the function `h` to an item changes neither the memory layout of the
-    -- item nor the memory that the item owns and lends. Then applying `h` to each item of a list
-    -- changes neither the layout of the list nor the memory that the list owns and lends.
+    -- Suppose that applying the function `h` to an item does not change the memory layout of the
+    -- item. Suppose also that it changes neither the memory that the item owns nor the memory that
+    -- the item lends. Then the same is true of a list if `h` is applied to each of its items.
     pub the_places : Alike R S h → Alike (C.the_row R Z Q G K) (C.the_row S Z Q G K)
         ((the_former this Z.Denot Q.Denot).map R.Denot S.Denot h)
     the_places a = view_places (fields Z.Denot Q.Denot) (the_former this Z.Denot Q.Denot)
