@@ -47,8 +47,8 @@ module _ (T A G : RattleType) (a : AllocatorGhosts A.Denot) (g : GrowthGhosts G.
   LendsIter it = follows (the_row T A G a g) (Array T 0) v.ghost_name
       (iter_mut_name it) (with_items v.now)
 
-  -- `LendsRest r` states that the reference `r` borrows the items that an iterator has not yielded
-  -- yet. The reference `v` points to this iterator. When the borrow ends, these items of the
-  -- iterator are the items that were written through `r`.
+  -- `LendsRest r` states that the reference `r` borrows the remaining items of an iterator (the
+  -- items that it has not yielded yet). The reference `v` points to this iterator. When the borrow
+  -- ends, the remaining items of the iterator are the items that were written through `r`.
   abbrev pub LendsRest : MutBor (List T.Denot) → Fml
   LendsRest r = Lends (iterator_row T A G a g) (Array T 0) v r (with_items v.now)

@@ -40,11 +40,11 @@ pub moving-zero : (c : Cost) → c ≡ moving 0 c
 moving-zero c = ap (λ m. let d : Cost = record c { moves = m } in d)
     (let e : c.moves ≡ c.moves + 0 = omega arith in e)
 
--- Suppose that putting `n` items into the gap of the open block `v` turned `v` into `w`, at the
--- cost of one move for each item. (The gap consists of the empty slots after the front items.)
--- Suppose also that `w` has no middle items (items of the edited range). Then closing the gap of
--- `w` moves each tail item (each item after the range) at most once. If the gap of `w` has no
--- slots, no item is moved.
+-- Suppose that `n` items were put into the gap of the open block `v` (the empty slots after its
+-- front items), at the cost of one move for each item. Suppose also that the resulting open block
+-- `w` has no middle items (items of the edited range). Then closing `w` takes `m` more moves, at
+-- most one for each tail item (each item after the range). If the gap of `w` has no slots, `m` is
+-- 0.
 pub closed-moves : {T A : Type 0} (v w : Open T A) (n : ℕ) → w.cost ≡ moving (v.gap - w.gap)
     v.cost → w.rest ≡ [] → w.tail ≡ v.tail → n ≡ v.gap - w.gap
     → (m : ℕ) × (cost_closed w ≡ moving (n + m) v.cost) × (m ≤ length v.tail)
@@ -79,9 +79,9 @@ closed-moves v w n paid none same count = go (eqb w.gap 0) refl
         false-true : false ≡ true → ⊥
         false-true h = cc
 
--- Suppose that the cost `d` is the cost `c` plus `n` moves, or is equal to `c` if `count` is 0.
--- Then there is a number `x`, at most `n + m`, such that adding `k + m` moves to `d` gives the same
--- cost as adding `k + x` moves to `c`.
+-- Suppose that a step changes the cost from `c` to `d`: the step makes `n` moves, or no move if
+-- `count` is 0. If `k + m` more moves follow this step, then the total number of moves is `k + x`,
+-- for some number `x` that is at most `n + m`.
 pub run-moves : (count n k m : ℕ) (c d : Cost) → d ≡ (if eqb count 0 then c else moving n c)
     → (x : ℕ) × (moving (k + m) d ≡ moving (k + x) c) × (x ≤ n + m)
 run-moves count n k m c d e = go (eqb count 0) e
@@ -137,8 +137,8 @@ module _ {S X : Type 0} (steps : S → Option X → S → Type 0) where
       subst (λ l. Yields steps s l u) (sym parts) (t, one, now)
 
 module _ {T A : Type 0} where
-  -- Suppose that adding `k` items turned the list `v` into `w`, with `k + m` moves and without a
-  -- change of the capacity. If `m ≤ n`, then `CostsAdding v w n` holds: each added item was moved
+  -- Suppose that adding `k` items turned the list `v` into `w`, with `k + m` moves, and that the
+  -- capacity did not change. If `m ≤ n`, then `CostsAdding v w n` holds: each added item was moved
   -- once, and the old items were moved at most `n` times in total.
   pub adding-run : (v w : Thin T A) (k m n : ℕ) → w.cost ≡ moving (k + m) v.cost
       → w.capacity ≡ v.capacity → length w.items ≡ length v.items + k → m ≤ n → CostsAdding v w n
@@ -187,10 +187,11 @@ module _ {S X : Type 0} (steps : S → Option X → S → Type 0) where
 
 module _ {S X A : Type 0} (steps : S → Option X → S → Type 0) (can : S → Type 0)
     (remaining : S → Count) where
-  -- `Stopped` states which items of an iterator a call to `finish` inserted into the list before it
-  -- failed with `error`, and which items `error` returns. Suppose that calls to `next` yielded the
-  -- items `xs` and changed the iterator from `s` to `t`. If `Stopped` holds for the iterator `t`
-  -- and no inserted items, then it also holds for the iterator `s` and the inserted items `xs`.
+  -- `Stopped` describes a call to `finish` that failed with `error`. It states which items of the
+  -- iterator the call inserted into the list, and which items `error` contains. Suppose that calls
+  -- to `next` yielded the items `xs` and changed the iterator from `s` to `t`. If `Stopped` holds
+  -- for the iterator `t` and no inserted items, then it also holds for the iterator `s` and the
+  -- inserted items `xs`.
   pub stopped-more : (s t : S) (xs : List X) (error : SpliceRefused X S A) → Yields steps s xs t
       → Stopped steps can remaining t [] error → Stopped steps can remaining s xs error
   stopped-more s t xs error before (inl now) =
@@ -211,10 +212,12 @@ module _ {S X A : Type 0} (steps : S → Option X → S → Type 0) (can : S →
         (now.2.0, yields-join steps s t now.2.0 xs error.held.items before now.2.1, now.2.2),
       )
 
-  -- `Stopped` states which items of an iterator a call to `finish` inserted into the list before it
-  -- failed with `error`, and which items `error` returns. Suppose that calls to `next` on the
-  -- iterator `s` yielded the items `xs`, and then the item in `error.in_hand`, if there is one. If
-  -- `error.held` is empty, then `Stopped` holds for `s` and the inserted items `xs`.
+  -- `Stopped` describes a call to `finish` that failed with `error`. It states which items of the
+  -- iterator the call inserted into the list, and which items `error` contains. Suppose that calls
+  -- to `next` on the iterator `s` yielded the items `xs`, and then the item in the field `in_hand`
+  -- of `error`, if there is one. Suppose also that `next` may be called again. If the vector
+  -- `error.held` contains no items, then `Stopped` holds for the iterator `s` and the inserted
+  -- items `xs`.
   pub stopped-now : (s : S) (xs : List X) (error : SpliceRefused X S A) → error.held.items ≡ []
       → PausedAfter steps can remaining s (xs ++ option_to_list error.in_hand) error.rest
       → Stopped steps can remaining s xs error
@@ -229,15 +232,15 @@ module _ {S X A : Type 0} (steps : S → Option X → S → Type 0) (can : S →
         λ _. none,
       )
 
--- In this module, a call to `finish` failed with `error`. `v` is the list after the call, and
--- `tail` contains the items after the replaced range. `left` is an upper bound on the number of
--- items that the iterator may still yield.
+-- The lemmas in this module are about a call to `finish` that failed with `error`. `v` is the list
+-- after the call, and `tail` contains the items after the replaced range. `left` is an upper bound
+-- on the number of items that the iterator may still yield.
 module _ {S T A : Type 0} (rule : Rule) (R : RattleType) (v : Thin T A) (tail : List T)
     (left : Count) (error : SpliceRefused T S A) where
-  -- `IsStopCause` states why `finish` failed. Suppose that there are items after the range
-  -- (`tail`), and that the error returns no items. Suppose also that the list could not reserve
-  -- room for as many items as the lower bound of the iterator's size hint. Then `IsStopCause`
-  -- holds.
+  -- `IsStopCause` states why `finish` failed with `error`. Suppose that there are items after the
+  -- range (`tail`), and that `error` contains no items. Suppose also that the list could not
+  -- reserve room for `h` more items, where `h` is a possible lower bound in the size hint of the
+  -- iterator (`FailsAtHint`). Then `IsStopCause` holds.
   pub stop-at-hint : 0 < length tail → error.held.items ≡ [] → error.in_hand ≡ None
       → FailsAtHint rule R v left error.cause → IsStopCause rule R v tail left error
   stop-at-hint some none empty fails = record {
@@ -247,12 +250,14 @@ module _ {S T A : Type 0} (rule : Rule) (R : RattleType) (v : Thin T A) (tail : 
     by_push = λ no_tail. absurd (omega (arith, some, ap length no_tail));
   }
 
-  -- `IsStopCause` states why `finish` failed. It holds if all of the following conditions are met:
+  -- `IsStopCause` states why `finish` failed with `error`. It holds if all of the following
+  -- conditions are met:
   --
-  -- - There are items after the range (`tail`), and the error returns at least one item.
-  -- - If `in_hand` is `Some`, the cause is `OutOfMemory`.
-  -- - If `in_hand` is `None`, the cause is `CapacityOverflow` if and only if the growth rule
-  --   chooses no capacity with room for the items in `held`.
+  -- - There are items after the range (`tail`).
+  -- - If the field `in_hand` of `error` is `None`, the vector `error.held` contains at least one
+  --   item. In this case, `error.cause` is `CapacityOverflow` if and only if the growth rule
+  --   chooses no capacity with room for the items in this vector.
+  -- - If the field `in_hand` of `error` is `Some`, `error.cause` is `OutOfMemory`.
   pub stop-at-held : 0 < length tail → (error.in_hand ≡ None → 0 < length error.held.items)
       → (error.in_hand ≡ None → (error.cause ≡ CapacityOverflow)
       ↔ (capacity_for rule R v (length error.held.items) ≡ None))
@@ -266,9 +271,10 @@ module _ {S T A : Type 0} (rule : Rule) (R : RattleType) (v : Thin T A) (tail : 
   }
 
   -- `IsExtendCause` states why `extend` failed, and `IsStopCause` states why `finish` failed.
-  -- Suppose that no item follows the range (`tail` is empty), that `error.held` is empty, and that
-  -- the fields `cause` and `in_hand` of `error` are those of `e`. If `extend` failed with the error
-  -- `e`, and `IsExtendCause` holds for `e`, then `IsStopCause` holds for `error`.
+  -- Suppose that `IsExtendCause` holds for the error `e` of a call to `extend`. Suppose also that
+  -- no item follows the range (`tail` is empty), that the vector `error.held` is empty, and that
+  -- `error` and `e` have the same fields `cause` and `in_hand`. Then `IsStopCause` holds for
+  -- `error`.
   pub stop-at-end : (e : ExtendRefused T S) → tail ≡ [] → error.held.items ≡ []
       → error.cause ≡ e.cause → error.in_hand ≡ e.in_hand → IsExtendCause rule R v left e
       → IsStopCause rule R v tail left error
@@ -285,9 +291,10 @@ module _ {S T A : Type 0} (rule : Rule) (R : RattleType) (v : Thin T A) (tail : 
   }
 
 module _ (rule : Rule) (R : RattleType) where
-  -- Suppose that `d` is the capacity of the list `v` after a call that reserves room for `k` more
-  -- items, and that `length v.items + k` is at most `n`. Then `IsKeptOrRuled` holds: `d` is the old
-  -- capacity of `v`, or the growth rule can choose the capacity `d` for `n` or fewer items.
+  -- Suppose that a call reserves room for `k` more items in the list `v`, and that `d` is the
+  -- capacity after this call. If `length v.items + k` is at most `n`, then `IsKeptOrRuled` holds:
+  -- `d` is the old capacity of `v`, or a capacity that the growth rule may choose when a list needs
+  -- room for at most `n` items.
   pub kept-or-ruled : KeepsLaw rule → {T A : Type 0} (v : Thin T A) (k d n : ℕ)
       → capacity_for rule R v k ≡ Some d → length v.items + k ≤ n
       → IsKeptOrRuled rule R v.capacity d n
@@ -353,13 +360,14 @@ module _ {T A : Type 0} where
       ∙ (ap (λ l. l ++ xs) (append-nil v.front)
       ∙ (sym (append-nil (v.front ++ xs)) ∙ (λ i. (v.front ++ xs) ++ sym none i)))
 
--- In this module, `R` is the type of the items, and `rule` is the growth rule, which chooses the
--- capacities of the lists.
+-- In this module, `rule` is the growth rule, which chooses the capacities of the lists. `R` is the
+-- type of the items in Rattle, and `T` is the type of the same items in contracts. `A` is the type
+-- of the allocators.
 module _ (rule : Rule) (R : RattleType) {T A : Type 0} where
-  -- `HasTaken` describes how adding items of an iterator may change a list. Suppose that adding `k`
-  -- items turned the list `v` into `w`, with `k + m` moves. Suppose also that neither the capacity
-  -- nor the allocator changed. If `m ≤ n`, then `HasTaken` holds for `v` and `w`, and states that
-  -- the old items were moved at most `n` times in total.
+  -- `HasTaken rule R v w n left` describes how adding items of an iterator changed the list `v` to
+  -- `w`. The iterator could yield at most `left` items, and the old items were moved at most `n`
+  -- times in total. Suppose that adding `k` items turned `v` into `w`, with `k + m` moves. If
+  -- `m ≤ n`, and neither the capacity nor the allocator changed, then `HasTaken` holds.
   pub taken-spare : (v w : Thin T A) (k m n : ℕ) (left : Count) → w.cost ≡ moving (k + m) v.cost
       → w.capacity ≡ v.capacity → length w.items ≡ length v.items + k → m ≤ n → w.alloc ≡ v.alloc
       → HasTaken rule R v w n left
@@ -383,8 +391,9 @@ module _ (rule : Rule) (R : RattleType) {T A : Type 0} where
     };
   }
 
-  -- `HasTaken` describes how adding items of an iterator may change a list. If the lists `v` and
-  -- `w` are equal, then `HasTaken` holds for them, because no item was added.
+  -- `HasTaken rule R v w n left` describes how adding items of an iterator changed the list `v` to
+  -- `w`. If `v` and `w` are equal, then `HasTaken` holds for every `n` and every `left`, because no
+  -- item was added.
   pub taken-none : (v w : Thin T A) (n : ℕ) (left : Count) → w ≡ v → HasTaken rule R v w n left
   taken-none v w n left e =
       taken-spare v w 0 0 n left (ap (λ z. z.cost) e ∙ moving-zero v.cost)
@@ -392,10 +401,10 @@ module _ (rule : Rule) (R : RattleType) {T A : Type 0} where
       (ap (λ z. z.alloc) e)
 
   module _ (law : KeepsLaw rule) where
-    -- `HasTaken` describes how adding items of an iterator may change a list. Suppose that
-    -- reserving room for `h` more items turned the list `v` into `w`, and that the iterator may
-    -- yield at least `h` items (`h ≤ size left`). Then `HasTaken` holds for `v` and `w`, with no
-    -- moves of old items.
+    -- `HasTaken` describes how adding items of an iterator changed the list `v` to `w`. Here,
+    -- `left` is an upper bound on the number of items that the iterator may yield. Suppose that
+    -- reserving room for `h` more items turned `v` into `w`, and that `h` is at most this upper
+    -- bound (`size left`). Then `HasTaken` holds, with no moves of old items.
     pub taken-reserved : (v w : Thin T A) (h : ℕ) (left : Count)
         → capacity_for rule R v h ≡ Some w.capacity → w.items ≡ v.items → w.alloc ≡ v.alloc
         → w.cost ≡ cost_at v w.capacity → (IsCheap v → IsCheap w) → h ≤ size left
@@ -409,9 +418,11 @@ module _ (rule : Rule) (R : RattleType) {T A : Type 0} where
       cheap = cheap;
     }
 
-    -- `HasTaken` describes how adding items of an iterator may change a list. Suppose that it holds
-    -- for the change from `v` to `u`, with at most `m` moves of old items, and for the change from
-    -- `u` to `w`, with at most `n` moves. If `m + n ≤ k`, then it holds for the change from `v` to
+    -- `HasTaken` describes how adding items of an iterator changed a list. Suppose that it holds
+    -- for a first step from `v` to `u`, in which old items were moved at most `m` times, and for a
+    -- second step from `u` to `w`, in which old items were moved at most `n` times. Before the
+    -- first step, the iterator could yield at most `left` items, and before the second step, at
+    -- most `more` items. If `m + n ≤ k`, then `HasTaken` holds for both steps together, from `v` to
     -- `w`, with at most `k` moves of old items.
     pub taken-join : (v u w : Thin T A) (m n k : ℕ) (left more : Count) → m + n ≤ k
         → length v.items ≤ length u.items

@@ -17,10 +17,11 @@ use Rattle.thin_vec.specs.ThinVec.{IsThin}
 use Rattle.thin_vec.proofs.ListLemmas.{Settled, settled, length-front, thin-room, front-grow}
 
 module _ (rule : Rule) (law : KeepsLaw rule) (R : RattleType) where
-  -- `KeepsLaw` is the law that every growth rule satisfies. Suppose that the rule chooses the
-  -- capacity `n` for a block of capacity `c` that has to grow in order to hold `w` items. Then `n`
-  -- satisfies `Grows`: it is large enough for the items, at least twice the old capacity, and small
-  -- enough to be allocated.
+  -- `KeepsLaw` is the law that every growth rule satisfies. Suppose that a block of capacity `c`
+  -- has to grow in order to hold `w` items, and that `w` is less than `2 ^ 64`. If the rule chooses
+  -- a capacity (`o` is `Some`), then this capacity satisfies `Grows`: it is large enough for the
+  -- items, at least twice the old capacity, and small enough to be allocated. In the conclusion,
+  -- `c'` and `w'` are equal to `c` and `w`.
   pub grows-rule : (w : ℕ) {c c' w' : ℕ} {o : Option ℕ}
       → o ≡ rule (type_size R) (type_align R) c w → c ≡ c' → w ≡ w' → c < w → w < 2 ^ 64
       → IfSome o (λ n. Grows R c' w' n)

@@ -60,9 +60,9 @@ all-repeated {T} clones x n m ys cloned = All-from_recursion (clones x) ys (each
     each (suc n) (suc m) (y ∷ ys) e = (e.0, each n m ys e.1)
 
 module _ {T : Type 0} (clones : T → T → Type 0) where
-  -- Suppose that every clone of `x` equals `x`. Suppose also that the list `zs` consists of the
-  -- items `xs`, then `n` clones of `x`, and finally `x` itself. Then `zs` is `xs ++ replicate m x`,
-  -- where `m` is `n + 1`.
+  -- Suppose that every clone of `x` equals `x`. Suppose also that the list `ys` consists of the
+  -- items `xs`, followed by `n` clones of `x`, and that `zs` is the list `ys`, followed by `x`
+  -- itself. Then `zs` is `xs ++ replicate m x`, where `m` is `n + 1`.
   pub equal-repeated : (n m : ℕ) {x : T} {xs ys zs : List T} → CloneEquals clones x
       → AppendsRepeats clones x n xs ys → zs ≡ ys ++ x ∷ [] → m ≡ n + 1 → zs ≡ xs ++ replicate m x
   equal-repeated n m {x} {xs} equal repeats last one =
@@ -82,7 +82,8 @@ module _ {T : Type 0} (clones : T → T → Type 0) where
       each (y ∷ ys) e = λ i. equal y e.0 i ∷ each ys e.1 i
 
 -- A new list `v` has no items, and its capacity is 0. So if room for `k` items is reserved in `v`,
--- the new capacity is `ruled_capacity rule R 0 k`.
+-- the new capacity is `ruled_capacity rule R 0 k`, the capacity that the growth rule chooses if the
+-- capacity 0 has to become at least `k`.
 pub capacity-new : {T A : Type 0} (rule : Rule) (R : RattleType) (v : Thin T A) (a : A) (k : ℕ)
     → IsNew v a → capacity_for rule R v (k - length v.items) ≡ ruled_capacity rule R 0 k
 capacity-new rule R v a k new =
@@ -107,8 +108,9 @@ module _ {T : Type 0} (xs : List T) (a b : ℕ) (within : b ≤ length xs) where
   pub length-range : length (slice_range xs a b) ≡ b - a
   length-range = length-take-le (b - a) (drop a xs) (omega (arith, length-drop a xs))
 
-  -- If `b` is at most the length of `xs`, and `i` is less than `b - a`, then the item at index `i`
-  -- of the range `a..b` of `xs` is the item at index `a + i` of `xs ++ ys`.
+  -- If `b` is at most the length of `xs`, the range `a..b` is a part of the list `xs`, and of any
+  -- longer list `xs ++ ys`. Suppose that `x` is the item of `xs ++ ys` at index `a + i`, and that
+  -- `i` is less than `b - a`. Then `x` is also the item at index `i` of the range.
   pub get-range : (ys : List T) (i : ℕ) (x : T) → i < b - a → x ≡ get_or (xs ++ ys) (a + i) x
       → x ≡ get_or (slice_range xs a b) i x
   get-range ys i x less is = is ∙ (get_or_append_left xs ys x (a + i) (omega arith)

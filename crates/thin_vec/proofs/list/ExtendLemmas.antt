@@ -76,10 +76,14 @@ module _ {S X : Type 0} (steps : S → Option X → S → Type 0) (s : S) where
   run_given xs o t P gave h =
       (run steps s (xs ++ option_to_list o) false (t, gave, λ e. absurd (false≢true e)), refl, h)
 
-  -- Suppose that the result `r` is an error `e`. Suppose also that calls to `next` yielded some
-  -- items `xs` that satisfy `P`, and then the item in `hand e`, if there is one. Then `SomeRun`
-  -- holds: these calls form a run of the iterator, which may be incomplete. (The parameters `can`
-  -- and `remaining` occur only in the condition of the lemma, and not in its conclusion.)
+  -- Suppose that a call failed with the error `e`, and that `hand e` is an option that this error
+  -- contains. Suppose also that calls to `next` yielded some items `xs` that satisfy `P`, and then
+  -- the item in `hand e`, if there is one. Then `SomeRun` holds: these calls form a run of the
+  -- iterator, which may be incomplete. If the result `r` of the call is `Ok`, the lemma claims
+  -- nothing.
+  --
+  -- The condition `PausedAfter` also says that `next` may be called again (`can`), and that the
+  -- iterator is finite (`remaining`). The conclusion does not contain these two parameters.
   pub run_given_err : {E : Type 0} (can : S → Type 0) (remaining : S → Count)
       (hand : E → Option X) (rest : E → S) (P : List X → Type 0) (r : Result (Unit {0}) E)
       → IfErr r (λ e. (xs : List X) × P xs
@@ -104,8 +108,8 @@ pub hand-empty : {X : Type 0} {o : Option X} → IsSome o → o ≡ None → ⊥
 hand-empty some none = false≢true (subst IsSome none some)
 
 -- `MatchOption o Q (λ _. P)` is the statement `Q` if the option `o` is `None`, and the statement
--- `P` if `o` is `Some`. Suppose that the result `r` is an error whose field `in_hand` is `Some`,
--- and that `P` holds. Then this statement holds with `in_hand` in place of `o`.
+-- `P` if `o` is `Some`. Suppose that the result `r` is an error, that the field `in_hand` of this
+-- error is `Some`, and that `P` holds. Then `MatchOption` holds with this field in place of `o`.
 pub full-in-hand : {T S : Type 0} (P : Type 0) (Q : ExtendRefused T S → Type 0)
     (r : Result (Unit {0}) (ExtendRefused T S)) → IfErr r (λ error. IsSome error.in_hand)
     → OnErr r P → IfErr r (λ error. MatchOption error.in_hand (Q error) (λ _. P))
@@ -133,9 +137,10 @@ module _ {T A : Type 0} where
   put-none v n none = λ i. record v
       { cost = (sym (moving-none v.cost) ∙ ap (λ (k : ℕ). moving k v.cost) (sym none)) i }
 
-  -- Suppose that the block `v` differs from the block `u` only in its slots and in `n` additional
-  -- moves in its cost. If one more item is put into `v`, then the resulting block `w` differs from
-  -- `u` only in its slots and in `k` additional moves, where `k` is `n + 1`.
+  -- Suppose that the block `v` differs from the block `u` only in the contents of its slots and in
+  -- its cost, which counts `n` more moves. If one more item is put into a slot of `v`, then the
+  -- resulting block `w` differs from `u` only in the contents of its slots and in its cost, which
+  -- counts `k` more moves. Here, `k` is `n + 1`.
   pub put-more : (u : Seen T A) {v w : Seen T A} {s : List (Option T)} (n k : ℕ) → k ≡ n + 1
       → w ≡ record v { slots = s; cost = moving 1 v.cost }
       → v ≡ record u { slots = v.slots; cost = moving n u.cost }
@@ -166,8 +171,8 @@ spare-kept v w xs is =
 
 module _ (rule : Rule) (R : RattleType) (law : KeepsLaw rule) where
   -- `IsLoose rule R c d` holds in two cases: `d` is equal to `c`, or `d` is at least `n`, where `n`
-  -- is a capacity that the growth rule can choose for a block of capacity `c` that has to grow. In
-  -- both cases, `c ≤ d`.
+  -- is a capacity that the growth rule may choose when a block of capacity `c` has to grow. In both
+  -- cases, `c ≤ d`.
   pub loose-le : (c d : ℕ) → IsLoose rule R c d → c ≤ d
   loose-le c d (inl e) = omega arith
   loose-le c d (inr p) = let g = ruled-grows rule R c p.0 p.1 law p.2 p.3 in
@@ -180,29 +185,32 @@ module _ (rule : Rule) (R : RattleType) (law : KeepsLaw rule) where
   loose-join c d e (inl p) q = subst (λ n. IsLoose rule R n e) p q
   loose-join c d e (inr p) q = inr (p.0, p.1, p.2, p.3, omega (arith, p.4, loose-le d e q))
 
-  -- `IsKeptOrRuled rule R c d n` states that `d` is the old capacity `c`, or that the growth rule
-  -- can choose the capacity `d` for `n` or fewer items. If this statement holds for a number `n`,
-  -- then it also holds for every number `m ≥ n`.
+  -- `IsKeptOrRuled rule R c d n` states that the new capacity `d` is the old capacity `c`, or a
+  -- capacity that the growth rule may choose when a list needs room for at most `n` items. If this
+  -- statement holds for a number `n`, then it also holds for every number `m ≥ n`, and for every
+  -- capacity `d'` that is equal to `d`.
   pub ruled-more : (c n m : ℕ) {d d' : ℕ} → d' ≡ d → n ≤ m → IsKeptOrRuled rule R c d n
       → IsKeptOrRuled rule R c d' m
   ruled-more c n m same more (inl e) = inl (same ∙ e)
   ruled-more c n m same more (inr p) =
       inr (p.0, p.1, p.2, omega (arith, p.3, more), p.4 ∙ ap Some (sym same))
 
-  -- `IsKeptOrRuled rule R d e n` states that the new capacity `e` is the old capacity `d`, or that
-  -- the growth rule can choose `e` for `n` or fewer items. Suppose that this statement holds, and
-  -- that `P` holds if `e ≡ d`. Then `P` holds, or `IsKeptOrRuled` also holds with the capacity `c`
-  -- in place of the old capacity `d`.
+  -- `IsKeptOrRuled rule R d e n` holds in two cases. In the first case, the new capacity `e` is
+  -- equal to the old capacity `d`. In the second case, `e` is a capacity that the growth rule may
+  -- choose when a list needs room for at most `n` items. Suppose that it holds, and that `e ≡ d`
+  -- implies the statement `P`. Then, in the first case, `P` holds. In the second case,
+  -- `IsKeptOrRuled rule R c e n` holds, whatever the capacity `c` is.
   pub ruled-after : (c d e n : ℕ) (P : Type 0) → IsKeptOrRuled rule R d e n → (e ≡ d → P)
       → IsKeptOrRuled rule R c e n ⊎ P
   ruled-after c d e n P (inl same) f = inr (f same)
   ruled-after c d e n P (inr p) f = inl (inr p)
 
-  -- Suppose that a new list was made with the capacity `c`, which is exactly enough for `h` items.
-  -- Here, `h` is a possible lower bound of the iterator's size hint. Suppose also that the capacity
-  -- then changed from `c` to `d`, and that `IsKeptOrRuled` holds: `d` is equal to `c`, or the
-  -- growth rule can choose `d` for `n` or fewer items. Then `IsCollected` holds, which states that
-  -- a list made from the items of the iterator may have the capacity `d`.
+  -- `IsCollected` states that a list that was made from the items of an iterator may have the
+  -- capacity `d`. Suppose that a new list was made with the capacity `c`, which is exactly enough
+  -- for `h` items. Here, `h` is a possible lower bound in the size hint of an iterator that yields
+  -- at most `left` items. Suppose also that the capacity then changed from `c` to `d`, and that
+  -- `IsKeptOrRuled` holds: `d` is equal to `c`, or `d` is a capacity that the growth rule may
+  -- choose when a list needs room for at most `n` items. Then `IsCollected` holds.
   pub collected-after : {c d : ℕ} (n h : ℕ) (left : Count) → IsWithinCount h left
       → exact_capacity R 0 h ≡ Some c → IsKeptOrRuled rule R c d n → IsCollected rule R d n left
   collected-after n h left hint e (inl same) = inr (h, hint, e ∙ ap Some (sym same))
@@ -220,10 +228,10 @@ module _ (rule : Rule) (R : RattleType) (law : KeepsLaw rule) where
       ]
 
 module _ {T A : Type 0} where
-  -- Suppose that appending `k` items turned the list `v` into `w`, with `k` moves and at most one
-  -- reallocation. Suppose also that the number of items that this reallocation copied is at most
-  -- the number of slots by which the capacity grew. Then `CostsAdding v w 0` holds: apart from the
-  -- reallocation, no old item was moved.
+  -- Suppose that appending `k` items turned the list `v` into `w`, with `k` moves, and with one
+  -- reallocation if the capacity changed. Suppose also that this reallocation copied at most `g`
+  -- items, where `g` is the number of slots by which the capacity grew. Then `CostsAdding v w 0`
+  -- holds: apart from the reallocation, no old item was moved.
   pub filled-at : (v w : Thin T A) (k : ℕ) → w.cost ≡ moving k (cost_at v w.capacity)
       → length w.items ≡ length v.items + k
       → (cost_at v w.capacity).grown + v.capacity ≤ v.cost.grown + w.capacity → CostsAdding v w 0
@@ -239,10 +247,10 @@ module _ {T A : Type 0} where
         (omega (arith, ap (λ c. c.blocks) f), omega (arith, ap (λ c. c.grown) f));
   }
 
-  -- Suppose that reserving room turned the list `v` into `w`, with at most one reallocation and
-  -- without a change of the items. Suppose also that the number of items that this reallocation
-  -- copied is at most the number of slots by which the capacity grew. Then `CostsAdding v w 0`
-  -- holds: apart from the reallocation, no old item was moved.
+  -- Suppose that reserving room turned the list `v` into `w`, with one reallocation if the capacity
+  -- changed, and that the items did not change. Suppose also that this reallocation copied at most
+  -- `g` items, where `g` is the number of slots by which the capacity grew. Then
+  -- `CostsAdding v w 0` holds: apart from the reallocation, no old item was moved.
   pub filled-reserved : (v w : Thin T A) → w.cost ≡ cost_at v w.capacity
       → w.items ≡ v.items
       → (cost_at v w.capacity).grown + v.capacity ≤ v.cost.grown + w.capacity → CostsAdding v w 0
@@ -257,8 +265,8 @@ module _ {T A : Type 0} where
             z) i;
       })) (omega (arith, ap length n)) few
 
-  -- Suppose that appending `k` items turned the list `v` into `w`, with `k` moves and without a
-  -- change of the capacity. Then `CostsAdding v w 0` holds: no old item was moved.
+  -- Suppose that appending `k` items turned the list `v` into `w`, with `k` moves, and that the
+  -- capacity did not change. Then `CostsAdding v w 0` holds: no old item was moved.
   pub filled-spare : (v w : Thin T A) (k : ℕ)
       → w ≡ record v { items = w.items; cost = moving k v.cost }
       → length w.items ≡ length v.items + k → CostsAdding v w 0

@@ -47,9 +47,9 @@ module _ {T : Type 0} where
   -- for a new item at index `i`.
   module _ (xs : List T) (c i : ℕ) {j k : ℕ} (h : i ≤ length xs) (l : length xs < c) (e : j ≡ i + 1)
       (n : k ≡ length xs - i) where
-    -- `after` is the row of slots that follow slot `i` after the items of `xs` from index `i`
-    -- onward have been moved up by one slot: first the slots of the moved items, and then empty
-    -- slots.
+    -- Suppose that the items of `xs` from index `i` onward have been moved up by one slot. Then
+    -- `after` is the row of slots that follow slot `i`: first the slots of the moved items, and
+    -- then empty slots.
     after : List (Option T)
     after = full (drop i xs) ++ replicate (c - length xs - 1) None
 
@@ -254,11 +254,10 @@ module _ {T : Type 0} where
       (full-set xs s i m (omega arith))
 
   -- Suppose that the first slots of a row of `c` slots hold the items `ys` and then the item `m`,
-  -- and that all other slots are empty. Suppose also that `i < length ys`, that slot `i` and the
-  -- slot of `m` are emptied, and that `m` is then written into slot `i`. Then the first slots hold
-  -- the items of the list after `swap_remove` at index `i`, and all other slots are empty.
-  -- (`swap_remove` needs its argument `v` only for an empty list, so the value of `v` does not
-  -- matter.)
+  -- and that all other slots are empty. Suppose also that slot `i` holds an item of `ys`. If slot
+  -- `i` and the slot of `m` are emptied, and `m` is then written into slot `i`, then the first
+  -- slots hold the items that the specification function `swap_remove` returns for index `i`, and
+  -- all other slots are empty. (This function uses its argument `v` only if the list is empty.)
   front-swap_remove : (ys : List T) (c i : ℕ) (v m : T) → i < length ys → length (ys ++ m ∷ []) ≤ c
       → set (set (set (front (ys ++ m ∷ []) c) i None) (length ys) None) i (Some m) ≡ front
       (swap_remove (ys ++ m ∷ []) i v) c
@@ -295,8 +294,8 @@ module _ {T A : Type 0} where
   module _ {b : Block T A} {a : A} (t : IsThin b a) (b' : Block T A) (i last : ℕ) where
     -- Suppose that slot `i` is emptied, that the last item `m` is moved from slot `last` into slot
     -- `i`, and that the stored length is decremented. If `i < last`, then the new block `b'` is the
-    -- block of the list after `swap_remove` at index `i`. (`swap_remove` needs its argument `v`
-    -- only for an empty list, so the value of `v` does not matter.)
+    -- block of a list with the items that the specification function `swap_remove` returns for
+    -- index `i`. (This function uses its argument `v` only if the list is empty.)
     settle-swap_remove : (v : T) {m : T} → i < last → last + 1 ≡ b.len → slot b.slots last ≡ Some m
         → {k : Cost} → IsWritten b b' (set (set (set b.slots i None) last None) i (Some m)) last k
         → Settled b' a (swap_remove (items_in b.slots) i v) (length b.slots)
@@ -322,8 +321,8 @@ module _ {T A : Type 0} where
         subst (λ (l : List T). Settled b' a (swap_remove l i v) c) (sym at_end) done
       where
         -- If the list `ys` has `k` items, and `i < k`, then removing the item at index `i` of the
-        -- list `ys ++ m ∷ []` with `swap_remove` results in a list of `k` items. (`swap_remove`
-        -- needs its argument `v` only for an empty list, so the value of `v` does not matter.)
+        -- list `ys ++ m ∷ []` with the specification function `swap_remove` results in a list of
+        -- `k` items. (This function uses its argument `v` only if the list is empty.)
         length-swap_remove : (ys : List T) (i : ℕ) (v m : T) {k : ℕ} → length ys ≡ k → i < k
             → length (swap_remove (ys ++ m ∷ []) i v) ≡ k
         length-swap_remove ys i v m {k} long lt =

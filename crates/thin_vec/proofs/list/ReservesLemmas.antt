@@ -21,10 +21,12 @@ tells-ok x named n is = record {
   overflow = (λ e. ok-err x CapacityOverflow e, λ none. absurd (none-some none is));
 }
 
--- `TellsOverflowOf R m r` states that the result `r` of making a list of `m` items of the type `R`
--- is the error `CapacityOverflow` if and only if the capacity is too large. Suppose that `m` items
--- of the type `R` and `n` items of the type `S` need the same capacity. If `TellsOverflowOf` holds
--- for `R`, `m` and the result `Ok x`, then it holds for `S`, `n` and the result `Ok y`.
+-- `TellsOverflowOf R m r` describes the result `r` of making a list with room for exactly `m` items
+-- of the type `R`. It states that `r` is the error `CapacityOverflow` if and only if the capacity
+-- of the list would be too large. Suppose that the capacity for `m` items of the type `R` is equal
+-- to the capacity for `n` items of the type `S`, or that both would be too large. If
+-- `TellsOverflowOf` holds for `R`, `m` and the result `Ok x`, then it also holds for `S`, `n` and
+-- the result `Ok y`.
 pub tells-made : {X : Type 0} {x y : X} (R S : RattleType) (m n : ℕ)
     → exact_capacity R 0 m ≡ exact_capacity S 0 n
     → TellsOverflowOf R m (let r : Result X ThinVecError = Ok x in r)
@@ -36,10 +38,11 @@ tells-made {x = x} {y} R S m n e told = record {
   );
 }
 
--- `TellsOverflowOf R m r` states that the result `r` of making a list of `m` items of the type `R`
--- is the error `CapacityOverflow` if and only if the capacity is too large. Suppose that `m` items
--- of the type `R` and `n` items of the type `S` need the same capacity. If `TellsOverflowOf` holds
--- for `R`, `m` and `r`, then it holds for `S`, `n` and `r`.
+-- `TellsOverflowOf R m r` describes the result `r` of making a list with room for exactly `m` items
+-- of the type `R`. It states that `r` is the error `CapacityOverflow` if and only if the capacity
+-- of the list would be too large. Suppose that the capacity for `m` items of the type `R` is equal
+-- to the capacity for `n` items of the type `S`, or that both would be too large. If
+-- `TellsOverflowOf` holds for `R`, `m` and `r`, then it also holds for `S`, `n` and `r`.
 pub tells-same : {X : Type 0} {r : Result X ThinVecError} (R S : RattleType) (m n : ℕ)
     → exact_capacity R 0 m ≡ exact_capacity S 0 n → TellsOverflowOf R m r → TellsOverflowOf S n r
 tells-same R S m n e told = record {
@@ -100,12 +103,14 @@ module _ {T A : Type 0} (R : RattleType) (v : Thin T A) where
     -- `Reserves` states how a call that needs room for `k` more items may change the capacity, and
     -- when the call fails. Suppose that a call consists of two steps:
     --
-    -- - The first step changes the list from `v` to `u`, returns `Ok`, and satisfies `Reserves`.
+    -- - The first step changes the list from `v` to `u`, returns `Ok`, and satisfies `Reserves` for
+    --   `k` items of the type `R`.
     -- - The second step changes `u` to `w`, does not change the capacity, and fails only with
     --   `OutOfMemory`.
     --
-    -- Then the whole call satisfies `Reserves`. If the items of another type `S` need the same
-    -- capacity, it also satisfies `Reserves` for `S`.
+    -- Then the whole call satisfies `Reserves` for `l` items of the type `S`. Here, `l` is equal to
+    -- `k`, and `S` may be the type `R`, or any other type for which `k` more items in `v` need the
+    -- same capacity.
     pub reserves-then : {X Y : Type 0} {x : X} (S : RattleType) (k l : ℕ) (u w : Thin T A)
         (r : Result Y ThinVecError) → l ≡ k
         → capacity_for rule S v l ≡ capacity_for rule R v k → w.capacity ≡ u.capacity
@@ -132,10 +137,11 @@ module _ {T A : Type 0} (R : RattleType) (v : Thin T A) where
         }
 
     -- `Reserves` states how a call that needs room for `k` more items may change the capacity, and
-    -- when the call fails. Suppose that a call fails with the error `cause`, does not change the
-    -- list `v`, and satisfies `Reserves`. Then any other call that fails with `cause` and does not
-    -- change `v` also satisfies `Reserves`. If the items of another type `S` need the same
-    -- capacity, this other call also satisfies `Reserves` for `S`.
+    -- when the call fails. Suppose that a call for `k` more items of the type `R` fails with the
+    -- error `cause`, does not change the list `v`, and satisfies `Reserves`. Then another call, for
+    -- `l` more items of the type `S`, also satisfies `Reserves` if it fails with `cause` and does
+    -- not change `v`. Here, `l` is equal to `k`, and `S` may be the type `R`, or any other type for
+    -- which `k` more items in `v` need the same capacity.
     pub reserves-failed : {X Y : Type 0} (S : RattleType) (k l : ℕ) (w : Thin T A)
         (cause : ThinVecError) → l ≡ k
         → capacity_for rule S v l ≡ capacity_for rule R v k

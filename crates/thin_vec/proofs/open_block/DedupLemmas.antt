@@ -1,11 +1,12 @@
 -- These lemmas are for the `dedup` methods, which test each item against the last item that was
 -- kept before it. During such a method, the block of the list is called an open block. Its items
--- are in three parts: the front items (the items that were kept so far), the middle items (the
--- items that were not tested yet), and the tail items (the items after the edited range).
+-- are in three parts: the front items (the items before the edited range, and the items that were
+-- kept so far), the middle items (the items of the range that were not tested yet), and the tail
+-- items (the items after the range).
 --
--- A value of the type `Inside` is an open block as it is stored at run time. Contracts describe the
--- same open block by a value of the type `Open`. Each lemma states how one step of such a test
--- changes this value.
+-- At run time, an open block is a value of the type `Inside`. In contracts, the same open block is
+-- a value of the type `Open`. The lemmas about open blocks state how the value of the type `Open`
+-- changes when a method writes into one or two slots.
 use Rattle.std.proofs.Common.{◌≡◌, ◌≢◌, ℕ, zero, suc, ◌+◌, ◌-◌, ◌<◌, ◌≤◌, List, [], ◌∷◌, ◌++◌, Option, Some, None, length, take, drop, refl, sym, ap, ◌∙◌, arith, length-append, append_assoc, get_or}
 use Rattle.std.proofs.lemmas.List.{drop_at, get_or_at, get_or-set_other, length-drop, length-take-le, length_push, set_at, take_at}
 use Rattle.std.specs.Prelude.{IsSome, slice_range}
@@ -36,8 +37,9 @@ module _ {T : Type 0} where
   over-none (Some x ∷ s) = refl
 
   -- `Neighbours` states that the slots `i` and `i + 1` hold the items `k` and `x`. It also states
-  -- that writing `k'` and `x'` over these two items is the same as setting slot `i` to `k'` and
-  -- slot `i + 1` to `x'`.
+  -- that two ways to replace these items have the same result. The first way overwrites both items
+  -- at once with the list of `k'` and `x'` (`over`). The second way sets slot `i` to `k'`, and then
+  -- slot `i + 1` to `x'` (`set`).
   pub record Neighbours (s : List (Option T)) (i : ℕ) (k x k' x' : T) : Type 0 where
     pub first : slot s i ≡ Some k
     pub second : slot s (suc i) ≡ Some x
@@ -68,8 +70,9 @@ module _ {T : Type 0} where
   module _ (s : List (Option T)) (i : ℕ) (all a b : List T) (within : i + 2 ≤ length s)
       (lent : full all ≡ slice_range s i (i + 2)) (cut : all ≡ a ++ b) (one : length a ≡ 1) where
     -- Suppose that the slice `a` consists of the item `k`, and that the slice `b` consists of the
-    -- item `x`. Then `Neighbours` holds: the slots `i` and `i + 1` hold `k` and `x`. In addition,
-    -- writing `k'` into `a` and `x'` into `b` puts `k'` into slot `i` and `x'` into slot `i + 1`.
+    -- item `x`. Then two statements are true. First, `Neighbours` holds, so the slots `i` and
+    -- `i + 1` hold `k` and `x`. Second, writing `k'` into `a` and `x'` into `b` puts `k'` into slot
+    -- `i` and `x'` into slot `i + 1`, and changes no other slot.
     pub parts-of : {k x : T} (k' x' : T) → k ≡ get_or a 0 k → x ≡ get_or b 0 x
         → Neighbours s i k x k' x'
         × (over s i (set a 0 k' ++ set b 0 x') ≡ set (set s i (Some k')) (suc i) (Some x'))
@@ -102,10 +105,10 @@ module _ {T A : Type 0} where
   -- items that were kept so far), the middle items (the items of the range that were not tested
   -- yet), and the tail items (the items after the range).
 
-  -- `WrittenTwo` states that two neighboring middle items of the open block `h` were overwritten.
-  -- The items `x` and `y` at the indices `k` and `k + 1` became `x'` and `y'`. The block `b`
-  -- contains the slots of the new open block. In contracts, the new open block differs from `h`
-  -- only in these two items.
+  -- `WrittenTwo` states that two neighboring middle items of the open block `h` were overwritten:
+  -- the items `x` and `y`, at the indices `k` and `k + 1`, became `x'` and `y'`. The block of the
+  -- new open block is `b`. Contracts describe the new open block by the same value as `h`, except
+  -- that these two items are different.
   pub record WrittenTwo (h : Inside T A) (o : IsOpen h) (k : ℕ) (b : Block T A)
       (x y x' y' : T) : Type 0 where
     pub pre : List T
@@ -124,8 +127,8 @@ module _ {T A : Type 0} where
   module _ (h : Inside T A) (o : IsOpen h) (b : Block T A)
       (kept : seen b ≡ record (seen h.block) { slots = b.slots }) where
     -- If two neighboring middle items of the open block `h` were overwritten, and no other slot was
-    -- changed, then `WrittenTwo` holds: in contracts, the new open block differs from `h` only in
-    -- these two items.
+    -- changed, then `WrittenTwo` holds: contracts describe the new open block by the same value as
+    -- `h`, except that these two items are different.
     pub write-two-step : (k : ℕ) {x y : T} (x' y' : T) → suc k < length (open_of h).rest
         → slot h.block.slots (h.rest_start + k) ≡ Some x
         → slot h.block.slots (suc (h.rest_start + k)) ≡ Some y
@@ -182,8 +185,8 @@ module _ {T A : Type 0} where
         }
 
   -- `WrittenLast` states that `x`, the last front item of the open block `h`, was overwritten with
-  -- `y`. The block `b` contains the slots of the new open block. In contracts, the new open block
-  -- differs from `h` only in this item.
+  -- `y`. The block of the new open block is `b`. Contracts describe the new open block by the same
+  -- value as `h`, except that this item is different.
   pub record WrittenLast (h : Inside T A) (b : Block T A) (x y : T) : Type 0 where
     pub pre : List T
     pub was : (open_of h).front ≡ pre ++ x ∷ []
@@ -197,7 +200,8 @@ module _ {T A : Type 0} where
     }) (record (open_of h) { front = pre ++ y ∷ [] })
 
   -- If the last front item of the open block `h` was overwritten, and no other slot was changed,
-  -- then `WrittenLast` holds: in contracts, the new open block differs from `h` only in this item.
+  -- then `WrittenLast` holds: contracts describe the new open block by the same value as `h`,
+  -- except that this item is different.
   pub write-last-step : (h : Inside T A) (o : IsOpen h) (b : Block T A) {x : T} (y : T)
       → 0 < length (open_of h).front → slot h.block.slots (h.front_end - 1) ≡ Some x
       → seen b ≡ record (seen h.block) { slots = set h.block.slots (h.front_end - 1) (Some y) }

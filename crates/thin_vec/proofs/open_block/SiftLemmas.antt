@@ -72,13 +72,14 @@ module _ {T A : Type 0} where
       len = h.len;
     }
 
-    -- `written-seen ys` is the value that describes the open block `written` in contracts if its
-    -- middle items are `ys`.
+    -- `written-seen ys` is the value `v`, but with the list `ys` as its middle items. If the middle
+    -- items of the open block `written` are `ys`, then contracts describe `written` by this value.
     abbrev pub written-seen : List T → Open T A
     written-seen ys = record v { rest = ys }
 
-    -- `Written x y` states that the middle item `x` at index `k` was overwritten with `y`. In
-    -- contracts, the new open block differs from the old one only in this item.
+    -- `Written x y` states that the middle item `x` at index `k` was overwritten with `y`.
+    -- Contracts describe the new open block by the same value as the old one, except that this item
+    -- is different.
     pub record Written (x y : T) : Type 0 where
       pub pre : List T
       pub post : List T
@@ -87,8 +88,8 @@ module _ {T A : Type 0} where
       pub shown : Found written (written-seen (pre ++ y ∷ post))
 
     -- If the slot of the middle item at index `k` held `x`, and `y` was written into this slot,
-    -- then `Written x y` holds: in contracts, the new open block differs from the old one only in
-    -- this item.
+    -- then `Written x y` holds: contracts describe the new open block by the same value as the old
+    -- one, except that this item is different.
     pub write-step : (x y : T) → slot h.block.slots (h.rest_start + k) ≡ Some x
         → seen b ≡ record (seen h.block)
         { slots = set h.block.slots (h.rest_start + k) (Some y) } → Written x y
@@ -166,8 +167,9 @@ module _ {T A : Type 0} where
       len = h.len;
     }
 
-    -- `moved_run-seen b` is the value that describes the open block `moved_run b` in contracts.
-    -- Before the move, its last `k` front items were the first `k` middle items.
+    -- `moved_run-seen b` is the value that describes the open block `moved_run b` in contracts. It
+    -- differs from the old value `u` in two ways: the first `k` middle items have become the last
+    -- `k` front items, and the cost is the cost of the block `b`.
     abbrev pub moved_run-seen : Block T A → Open T A
     moved_run-seen b = record u
         { front = u.front ++ take k u.rest; rest = drop k u.rest; cost = b.cost }
@@ -252,7 +254,8 @@ module _ {T A : Type 0} where
         (sym o.gap) (sym few))) (ap (λ (z : Seen T A). z.alloc) now)
 
   -- Suppose that the first middle item was moved from its slot to the slot directly after the front
-  -- items. Then, in contracts, this item is the last front item of the new open block.
+  -- items. Then contracts describe the new open block by a value in which this item is the last
+  -- front item.
   pub move_one_down-step : (h : Inside T A) (o : IsOpen h) (some : 1 ≤ length (open_of h).rest)
       → 0 < (open_of h).gap → (b : Block T A) {x : T} {c : Cost}
       → slot h.block.slots h.rest_start ≡ Some x

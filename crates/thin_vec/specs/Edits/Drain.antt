@@ -11,9 +11,10 @@ use Rattle.thin_vec.specs.declared.edits.drain.Drain.{Drain}
 use Rattle.thin_vec.specs.declared.edits.holder.Holder.{Holder}
 use Rattle.thin_vec.specs.declared.edits.holder.Holds.{Ghosts as HoldsGhosts}
 
--- Until a `Drain` is dropped, it owns the block of the list. The block is in a field whose type is
--- a parameter of `Drain`. In this module, this type is `Holder`, a struct that contains only the
--- block. The method `drain` always returns a `Drain` with this type.
+-- Until a `Drain` is dropped, it owns the block of the list. The type of the field that contains
+-- the block is a parameter of the struct `Drain`. In this module, the parameter is `Holder`, a
+-- struct that contains only the block. Every `Drain` that the method `drain` returns has this
+-- parameter.
 module _ {T A G : Type 0} {g : Ghosts G} {h : HoldsGhosts (Holder (Open T A)) (Open T A)} where
   -- `drain_rest d` contains the items of the range that the `Drain` has not yielded yet.
   abbrev pub drain_rest : Drain T A G (Holder (Open T A)) g h → List T

@@ -36,10 +36,10 @@ module _ {T F A : Type 0} (R : F → T → Bool → F → T → Type 0) where
     pub cost : new.block.cost ≡ (if old.block.gap == 0 then old.block.cost else moving
         (length kept) old.block.cost)
 
--- Until an `ExtractIf` is dropped, it owns the block of the list. The block and the closure are in
--- a field whose type is a parameter of `ExtractIf`. In this module, this type is `Holder`, a struct
--- that contains only the block and the closure. The method `extract_if` always returns an
--- `ExtractIf` with this type.
+-- Until an `ExtractIf` is dropped, it owns the block of the list. The type of the field that
+-- contains the block and the closure is a parameter of the struct `ExtractIf`. In this module, the
+-- parameter is `Holder`, a struct that contains only the block and the closure. Every `ExtractIf`
+-- that the method `extract_if` returns has this parameter.
 module _ {T F A G : Type 0} {g : Ghosts G}
     {h : HoldsGhosts (Holder (Extracting T F A)) (Extracting T F A)} where
   -- `extract_front e` contains the items before the range, followed by the tested items that were

@@ -42,9 +42,10 @@ module _ {T A : Type 0} where
 
 module _ {S T A : Type 0} (steps : S → Option T → S → Type 0) (can : S → Type 0)
     (remaining : S → Count) where
-  -- `IsFinished` describes a call that inserts the items of the iterator `s` into the open block
-  -- `v`, in place of the removed range, and returns `result`. After the call, the list is `w`, and
-  -- its allocator is `a`. The clauses of `Splice::finish` follow from this record.
+  -- `IsFinished` describes a call that puts the items of the iterator `s` into the open block `v`,
+  -- in place of the removed range, and then puts the block back into its list. The call returns
+  -- `result`. After the call, the list is `w`, and its allocator is `a`. All clauses of the
+  -- contract of `Splice::finish` follow from this record.
   pub record IsFinished (rule : Rule) (R : RattleType) (v : Open T A) (a : A) (s : S)
       (w : Thin T A) (result : Result (Unit {0}) (SpliceRefused T S A)) : Type 0 where
     pub succeeds : size (remaining s) ≤ v.gap → IsOk result

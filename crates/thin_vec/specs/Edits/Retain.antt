@@ -69,8 +69,9 @@ module _ {S T : Type 0} (R : S → T → Bool → S → T → Type 0) where
   abbrev pub IsRetained : {A : Type 0} → S → Thin T A → Thin T A → Type 0
   IsRetained s v w = (t : S) × IsRetainedTo s v w t
 
--- `Looks R` describes the calls of a test that does not change the tested item. `R s x b t` states
--- that a call with the item `x` returns the Boolean value `b`, which is true if the item is to be
--- kept, and that the call changes the state of the test from `s` to `t`.
+-- The relation `R s x b t` describes one call of a test that does not change the tested item `x`.
+-- The call returns the Boolean value `b`, which is true if the item is to be kept, and changes the
+-- state of the test from `s` to `t`. `Looks R s x b t y` states that `R s x b t` holds, and that
+-- the item `y` after the call is equal to `x`.
 abbrev pub Looks : {S T : Type 0} → (S → T → Bool → S → Type 0) → S → T → Bool → S → T → Type 0
 Looks R s x b t y = R s x b t × (y ≡ x)

@@ -17,13 +17,15 @@ use Rattle.thin_vec.specs.declared.edits.holder.Holds.{Ghosts as HoldsGhosts}
 
 module _ {S T A : Type 0} (steps : S → Option T → S → Type 0) where
   -- `Stopped can remaining s placed error` states that `finish` failed with `error` after it had
-  -- inserted the items `placed`, which the iterator `s` yielded first. The error returns the items
+  -- inserted the items `placed`, which the iterator `s` yielded first. The error contains the items
   -- that `s` yielded after them: first the items in `held`, and then the item in `in_hand`, if
   -- there is one.
   --
   -- If `held` is not empty and `in_hand` is `None`, the iterator has ended. Otherwise, the error
-  -- returns an iterator that may not have ended yet. Its method `next` may be called again (`can`),
-  -- and the number of items that it may still yield is finite (`remaining`).
+  -- contains an iterator that may not have ended yet: its method `next` may be called again, and
+  -- the number of items that it may still yield is finite. Here, `can` states for each iterator
+  -- whether its method `next` may be called, and `remaining` is an upper bound on the number of
+  -- items that it may still yield.
   abbrev pub Stopped : (S → Type 0) → (S → Count) → S → List T → SpliceRefused T S A → Type 0
   Stopped can remaining s placed error =
       (PausedAfter steps can remaining s
@@ -38,9 +40,10 @@ module _ {T A : Type 0} where
   -- items that the rest of the iterator may yield.
   pub record IsStopCause {S : Type 0} (rule : Rule) (R : RattleType) (w : Thin T A) (tail : List T)
       (left : Count) (error : SpliceRefused T S A) : Type 0 where
-    -- Suppose that the error returns no items: `held` is empty, and `in_hand` is `None`. Then the
-    -- call failed because it could not reserve room for as many items as the lower bound of the
-    -- iterator's size hint.
+    -- If the error contains no items (`held` is empty, and `in_hand` is `None`), the call could not
+    -- reserve room for `h` more items, where `h` is a possible lower bound in the size hint of the
+    -- iterator. In this case, the cause is `CapacityOverflow` if and only if the growth rule
+    -- chooses no capacity for `h` more items.
     pub by_hint : error.held.items ≡ [] → error.in_hand ≡ None
         → FailsAtHint rule R w left error.cause
     -- If the vector `held` is not empty, and `in_hand` is `None`, the cause is `CapacityOverflow`
@@ -62,9 +65,10 @@ module _ {T A : Type 0} where
   pub record FailsAsExtend {S : Type 0} (v w : Thin T A) (s : S) (error : SpliceRefused T S A)
       : Type 0 where
     pub held : error.held.items ≡ []
-    -- If `in_hand` is `None`, the iterator has yielded no item, and the list after the call is the
-    -- list without the items of the range (`v`). If `in_hand` is `Some`, the list after the call is
-    -- full.
+    -- The field `in_hand` of the error contains the last item that the iterator yielded, if the
+    -- list had no room for this item. If `in_hand` is `None`, the iterator has yielded no item, and
+    -- the list after the call is `v`, the list without the items of the range. If `in_hand` is
+    -- `Some`, the list after the call is full: its length is equal to its capacity.
     pub in_hand : MatchOption error.in_hand ((w ≡ v) × (error.rest ≡ s))
         (λ _. length w.items ≡ w.capacity)
 

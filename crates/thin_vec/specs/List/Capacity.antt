@@ -61,9 +61,10 @@ module _ {T A : Type 0} where
     -- the old capacity if there was enough room, and otherwise the capacity that the growth rule
     -- chooses.
     pub ok : OnOk r (capacity_for rule R v k ≡ Some w.capacity)
-    -- On failure, either the list is unchanged, or cloning an item failed. If cloning an item
-    -- failed, the new capacity is the capacity that `capacity_for` returns, so the list may have
-    -- grown. The clause `err` of each call says in which cases the list is unchanged.
+    -- If the call failed, there are two cases. In the first case, the list is unchanged. In the
+    -- second case, cloning an item failed, and the new capacity is the capacity that `capacity_for`
+    -- returns, so the list may have grown. The contract of each method says in its clause `err` in
+    -- which cases the list is unchanged.
     pub err : OnErr r ((w ≡ v) ⊎ (capacity_for rule R v k ≡ Some w.capacity))
     -- The call returns the error `CapacityOverflow` if and only if `capacity_for` returns `None`,
     -- which means that the capacity would be too large. If the call fails for another reason, the

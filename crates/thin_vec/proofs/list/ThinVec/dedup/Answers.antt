@@ -1,6 +1,7 @@
 -- `dedup` compares items with `==`. So after the call, the list contains the items that the
--- specification function of the same name returns. The specification function `unlike` returns
--- flags that say which items are kept. These flags determine the number of moves. The list never
+-- specification function `dedup` returns for the old items. The specification function `unlike`
+-- says for each old item except the first whether the item is kept. Each kept item that follows the
+-- first removed item is moved once, so `unlike` also determines the number of moves. The list never
 -- becomes longer.
 use Rattle.std.proofs.Common.{ap, ◌∙◌}
 use Rattle.thin_block.specs.Cost.{moving}

@@ -2,9 +2,9 @@
 -- slots of the replaced range. Then `insert_hinted` fills a new gap, whose size is the lower bound
 -- of the size hint. Finally, `insert_held` inserts the remaining items.
 --
--- The contract states that `IsFinished`, which describes a call to `finish`, holds. This is proved
--- in four cases: the iterator ends in the first step, the iterator ends in the second step, the
--- second step fails, or the third step returns.
+-- The contract states that `IsFinished` holds, which describes a call to `finish`. The proof
+-- distinguishes four cases: the iterator ends in the first step, the iterator ends in the second
+-- step, the second step fails, or all three steps are carried out.
 use Rattle.std.proofs.Common.{[], Err, None, Ok, Some, inl, inr, ◌-◌, ◌*◌, ◌∙◌, ap, arith, length, refl, subst, sym}
 use denote.Param.{param}
 use Rattle.thin_vec.specs.Edits.Finish.{HasTaken}

@@ -24,10 +24,10 @@ wide g c = record {
   cost = c.open_wide-block.ensures.other_cost;
 }
 
--- `HasTaken` describes how adding items of an iterator may change a list. Suppose that opening and
--- closing the gap takes at most `n` moves. Then `HasTaken` holds for the list before the call to
--- `insert_hinted` and the list after this call. It states that the old items were moved at most `n`
--- times in total.
+-- `HasTaken` describes how adding items of an iterator changed a list, and bounds the number of
+-- moves of old items. Suppose that opening and closing the gap takes at most `n` moves. Then
+-- `HasTaken` holds, with the bound `n`, for the list before the call to `insert_hinted` and the
+-- list after this call.
 taken : (g : _) (c : After-fill_gap g) (n : _)
     → c.fill_gap.ensures.filled.1.cost.0 + (length c.reserve.new.self.items - c.args.at) ≤ n
     → HasTaken g.G.Growth.rule (param 0 g.row.T) c.args.self.now c.fill_gap.new.self n

@@ -1,5 +1,6 @@
--- If the list already has room for `additional` more items, `reserve` changes nothing. In this
--- case, the capacity that the contract promises, `capacity_for`, is the current capacity.
+-- The contract states that the new capacity is the capacity that `capacity_for` returns. If the
+-- list already has room for `additional` more items, this is the old capacity. In this case,
+-- `reserve` changes nothing, so the contract holds.
 use Rattle.std.proofs.Common.{arith}
 use Rattle.std.proofs.Common.{refl}
 use Rattle.thin_vec.proofs.list.ReservesLemmas.{reserves-room}

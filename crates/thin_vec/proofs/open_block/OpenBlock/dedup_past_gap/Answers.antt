@@ -1,8 +1,8 @@
--- `Dedups` describes one stage of the removal of duplicates: some of the untested items were
--- tested, and were then either kept or removed. If `Dedups` holds for the first iterations of the
--- loop, and for the iteration after them, then it holds for all of them together. After each
--- iteration, there is at least one front item, so the next item can be compared with the last kept
--- item.
+-- `Dedups` describes a part of the removal of duplicates, in which some of the untested items were
+-- tested, and were then either kept or removed. If `Dedups` describes the first iterations of the
+-- loop, and also describes the next iteration, then it describes all these iterations together.
+-- After each iteration, there is at least one front item, so the next item can be compared with the
+-- last kept item.
 use Rattle.thin_vec.proofs.edits.DedupLemmas.{dedups-start, dedups-then}
 use Rattle.thin_vec.proofs.open_block.OpenBlock.dedup_past_gap.Goals as goal
 

@@ -1,7 +1,7 @@
--- `Sifts` describes one stage of the removal of items: some of the untested items were tested, and
--- were then either kept or removed. If `Sifts` holds for the first iterations of the loop, and for
--- the iteration after them, then it holds for all of them together. After the loop, `sift_last`
--- tests the remaining item, if there is one.
+-- `Sifts` describes a part of the removal of items, in which some of the untested items were
+-- tested, and were then either kept or removed. If `Sifts` describes the first iterations of the
+-- loop, and also describes the next iteration, then it describes all these iterations together.
+-- After the loop, `sift_last` tests the remaining item, if there is one.
 use Rattle.thin_vec.proofs.RetainLemmas.{sifts-start, sifts-then}
 use Rattle.thin_vec.proofs.open_block.OpenBlock.sift_past_gap.Goals as goal
 

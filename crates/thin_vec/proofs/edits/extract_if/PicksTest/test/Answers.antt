@@ -1,6 +1,7 @@
--- The closure of `extract_if` returns true for an item to be extracted, but the test returns true
--- for an item to be kept. So the test negates the result of the closure. The specification of the
--- test negates the result of the test, and thereby describes the call of the closure.
+-- `extract_if` turns its closure into a test. The closure returns true for an item to be extracted,
+-- but the test returns true for an item to be kept. So the test returns the negated result of the
+-- closure. The specification of the test states what the closure returned. For this purpose, it
+-- negates the result of the test.
 use Rattle.std.proofs.Common.{Bool, rules, sym, subst}
 use Rattle.std.specs.Fn.{CalledAtMut}
 use Rattle.thin_vec.proofs.edits.ExtractIfLemmas.{not-not}

@@ -17,8 +17,9 @@ use Rattle.thin_vec.proofs.list.extend.ThinVec+T+A.from_iter.Goals as goal
 
 -- `IsCollectedList` describes a list that was made from the items of an iterator: it states which
 -- capacity and which cost the list may have. The list satisfies `IsCollectedList` after the call to
--- `extend_unhinted`, because its capacity before this call was exactly the lower bound of the size
--- hint.
+-- `extend_unhinted`. Before this call, the capacity of the list is exactly the lower bound of the
+-- size hint. The call keeps this capacity, or the growth rule chooses a new one. `IsCollectedList`
+-- allows both.
 collected : (g : _) (c : After-extend_unhinted g)
     → IsCollectedList doubling (param 0 g.row.T) c.args.alloc c.extend_unhinted.new.self
     (g.I.Iterator.remaining c.args.iter)
