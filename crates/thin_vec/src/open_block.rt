@@ -1,6 +1,7 @@
-//! The type `OpenBlock`. A method such as `retain` removes, replaces or tests the items of a range
-//! of a list. During this time, an `OpenBlock` contains the block of the list, that is, the pointer
-//! to its allocation. There may be empty slots between the items of the block.
+//! The type `OpenBlock`. A method such as `retain` takes the block out of the list, that is, the
+//! pointer to the allocation of the list. While the method removes, replaces or tests the items of
+//! a range, an `OpenBlock` contains the block. During this time, there may be empty slots between
+//! the items of the block.
 ghost use Rattle.std.specs.Prelude.{◌≡◌, ◌↔◌, ◌+◌, ◌-◌, ◌==◌, ◌<◌, ◌≤◌, ◌∷◌, ◌++◌, [], IsTrue, drop, if◌then◌else◌, length, slice_range, take};
 ghost use Rattle.std.specs.Iterator.{YieldsFirst, YieldsLast};
 ghost use Rattle.thin_block.specs.Cost.{moving, no_cost};
@@ -23,8 +24,8 @@ use thin_block::{Block, Growth};
 /// removes, replaces or tests the items of a range. During this time, there may be empty slots
 /// between the items of the block.
 ///
-/// The slots are divided into six parts, each of which may be empty. The fields of this struct say
-/// in which slot each part begins. `capacity` is the number of slots.
+/// The slots are divided into six parts, any of which may consist of no slots. The fields of this
+/// struct say in which slot each part begins. `capacity` is the number of slots.
 ///
 /// ```text
 ///   0       front_end    rest_start     rest_end    tail_start      len        capacity
@@ -38,8 +39,8 @@ use thin_block::{Block, Growth};
 /// - The *front* contains the items before the range, and the items that have been kept or inserted
 ///   so far. They do not move again while the block is open.
 /// - The *gap* consists of the empty slots between the front and the middle run.
-/// - The *middle run* contains the items of the range that have not been yielded, kept or removed
-///   yet. In names of fields and in contracts, it is called `rest`.
+/// - The *middle run* contains the remaining items of the range: those that have not been yielded,
+///   kept or removed so far. In names of fields and in contracts, the middle run is called `rest`.
 /// - `gap_after` consists of the empty slots between the middle run and the tail. There are such
 ///   slots only after items were removed from the end of the middle run, or after the tail was
 ///   moved up.
@@ -53,8 +54,8 @@ use thin_block::{Block, Growth};
 /// an item is this decision, together with the item as the test left it.
 ///
 /// An `OpenBlock` owns the block and all items in it. It does not implement `Drop`: `close` puts
-/// the block back into the list. In contracts, an `OpenBlock` is an `Open`, which is defined in
-/// `specs/Open.antt`.
+/// the block back into the list. Contracts describe an `OpenBlock` as a value of the type `Open`,
+/// which is defined in `specs/Open.antt`.
 pub struct OpenBlock<T, A: Allocator> {
     // The block that was taken out of the list. It stores a length, but this length is not used
     // while the block is open.
@@ -84,9 +85,9 @@ impl<T, A: Allocator> Model for OpenBlock<T, A> {
 }
 
 impl<T, A: Allocator, G: Growth> ThinVec<T, A, G> {
-    // Takes the block out of the list, and returns it as an open block. The items `start..end`,
-    // which can then be removed or replaced, become the middle run of the open block. After the
-    // call, the list has no items, and its capacity is 0.
+    // Takes the block out of the list, and returns it as an open block. The items at the indices
+    // `start..end` become the middle run of the open block, and can then be removed or replaced.
+    // After the call, the list has no items, and its capacity is 0.
     pub(crate) fn open(&mut self, start: usize, end: usize) -> OpenBlock<T, A>
         requires start_le_end { start ≤ end }
         requires in_bounds { end ≤ length self.old.items }
@@ -117,9 +118,9 @@ impl<T, A: Allocator, G: Growth> ThinVec<T, A, G> {
     }
 
     // Takes the block out of the list, and returns it as an open block with a gap of `count` empty
-    // slots that begins at index `at`. To make this gap, moves the items from index `at` onward up
-    // by `count` slots. The list must have room for `count` more items. After the call, the list
-    // has no items, and its capacity is 0.
+    // slots. The gap begins at index `at`: the items from index `at` onward are moved up by `count`
+    // slots. The list must have room for `count` more items. After the call, the list has no items,
+    // and its capacity is 0.
     pub(crate) fn open_wide(&mut self, at: usize, count: usize) -> OpenBlock<T, A>
         requires in_bounds { at ≤ length self.old.items }
         requires room { HasRoomFor self.old count }
@@ -147,9 +148,10 @@ impl<T, A: Allocator, G: Growth> ThinVec<T, A, G> {
         block
     }
 
-    // Closes the gap of the open block `block`, and puts the block back into the list. To close the
-    // gap, moves the items after the gap down. If the list has another allocation before the call,
-    // frees that allocation. The code that closes a gap of one or two slots is inlined.
+    // Closes the gap of the open block `block`, and puts the block back into the list. The items
+    // after the gap are moved down. Before the call, the list must contain no items. If the list
+    // has an allocation of its own at that time, this allocation is freed. The code that closes a
+    // gap of one or two slots is inlined.
     #[inline(always)]
     pub(crate) fn close(&mut self, block: OpenBlock<T, A>)
         requires empty { self.old.items ≡ [] }

@@ -51,7 +51,8 @@ pub(crate) fn put_vec<T, A: Allocator, B: Allocator>(
     } }
 {
     // This call is needed only for the proof. The contract of `cap` says that the number of slots
-    // is less than 2^63. So the index of each slot is less than 2^63, too.
+    // is less than 2^63. So the index of each slot is less than 2^63, too, and the addition in the
+    // loop cannot overflow.
     let _whole = block.cap();
     while let Some(item) = items.pop() {
         block.put(start + items.len(), item);
@@ -78,7 +79,8 @@ pub(crate) fn put_clones<T: Clone, A: Allocator>(
         → HoldsAt (λ x. ¬ (T.is_infallible x)) items.now result }
 {
     // This call is needed only for the proof. The contract of `cap` says that the number of slots
-    // is less than 2^63. So the index of each slot is less than 2^63, too.
+    // is less than 2^63. So the index of each slot is less than 2^63, too, and the addition in the
+    // loop cannot overflow.
     let _whole = block.cap();
     for i in 0..items.len() {
         match items[i].clone() {
@@ -109,7 +111,8 @@ pub(crate) fn put_repeated<T: Clone, A: Allocator>(
     ensures refused { result < count → ¬ (T.is_infallible value.now) }
 {
     // This call is needed only for the proof. The contract of `cap` says that the number of slots
-    // is less than 2^63. So the index of each slot is less than 2^63, too.
+    // is less than 2^63. So the index of each slot is less than 2^63, too, and the addition in the
+    // loop cannot overflow.
     let _whole = block.cap();
     for i in 0..count {
         match value.clone() {
@@ -139,16 +142,17 @@ pub(crate) fn put_results<T, A: Allocator, F: FnMut() -> T>(
     } }
 {
     // This call is needed only for the proof. The contract of `cap` says that the number of slots
-    // is less than 2^63. So the index of each slot is less than 2^63, too.
+    // is less than 2^63. So the index of each slot is less than 2^63, too, and the addition in the
+    // loop cannot overflow.
     let _whole = block.cap();
     for i in 0..count {
         block.put(start + i, make());
     }
 }
 
-// Moves items of `iter` into the empty slots `start..end`, until the slots are full or `iter`
-// returns `None`. The block is passed by value and is returned. For this reason, its pointer stays
-// in a register, and LLVM vectorizes the loop.
+// Moves items of `iter` into the empty slots `start..end`, in order, until the slots are full or
+// `iter` returns `None`. The block is passed by value and is returned. This keeps its pointer in a
+// register, and allows LLVM to vectorize the loop.
 pub(crate) fn put_iter<T, A: Allocator, I: Iterator<Item = T>>(
     block: Block<T, A>,
     start: usize,

@@ -71,10 +71,11 @@ pub fn assert_same_items<T: Sample, R: Abort>(rt: &R, at: &At, items: &[T], numb
     assert_same(rt, at, "first item that differs", difference, None);
 }
 
-/// Asserts that `ledger` has the expected counts of items and of allocated blocks. If the ledger
-/// counts items of type `T`, exactly `items` of them must not have been dropped yet. Otherwise, the
-/// ledger must count no items at all. The number of allocated blocks must be one for each item if
-/// items own blocks, plus one for the list if `capacity` is not 0.
+/// Asserts that `ledger` has the counts that are expected if `items` items exist. If the ledger
+/// counts items of type `T`, it must count exactly `items` items that have not been dropped.
+/// Otherwise, it must count no items. If each item owns a block, one block must be allocated for
+/// each of the items. If `capacity`, the capacity of the list, is not 0, one more block must be
+/// allocated for the list. No other blocks may be allocated.
 pub fn assert_live<T: Sample, R: Abort>(
     rt: &R,
     at: &At,

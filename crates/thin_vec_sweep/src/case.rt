@@ -109,19 +109,20 @@ impl<T: Sample, G: Ruled> Case<T, G> {
     }
 
     /// Determines whether the call must be skipped because a list of capacity `capacity` would take
-    /// too much memory. Stores the result in `is_left_out`, and returns it. A call is never skipped
-    /// if its first request is refused, or if the items have a size of 0 bytes. In these two cases,
-    /// the call takes no memory.
+    /// too much memory. Stores the result in `is_left_out`, and returns it. There are two cases in
+    /// which a call is never skipped. If its first request is refused, the call allocates nothing.
+    /// If the items have a size of 0 bytes, a list takes little memory, no matter how large its
+    /// capacity is.
     pub fn is_too_much(&mut self, capacity: Option<usize>) -> bool {
         let is_great = capacity.is_some_and(|capacity| capacity > 1_000_000);
         self.is_left_out = is_great && self.at.refused != 1 && T::LIMIT < isize::MAX as usize;
         self.is_left_out
     }
 
-    /// Returns how many requests of the call can be refused. Each of them is refused in a test case
-    /// of its own. The result is 1 if the call was skipped because it would need too much memory.
-    /// Such a call can still be tested with its first request refused, because it then takes no
-    /// memory.
+    /// Returns how many requests of the call can be refused, one in each test case. Usually, this
+    /// is the number of requests that the call must make. If the call was skipped because it would
+    /// need too much memory, the result is 1. Such a call can still be tested with its first
+    /// request refused, because it then takes no memory.
     pub fn requests_in_turn(&self) -> u64 {
         if self.is_left_out { 1 } else { self.requests }
     }
@@ -188,7 +189,8 @@ impl<T: Sample, G: Ruled> Case<T, G> {
     }
 
     // Returns the expected outcome of a call that requests `blocks` blocks and then clones `clones`
-    // items. Also sets the expected numbers of requests and clones.
+    // items. Also sets the expected number of requests. If the call must succeed, also sets the
+    // expected number of clones.
     fn verdict(&mut self, blocks: u64, clones: usize) -> Verdict {
         let refused = self.at.refused;
         let clones = clones as u64;

@@ -54,9 +54,9 @@ fn few<R: Abort>(rt: &R, alloc: Global) -> Scope {
     }
 }
 
-// For each group of calls, three counts of a test on the lists that `few` selects: the numbers of
-// test cases, of refused requests, and of comparisons. If a call is added to a group, only the line
-// of this group has to be changed.
+// The expected counts of a test on the lists that `few` selects. Each line is for one group of
+// calls. It contains the numbers of test cases, of refused requests, and of comparisons. If a call
+// is added to a group, only the line of this group has to be changed.
 const COUNTS: [(u64, u64, u64); 12] = [
     // every_growth
     (6334, 2380, 81767),

@@ -1,17 +1,18 @@
 //! Tests of the methods of `ThinVec`. There are two kinds of tests: sweeps and runs. A sweep tests
 //! one call on many lists, and compares the results with expected values: a `Vec` for the items,
-//! and a number for the capacity. A run executes many commands on one list, each of which describes
-//! a call (`runs.rt`). It compares the results with a model, which is a simple program that
-//! specifies the commands.
+//! and a number for the capacity. A run executes many commands on one list (`runs.rt`). Each
+//! command describes a call. Most runs compare the results with a model, which is a simple program
+//! that specifies the commands.
 //!
 //! A sweep makes its call on lists of many lengths and spare capacities (`shapes.rt`), with several
 //! arguments. For each list and argument, the sweep first makes the call with enough memory. Then
 //! it makes the call once more for each allocation request of the call, and the allocator refuses
-//! this request. After each call, the sweep compares the return value, the items, the capacity, the
-//! numbers of requests and of clones, the number of items that have not been dropped, and the
-//! number of allocated blocks. After the list is dropped, it compares the numbers of items and of
-//! blocks again. With enough memory, a call may fail only because of a capacity overflow. The tests
-//! in `checks.rt` check that a sweep really makes these comparisons.
+//! this request. At most the first 49 requests are refused, and on a list of more than 40 items
+//! only the first one. After each call, the sweep compares the return value, the items, the
+//! capacity, the numbers of requests and of clones, the number of items that have not been dropped,
+//! and the number of allocated blocks. After the list is dropped, it compares the numbers of items
+//! and of blocks again. With enough memory, a call may fail only because of a capacity overflow.
+//! The tests in `checks.rt` check that a sweep really makes these comparisons.
 //!
 //! To add a call, add a struct that implements `Call` (`sweep.rt`) to a file of `calls/`, and add a
 //! line to `calls.rt`. The method `arguments` returns the number of arguments that are tried on a

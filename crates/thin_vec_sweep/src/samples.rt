@@ -24,10 +24,11 @@ pub trait Sample: Clone + Drop + PartialEq {
     const SIZE: usize;
 
     /// The greatest possible capacity of a list of such items, computed by hand. If an item has a
-    /// size of 0 bytes, this capacity is `isize::MAX`. Otherwise, it depends on the size of a
-    /// block. A block consists of a header of 16 bytes and the items. The size of a block is
-    /// rounded up to a multiple of the alignment of the block. The result must be at most
-    /// `isize::MAX`. The alignment of a block is the alignment of an item, but at least 8.
+    /// size of 0 bytes, this capacity is `isize::MAX`. Otherwise, it is the greatest number of
+    /// items for which the size of a block is at most `isize::MAX`.
+    ///
+    /// A block consists of a header of 16 bytes and the items. The size of a block is rounded up to
+    /// a multiple of its alignment. This alignment is the alignment of an item, but at least 8.
     const LIMIT: usize;
 
     /// Makes an item from `number`.
@@ -38,7 +39,7 @@ pub trait Sample: Clone + Drop + PartialEq {
     /// preserves only the remainder of the number modulo 251.
     fn kept_number(&self) -> u64;
 
-    /// Returns what `kept_number` must return for the item that is made from `number`.
+    /// Returns the expected result of `kept_number` for the item that is made from `number`.
     fn expected_number(number: u64) -> u64;
 }
 
@@ -173,8 +174,8 @@ impl Sample for [u64; 64] {
         words
     }
 
-    // Returns the first of the 64 integers in the item if it equals the last one, and `u64::MAX`
-    // otherwise.
+    // Returns the first of the 64 integers in the item if the first integer equals the last
+    // integer. Otherwise, returns `u64::MAX`.
     fn kept_number(&self) -> u64 {
         if self[0] == self[63] {
             self[0]

@@ -149,8 +149,8 @@ impl Shape {
     }
 
     /// Returns the total number of test cases of a call that acts on a range of the list. If the
-    /// list has at most 6 items, every range is tried, and for a range of `k` items, `cases[k]`
-    /// test cases are run. On a longer list, only four ranges are tried.
+    /// list has at most 6 items, every range is tried, and each range of `k` items is used in
+    /// `cases[k]` test cases. On a longer list, only four ranges are tried.
     pub fn ranged_cases(self, cases: &Cases) -> usize {
         if self.length >= cases.len() {
             return self.some().saturating_mul(RANGES);

@@ -24,9 +24,9 @@ pub struct Walk {
 impl Walk {
     /// Returns one of the walks over `count` items. `number` selects the walk.
     ///
-    /// If `count` is at most 6, the binary digits of `number + 1` describe the steps, except that
-    /// the first digit, which is always 1, describes no step. The last digit describes the first
-    /// step. The digit 1 is a step from the back, and 0 is a step from the front.
+    /// If `count` is at most 6, the binary number `number + 1` describes the walk. Its first digit
+    /// is always 1, and is ignored. Each other digit describes one step: 1 is a step from the back,
+    /// and 0 is a step from the front. The last digit describes the first step.
     ///
     /// If `count` is greater than 6, `number / 4` selects the number of steps. `number % 4` selects
     /// an entry of `ENDS`, which describes the directions of the steps.
@@ -91,9 +91,9 @@ impl Remaining {
         }
     }
 
-    /// Takes the next step: removes the index of the item that this step must yield, and returns
-    /// the number from which this item was made. Returns `None` if no item remains. If `is_back` is
-    /// true, the step takes the last remaining item. Otherwise, it takes the first one. `numbers`
+    /// Takes the next step. If `is_back` is true, the step must yield the last of the remaining
+    /// items. Otherwise, it must yield the first one. Removes this item from the remaining items,
+    /// and returns the number from which it was made. Returns `None` if no item remains. `numbers`
     /// contains the numbers from which all items were made.
     pub fn take(&mut self, is_back: bool, numbers: &[u64]) -> Option<u64> {
         if self.start >= self.end {

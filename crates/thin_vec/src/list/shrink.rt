@@ -11,9 +11,11 @@ impl<T, A: Allocator, G: Growth> ThinVec<T, A, G> {
     ghost use Rattle.thin_vec.specs.ThinVec.{IsWithin, cost_shrunk, cost_shrunk_to};
 
     /// Shrinks the capacity to `min_capacity`, or to the length if the length is greater. If this
-    /// would not reduce the capacity, nothing changes. If the capacity is reduced to 0, the
-    /// allocation is freed. In this case, all counts in the field `cost` of the list become 0. This
-    /// field exists only in contracts, and counts allocations and the copies and moves of items.
+    /// would not reduce the capacity, nothing changes.
+    ///
+    /// If the capacity is reduced to 0, the allocation is freed. In this case, all counts in the
+    /// field `cost` of the list become 0, too. The field `cost` exists only in contracts. It counts
+    /// allocations, and the copies and moves of items.
     ///
     /// Rust's `Vec` has a method of this name, but the Rust crate thin-vec does not.
     ///
@@ -53,10 +55,11 @@ impl<T, A: Allocator, G: Growth> ThinVec<T, A, G> {
         self.shrink_block(wanted)
     }
 
-    /// Shrinks the capacity to the length. If the list is full, nothing changes. If the list is
-    /// empty but has an allocation, the allocation is freed. In this case, all counts in the field
-    /// `cost` of the list become 0. This field exists only in contracts, and counts allocations and
-    /// the copies and moves of items.
+    /// Shrinks the capacity to the length. If the list is full, nothing changes.
+    ///
+    /// If the list is empty but has an allocation, the allocation is freed. In this case, all
+    /// counts in the field `cost` of the list become 0, too. The field `cost` exists only in
+    /// contracts. It counts allocations, and the copies and moves of items.
     ///
     /// # Errors
     ///
@@ -113,9 +116,9 @@ impl<T, A: Allocator, G: Growth> ThinVec<T, A, G> {
         Ok(())
     }
 
-    // Frees the allocation of an empty list. After the call, the capacity of the list is 0. In
-    // contracts, all counts in the field `cost` of the list, such as the number of allocations, are
-    // then 0, too.
+    // Frees the allocation of the list. The list must be empty. After the call, the capacity of the
+    // list is 0. All counts in the field `cost` of the list, such as the number of allocations, are
+    // then 0, too. The field `cost` exists only in contracts.
     fn give_block_back(&mut self)
         requires empty { self.old.items ≡ [] }
         ensures changes { self.new ≡ record self.old { items = []; capacity = 0; cost = no_cost } }

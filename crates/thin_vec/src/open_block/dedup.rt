@@ -1,6 +1,6 @@
 //! The functions that the `dedup` methods call. These functions keep the first item, and test each
 //! later item against the last item that was kept before it. If the test decides that the later
-//! item is removed, the functions drop this item.
+//! item is to be removed, the functions drop this item.
 //!
 //! The front of the block contains the items that have been kept so far. After the front, there may
 //! be a gap of empty slots. After the gap, the middle run contains the remaining items, that is,
@@ -15,19 +15,20 @@ use crate::open_block::OpenBlock;
 use std::alloc::Allocator;
 use thin_block::Block;
 
-/// A test of two items. It decides whether the later item is removed, and may write to both items.
+/// A test of two items of a list: an item, and the last item that was kept before it. The test
+/// decides whether the later of the two items is to be removed. It may write to both items.
 pub(crate) trait PairTest<T> {
     /// `tests s x k b t y l` holds if one call to the test may change the state of the test from
     /// `s` to `t`, the later item from `x` to `y`, and the last item that was kept before it from
-    /// `k` to `l`. The flag `b` is true if the later item is removed.
+    /// `k` to `l`. The flag `b` is true if the later item is to be removed.
     ghost tests: { Self → T → T → Bool → Self → T → T → Type 0 };
 
     /// `ready s` holds if the test can be called in the state `s`, with any two items. After such a
     /// call, `ready` holds again for the new state of the test.
     ghost ready: { Self → Type 0 };
 
-    /// Returns whether the item `later` is removed. `kept` is the last item that was kept before
-    /// it.
+    /// Returns whether the item `later` is to be removed. `kept` is the last item that was kept
+    /// before `later`.
     fn test(&mut self, later: &mut T, kept: &mut T) -> bool
         requires ready { ready self.old }
         ensures asked { tests self.old later.old kept.old result self.new later.new kept.new }
@@ -37,8 +38,8 @@ pub(crate) trait PairTest<T> {
 impl<T, A: Allocator> OpenBlock<T, A> {
     ghost use Rattle.thin_vec.specs.OpenBlock.Dedup.{IsPairAskedAt, IsLastAsked, IsNextAsked};
 
-    // Tests the item at index `k` of the remaining items against the item before it. Returns
-    // whether the item at index `k` is to be removed. Neither item is moved.
+    // Tests the item at index `k` of the remaining items against the item before it. `k` must not
+    // be 0. Returns whether the item at index `k` is to be removed. Neither item is moved.
     pub(crate) fn test_pair<J: PairTest<T>>(&mut self, k: usize, test: &mut J) -> bool
         requires some { 0 < k }
         requires in_bounds { k < length self.old.rest }
@@ -65,8 +66,8 @@ impl<T, A: Allocator> OpenBlock<T, A> {
         test.test(later, self.block.slot_mut(self.front_end - 1))
     }
 
-    // Tests the first of the remaining items against the item `kept`. Returns whether the remaining
-    // item is to be removed. The remaining item is not moved.
+    // Tests the first of the remaining items against the item `kept`. Returns whether the first of
+    // the remaining items is to be removed. This item is not moved.
     pub(crate) fn test_next<J: PairTest<T>>(&mut self, kept: &mut T, test: &mut J) -> bool
         requires some { 0 < length self.old.rest }
         requires ready { J.ready test.old }
@@ -95,9 +96,10 @@ impl<T, A: Allocator> OpenBlock<T, A> {
 impl<T, A: Allocator> OpenBlock<T, A> {
     ghost use Rattle.thin_vec.specs.OpenBlock.Dedup.{PairsAskedUpTo};
 
-    // Tests each of the remaining items except the first against the item before it, and stops at
-    // the first item that is to be removed. Returns the number of items before that item. If no
-    // item is to be removed, returns the number of remaining items. No item is moved or dropped.
+    // Tests the remaining items, in order, each against the item before it. The first remaining
+    // item is not tested. Stops at the first item that is to be removed, and returns the number of
+    // remaining items before that item. If no item is to be removed, returns the number of all
+    // remaining items. No item is moved or dropped.
     fn test_pairs<J: PairTest<T>>(&mut self, test: &mut J) -> usize
         requires some { 0 < length self.old.rest }
         requires ready { J.ready test.old }
@@ -121,8 +123,8 @@ impl<T: Drop, A: Allocator> OpenBlock<T, A> {
     ghost use Rattle.thin_vec.specs.OpenBlock.Dedup.{IsDeduped, Dedups};
 
     // Keeps the first of the remaining items. Tests each later item against the last item that was
-    // kept before it, and drops the items that the test removes. After the call, no item remains to
-    // be tested, and the front contains the kept items.
+    // kept before it, and drops the items that are to be removed. After the call, no item remains
+    // to be tested, and the front contains the kept items.
     pub(crate) fn dedup_rest<J: PairTest<T>>(&mut self, test: &mut J)
         requires some { 0 < length self.old.rest }
         requires front { self.old.front ≡ [] }
@@ -217,8 +219,8 @@ impl<T: Drop, A: Allocator> OpenBlock<T, A> {
     }
 }
 
-// Tests the item in slot `i + 1` against the item in slot `i`, and returns whether the former item
-// is to be removed. Neither item is moved.
+// Tests the item in slot `i + 1` against the item in slot `i`. Returns whether the item in slot
+// `i + 1` is to be removed. Neither item is moved.
 fn test_neighbours<T, A: Allocator, J: PairTest<T>>(
     block: &mut Block<T, A>,
     i: usize,

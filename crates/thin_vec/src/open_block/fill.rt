@@ -16,8 +16,8 @@ use thin_block::{Block, Growth};
 
 impl<T, A: Allocator> OpenBlock<T, A> {
     // Moves items of `iter` into the gap of empty slots, in order, until the gap is full or `iter`
-    // returns `None`. After the call, the number of items before the gap is the field `end` of the
-    // returned value.
+    // returns `None`. The field `end` of the returned value is the number of items that are before
+    // the gap after the call.
     pub(crate) fn fill<I: Iterator<Item = T>>(&mut self, iter: I) -> Filled<I>
         requires can_next { I.can_next iter }
         requires finite { IsFinite (I.remaining iter) }
@@ -71,7 +71,8 @@ impl<T, A: Allocator> OpenBlock<T, A> {
         self.front_end += count;
     }
 
-    // Moves the last `count` items of the block into the gap of empty slots, in order.
+    // Moves the last `count` items of the block into the gap of empty slots, in order. There must
+    // be at least `count` items after the range, and at least `count` empty slots in the gap.
     pub(crate) fn move_last_down(&mut self, count: usize)
         requires room { count ≤ self.old.gap }
         requires in_bounds { count ≤ length self.old.tail }

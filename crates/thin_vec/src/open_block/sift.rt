@@ -106,8 +106,8 @@ impl<T, A: Allocator> OpenBlock<T, A> {
     }
 
     // Moves the first `k` of the remaining items down, so that they directly follow the kept items.
-    // The method `close_gap` of the block moves all `k` items together. It takes the block by
-    // value, so that the other fields of the open block can stay in registers.
+    // The method `close_gap` of the block moves all `k` items together. `close_gap` takes the block
+    // by value, so that the other fields of the open block can stay in registers.
     #[inline(always)]
     fn move_run_down(&mut self, k: usize)
         requires in_bounds { k ≤ length self.old.rest }
@@ -129,9 +129,9 @@ impl<T, A: Allocator> OpenBlock<T, A> {
     }
 
     // Returns whether at least two items remain. There must be a gap before the remaining items.
-    // For this reason, `rest_end` is not 0, and the subtraction cannot overflow. The code subtracts
-    // 1 from `rest_end`, instead of adding 1 to `rest_start`, because `rest_end - 1` can stay in a
-    // register during a loop.
+    // Because of this gap, `rest_end` is at least 1, and the subtraction cannot overflow. The code
+    // subtracts 1 from `rest_end`, instead of adding 1 to `rest_start`, because `rest_end - 1` can
+    // stay in a register during a loop.
     pub(crate) fn has_two(&self) -> bool
         requires gap { 0 < self.now.gap }
         ensures value { IsTrue result ↔ (1 < length self.now.rest) }
@@ -164,11 +164,12 @@ impl<T, A: Allocator> OpenBlock<T, A> {
 impl<T, A: Allocator> OpenBlock<T, A> {
     ghost use Rattle.thin_vec.specs.OpenBlock.Sift.{Advances};
 
-    // Tests the remaining items, in order, up to the first item that is to be removed, and returns
-    // whether there is such an item. The items before it become kept items. If no item is to be
-    // removed, all remaining items become kept items. If there is a gap before the remaining items,
-    // these kept items are moved down. After the call, the item that is to be removed is the first
-    // of the remaining items.
+    // Tests the remaining items, in order, and stops at the first item that is to be removed.
+    // Returns whether there is such an item. If so, it is the first of the remaining items after
+    // the call, and the items before it are added to the kept items. If no item is to be removed,
+    // all remaining items are added to the kept items. If there is a gap before the remaining
+    // items, the added items are moved down, so that they directly follow the items that were kept
+    // earlier.
     pub(crate) fn advance<J: Test<T>>(&mut self, test: &mut J) -> bool
         requires ready { J.ready test.old }
         ensures advances { Advances J.tests test.old self.old test.new self.new }

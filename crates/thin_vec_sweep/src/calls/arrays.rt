@@ -1,5 +1,5 @@
-//! Tests of the macro `thin_vec!` with a list of items, as in `thin_vec![alloc => x, y]`, and of
-//! the conversions between lists and arrays.
+//! Tests of the macro `thin_vec!` with one, two or three items, as in `thin_vec![alloc => x, y]`,
+//! and of the conversions between lists and arrays.
 ghost use Rattle.std.specs.Mem.{type_size};
 ghost use Rattle.std.specs.Prelude.{◌*◌, ◌<◌, ◌^◌};
 
@@ -147,9 +147,9 @@ fn become_array<T: Sample, const N: usize, R: Abort>(rt: &R, case: &mut Case<T, 
     }
 }
 
-// Converts `list` to an array of `N` items, and the array back to a list. Returns three values: the
-// resulting list (`None` if the second conversion failed), whether the first conversion succeeded,
-// and the result of the second conversion.
+// Converts `list` to an array of `N` items, and the array back to a list. Returns three values: a
+// list, whether the first conversion succeeded, and the result of the second conversion. The list
+// is `list` itself if the first conversion failed, and `None` if the second conversion failed.
 fn there_and_back<T: Sample, A: Allocator, const N: usize, R: Abort>(
     rt: &R,
     at: &At,

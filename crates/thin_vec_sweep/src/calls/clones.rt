@@ -10,7 +10,8 @@ use thin_testing::Ruled;
 use thin_vec::ThinVecError;
 
 // Each test item is made from a number. The tests call `resize` with the item that is made from
-// `FRESH`. The items that `resize_with` adds are made from `FRESH`, `FRESH + 1`, and so on.
+// `FRESH`. The items that `resize_with` adds are made from consecutive numbers, in descending
+// order. The last of these items is made from `FRESH`.
 const FRESH: u64 = 80_000;
 
 /// A test that calls `resize` with several new lengths. Some of them are at most the old length,
@@ -103,8 +104,8 @@ fn add_from_last<T: Sample, G: Ruled, R: Abort>(rt: &R, case: &mut Case<T, G>, m
     case.items.append(&mut new).expect(rt, "memory");
 }
 
-// For each `k` from 0 to 6, the number of test cases on a range of `k` items. Each range is tried
-// once.
+// For each `k` from 0 to 6, the number of test cases on a range of `k` items. This number is always
+// 1, because each range is tried once.
 const EACH_RANGE: Cases = [1; 7];
 
 /// A test that calls `extend_from_within` with each range of a list of at most 6 items, and with

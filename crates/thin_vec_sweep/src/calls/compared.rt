@@ -13,8 +13,9 @@ use std::process::Abort;
 use thin_testing::Ruled;
 
 /// A test that compares a list with a second list, and hashes the first list. There are four test
-/// cases. In these test cases, the second list is equal to the first list, differs in the last
-/// item, is one item shorter, or is one item longer.
+/// cases: the second list is equal to the first list, differs from it in the last item, is one item
+/// shorter, or is one item longer. If the first list is empty, the second list is empty in the
+/// first three test cases.
 pub struct Compare {}
 
 impl<T: Sample + Ord + Hash + Debug, G: Ruled> Call<T, G> for Compare {
@@ -113,8 +114,8 @@ impl<T: Sample + Debug, G: Ruled> Call<T, G> for Print {
     }
 }
 
-// Returns the text that is expected if an `IntoIter` over `items` is formatted with `{:?}` and with
-// `{:#?}`. A space separates the two results.
+// Returns the expected result of formatting an `IntoIter` over `items` with `{:?}` and with
+// `{:#?}`. A space separates the two texts.
 fn iter_text<D: Debug, R: Abort>(rt: &R, global: Global, items: &D) -> String {
     text(rt, global, &Told { items })
 }

@@ -56,10 +56,10 @@ impl<T: Sample, G: Ruled> Call<T, G> for PushMut {
     }
 }
 
-// Checks the result of `push_mut` or `insert_mut`. Suppose that the call succeeded. Then the test
-// has replaced the item that the call added to the list, and `hand` is the replaced item. It must
-// be the item that was passed to the call. If the call failed, its error must contain the item that
-// was passed to the call.
+// Checks the result of `push_mut` or `insert_mut`. If the call succeeded, the test has already
+// replaced the item that the call added, and `hand` is the item that was replaced. In this case,
+// `hand` must be the item that was passed to the call. If the call failed, its error must contain
+// the item that was passed to the call.
 fn lent<T: Sample, G: Ruled, R: Abort>(
     rt: &R,
     case: &mut Case<T, G>,

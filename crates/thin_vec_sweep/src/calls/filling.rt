@@ -48,8 +48,8 @@ pub struct Ending {
     /// The number of items that are taken from the iterator and then stored in a temporary vector
     /// instead of the list.
     pub held: usize,
-    /// The number of items in hand, which is 0 or 1. An item in hand is an item that the call takes
-    /// from the iterator, but for which it finds no room.
+    /// The number of items in hand: 1 if the call takes an item from the iterator and finds no room
+    /// for this item, and 0 otherwise.
     pub in_hand: usize,
     /// The number of times that the iterator returns `None`, which is 0 or 1.
     pub ends: usize,
@@ -155,8 +155,9 @@ pub fn assert_iterator_calls<T: Sample, G: Ruled, R: Abort>(
 }
 
 /// Checks the items that a failed call returned. Before the call, the iterator had `count` items.
-/// The call must have returned the iterator with all items that it had not taken. If the call had
-/// taken an item for which it found no room, it must also have returned this item, as `in_hand`.
+/// The call must have returned the iterator as `rest`, with all items that it had not taken. If the
+/// call had taken an item for which it found no room, it must also have returned this item, as
+/// `in_hand`.
 pub fn back<T: Sample, G: Ruled, R: Abort>(
     rt: &R,
     case: &Case<T, G>,

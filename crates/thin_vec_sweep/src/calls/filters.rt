@@ -128,11 +128,12 @@ impl<T: Sample, G: Ruled> Call<T, G> for PopIf {
     }
 }
 
-// Updates `items`, the expected items, for the test `PopIf`, and returns the number of the item
-// that `pop_if` must return. If `items` is empty, returns `None`. Otherwise, the closure replaces
-// the last item with a new item, which is made from `FRESH`. `goes` says whether the closure then
-// returns `true`. If it does, the new item is removed and returned. If not, the new item remains in
-// the list.
+// Updates `items`, the expected items of the test `PopIf`. Returns the expected result of `pop_if`:
+// the number from which the returned item was made, or `None` if no item is returned.
+//
+// If the list is empty, nothing changes. Otherwise, the closure replaces the last item with a new
+// item, which is made from `FRESH`, and then returns `goes`. If `goes` is true, `pop_if` removes
+// and returns the new item. If `goes` is false, the new item remains in the list.
 fn popped<R: Abort>(rt: &R, items: &mut Vec<u64, Global>, goes: bool) -> Option<u64> {
     let _last = items.pop()?;
     if goes {

@@ -16,9 +16,10 @@ use thin_vec::Growth;
 // iterator with this new item.
 const FRESH: u64 = 70_000;
 
-// Returns the number of test cases of `IntoIterClone` for each end of the iterator. Each test case
-// takes a certain number of steps, that is, calls to `next` or `next_back`, and then clones the
-// iterator. On a list of at most 4 items, the numbers of steps are `0..=length + 2`.
+// Returns how many different numbers of steps the test `IntoIterClone` tries from each end of the
+// iterator. A step is a call to `next` or `next_back`. After the steps, the test clones the
+// iterator. On a list of at most 4 items, all numbers of steps from 0 to the length plus 2 are
+// tried.
 fn steps(shape: Shape) -> usize {
     shape.indices().saturating_add(2)
 }

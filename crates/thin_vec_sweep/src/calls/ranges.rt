@@ -192,9 +192,10 @@ fn calls_and_pattern(width: usize, number: usize) -> (usize, usize) {
     (number % calls, number / calls)
 }
 
-// Calls `extract_if`, and then calls `next` the number of times that `wanted` specifies. Checks
-// each item that is yielded. If an item that is passed to the closure is not the expected item, the
-// closure returns `false`, so that the item is not removed.
+// Calls `extract_if` on `range`, and then calls `next` the number of times that `wanted` specifies.
+// Checks each item that is yielded, and finally the size hint. The closure returns `true` only if
+// it is called with the expected item and `wanted` says that this item is to be removed. So an
+// unexpected item is not removed.
 fn extract<T: Sample, A: Allocator, G: Growth, R: Abort>(
     rt: &R,
     at: &At,

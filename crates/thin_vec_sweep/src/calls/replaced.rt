@@ -15,12 +15,13 @@ const FRESH: u64 = 80_000;
 // The number of test cases on each range. These test cases differ in the number of new items.
 const COUNTS: usize = 7;
 
-// For each `k` from 0 to 6, the number of test cases on a range of `k` items.
+// For each `k` from 0 to 6, the number of test cases on a range of `k` items. This number is the
+// same for all `k`.
 const EACH_COUNT: Cases = [COUNTS; 7];
 
-// Returns the number of new items in a test case. `range` contains two things: the range that is
-// replaced, and the number of the test case. On a list of more than 40 items, only the test cases 0
-// and 1 are run. In both of these test cases, the list becomes longer.
+// Returns the number of new items in a test case. `range` contains the range that is replaced, and
+// the number of the test case. On a list of more than 40 items, only the test cases with the
+// numbers 0 and 1 are run. In both of them, the list becomes longer.
 fn count_for(range: Ranged) -> usize {
     let width = range.width();
     match range.number % COUNTS {

@@ -190,9 +190,9 @@ impl<G: Ruled> AppendsSlice<u8, G> for WriteAll {
     }
 }
 
-// Asserts that `error`, the error of a failed write, has the kind `OutOfMemory`, and returns the
-// cause `OutOfMemory`. A capacity overflow leads to an error of the same kind. So this function
-// returns `OutOfMemory` in that case, too.
+// Asserts that `error`, the error of a failed write, has the kind `OutOfMemory`. Returns
+// `OutOfMemory` as the cause of the failure. After a capacity overflow, the error has the same
+// kind. So this function returns `OutOfMemory` in that case, too.
 fn cause<R: Abort>(rt: &R, at: &At, error: &Error) -> ThinVecError {
     let kind = error.kind() == ErrorKind::OutOfMemory;
     assert_same(rt, at, "the error's kind is OutOfMemory", kind, true);

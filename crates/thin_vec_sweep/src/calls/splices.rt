@@ -74,8 +74,9 @@ struct Plan {
 
 impl Plan {
     // Returns the test case with the number `argument`. One of the size hints that are tried is
-    // exact at the moment when `finish` reads the size hint. Before that moment, `finish` may
-    // already have moved some new items into the range, so that fewer items remain in the iterator.
+    // exact: it is the number of items that remain in the iterator when `finish` reads the size
+    // hint. If there are items after the range, `finish` has already filled the range with new
+    // items at that time, so fewer items remain.
     fn new<T: Sample, G: Ruled, R: Abort>(rt: &R, case: &Case<T, G>, argument: usize) -> Plan {
         let shape = case.at.shape;
         let range = shape.ranged_case(&cases(shape), argument);
@@ -100,8 +101,8 @@ impl Plan {
     }
 }
 
-// Returns the number of a walk, that is, of a sequence of calls to `next` and `next_back`. On a
-// list of at most 6 items, the test case with the number `number` uses this walk.
+// Returns the number of the walk that the test case `number` uses on a list of at most 6 items. A
+// walk is a sequence of calls to `next` and `next_back`.
 fn few_steps(number: usize) -> usize {
     let crossed = SHORT_WALKS.saturating_mul(FILLS);
     match number.checked_sub(crossed) {
@@ -111,8 +112,8 @@ fn few_steps(number: usize) -> usize {
 }
 
 // Returns the number of new items for a list of more than 6 items. `width` is the length of the
-// range. Depending on `number`, the result is greater than twice this length, equal to it, one less
-// than it, or 0.
+// replaced range. Depending on `number`, the result is more than twice `width`, exactly `width`,
+// one less than `width`, or 0.
 fn many(width: usize, number: usize) -> usize {
     match number {
         0 => width.saturating_mul(2).saturating_add(9),
@@ -123,7 +124,7 @@ fn many(width: usize, number: usize) -> usize {
 }
 
 // Returns one of five lower bounds for the size hint of an iterator over `all` items. `number`
-// selects the bound. One of the five bounds is `left`. This is the number of items that remain in
+// selects the bound. One of the five bounds is `left`, which is the number of items that remain in
 // the iterator when `finish` reads the size hint.
 fn hint(number: usize, left: usize, all: usize) -> usize {
     match number {
@@ -243,7 +244,8 @@ impl<T: Sample, G: Ruled> Call<T, G> for Spliced {
 struct Walked {
     // The index of the first call that yielded a wrong item, or `None` if there is no such call.
     wrong: Option<usize>,
-    // The number of remaining items of the range, as returned by `len` and by `size_hint`.
+    // The number of remaining items of the range. The first part is the result of `len`, and the
+    // second part is the result of `size_hint`.
     remaining: (usize, (usize, Option<usize>)),
 }
 

@@ -122,8 +122,8 @@ fn random_runs_get_each_reply_of_each_command(rt: HostRuntime) {
 }
 
 // Returns an `Order`, which describes a command by plain numbers. The field `steps` of the order is
-// 0: the order specifies no sequence of calls to `next` and `next_back`. The other fields of the
-// order are the arguments of this function.
+// the number of calls to `next` and `next_back` on a range. This function sets `steps` to 0. The
+// other fields of the order are the arguments of this function.
 const fn plain(kind: Kind, at: usize, to: usize, count: usize, lower: usize, number: u64) -> Order {
     Order {
         kind,

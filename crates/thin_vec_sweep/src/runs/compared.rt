@@ -1,5 +1,5 @@
-//! Compares the runner with the model. The runner executes a command on a `ThinVec`. The model is a
-//! simple program that specifies the commands. It executes the same command on a `Vec`.
+//! Compares the runner with the model. The runner executes a command on a `ThinVec`. The model, a
+//! simple program that specifies the commands, executes the same command on a `Vec`.
 use crate::runs::model::Model;
 use crate::runs::orders::{Order, command_of};
 use crate::runs::samples::{Lender, Numbered};
@@ -28,9 +28,10 @@ fn has_its_blocks<'a, T: Numbered<Lender<'a>>, G: Ruled>(
     blocks == alloc.blocks()
 }
 
-// Lets the runner execute a command on a `ThinVec`. The allocator refuses the request with the
-// number `nth`, or no request if `nth` is 0. Returns two values: the reply, divided into its parts,
-// and whether a request was refused.
+// Lets the runner execute the command that `order` describes on `list`. The allocator refuses the
+// request with the number `nth`, or no request if `nth` is 0. Returns two values. The first value
+// is the reply, divided into parts that can be compared with those of another reply. The second
+// value says whether a request was refused.
 fn shown_by_runner<'a, T: Numbered<Lender<'a>>, G: Ruled, J: Judge<T>>(
     alloc: Lender<'a>,
     list: &mut ThinVec<T, Lender<'a>, G>,

@@ -1,22 +1,23 @@
-//! The judges that the runs use. A judge decides about items instead of the closure of a call such
-//! as `retain`. For example, it decides which items are kept, and which items are removed.
+//! The judges that the runs use. Commands contain no closures. Instead, a judge makes the decisions
+//! that a method such as `retain` leaves to its closure. For example, the judge decides which items
+//! are kept, and which items are removed.
 ghost use Rattle.std.specs.Prelude.{◌≡◌, ◌==◌, ◌/◌, ◌%◌};
 
 use std::mem;
 use thin_runner::judge::Judge;
 
-/// A judge, which decides about items instead of the closure of a call such as `retain`. Its
-/// decisions are the binary digits of a number, beginning with the last digit: 1 is `true`, and 0
-/// is `false`. Its method `same`, which compares two items, also swaps them.
+/// A judge whose decisions are the binary digits of a number, beginning with the last digit: 1 is
+/// `true`, and 0 is `false`. A judge makes the decisions that a method such as `retain` leaves to
+/// its closure. The method `same` of this judge, which compares two items, also swaps them.
 #[derive(Clone, Copy)]
 pub struct Digits {
     /// The number whose binary digits are the decisions that the judge has not made yet.
     pub digits: u64,
 }
 
-/// A judge, which decides about items instead of the closure of a call such as `retain`. Every
-/// second decision is `true`, beginning with the first one. After 64 decisions, every decision is
-/// `false`.
+/// A judge that decides `true`, then `false`, then `true`, and so on. After 64 decisions, every
+/// decision is `false`. A judge makes the decisions that a method such as `retain` leaves to its
+/// closure.
 pub const EACH_SECOND: Digits = Digits {
     digits: 0x5555_5555_5555_5555,
 };
@@ -70,10 +71,10 @@ impl<T> Judge<T> for Digits {
     }
 }
 
-/// A judge, which decides about items instead of the closure of a call such as `retain`. It decides
-/// `true` for even numbers, and considers `x` and `y` equal if `x / 2 == y / 2`. Three of its
-/// methods also change items: `keep` and `key` halve the item, rounding down, and `same` sets the
-/// kept item to 0.
+/// A judge that decides `true` for even numbers, and considers `x` and `y` equal if
+/// `x / 2 == y / 2`. A judge makes the decisions that a method such as `retain` leaves to its
+/// closure. Three methods of this judge also change items: `keep` and `key` halve the item,
+/// rounding down, and `same` sets the kept item to 0.
 #[derive(Clone, Copy)]
 pub struct Evens;
 

@@ -113,8 +113,9 @@ fn shown_sifted<T: Drop, A: Allocator + Copy>(
     Ok(Shown::with_answers(Form::Answers, alloc, answers))
 }
 
-// Asks the judge whether `item` remains in the list. The judge makes this decision instead of a
-// closure. The kind of the command determines which method of the judge is called.
+// Asks the judge whether `item` remains in the list. The judge makes the decision that a method
+// such as `retain` leaves to its closure. The kind of the command determines which method of the
+// judge is called.
 fn stays<T, J: Judge<T>>(judge: &mut J, kind: Kind, item: &mut T) -> bool {
     match kind {
         Kind::Retain => judge.look(item),
@@ -244,9 +245,9 @@ impl<T: Numbered<A>, A: Allocator + Copy, G: Ruled> Model<T, A, G> {
         Ok(Shown::with_items(Form::List, None, alloc, copy, capacity))
     }
 
-    // Appends `item` to the list if it is kept, and to `answers` otherwise. If `asked` is the kind
-    // of a command, the judge decides whether the item is kept. The judge makes this decision
-    // instead of a closure. If `asked` is `None`, the item is kept.
+    // Appends `item` to the list if it is kept, and to `answers` otherwise. If `asked` is `None`,
+    // the item is kept. If `asked` is the kind of a command, the judge decides whether the item is
+    // kept. This is the decision that a method such as `retain` leaves to its closure.
     fn sift_one<J: Judge<T>>(
         &mut self,
         asked: Option<Kind>,
@@ -264,9 +265,10 @@ impl<T: Numbered<A>, A: Allocator + Copy, G: Ruled> Model<T, A, G> {
         }
     }
 
-    // Asks the judge about each item in order, and removes the items that the judge does not keep.
-    // The judge makes these decisions instead of a closure. For an `ExtractIf`, asks only about the
-    // items of the range, and only until `order.count` items have been removed. Returns the reply.
+    // Asks the judge about each item, in order, and removes the items that the judge does not keep.
+    // The judge makes the decisions that a method such as `retain` leaves to its closure. If the
+    // command is an `ExtractIf`, the judge is asked only about the items of the range, until
+    // `order.count` items have been removed. Returns the reply.
     fn sift<J: Judge<T>>(
         &mut self,
         alloc: A,

@@ -56,8 +56,8 @@ impl Dice {
         }
     }
 
-    // Returns a random number whose binary digits are the decisions of a judge. A judge decides
-    // about items instead of the closure of a call such as `retain`.
+    // Returns a random number whose binary digits are the decisions of a judge. A judge makes the
+    // decisions that a method such as `retain` leaves to its closure.
     fn digits(&mut self) -> u64 {
         if self.below(4) == 0 {
             EACH_SECOND.digits
@@ -82,8 +82,12 @@ impl Dice {
     }
 }
 
-/// The record of an executed command: the command, the number of the request that was to be refused
-/// (0 if there is no such request), the variant of the reply, and the cause of the failure, if any.
+/// The record of an executed command. It consists of four parts:
+///
+/// - the command
+/// - the number of the request that was to be refused, or 0 if there is no such request
+/// - the variant of the reply
+/// - the cause of the failure, if the command failed
 pub type Done = (Order, u64, Form, Option<ThinVecError>);
 
 // Executes one random command, and appends a record of it to `done`. Returns whether `ThinVec` and
@@ -122,8 +126,9 @@ fn are_alike<'a, T: Numbered<Lender<'a>>, G: Ruled, J: Judge<T> + From<u64>>(
     Ok(true)
 }
 
-// Executes up to 30 random commands, and records them in `done`. Returns `true` if `ThinVec` and
-// the model agree on every command, and if all blocks have been freed at the end.
+// Executes up to 30 random commands, which `seed` determines. Clears `done`, and then records each
+// executed command in it. Returns `true` if `ThinVec` and the model agree on every command, and if
+// all blocks have been freed at the end.
 fn runs_alike<'a, T: Numbered<Lender<'a>>, G: Ruled, J: Judge<T> + From<u64>>(
     alloc: Lender<'a>,
     seed: u64,
@@ -136,8 +141,9 @@ fn runs_alike<'a, T: Numbered<Lender<'a>>, G: Ruled, J: Judge<T> + From<u64>>(
     Ok(alike && alloc.blocks() == 0)
 }
 
-/// Executes the random commands that `seed` determines, and records them in `done`. Asserts that
-/// `ThinVec` and the model agree on every command, and that all blocks have been freed at the end.
+/// Executes the random commands that `seed` determines. Clears `done`, and then records each
+/// executed command in it. Asserts that `ThinVec` and the model agree on every command, and that
+/// all blocks have been freed at the end.
 pub fn assert_alike<'a, T: Numbered<Lender<'a>>, G: Ruled, J: Judge<T> + From<u64>, R: Abort>(
     rt: &R,
     alloc: Lender<'a>,
@@ -209,8 +215,8 @@ fn assert_tally<R: Abort>(rt: &R, tally: &Tally, commands: u64, named: u64) {
     assert!(rt; tally.refused > commands / 50, "{tally:?}");
 }
 
-// Asserts that `ThinVec` and the model agree on all random runs with the two growth rules of
-// `thin_vec`.
+// Asserts that `ThinVec` and the model agree on all random runs on lists of `T` with the two growth
+// rules of `thin_vec`.
 fn assert_all_alike<'a, T: Numbered<Lender<'a>>, R: Abort>(
     rt: &R,
     alloc: Lender<'a>,
@@ -222,8 +228,8 @@ fn assert_all_alike<'a, T: Numbered<Lender<'a>>, R: Abort>(
     assert_tally(rt, &tally, 74_928, 64_471);
 }
 
-// Asserts that `ThinVec` and the model agree on all random runs with two growth rules that are used
-// only in tests.
+// Asserts that `ThinVec` and the model agree on all random runs on lists of `T` with two growth
+// rules that are used only in tests.
 fn assert_alike_by_other_rules<'a, T: Numbered<Lender<'a>>, R: Abort>(
     rt: &R,
     alloc: Lender<'a>,

@@ -91,18 +91,21 @@ impl<T: Numbered<A>, A: Allocator + Copy, G: Ruled> Model<T, A, G> {
         self.fill(alloc, order, placed, Some(ThinVecError::CapacityOverflow))
     }
 
-    // Returns whether `given` is a possible reply to a command whose allocation request was
-    // refused. The reply contains the new items that were not moved into the list. One of them may
-    // be in hand: the command took this item from the iterator, but found no room for it. Others
-    // may be held back: the command stored these items in a temporary vector.
+    // Returns whether `given` is a possible reply to a command that stopped because an allocation
+    // request was refused. The reply contains the new items that were not moved into the list. One
+    // of them may be in hand: the command took this item from the iterator, but found no room for
+    // it. Others may be held back: the command stored these items in a temporary vector.
     //
-    // Suppose that there are no items after the range. Then no item may be held back. If an item is
-    // in hand, the list must be full. If no item is in hand, no new item may have been moved into
+    // If there are no items after the range, no item may be held back. In addition, the list must
+    // be full if an item is in hand. If no item is in hand, no new item may have been moved into
     // the list.
     //
-    // Suppose that there are items after the range. Then the new items must have filled the range.
-    // In addition, one of three conditions must hold: an item is in hand, no item is held back, or
-    // the iterator has yielded all its items.
+    // If there are items after the range, the new items must have filled the range. In addition, at
+    // least one of three conditions must hold:
+    //
+    // - An item is in hand.
+    // - No item is held back.
+    // - The iterator has yielded all its items.
     fn may_stop(&self, order: Order, given: &Shown<T, A>) -> bool {
         let placed = order.count.saturating_sub(given.items.len());
         if order.to == self.items.len() {
@@ -115,10 +118,10 @@ impl<T: Numbered<A>, A: Allocator + Copy, G: Ruled> Model<T, A, G> {
     }
 
     // Increases the capacity of the model to the capacity that the list had when the request was
-    // refused. `given` is the reply of the runner. It may contain an item that the command had
-    // taken from the iterator but not moved into the list. If so, the capacity first grows
-    // according to the size hint, and then for the first `placed` new items. Otherwise, the
-    // capacity is unchanged.
+    // refused. `given` is the reply of the runner. Suppose that it contains an item that the
+    // command had taken from the iterator but not moved into the list. Then the command had already
+    // made room, first according to the size hint, and then for the `placed` items that it moved
+    // into the list. So this function does the same. Otherwise, the capacity is unchanged.
     fn make_first_rooms(&mut self, order: Order, placed: usize, given: &Shown<T, A>) {
         if given.number > 0 || given.in_hand {
             let first = Order {

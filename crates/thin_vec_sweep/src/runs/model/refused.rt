@@ -23,7 +23,8 @@ fn form_of(order: Order) -> Form {
 
 impl<T: Numbered<A>, A: Allocator + Copy, G: Ruled> Model<T, A, G> {
     // Returns the capacity that the list must have before the command clones items into the list.
-    // If the command clones no items into the list, returns 0.
+    // If the command is neither a `Resize` nor an `ExtendFromSlice`, it clones no items into the
+    // list, and the result is 0.
     fn room_of_clones(&self, order: Order) -> usize {
         match order.kind {
             Kind::Resize => order.lower,

@@ -1,6 +1,7 @@
 -- The loop in `walk` calls `next` and `next_back` of a `Splice`. Such a call may yield an item of
--- the replaced range. But it changes neither the iterator over the new items, nor the number of
--- slots of the range, nor the items outside the range. So the loop leaves all of these unchanged.
+-- the replaced range. Everything else remains the same, for example the iterator over the new
+-- items, the number of slots of the range, and the items outside the range. So the whole loop
+-- leaves these unchanged, too.
 use Rattle.thin_vec.specs.Edits.Splice.{SpliceKeeps}
 use Rattle.thin_vec_sweep.proofs.calls.splices.walk.Given as goal
 
