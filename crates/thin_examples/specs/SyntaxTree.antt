@@ -15,9 +15,10 @@ kind_of node = (out-Node node).kind
 abbrev pub children_of : Node → Thin Node Global
 children_of node = (out-Node node).children
 
--- `count_step node` computes the number of nodes of the tree whose root is `node`. In `node`, each
--- child has already been replaced with its own node count. The result is the sum of these counts,
--- plus 1 for the root.
+-- A value of the type `Node-F ℕ` is a node in which each child is replaced with a number. Suppose
+-- that this number is the number of nodes of the tree whose root is the child. Then
+-- `count_step node` is the number of nodes of the tree whose root is `node`: the sum of the
+-- numbers, plus 1 for the root.
 abbrev pub count_step : Node-F ℕ → ℕ
 count_step node = 1 + sum node.children.items
 

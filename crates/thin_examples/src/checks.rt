@@ -30,8 +30,7 @@ impl Checks {
         self.compared > 0 && self.wrong == 0
     }
 
-    /// Counts one comparison. The argument `right` says whether the result of the comparison was as
-    /// expected.
+    /// Counts one comparison. The argument `right` says whether the compared value was as expected.
     pub fn is(&mut self, right: bool) {
         self.compared = self.compared.saturating_add(1);
         if !right {
@@ -44,9 +43,9 @@ impl Checks {
         self.is(found == wanted);
     }
 
-    /// Compares each item of `found` with the item of `wanted` at the same index, up to the end of
-    /// the shorter slice. Then compares the lengths of the two slices. Each of these comparisons is
-    /// counted.
+    /// Compares each item of `found` with the item of `wanted` at the same index. If one slice is
+    /// longer, the additional items are not compared. Then compares the lengths of the two slices.
+    /// Each of these comparisons is counted.
     pub fn items<T: PartialEq>(&mut self, found: &[T], wanted: &[T]) {
         for (found, wanted) in found.iter().zip(wanted) {
             self.is(*found == *wanted);

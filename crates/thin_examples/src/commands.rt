@@ -1,5 +1,6 @@
-//! Example functions that carry out commands on a list. Their contracts say which items the list
-//! has afterwards. The contracts follow from the main theorem of the crate `thin_runner`.
+//! Example functions that carry out commands on a list. A command is a value that describes one
+//! call to a method, such as a push of 5. The contracts of the functions say which items the list
+//! has afterwards. These contracts follow from the main theorem of the crate `thin_runner`.
 ghost use Rattle.std.specs.Prelude.{◌≡◌, [], ◌∷◌, ◌++◌, All, OnOk, fold};
 ghost use Rattle.thin_vec.specs.List.Clones.{ClonesEqual};
 ghost use Rattle.thin_runner.specs.Plain.{items_after};
@@ -12,13 +13,14 @@ use thin_runner::judge::Judge;
 use thin_runner::runner::run;
 use thin_vec::{Growth, ThinVec, ThinVecError};
 
-/// Carries out four commands on `list`: pushes of 1, 2 and 3, and then a pop. If the list is empty
-/// before the call, and the call succeeds, then the list contains 1 and 2 afterwards.
+/// Carries out four commands on `list`: the first three push 1, 2 and 3, and the last one pops an
+/// item. If the list is empty before the call, and the call succeeds, then the list contains
+/// exactly 1 and 2 afterwards.
 ///
 /// # Errors
 ///
-/// Fails if there is not enough memory for the commands or the replies, or if a call on the list
-/// fails.
+/// Fails if there is not enough memory for the commands or for the replies to them, or if one of
+/// the four commands fails.
 pub fn one_and_two<A: Allocator + Copy, J: Judge<u64>>(
     alloc: A,
     list: &mut ThinVec<u64, A>,

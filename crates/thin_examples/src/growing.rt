@@ -1,6 +1,6 @@
 //! Example functions that make a list, add items to a list, or change an item. The prover proves
 //! the contracts of these functions by itself, except the contract of `room_for_eight`, which has a
-//! hand-written proof.
+//! handwritten proof.
 ghost use Rattle.std.specs.Prelude.{◌≡◌, ◌+◌, ◌/◌, ◌≤◌, ◌++◌, [], IfErr, IfOk, IfSome, IsErrOf, IsOk, IsSome, IsTrue, None, filter, length, map, nat_lt, OnErr, OnOk, ◌-◌, ◌<◌, replicate, slice_index, slice_set, take};
 ghost use Rattle.thin_vec.specs.ThinVec.{HasRoomFor, IsCause, capacity_for};
 
@@ -105,8 +105,8 @@ pub fn continued<A: Allocator, G: Growth>(
     Ok(copy)
 }
 
-/// Appends the items of `numbers` in order. Stops when there is no room for the next item. Returns
-/// how many items were appended. The list keeps its old items in every case.
+/// Appends the items of `numbers` in order, until there is no room for the next item. Returns the
+/// number of appended items. The list keeps its old items in every case.
 pub fn extend_by_number<A: Allocator, G: Growth>(
     list: &mut ThinVec<u32, A, G>,
     numbers: &[u32],
@@ -181,7 +181,8 @@ pub fn take_all<T, A: Allocator, G: Growth>(
     ensures succeeds_empty { other.old.items ≡ [] → IsOk result }
 
     // The following clauses describe a failed call. The error is `CapacityOverflow` if and only if
-    // the growth rule chooses no capacity for the items of both lists. Both lists are unchanged.
+    // the items of both lists would need a greater capacity than the growth rule of `list` allows.
+    // Both lists are unchanged.
     ensures overflow { capacity_for G.rule T.row list.old (length other.old.items) ≡ None
         → IsErrOf result ThinVecError.CapacityOverflow }
     ensures cause { IfErr result

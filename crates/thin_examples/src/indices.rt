@@ -7,10 +7,10 @@ ghost use Rattle.thin_vec.specs.ThinVec.{IsWithin};
 use std::alloc::Allocator;
 use thin_vec::{Growth, Rejected, ThinVec};
 
-/// Returns `start + count`. This is the index directly after the `count` items that begin at the
+/// Returns `start + count`, which is the index directly after the `count` items that begin at the
 /// index `start`. The sum is at most the length of the list. It cannot overflow, because the
-/// precondition `within` limits this length to `isize::MAX`. The contracts of the methods of
-/// `ThinVec` ensure this limit for every list.
+/// precondition `within` says that this length is at most `isize::MAX`. The contracts of the
+/// methods of `ThinVec` ensure this limit for every list.
 pub fn run_end<T, A: Allocator, G: Growth>(
     list: &ThinVec<T, A, G>,
     start: usize,

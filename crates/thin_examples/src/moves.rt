@@ -64,9 +64,9 @@ pub fn kept_all<T: Drop, A: Allocator, G: Growth>(list: &mut ThinVec<T, A, G>)
     list.retain(|_item: &T| true);
 }
 
-/// Extracts the first even number among the numbers at the indices `1..5`, without testing the
-/// numbers after it. The list must be 1, 2, 3, 4, 5, 6 before the call. So the call extracts 2, and
-/// moves the four numbers after 2.
+/// Extracts the first even number among the numbers at the indices `1..5`, and does not test the
+/// numbers after it. The precondition says that the list contains the numbers 1, 2, 3, 4, 5, 6. So
+/// the call extracts the number 2, and moves the four numbers after it.
 pub fn extracted_first<A: Allocator, G: Growth>(list: &mut ThinVec<u32, A, G>) -> Option<u32>
     requires to_six { list.old.items ≡ 1 ∷ 2 ∷ 3 ∷ 4 ∷ 5 ∷ 6 ∷ [] }
     ensures value { result ≡ Some 2 }

@@ -8,10 +8,9 @@ use thin_vec::{Growth, SpliceRefused, ThinVec};
 
 /// Replaces the items at the indices `range.0..range.1` with the items that `iter` yields.
 ///
-/// The function is generic in the type of the iterator. This is useful for a caller whose iterator
-/// contains a borrow: for example, an iterator over a slice borrows the slice. The prover can prove
-/// the contract of such a caller if the caller leaves the splice to a generic function like this
-/// one.
+/// The type `I` of the iterator is generic. This helps a caller whose iterator borrows a value: for
+/// example, an iterator over a slice borrows the slice. If the caller passes such an iterator to a
+/// generic function like this one, the prover can prove the contract of the caller.
 ///
 /// # Errors
 ///
@@ -39,7 +38,7 @@ pub fn splice_by<T: Drop, A: Allocator, G: Growth, I: Iterator<Item = T>>(
 /// # Errors
 ///
 /// Fails if there is no room for the numbers. On failure, the items at the indices `start..end` are
-/// removed, the numbers for which there was room are inserted in their place, and the remaining
+/// removed. Some of the first numbers, or none of them, are inserted in their place. The other
 /// numbers are dropped.
 pub fn splice_numbers<A: Allocator, G: Growth>(
     list: &mut ThinVec<u32, A, G>,

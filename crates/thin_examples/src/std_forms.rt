@@ -1,7 +1,6 @@
-//! Example functions that call `thin_vec!` in the syntax of std's `vec!`, and example functions
-//! that use two traits of Rattle's std. The trait `Emptied` has a function that makes an empty
-//! value to replace a given one. The trait `MadeWith` has a function that makes a value from an
-//! allocator.
+//! Example functions that call the macro `thin_vec!` with the same syntax as std's `vec!`, and
+//! example functions that use two traits of Rattle's std. The trait `Emptied` makes an empty value
+//! that can replace a given value. The trait `MadeWith` makes a value from an allocator.
 ghost use Rattle.std.specs.Prelude.{◌≡◌, [], ◌∷◌, IfOk, OnErr, OnOk, replicate};
 
 use std::alloc::{AllocError, Allocator};
@@ -48,8 +47,9 @@ pub fn take_list<T, A: Allocator + Clone, G: Growth>(
     mem::try_take(list)
 }
 
-/// Makes an empty list from an allocator, using the trait `MadeWith` of Rattle's std. The method
-/// `or_default` of maps uses the same trait.
+/// Makes an empty list from the allocator `alloc`. For this, the function calls the trait
+/// `MadeWith` of Rattle's std, which makes a value from an allocator. When the method `or_default`
+/// of a map makes a missing value, it calls the same trait.
 pub fn made<A: Allocator, G: Growth>(alloc: A) -> ThinVec<u32, A, G>
     ensures items { result.items ≡ [] }
 {

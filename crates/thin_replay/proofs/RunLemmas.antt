@@ -1,7 +1,7 @@
 -- A run carries out a list of commands, and produces one reply for each command. The following
--- lemmas consider a run with only one command. They state that such a run produces exactly one
--- reply. They also state that the main theorem of `thin_runner` (`Headline`) holds for the command
--- and this reply.
+-- lemmas are about a run with a single command. They state that such a run produces exactly one
+-- reply. The main theorem of `thin_runner` (`Headline`) describes the effects of a run. The lemmas
+-- also state that this theorem holds for the single command and its reply.
 use Rattle.std.proofs.Common.{◌≡◌, List, [], ◌∷◌, ◌++◌, Option, Some, ap, arith, length, length-append, refl, subst, sym, ◌∙◌}
 use Rattle.std.specs.Option.{option_to_list}
 use Rattle.thin_vec.specs.ThinVec.{Thin}
@@ -17,10 +17,11 @@ alone : {X : Type 0} (front : List X) (x : X) → length (front ++ x ∷ []) ≡
 alone [] x one = refl
 alone (y ∷ front) x one = absurd (omega (arith, length-append front (x ∷ [])))
 
--- In this module, the list `commands` contains only `command`. The run of `commands` turned the
--- list `old` into the list `new`. The setting `here` contains the values that all commands of a run
--- share, such as the allocator. The list `before` of replies before the run is empty, and `after`
--- is the list of replies after the run. The main theorem `Headline` holds for this run.
+-- The lemmas of this module are about a run of a single command. The list `commands` contains only
+-- `command`, and the run turns the list `old` into `new`. The setting `here` contains values that
+-- are the same for all commands, such as the allocator. The list `before` contains the replies
+-- before the run, and is empty. The list `after` contains the replies after the run. The module
+-- assumes that the main theorem (`Headline`) holds for this run.
 module _ {T A G J : Type 0} (here : Setting T A J) (old new : Thin T A)
     (command : Command T A G) (commands : List (Command T A G)) (before after : List (Reply T A G))
     (one : commands ≡ command ∷ []) (none : before ≡ [])
@@ -42,8 +43,8 @@ module _ {T A G J : Type 0} (here : Setting T A J) (old new : Thin T A)
       (subst (λ cs. Runs here old cs headline.replies new) one headline.allowed)
 
   -- Suppose that `pop` is called on the list `after` of replies. The call leaves the list `left`,
-  -- and its result `popped` is `Some reply`. Then `reply` is the only reply, and the main theorem
-  -- (`Headline`) holds for the single command `command` and this reply.
+  -- and its result `popped` is `Some reply`. Then the main theorem (`Headline`) holds for a run
+  -- that carries out only `command`, produces only `reply`, and turns the list `old` into `new`.
   pub headline-one : (left : List (Reply T A G)) (popped : Option (Reply T A G))
       (reply : Reply T A G) → after ≡ left ++ option_to_list popped → popped ≡ Some reply
       → Headline here old (command ∷ []) [] (reply ∷ []) new

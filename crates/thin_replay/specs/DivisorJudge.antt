@@ -10,7 +10,7 @@ use Rattle.thin_replay.specs.declared.divisor_judge.DivisorJudge.{DivisorJudge}
 abbrev pub number_for : DivisorJudge → ℕ → ℕ
 number_for judge x = (x + judge.offset) % 2 ^ 64
 
--- `counted judge` is the state of `judge` after one more decision.
+-- `counted judge` is the judge `judge` after one more decision.
 abbrev pub counted : DivisorJudge → DivisorJudge
 counted judge = record judge { offset = (judge.offset + judge.stride) % 2 ^ 64 }
 
@@ -23,10 +23,10 @@ written judge x = (x + judge.added) % 2 ^ 64
 abbrev pub chooses : DivisorJudge → ℕ → Bool
 chooses judge x = number_for judge x % judge.divisor == 0
 
--- `judging` describes how `DivisorJudge` implements the methods of the trait `Judge`. For each
--- method, it contains a function. This function maps the state of the judge and the items to the
--- result of the method, the values of the items after the call, and the state of the judge after
--- the call. The method `look` does not write to the item.
+-- `judging` contains one function for each method of the trait `Judge`. Each function describes how
+-- a `DivisorJudge` implements this method. It takes the judge before the call and the items. It
+-- returns the result of the method, the items after the call, and the judge after the call. The
+-- function for `look` returns no item, because the method `look` does not write to the item.
 abbrev pub judging : Judging ℕ DivisorJudge
 judging = record {
   look = λ judge x. (chooses judge x, counted judge);

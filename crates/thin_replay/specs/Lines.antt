@@ -64,10 +64,11 @@ Says words (Splice start end steps items lower) = BeginsForm words (codes "splic
     × (SpellsSteps (word words 3) steps.items
     × (Spells (word words 4) lower × SpellAll (drop 5 words) items.items))))
 
--- For some commands, the last three words of the line describe a judge, which makes decisions in
--- place of a closure. For such a command, `SaysJudge words command judge` holds if these words
--- spell the fields `divisor`, `stride` and `added` of `judge`, and `judge` has made no decisions
--- yet. For any other command, `SaysJudge words command judge` always holds.
+-- On a line for the command `Retain`, `RetainMut`, `DedupBy`, `DedupByKey` or `ExtractIf`, the last
+-- three words describe a judge, which makes decisions in place of a closure. For these commands,
+-- `SaysJudge words command judge` holds if two conditions are met. First, the three words spell the
+-- fields `divisor`, `stride` and `added` of `judge`. Second, `judge` has made no decisions yet. For
+-- every other command, `SaysJudge words command judge` holds for any judge.
 abbrev pub SaysJudge : {A G : Type 0} → Words → Command ℕ A G → DivisorJudge → Type 0
 SaysJudge words Retain judge = SpellsJudge (word words 1) (word words 2) (word words 3) judge
 SaysJudge words RetainMut judge = SpellsJudge (word words 1) (word words 2) (word words 3) judge
@@ -102,9 +103,9 @@ IsFilter name DedupBy = name ≡ codes "dedup_by"
 IsFilter name DedupByKey = name ≡ codes "dedup_by_key"
 IsFilter name command = ⊥
 
+-- A `Call` contains a command and a judge, which makes decisions in place of a closure.
 -- `IsCall words call` holds if the words describe the command of `call`. If this command calls
--- methods of a judge, then the last three words must also describe the judge of `call`. A judge
--- makes decisions in place of a closure.
+-- methods of a judge, then the last three words must also describe the judge of `call`.
 abbrev pub IsCall : Words → Call → Type 0
 IsCall words call = Says words call.command × SaysJudge words call.command call.judge
 

@@ -56,8 +56,8 @@ pub fn write_reply(out: &mut impl Write, reply: Reply<u64>) -> io::Result<()> {
     }
 }
 
-// Writes the list `other`, which a command passed to the method `append`. If the call to `append`
-// failed, first writes the cause of the failure.
+// Writes the list `other` and its capacity. A command passed this list to the method `append`. If
+// the call to `append` failed, the cause of the failure is written first.
 fn write_other(
     out: &mut impl Write,
     other: &ThinVec<u64>,

@@ -10,9 +10,8 @@ use thin_runner::runner::run;
 use thin_vec::{Growth, ThinVec, ThinVecError};
 
 /// Carries out a command with the function `run`, and returns the reply to the command. The
-/// function `run` needs a vector for commands and a vector for replies. If there is not enough
-/// memory for one of these vectors, the call fails with `OutOfMemory`. On failure, the list is
-/// unchanged.
+/// function `run` needs a `Vec` for commands and a `Vec` for replies. If there is not enough memory
+/// for one of them, `carry_out` fails with `OutOfMemory`. On failure, the list is unchanged.
 pub fn carry_out<T: Clone + Eq, A: Allocator + Copy, G: Growth, J: Judge<T>>(
     alloc: A,
     list: &mut ThinVec<T, A, G>,

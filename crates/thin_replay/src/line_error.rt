@@ -3,8 +3,9 @@
 use std::alloc::AllocError;
 use thiserror::Error;
 
-/// The reason why a line of the input is invalid. The messages contain words in capital letters,
-/// such as `INDEX`, from the forms that `help` prints.
+/// The reason why a line of the input is invalid. The error messages contain placeholders in
+/// capital letters, such as `INDEX`. The text that the program prints for the line `help` contains
+/// the same placeholders.
 #[derive(Debug, Drop, Error)]
 pub enum LineError {
     /// The first word is not the name of a command.
@@ -15,7 +16,8 @@ pub enum LineError {
     #[error("the form is `{0}`")]
     WrongForm(&'static str),
     /// A word that should be a number is not a number, or is greater than 2^64 - 1. The field
-    /// contains the name of this word in the form of the line, such as `INDEX`.
+    /// contains the name of this word, such as `INDEX`. The forms that `help` prints use the same
+    /// names.
     #[error("{0} is not a number from 0 to 18446744073709551615")]
     NotANumber(&'static str),
     /// The divisor of a judge is 0.

@@ -16,7 +16,7 @@ both_hold : (a b : Bool) → T (a && b) → T a × T b
 both_hold true b h = (tt, h)
 both_hold false b h = absurd h
 
--- If `c < k`, then `nat_cmp c k` is `Less`. The next two lemmas cover the cases `c ≡ k` and
+-- If `c < k`, then `nat_cmp c k` is `Less`. The next two lemmas are about the cases `c ≡ k` and
 -- `k < c`.
 is_less : (c k : ℕ) → c < k → nat_cmp c k ≡ Less
 is_less c k less = grind (arith, nat_tests)
@@ -64,8 +64,8 @@ module _ {V : Type 0} where
   columns_rise (e ∷ entries) h (suc i) (suc k) d before inside =
       columns_rise entries (both_hold _ _ h).1 i k d (omega arith) (omega arith)
 
-  -- If the columns of the entries are strictly increasing (`IsRising`), then the list of these
-  -- columns is strictly increasing in the sense of std (`IsStrictlyIncreasing`).
+  -- `IsRising entries` says that the columns of the entries are strictly increasing. If it holds,
+  -- then std's predicate `IsStrictlyIncreasing` holds for the list of these columns.
   pub columns_increase : (entries : List (ℕ × V)) → IsRising entries
       → IsStrictlyIncreasing (map (λ entry. entry.0) entries)
   columns_increase (e ∷ entries) h k inside =
@@ -78,9 +78,10 @@ module _ {V : Type 0} where
   columns_increase [] h k inside = absurd (omega arith)
 
   module _ (c : ℕ) where
-    -- If the entry of column `c` is at index `at + 1` of the list `e ∷ entries`, then it is at
-    -- index `at` of the list `entries`. The lemma `gap_after` covers the case that there is no such
-    -- entry. It states the same about the index at which the entry would be inserted.
+    -- If the entry of column `c` is at index `at + 1` of the list `e ∷ entries`, then this entry is
+    -- at index `at` of the list `entries`. The lemma `gap_after` is about a column without an
+    -- entry. If its entry would be inserted at index `at + 1` of `e ∷ entries`, then it would be
+    -- inserted at index `at` of `entries`.
     place_after : (e : ℕ × V) (entries : List (ℕ × V)) (at : ℕ)
         → IsPlaceOf (e ∷ entries) c (suc at) → IsPlaceOf entries c at
     place_after e entries at p = record { in_bounds = omega (arith, p.in_bounds); same = p.same }

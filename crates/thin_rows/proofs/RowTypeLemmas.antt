@@ -11,17 +11,18 @@ use Rattle.thin_vec.specs.declared.ThinVecError.TheVariants.{CapacityOverflow}
 use Rattle.thin_vec.specs.List.Capacity.{TellsOverflow, TellsOverflowOf}
 use Rattle.thin_vec.specs.Growth.{Rule, exact_capacity, ruled_capacity}
 
--- If the types `R` and `S` have the same size and alignment, then `exact_capacity` returns the same
--- capacity for both types. In both cases, the old capacity is `c`, and the required capacity is
--- `w`.
+-- Suppose that the types `R` and `S` have the same size and alignment. Then `exact_capacity`
+-- returns the same capacity for both types, if the old capacity is `c` and the required capacity is
+-- `w` in both cases.
 pub exact_of_same : (R S : RattleType) (c w : ℕ) → type_size R ≡ type_size S
     → type_align R ≡ type_align S → exact_capacity R c w ≡ exact_capacity S c w
 unfolding exact_capacity
 exact_of_same R S c w size align = rw (size, align) refl
 
--- Suppose that the item types `R` and `S` have the same size and alignment. If the old capacities
--- `c` and `d` are equal, and the required capacities `v` and `w` are equal, then the growth rule
--- `rule` chooses the same new capacity for both types.
+-- Suppose that the item types `R` and `S` have the same size and alignment. A list with items of
+-- the type `R` has the capacity `c`, and requires the capacity `v`. A list with items of the type
+-- `S` has the capacity `d`, and requires the capacity `w`. If `c` equals `d`, and `v` equals `w`,
+-- then the growth rule `rule` chooses the same new capacity for both lists.
 pub ruled_of_same : (rule : Rule) (R S : RattleType) (c d v w : ℕ) → type_size R ≡ type_size S
     → type_align R ≡ type_align S → c ≡ d → v ≡ w
     → ruled_capacity rule R c v ≡ ruled_capacity rule S d w
@@ -37,10 +38,11 @@ no_error same = cc
 pub same_cause : {X E : Type 0} {d e : E} → IsErrOf {T = X} (Err d) e → d ≡ e
 same_cause same = cc
 
--- Suppose that the types `R` and `S` have the same size and alignment, and that a call failed with
--- the error `cause`. Suppose also that this error is `CapacityOverflow` if and only if the capacity
--- for `w` items of the type `R` is too large (`TellsOverflowOf R w`). If `result` is the same
--- error, then the same statement holds for `result` and the type `S`.
+-- `TellsOverflowOf R w r` says that the result `r` is the error `CapacityOverflow` if and only if
+-- the capacity for `w` items of the type `R` is too large. Suppose that the types `R` and `S` have
+-- the same size and alignment. Suppose also that `TellsOverflowOf R w` holds for the result
+-- `Err cause`. If `result` is also the error `cause`, then `TellsOverflowOf S w` holds for
+-- `result`.
 pub error_tells : {X Y : Type 0} (R S : RattleType) (w : ℕ) (cause : ThinVecError)
     (result : Result Y ThinVecError) → type_size S ≡ type_size R → type_align S ≡ type_align R
     → IsErrAnd result (λ e. e ≡ cause) → TellsOverflowOf {X = X} R w (Err cause)
@@ -54,10 +56,10 @@ error_tells R S w cause (Err e) size align passed told = record {
   );
 }
 
--- `TellsOverflow a r` says that the result `r` is the error `CapacityOverflow` if and only if the
--- capacity `a` is `None`, which means that it is too large. Suppose that the error `cause` is
--- `CapacityOverflow` if and only if `b` is `None`. If `a` equals `b`, then `TellsOverflow a` holds
--- for the result `Err cause`.
+-- `TellsOverflow a r` says that the result `r` is the error `CapacityOverflow` if and only if `a`
+-- is `None`. Here, `a` is a capacity, and is `None` if this capacity is too large. Suppose that
+-- `Err cause` is the error `CapacityOverflow` if and only if `b` is `None`. If `a` equals `b`, then
+-- `TellsOverflow a (Err cause)` holds.
 pub failure_tells : {X Y : Type 0} {a b : Option ℕ} {cause : ThinVecError} → a ≡ b
     → IsErrOf {T = X} (Err cause) CapacityOverflow ↔ (b ≡ None)
     → TellsOverflow a (let r : Result Y ThinVecError = Err cause in r)
@@ -70,9 +72,9 @@ failure_tells same told = record {
 
 -- `TellsOverflowOf R w r` says that the result `r` is the error `CapacityOverflow` if and only if
 -- the capacity for `w` items of the type `R` is too large. Suppose that the types `R` and `S` have
--- the same size and alignment. If `TellsOverflowOf R w` holds for the successful result `Ok x`,
--- then the capacity is not too large. So `TellsOverflowOf S w` holds for the successful result `Ok
--- y`.
+-- the same size and alignment. If `TellsOverflowOf R w` holds for `Ok x`, then
+-- `TellsOverflowOf S w` holds for `Ok y`. Since `Ok x` and `Ok y` are not errors, both statements
+-- say that the capacity is not too large.
 pub made_tells : {X Y : Type 0} (R S : RattleType) (w : ℕ) (x : X) (y : Y)
     → type_size S ≡ type_size R → type_align S ≡ type_align R
     → TellsOverflowOf R w (Ok x) → TellsOverflowOf S w (Ok y)

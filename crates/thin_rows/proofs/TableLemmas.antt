@@ -51,9 +51,9 @@ module _ {V : Type 0} where
   pub outside : (t : Table V) (i j : ℕ) → length t ≤ i → value_at t i j ≡ None
   outside t i j past = ap (λ r. map.get r j) (get_or_past t i map.empty past) ∙ get-empty nat_cmp j
 
-  -- Suppose that row `i` of the table `t` is replaced with `row`, and that the old row and `row`
-  -- have the same value at column `l`. Then the replacement changes the value at column `l` in no
-  -- row `k` of the table.
+  -- Suppose that row `i` of the table `t` is replaced with `row`. If the old row and `row` have the
+  -- same value at column `l`, then the value at column `l` of every row `k` of the table is the
+  -- same before and after the replacement.
   other_columns : (t : Table V) (i k l : ℕ) (row : Columns V)
       → map.get row l ≡ value_at t i l → value_at (set t i row) k l ≡ value_at t k l
   other_columns t i k l row same = elim (cases_eq k i) [
@@ -142,9 +142,9 @@ module _ {V : Type 0} where
         (omega (arith, past, length-replicate n (map.empty {X = V} {R = nat_cmp})))
   ]
 
-  -- Consider the entry at index `k` of the list of all entries of `row`. The map `row` maps the
-  -- column of this entry to the value of this entry. The default entry `d` is never used, because
-  -- the index `k` is in bounds.
+  -- Consider the entry at index `k` of the list of all entries of `row`. This entry consists of a
+  -- column and a value, and the map `row` has this value at this column. The default entry `d` is
+  -- never used, because the index `k` is in bounds.
   pub listed : (row : Columns V) (k : ℕ) (d : ℕ × V) → k < length (map.entries row)
       → map.get row (slice_index_or (map.entries row) k d).0
       ≡ Some (slice_index_or (map.entries row) k d).1

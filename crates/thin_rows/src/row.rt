@@ -10,7 +10,8 @@ use std::marker::Model;
 use std::{fmt, mem};
 use thin_vec::{Rejected, ThinVec};
 
-// A finite map from columns to values. The map owns a block of memory only if it has an entry.
+// A row, which is a finite map from columns to values. The row owns a block of memory only if it
+// has an entry.
 #[derive(Drop)]
 pub(crate) struct Row<V, A: Allocator> {
     entries: ThinVec<(usize, V), A>,
@@ -95,8 +96,8 @@ impl<V, A: Allocator> Row<V, A> {
         }
     }
 
-    // Returns a mutable reference to the value at `column`. The argument `at` must be the index of
-    // the entry of this column.
+    // Returns a mutable reference to the value at `column`. The entry of this column must be at the
+    // index `at`.
     fn value_mut(&mut self, column: usize, at: usize) -> &mut V
         requires place { IsPlaceOf (map.entries self.old) column at }
         ensures* writes_back { sem 𝓛

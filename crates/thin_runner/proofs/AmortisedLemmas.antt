@@ -24,10 +24,11 @@ use Rattle.thin_runner.proofs.PaidLemmas.{step-paid}
 
 -- `IsAmortised m v` holds if the list `v` meets four conditions:
 --
--- - Growing the list has cost little compared with its capacity (`IsCheap`).
+-- - The number of items that were copied when the list grew, and the number of its allocations, are
+--   small compared with its capacity (`IsCheap`).
 -- - The length of the list is at most its capacity.
 -- - The length of the list is at most `m`.
--- - Growing the list has copied no items, or fewer than `2 * m` items.
+-- - Growing the list has copied fewer than `2 * m` items, or no items at all.
 pub record IsAmortised {T A : Type 0} (m : ℕ) (v : Thin T A) : Type 0 where
   pub cheap : IsCheap v
   pub room : length v.items ≤ v.capacity
@@ -35,8 +36,9 @@ pub record IsAmortised {T A : Type 0} (m : ℕ) (v : Thin T A) : Type 0 where
   pub copied : (v.cost.grown < 2 * m) ⊎ (v.cost.grown ≡ 0)
 
 module _ {T A : Type 0} where
-  -- If `v` is a new list, then `IsCheap v` holds. This predicate says that growing the list has
-  -- cost little compared with its capacity. A new list has not grown yet.
+  -- `IsCheap v` limits the number of allocations of the list `v`, and the number of items that were
+  -- copied when it grew. Both limits depend on the capacity of `v`. If `v` is a new list, then
+  -- `IsCheap v` holds, because both numbers are 0.
   new-cheap : (v : Thin T A) → IsNew v v.alloc → IsCheap v
   new-cheap v new =
       let blocks : v.cost.blocks ≡ 0 = ap (λ c. c.blocks) new.cost in
@@ -47,8 +49,8 @@ module _ {T A : Type 0} where
         blocks = λ some. absurd (omega (arith, new.capacity, some));
       }
 
-  -- Every new list `v` satisfies `IsAmortised 0 v`. Among other facts, this predicate says that the
-  -- list contains no items, and that growing it has copied no items.
+  -- If `v` is a new list, then `IsAmortised 0 v` holds. Among other facts, this predicate says that
+  -- the list contains no items, and that growing it has copied no items.
   pub new-amortised : (v : Thin T A) → IsNew v v.alloc → IsAmortised 0 v
   new-amortised v new = record {
     cheap = new-cheap v new;
@@ -57,9 +59,10 @@ module _ {T A : Type 0} where
     copied = inr (ap (λ c. c.grown) new.cost);
   }
 
-  -- Among other facts, `IsAmortised m w` says that growing the list `w` has copied no items, or
-  -- fewer than `2 * m` items. If `IsAmortised m w` holds and `m` is not 0, then growing `w` has
-  -- copied fewer than `2 * m` items. The field `amortised` of the main theorem states this bound.
+  -- Among other facts, `IsAmortised m w` says that growing the list `w` has copied fewer than
+  -- `2 * m` items, or no items at all. If `IsAmortised m w` holds, and `m` is not 0, then the
+  -- number of copied items is less than `2 * m` in both cases. The field `amortised` of the main
+  -- theorem states this bound.
   pub copied-run : (w : Thin T A) (m : ℕ) → IsAmortised (0 + m) w → 0 < m → w.cost.grown < 2 * m
   copied-run w m a some = below a.copied
     where
@@ -70,27 +73,29 @@ module _ {T A : Type 0} where
   same-amortised : (m : ℕ) (v w : Thin T A) → IsAmortised m v → w ≡ v → IsAmortised (m + 0) w
   same-amortised m v w a same = let e : m + 0 ≡ m = omega arith in rw (same, e) a
 
--- Let `k` be the cost of a list with the capacity `c`. The number `k.grown` counts the items that
--- were copied when the list grew. Suppose that this cost is small compared with the capacity
--- (`IsCheapAt c k`), and that `c ≤ m`. Then `k.grown + c < 2 * (m + 1)`.
+-- Let `c` be the capacity of a list, and `k` its cost. The number `k.grown` counts the items that
+-- were copied when the list grew. Among other facts, `IsCheapAt c k` says that `k.grown` is less
+-- than `c`, or that both numbers are 0. If `IsCheapAt c k` and `c ≤ m` hold, then
+-- `k.grown + c < 2 * (m + 1)`.
 copied-growing : (c m : ℕ) (k : Cost) → IsCheapAt c k → c ≤ m → k.grown + c < 2 * (m + 1)
 copied-growing zero m k h few = let z = h.none refl in omega (arith, z.1)
 copied-growing (suc c) m k h few =
     let copied : k.grown < suc c = h.grown (omega arith) in omega (arith, copied, few)
 
--- Let `g` be the number of copied items before a command, and `g'` the number after it. Suppose
--- that `g` is 0 or less than `2 * m`, and that the command copies no items, so that `g' ≡ g`. Then
--- for every number `more`, `g'` is 0 or less than `2 * (m + more)`.
+-- Let `g` be the number of items that growing a list has copied before a command, and `g'` this
+-- number after the command. Suppose that `g` is 0 or less than `2 * m`. Suppose also that the
+-- command copies no items, so that `g' ≡ g`. Then for every number `more`, `g'` is 0 or less than
+-- `2 * (m + more)`.
 copied-kept : (m more : ℕ) {g g' : ℕ} → (g < 2 * m) ⊎ (g ≡ 0) → g' ≡ g
     → (g' < 2 * (m + more)) ⊎ (g' ≡ 0)
 copied-kept m more (inl few) same = inl (omega (arith, few, same))
 copied-kept m more (inr none) same = inr (same ∙ none)
 
 module _ {T A G J : Type 0} (here : Setting T A J) (law : KeepsLaw here.rule) where
-  -- Among other facts, `IsAmortised m v` says that growing the list `v` has copied no items, or
-  -- fewer than `2 * m` items. Suppose that `IsAmortised m v` holds, and that a push or a pop turns
-  -- `v` into the list `w`. If the command is a push that succeeds, then `IsAmortised (m + 1) w`
-  -- holds. Otherwise, `IsAmortised m w` holds.
+  -- Among other facts, `IsAmortised m v` says that growing the list `v` has copied fewer than
+  -- `2 * m` items, or no items at all. Suppose that `IsAmortised m v` holds, and that `command` is
+  -- a push or a pop and turns `v` into the list `w`. If `command` is a push that succeeds, then
+  -- `IsAmortised (m + 1) w` holds. Otherwise, `IsAmortised m w` holds.
   step-amortised : (m : ℕ) (v w : Thin T A) (command : Command T A G) (reply : Reply T A G)
       → IsPushOrPop command → IsAmortised m v → Steps here v command reply w
       → IsAmortised (m + accepted (command ∷ []) (reply ∷ [])) w
@@ -132,9 +137,10 @@ module _ {T A G J : Type 0} (here : Setting T A J) (law : KeepsLaw here.rule) wh
   step-amortised m v w Pop reply only a s = absurd s.1
   step-amortised m v w command reply only a s = absurd only
 
-  -- `accepted` counts the successful pushes of a run, which is a sequence of commands. The count
-  -- for the whole run is the sum of the counts for its individual commands. The function `counted`
-  -- computes this sum.
+  -- A run is a sequence of commands. `accepted commands replies` is the number of successful pushes
+  -- in a run. The function `counted` computes a number for each command of the run, and adds these
+  -- numbers. If this number is 1 for a successful push and 0 for any other command, then the sum
+  -- equals `accepted commands replies`.
   accepted-counted : (commands : List (Command T A G)) (replies : List (Reply T A G))
       → counted (λ c r. accepted (c ∷ []) (r ∷ [])) commands replies ≡ accepted commands replies
   accepted-counted (Push x ∷ commands) (Done ∷ replies) =
@@ -143,9 +149,10 @@ module _ {T A G J : Type 0} (here : Setting T A J) (law : KeepsLaw here.rule) wh
       omega (arith, accepted-counted commands replies)
   accepted-counted commands replies = refl
 
-  -- Among other facts, `IsAmortised n w` says that growing the list `w` has copied no items, or
-  -- fewer than `2 * n` items. Suppose that a run of pushes and pops turns the list `v` into `w`,
-  -- and that `n` of the pushes succeed. If `IsAmortised 0 v` holds, then `IsAmortised n w` holds.
+  -- Among other facts, `IsAmortised n w` says that growing the list `w` has copied fewer than
+  -- `2 * n` items, or no items at all. Suppose that a run of pushes and pops turns the list `v`
+  -- into `w`, and that `n` of the pushes succeed. If `IsAmortised 0 v` holds, then
+  -- `IsAmortised n w` holds.
   pub runs-amortised : (v w : Thin T A) (commands : List (Command T A G))
       (replies : List (Reply T A G)) → All IsPushOrPop commands → IsAmortised 0 v
       → Runs here v commands replies w → IsAmortised (0 + accepted commands replies) w

@@ -1,5 +1,6 @@
 -- Each command calls a method of a list. The file `specs/Steps` states how each command may change
--- the list. The following lemmas help to derive these statements from the contracts of the methods.
+-- the list. The following lemmas help to prove that the methods change the list in this way. The
+-- proofs use the contracts of the methods.
 use Rattle.std.proofs.Common.{◌≡◌, ℕ, ◌<◌, ◌⊎◌, List, [], ◌∷◌, Some, refl, length, inl, inr, arith}
 use Rattle.std.specs.Borrow.{RattleType}
 use Rattle.std.specs.Prelude.{HoldsAt}
@@ -15,14 +16,15 @@ some-items (x ∷ xs) none = omega arith
 
 module _ {T A : Type 0} where
   -- `grown v c xs m` is the list `v` after a call that sets its items to `xs` and its capacity to
-  -- `c`. The cost of a list counts its moved items and its reallocations. The call adds `m` moves
-  -- to the cost. If the capacity changes, the call also adds one reallocation.
+  -- `c`. The cost of a list counts its moved items and its reallocations. The call adds `m` moved
+  -- items to the cost. If the call changes the capacity, it also adds one reallocation.
   abbrev pub grown : Thin T A → ℕ → List T → ℕ → Thin T A
   grown v c xs m = record v { items = xs; capacity = c; cost = moving m (cost_at v c) }
 
-  -- Suppose that the list `w` has the items `xs` and the same allocator as the list `v`. Suppose
-  -- also that the cost of `w` is the cost of `v`, plus `m` moves, plus one reallocation if the
-  -- capacities differ. Then `w` is the list `grown v w.capacity xs m`.
+  -- `grown v c xs m` is the list `v` after a call that sets its items to `xs` and its capacity to
+  -- `c`, and adds `m` moved items to its cost. If the capacity changes, the cost also increases by
+  -- one reallocation. Suppose that the list `w` has the items `xs`, the cost that results from such
+  -- a call, and the allocator of `v`. Then `w` equals `grown v w.capacity xs m`.
   pub is-grown : (v w : Thin T A) (xs : List T) (m : ℕ) → w.items ≡ xs → w.cost
       ≡ moving m (cost_at v w.capacity) → w.alloc ≡ v.alloc → w ≡ grown v w.capacity xs m
   is-grown v w xs m items cost alloc = λ i. record {
@@ -33,15 +35,15 @@ module _ {T A : Type 0} where
   }
 
   module _ (rule : Rule) where
-    -- Suppose that a call that clones the items `sources` failed and turned the list `v` into `w`,
-    -- and that it changed neither the items nor the allocator. Suppose also that `w` has a capacity
-    -- and a cost that the contract of the call allows. Then one of two cases applies:
+    -- Suppose that a call that clones the items `sources` failed, and turned the list `v` into `w`.
+    -- The items and the allocator of the list did not change. Suppose also that `w` has a capacity
+    -- and a cost that the contract of such a call allows. Then one of two cases applies:
     --
-    -- - The call did not change the list at all.
-    -- - The item of `sources` at an index `at` could not be cloned. This item does not satisfy
-    --   `infallible`, which would mean that cloning it cannot fail. The list has reserved room for
-    --   `k` more items. Each of the `at` items that were cloned before the failure counts as one
-    --   move.
+    -- - The list did not change at all: `w` equals `v`.
+    -- - The item of `sources` at an index `at` could not be cloned. So `infallible`, which says
+    --   that cloning an item cannot fail, does not hold for this item. The call reserved room for
+    --   `k` more items, and cloned `at` items before the failure. Each of these clones counts as
+    --   one move.
     pub refuses-clone : (R : RattleType) (k : ℕ) {infallible : T → Type 0} {sources : List T}
         {v w : Thin T A} → w.items ≡ v.items → w.alloc ≡ v.alloc
         → (w ≡ v) ⊎ (capacity_for rule R v k ≡ Some w.capacity)

@@ -20,8 +20,9 @@ module _ {T A G J : Type 0} (here : Setting T A J) (law : KeepsLaw here.rule) wh
   module _ {old new : Thin T A} where
     -- Suppose that a run carried out all of its commands, so that the list `left` of remaining
     -- commands is empty. Suppose also that the list `old` before the run and the list `new` after
-    -- it were within the size limits of a list (`IsWithin`). Then the main theorem `Headline` holds
-    -- for the run.
+    -- it satisfy `IsWithin`. This predicate says that the items of a list fit into its capacity,
+    -- and that its capacity does not exceed the size limit of a list. Then the main theorem
+    -- `Headline` holds for the run.
     pub headline : {commands left : List (Command T A G)} {before after : List (Reply T A G)}
         → IsWithin here.R old → IsWithin here.R new → left ≡ []
         → HasRun here old commands left before after new

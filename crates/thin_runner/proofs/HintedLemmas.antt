@@ -16,7 +16,7 @@ module _ {T A : Type 0} where
   yields-items s t (x ∷ xs) e = e.1.0 ∙ ap (λ l. x ∷ l) (yields-items e.0 t xs e.2)
 
   -- Suppose that calls to `next` yield the items `xs`, and change the iterator from the state `s`
-  -- to the state `t`. Then the lower bound of the size hint is the same in both states.
+  -- to the state `t`. Then the size hint of the iterator has the same lower bound in both states.
   pub yields-claim : (s t : Hinted T A) (xs : List T) → Yields (HintedSteps {T = T} {A = A}) s xs t
       → hinted_claim t ≡ hinted_claim s
   yields-claim s t [] e = ap hinted_claim (sym e)

@@ -1,6 +1,6 @@
 -- `ExtractIf` is an iterator that removes and yields some items of a list. In these lemmas, its
--- closure asks a judge, which is a value that decides which items to remove. The lemmas state what
--- the calls to `next` return, and which items the list has afterwards.
+-- closure calls a judge, which is a value that decides for each item whether to remove it. The
+-- lemmas state what the calls to `next` return, and which items the list has afterwards.
 use Rattle.std.proofs.Common.{◌≡◌, ℕ, zero, suc, ◌+◌, ◌-◌, ◌≤◌, ◌==◌, Bool, true, false, List, [], ◌∷◌, ◌++◌, Option, None, Some, length, take, drop, refl, arith, ap, subst, sym, ◌∙◌, append_assoc}
 use Rattle.std.proofs.Math.Dec.{eqb-suc-zero}
 use Rattle.std.proofs.lemmas.List.{append-nil, length-append, length-drop, length-map, length-take}
@@ -17,17 +17,16 @@ use Rattle.thin_runner.specs.commands.Ranges.{walked}
 use Rattle.thin_runner.specs.declared.command.Step.TheVariants.{Front}
 
 module _ {T : Type 0} where
-  -- A verdict consists of an item and a flag, which says whether the item is kept. `goes item` is
-  -- the list of the verdicts on the result `item` of a call to `next`. If `item` is `Some x`, the
-  -- list contains one verdict, which says that `x` is removed. If `item` is `None`, the list is
-  -- empty.
+  -- A verdict is a pair of a flag and an item. The flag says whether the item is kept. Suppose that
+  -- a call to `next` returns `item`. If `item` is `Some x`, then `goes item` contains one verdict,
+  -- which says that `x` is not kept. If `item` is `None`, then `goes item` is the empty list.
   abbrev pub goes : Option T → Verdicts T
   goes None = []
   goes (Some x) = (false, x) ∷ []
 
-  -- `handed_out k xs` is the list of the results of `k` calls to `next`. The calls are made on an
-  -- iterator that yields the items `xs`. They return these items in order, and after the last item
-  -- they return `None`.
+  -- Suppose that `next` is called `k` times on an iterator that yields the items `xs`. Then
+  -- `handed_out k xs` is the list of the results of these calls. The calls return the items in
+  -- order, and after the last item they return `None`.
   abbrev pub handed_out : ℕ → List T → List (Option T)
   handed_out k xs = walked xs (replicate k Front)
 
@@ -64,10 +63,12 @@ module _ {T : Type 0} where
   few-goes (Some x) = refl
 
   -- A verdict says whether an item is kept. A kept item is moved if an item before it is removed.
-  -- This lemma counts the moves for the verdicts `a ++ b`. If `a` removes no item, this is the
-  -- number of moves for `a`, plus the number of moves for `b`. Otherwise, every item that `b` keeps
-  -- is moved. So in this case, it is the number of moves for `a`, plus the number of items that `b`
-  -- keeps.
+  -- This lemma states how many items are moved for the verdicts `a ++ b`:
+  --
+  -- - If `a` removes no item, the number of moves is the sum of the moves for `a` and the moves for
+  --   `b`.
+  -- - If `a` removes an item, every item that `b` keeps is moved. The number of moves is the sum of
+  --   the moves for `a` and the number of items that `b` keeps.
   pub moves-append : (a b : Verdicts T) → moved_down (flags_of (a ++ b))
       ≡ moved_down (flags_of a) + (if length (left_at false a) == 0 then moved_down
       (flags_of b) else trues (flags_of b))
@@ -85,15 +86,18 @@ module _ {S T J : Type 0} (R : S → T → Bool → S → T → Type 0) (judge_o
   none-left j zero = refl
   none-left j (suc k) = refl
 
-  -- In this module, a call to `next` on an `ExtractIf` returns `item`. After this call, the closure
-  -- of the iterator is in the state `t`, and the items `rest` have not been tested yet. Then `k`
-  -- more calls to `next` follow.
+  -- The lemmas of this module are about `k + 1` calls to `next` on an `ExtractIf`. The first call
+  -- returns `item`. After the first call, the closure of the iterator is in the state `t`, and the
+  -- items `rest` have not been tested yet.
   module _ (t : S) (k : ℕ) (item : Option T) (rest : List T) where
-    -- A verdict says whether an item is kept. Suppose that the items `xs` have not been tested yet.
-    -- A call to `next` keeps the items `kept` and returns `item`, and then `k` more calls follow.
-    -- The verdicts of all these calls consist of three parts, in this order: the verdicts that keep
-    -- the items `kept`, the verdict that removes `item`, and the verdicts of the `k` later calls.
-    -- If `item` is `None`, the second part is empty.
+    -- A verdict says whether an item is kept. Suppose that `next` is called `k + 1` times on an
+    -- `ExtractIf`, and that the items `xs` have not been tested before. The first call keeps the
+    -- items `kept`, returns `item`, and leaves the items `rest` untested. Then the verdicts on the
+    -- items `xs` consist of three parts, in this order:
+    --
+    -- - the verdicts that keep the items `kept`
+    -- - the verdict that removes the item in `item`, if `item` is not `None`
+    -- - the verdicts on the items `rest` after `k` more calls
     pub extracts-by : (s : S) (xs kept : List T) → ExtractsNext R s xs item t kept rest
         → extracting ask (judge_of s) (suc k) xs
         ≡ stay kept ++ (goes item ++ extracting ask (judge_of t) k rest)
@@ -133,9 +137,9 @@ module _ {S T J : Type 0} (R : S → T → Bool → S → T → Type 0) (judge_o
         answered true by m = let wrong = m.0 in absurd (none-some (sym none ∙ wrong))
         answered false by m = by m.0 m.1
 
-    -- Suppose that a call to `next` returns `item`, and that `k` more calls to `next` follow. The
-    -- function `handed_out` computes the list of the results of all these calls. This list consists
-    -- of `item`, followed by the results of the `k` later calls.
+    -- Suppose that `next` is called `k + 1` times on an `ExtractIf`, and that the first call
+    -- returns `item`. The function `handed_out` computes the list of the results of all calls. This
+    -- list consists of `item`, followed by the results of the `k` later calls.
     pub handed-by : (s : S) (xs kept : List T) → ExtractsNext R s xs item t kept rest
         → handed_out (suc k) (left_at false (extracting ask (judge_of s) (suc k) xs))
         ≡ item ∷ handed_out k (left_at false (extracting ask (judge_of t) k rest))
@@ -155,8 +159,9 @@ module _ {S T J : Type 0} (R : S → T → Bool → S → T → Type 0) (judge_o
             ∙ ap (left_at false) (none-left (judge_of t) k) in
             subst (λ l. handed_out (suc k) l ≡ None ∷ handed_out k l) (sym empty) refl
 
--- Suppose that `m` moves are added to the cost `c`. If `gone` is not 0, `k` more moves are added
--- afterwards. The resulting cost is the same as if all these moves were added at once.
+-- Suppose that `m` moves are added to the cost `c`, and that `k` more moves are then added if
+-- `gone` is not 0. The result is the same as if all moves are added at once: `m` moves if `gone` is
+-- 0, and `m + k` moves otherwise.
 charged : (gone m k : ℕ) (c : Cost)
     → (if gone == 0 then moving m c else moving k (moving m c))
     ≡ moving (m + (if gone == 0 then 0 else k)) c
@@ -170,7 +175,7 @@ charged (suc gone) m k c =
 -- of a list, and removes and yields some of them.
 pub record Stand (T : Type 0) : Type 0 where
   -- The verdicts on the items of the range that have not been tested yet. A verdict says whether an
-  -- item is kept. In proofs, these verdicts are known before the items are tested.
+  -- item is kept. Proofs can refer to these verdicts before the items are tested.
   pub left : Verdicts T
   -- The items before the range, followed by the items of the range that have been kept so far.
   pub front : List T
@@ -183,7 +188,7 @@ pub record Stand (T : Type 0) : Type 0 where
 -- for each item of the range, which says whether the item is kept. `start` contains the items
 -- before the range. `before` is the cost of the list before the first call to `next`.
 module _ {T : Type 0} (asked : Verdicts T) (start : List T) (before : Cost) where
-  -- `IsExtracting at` holds if the state `at` of the extraction agrees with the verdicts of the
+  -- `IsExtracting at` holds if the state `at` of the extraction results from the verdicts of the
   -- calls to `next` so far. The field `done` contains these verdicts.
   pub record IsExtracting (at : Stand T) : Type 0 where
     pub done : Verdicts T
@@ -192,11 +197,12 @@ module _ {T : Type 0} (asked : Verdicts T) (start : List T) (before : Cost) wher
     pub out : at.out ≡ length (left_at false done)
     pub paid : at.paid ≡ moving (moved_down (flags_of done)) before
 
-  -- Suppose that the state `at` agrees with the verdicts so far (`IsExtracting at`). Suppose also
-  -- that the next verdicts, `now`, keep `k` items, and remove no item before a kept item. If no
-  -- item has been extracted so far, these `k` items are not moved. Otherwise, they are moved, and
-  -- `k` moves are added to the cost `at.paid`. In both cases, the result is the cost `before`, plus
-  -- the moves for all verdicts up to and including `now`.
+  -- A verdict says whether an item is kept. Suppose that the state `at` results from the verdicts
+  -- of the calls to `next` so far (`IsExtracting at`). Suppose also that the next verdicts, `now`,
+  -- keep `k` items, and remove no item before a kept item. If no item has been extracted so far,
+  -- these `k` items are not moved. Otherwise, they are moved, and `k` moves are added to the cost
+  -- `at.paid`. In both cases, the new cost is the cost `before`, plus the moves for all verdicts so
+  -- far, including `now`.
   paid-next : (at : Stand T) (h : IsExtracting at) (now : Verdicts T) (k : ℕ)
       → moved_down (flags_of now) ≡ 0 → trues (flags_of now) ≡ k
       → (if at.out == 0 then at.paid else moving k at.paid)
@@ -209,8 +215,9 @@ module _ {T : Type 0} (asked : Verdicts T) (start : List T) (before : Cost) wher
       before)
       ∙ ap (λ m. moving m before) (sym (moves-append h.done now))))
 
-  -- `IsExtracting at` says that the state `at` agrees with the verdicts of the calls to `next` so
-  -- far. It holds if `at` is the state before the first call to `next`.
+  -- `IsExtracting at` says that the state `at` results from the verdicts of the calls to `next` so
+  -- far. If `at` is the state before the first call to `next`, then there are no verdicts yet, and
+  -- `IsExtracting at` holds.
   pub extracting-none : (at : Stand T) → at.left ≡ asked → at.front ≡ start → at.out ≡ 0
       → at.paid ≡ before → IsExtracting at
   extracting-none at all same none free =
@@ -223,9 +230,9 @@ module _ {T : Type 0} (asked : Verdicts T) (start : List T) (before : Cost) wher
       }
 
   module _ (at next : Stand T) where
-    -- `IsExtracting at` says that the state `at` agrees with the verdicts of the calls to `next` so
-    -- far. Suppose that `IsExtracting at` holds. If a call to `next` keeps the items `kept`,
-    -- returns `item`, and changes the state from `at` to `next`, then `IsExtracting next` holds.
+    -- `IsExtracting at` says that the state `at` results from the verdicts of the calls to `next`
+    -- so far. Suppose that this is true, and that one more call keeps the items `kept`, returns
+    -- `item`, and changes the state from `at` to `next`. Then `IsExtracting next` holds.
     pub extracting-step : (kept : List T) (item : Option T) → IsExtracting at
         → at.left ≡ stay kept ++ (goes item ++ next.left) → next.front ≡ at.front ++ kept
         → next.out ≡ at.out + length (option_to_list item)
@@ -266,11 +273,14 @@ module _ {T : Type 0} (asked : Verdicts T) (start : List T) (before : Cost) wher
 -- list after the extraction. `asked` contains a verdict for each item of the range, which says
 -- whether the item is kept.
 module _ {T A : Type 0} (v w : Thin T A) (a b : ℕ) (asked : Verdicts T) where
-  -- `IsLeft at rest tail` holds if the list `w` can result from an extraction that ended in the
-  -- state `at`. The items of `w` are `at.front`, then the untested items `rest` of the range, and
-  -- then the items `tail` after the range. If no item was extracted, the cost of `w` is `at.paid`.
-  -- Otherwise, it is `at.paid`, plus one move for each item of `rest` and `tail`. The capacity and
-  -- the allocator of `w` are those of `v`.
+  -- `IsLeft at rest tail` holds if an extraction that ended in the state `at` may have turned the
+  -- list `v` into `w`:
+  --
+  -- - The items of `w` are `at.front`, then the untested items `rest` of the range, and then the
+  --   items `tail` after the range.
+  -- - If no item was extracted, the cost of `w` is `at.paid`. Otherwise, the cost of `w` is
+  --   `at.paid`, plus one move for each item of `rest` and `tail`.
+  -- - The lists `v` and `w` have the same capacity and the same allocator.
   pub record IsLeft (at : Stand T) (rest tail : List T) : Type 0 where
     pub items : w.items ≡ at.front ++ (rest ++ tail)
     pub cost : w.cost ≡ (if at.out == 0 then at.paid else moving (length rest
@@ -279,8 +289,9 @@ module _ {T A : Type 0} (v w : Thin T A) (a b : ℕ) (asked : Verdicts T) where
     pub alloc : w.alloc ≡ v.alloc
 
   -- Suppose that an extraction ended in the state `at`, and kept the items `rest` of the range
-  -- without testing them. Then the list `w` contains the items of the list `v`, except those that
-  -- the verdicts `asked` remove. The function `sifted` computes `w` from `v` and these verdicts.
+  -- without testing them. Then the list `w` contains the items of the list `v`, except the items
+  -- that the verdicts `asked` remove. The function `sifted` computes `w` from `v` and these
+  -- verdicts.
   pub extracting-ends : (at : Stand T) (rest tail : List T)
       → IsExtracting asked (take a v.items) v.cost at → at.left ≡ stay rest → tail ≡ drop b v.items
       → IsLeft at rest tail → w ≡ sifted v (around v.items a b asked)
@@ -320,8 +331,8 @@ module _ {T A : Type 0} (v w : Thin T A) (a b : ℕ) (asked : Verdicts T) where
         cost = paid i;
       }
 
--- In this module, `ask` is the method of a judge that decides which items to extract. The lemmas
--- show that an extraction does not increase the number of items in the list.
+-- In this module, `ask` is the method of a judge that decides for each item whether it is
+-- extracted. The lemmas show that an extraction does not increase the number of items in the list.
 module _ {T J : Type 0} (ask : J → T → Bool × T × J) where
   stay-length : (xs : List T) → length (stay xs) ≡ length xs
   stay-length xs = length-map xs (λ (x : T). (true, x))

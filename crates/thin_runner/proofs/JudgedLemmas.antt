@@ -15,9 +15,9 @@ use Rattle.thin_runner.specs.commands.Filters.{asked, asked_last, asked_pairs, s
 
 module _ {S T J : Type 0} (R : S → T → Bool → S → T → Type 0) (judge_of : S → J)
     (ask : J → T → Bool × T × J) where
-  -- `R` describes the calls to a closure whose state contains a judge. `AsksJudge` holds if each
-  -- call to the closure does the same as the method `ask` of this judge. So the closure returns the
-  -- decision of the judge.
+  -- `R` describes the calls to a closure. The state of the closure contains a judge. `AsksJudge`
+  -- holds if each call to the closure has the same effect as the method `ask` of this judge: it
+  -- returns the decision of the judge, and changes the item and the judge as `ask` does.
   abbrev pub AsksJudge : Type 0
   AsksJudge = (s : S) (x : T) (b : Bool) (u : S) (y : T) → R s x b u y
       → (b, y, judge_of u) ≡ ask (judge_of s) x
@@ -25,8 +25,9 @@ module _ {S T J : Type 0} (R : S → T → Bool → S → T → Type 0) (judge_o
 module _ {S T J : Type 0} (R : S → T → Bool → S → T → Type 0) (judge_of : S → J)
     (ask : J → T → Bool × T × J) (told : AsksJudge R judge_of ask) where
   -- Suppose that a closure returns the decisions of the judge in its state. The closure is called
-  -- for each item of `xs`, in order, and its state changes from `s` to `t`. Then the results of
-  -- these calls, `verdicts`, are the decisions of the judge on the items of `xs`.
+  -- for each item of `xs`, in order. These calls result in the list `verdicts`, and change the
+  -- state of the closure from `s` to `t`. Then `verdicts` contains the decisions of the judge on
+  -- the items of `xs`.
   pub asked-by : (s t : S) (xs : List T) (verdicts : Verdicts T) → Asked R s xs verdicts t
       → verdicts ≡ asked ask (judge_of s) xs
   asked-by s t [] verdicts a = a.0
@@ -50,9 +51,10 @@ module _ {S T J : Type 0} (R : S → T → Bool → S → T → Type 0) (judge_o
 -- before it.
 module _ {T : Type 0} where
   -- A method such as `dedup_by` keeps the first item of a list, and decides for each later item
-  -- whether to keep it. The pair `b` consists of the first item and the verdicts on the later
-  -- items. `Leaves flags ys b` holds if `flags` contains the decisions in these verdicts, and `ys`
-  -- contains the first item and the kept later items.
+  -- whether to keep it. The pair `b` consists of the first item and a list of verdicts. Each
+  -- verdict consists of a later item and a flag, which says whether the item is kept.
+  -- `Leaves flags ys b` holds if `flags` contains the flags of these verdicts, and `ys` contains
+  -- the first item and the kept later items.
   abbrev pub Leaves : List Bool → List T → T × Verdicts T → Type 0
   Leaves flags ys b = (flags ≡ flags_of b.1) × (ys ≡ b.0 ∷ left_at true b.1)
 
@@ -61,10 +63,11 @@ module _ {S T J : Type 0} (R : S → T → T → Bool → S → T → T → Type
     (same : J → T → T → Bool × T × T × J)
     (told : (s : S) (x k : T) (b : Bool) (u : S) (x' k' : T) → R s x k b u x' k'
     → (b, x', k', judge_of u) ≡ same (judge_of s) x k) where
-  -- Suppose that a closure returns the decisions of a judge. It compares each item of `xs` with the
-  -- last item kept before it. Before the first item of `xs`, this is the item `k`. Then `flags`
-  -- says for each item of `xs` whether the judge keeps it. The list `ys` contains `k` and the kept
-  -- items of `xs`, as they are after the comparisons.
+  -- Suppose that a closure returns the decisions of a judge. The closure compares each item of `xs`
+  -- with the last item kept before it. It compares the first item of `xs` with the item `k`. The
+  -- list `flags` says for each item of `xs` whether it is kept, and the list `ys` contains `k` and
+  -- the kept items, as they are after the comparisons. Then `flags` and `ys` agree with the
+  -- decisions of the judge.
   pub asked-last-by : (s t : S) (k : T) (xs : List T) (flags : List Bool) (ys : List T)
       → AskedLast R s k xs flags ys t → Leaves flags ys (asked_last same (judge_of s) k xs)
   asked-last-by s t k [] flags ys a = (a.0, a.1)
@@ -85,10 +88,9 @@ module _ {S T J : Type 0} (R : S → T → T → Bool → S → T → T → Type
           by a.1 m.0 m.1 in (e ∙ ap (λ l. true ∷ l) h.0, m.2 ∙ ap (λ l. a.2 ∷ l) h.1)
 
   -- Suppose that a closure returns the decisions of a judge. The first item of `xs` is kept, and
-  -- the closure compares each later item with the last item kept before it. The flags `flags` say
+  -- the closure compares each later item with the last item kept before it. The list `flags` says
   -- which of the later items are kept, and `ys` contains all kept items. Then `ys` contains exactly
-  -- the items that the judge keeps. The number of moves is the same for `flags` and for the
-  -- verdicts of the judge.
+  -- the items that the judge keeps. The decisions of the judge cause as many moves as `flags`.
   pub asked-pairs-by : (s t : S) (xs : List T) (flags : List Bool) (ys : List T)
       → AskedPairs R s xs flags ys t
       → (moved_down flags ≡ moved_down (flags_of (asked_pairs same (judge_of s) xs)))
@@ -114,10 +116,10 @@ module _ {F T A J : Type 0} (g : Mut F (MutBor T × Unit {0}) (ℕ × (MutBor T 
     (told : (f : F) (x : T) (k : ℕ) (f' : F) (x' : T) → CalledAtMut g f x k f' x'
     → (k, x', judge_of f') ≡ key (judge_of f) x) where
   -- Suppose that `dedup_by_key` turned the list `v` into `w`, and that its closure returned keys
-  -- that a judge computed. In each comparison of two items, the judge first computed the key of the
-  -- later item, and then the key of the kept item. Then `w` contains the items of `v` that remain
-  -- if each later item with an equal key is removed. The function `sifted` computes `w` from `v`
-  -- and these decisions.
+  -- that a judge computed. The method compares each item with the last item kept before it. The
+  -- judge first computes the key of the later item, and then the key of the kept item. If the keys
+  -- are equal, the later item is removed. Then `w` contains exactly the items that are not removed.
+  -- The function `sifted` computes `w` from `v` and these decisions.
   pub deduped-by-keys : (f : F) (v w : Thin T A)
       → IsDedupedBy (ComparesKeys g (λ a b. a == b)) f v w → w.capacity ≡ v.capacity
       → w.alloc ≡ v.alloc → w ≡ sifted v (asked_pairs (same_key key) (judge_of f) v.items)
@@ -131,16 +133,19 @@ module _ {F T A J : Type 0} (g : Mut F (MutBor T × Unit {0}) (ℕ × (MutBor T 
       ∙ ap (λ a. let l = key a.2 k in (a.0 == l.0, a.1, l.1, l.2)) first))
       f v w d capacity alloc
 
--- In this module, `look` is a method of the judge that cannot write to the item.
+-- In this module, `look` is a method of a judge. It makes a decision about an item, and cannot
+-- write to the item.
 module _ {T J : Type 0} (look : J → T → Bool × J) where
-  -- `looks j x` is a triple. It consists of the decision of `look` on the item `x`, the unchanged
-  -- item `x`, and the state of the judge after the decision. The state before the decision is `j`.
+  -- `looks j x` describes a call to `look` for the item `x`, if the judge is in the state `j`
+  -- before the call. It is a triple of the decision, the item `x`, which does not change, and the
+  -- state of the judge after the call.
   abbrev pub looks : J → T → Bool × T × J
   looks j x = let a = look j x in (a.0, x, a.1)
 
-  -- Suppose that a call to `look` for the item `x` returned the decision `b`, and changed the state
-  -- of the judge from `j` to `u`. Let `y` be the item after the call. If `y` equals `x`, then
-  -- `looks j x` is the triple `(b, y, u)`.
+  -- `looks j x` is a triple of the decision of `look` on the item `x`, the item itself, and the
+  -- state of the judge after the decision. Suppose that `look` returned the decision `b` on `x`,
+  -- and changed the state of the judge from `j` to `u`. If the item is `y` after the call, and `y`
+  -- equals `x`, then `looks j x` is the triple `(b, y, u)`.
   pub looked : (j u : J) (x y : T) (b : Bool) → (b, u) ≡ look j x → y ≡ x → (b, y, u) ≡ looks j x
   looked j u x y b told same = ap (λ z. (b, z, u)) same ∙ ap (λ a. (a.0, x, a.1)) told
 
@@ -154,11 +159,12 @@ module _ {T : Type 0} where
   few-left ((true, x) ∷ verdicts) = omega (arith, few-left verdicts)
   few-left ((false, x) ∷ verdicts) = omega (arith, few-left verdicts)
 
-  -- Suppose that the item `x` was compared with `k`, the last item kept before it, and that `b` is
-  -- the result of the comparison. The pair `a` describes the comparisons that follow: it consists
-  -- of the last item kept before them, and the verdicts on the items after `x`. Then `next b x k a`
-  -- is the pair of `k` and the verdicts on `x` and the items after it. If `b` is true, `x` is
-  -- removed. Otherwise, `x` is kept.
+  -- Suppose that the item `x` is compared with `k`, the last item kept before it, and that `b` says
+  -- whether `x` is removed. The pair `a` describes the comparisons of the items after `x`. It
+  -- consists of the last item kept before these items, and the verdicts on them. Then
+  -- `next b x k a` describes the comparisons of `x` and the items after it. It is a pair, too: it
+  -- consists of the item `k`, and a list of verdicts. This list contains the verdict on `x`, and
+  -- then the verdicts on the items after `x`.
   abbrev next : Bool → T → T → T × Verdicts T → T × Verdicts T
   next b x k a = if b then (a.0, (false, x) ∷ a.1) else (k, (true, a.0) ∷ a.1)
 
@@ -183,9 +189,8 @@ module _ {T J : Type 0} where
   few-asked ask j xs = omega (arith, few-left (asked ask j xs), asked-length ask j xs)
 
   -- Suppose that the item `k` is kept, and that each item of `xs` is then compared with the last
-  -- item kept before it. Then there is exactly one verdict for each item of `xs`. The lemma
-  -- `pairs-length` is about a whole list, whose first item is kept without a comparison. It also
-  -- states that there is one verdict for each item.
+  -- item kept before it. Then there is exactly one verdict for each item of `xs`. The next lemma,
+  -- `pairs-length`, states the same for a list whose first item is kept without a comparison.
   last-length : (same : J → T → T → Bool × T × T × J) (j : J) (k : T) (xs : List T)
       → length (asked_last same j k xs).1 ≡ length xs
   last-length same j k [] = refl
@@ -206,8 +211,8 @@ module _ {T J : Type 0} where
   few-pairs same j xs = omega (arith, few-left (asked_pairs same j xs), pairs-length same j xs)
 
 -- The following lemmas compare `dedup` and `dedup_by`. The method `dedup` uses the equality test
--- `E`, and the closure of `dedup_by` asks a judge. If the judge returns the results of `E`, then
--- both methods keep the same items.
+-- `E`, and the closure of `dedup_by` calls a judge. If the judge returns the same results as `E`,
+-- then both methods keep the same items.
 module _ {T J : Type 0} (E : T → T → Bool) (j : J) where
   -- `tells` is the method of a judge that compares two items with the equality test `E`. It returns
   -- the result of `E`, and changes neither the items nor the state `j` of the judge.
@@ -215,9 +220,9 @@ module _ {T J : Type 0} (E : T → T → Bool) (j : J) where
   tells j later kept = (E later kept, later, kept, j)
 
   -- Suppose that `k` is the last item kept before the items `xs`, and that a judge compares items
-  -- with the equality test `E`. Then `dedup` keeps the same items as this judge: the list
+  -- with the equality test `E`. Then `dedup` keeps the same items as this judge. The list
   -- `dedup_from E k xs` consists of `k` and the items of `xs` that the judge keeps. The flags
-  -- `unlike_from E k xs` say for each item of `xs` whether it is kept.
+  -- `unlike_from E k xs` say for each item of `xs` whether the judge keeps it.
   dedup-last : (k : T) (xs : List T) → Leaves (unlike_from E k xs) (dedup_from E k xs)
       (asked_last tells j k xs)
   dedup-last k [] = (refl, refl)
@@ -234,8 +239,7 @@ module _ {T J : Type 0} (E : T → T → Bool) (j : J) where
 
   -- Suppose that a judge compares items with the equality test `E`. Then the list `dedup E xs`
   -- contains exactly the items of `xs` that this judge keeps. The flags `unlike E xs` say which
-  -- items `dedup` keeps. The number of moves is the same for these flags and for the verdicts of
-  -- the judge.
+  -- items `dedup` keeps. The decisions of the judge cause as many moves as these flags.
   pub dedup-pairs : (xs : List T)
       → (moved_down (unlike E xs) ≡ moved_down (flags_of (asked_pairs tells j xs)))
       × (dedup E xs ≡ left_at true (asked_pairs tells j xs))

@@ -1,6 +1,7 @@
 -- The cost of a list counts its moves: each item that is put into the list or moved within it
 -- counts as one move. The following lemmas prove that a command adds at most `may_move` moves to
--- the cost. A run is a sequence of commands, and adds at most `run_may_move` moves.
+-- the cost. They also prove that a run, which is a sequence of commands, adds at most
+-- `run_may_move` moves.
 use Rattle.std.proofs.Common.{Bool, true, false, ◌≡◌, ℕ, ◌+◌, ◌-◌, ◌==◌, ◌<◌, ◌≤◌, List, [], ◌∷◌, ◌++◌, Option, Some, None, length, arith, ap, refl, inl, inr}
 use Rattle.std.proofs.lemmas.List.{length-append, length-replicate}
 use Rattle.std.specs.Prelude.{◌*◌, ◌⊎◌, drop, take, HoldsAt, replicate, if◌then◌else◌}
@@ -51,10 +52,10 @@ module _ {T A : Type 0} (v w : Thin T A) where
   grown-moves xs m e = omega (arith, ap (λ z. z.cost.moves) e, cost_at-moves v w.capacity)
 
   module _ (rule : Rule) (R : RattleType) (a b : ℕ) where
-    -- Suppose that a splice replaced the items `a..b` of the list `v` with the items `placed`, and
-    -- that there are at most `k` of these items. Then the splice added at most `k` moves to the
-    -- cost of the list, plus at most two moves for each item after the replaced range. The iterator
-    -- of the splice could yield at most `most` items.
+    -- Suppose that a splice replaced the items `a..b` of the list `v` with the items `placed` of an
+    -- iterator, and that `placed` contains at most `k` items. Then the splice added at most `k`
+    -- moves to the cost of the list, plus at most two moves for each item after the range. The
+    -- number `most` is an upper bound on the number of items that the iterator could yield.
     spliced-moves : (placed : List T) (most k : ℕ) → Replaces rule R v a b placed most w
         → length placed ≤ k → w.cost.moves ≤ v.cost.moves + (2 * (length v.items - b) + k)
     spliced-moves placed most k f few =
@@ -69,8 +70,8 @@ module _ {T A : Type 0} (v w : Thin T A) where
         )
 
     -- Suppose that a splice of the range `a..b` failed partway, and that its iterator contained the
-    -- items `xs` at first. Then the splice added at most one move for each item of `xs` to the cost
-    -- of the list, plus at most two moves for each item after the range.
+    -- items `xs` before the splice. Then the splice added at most one move for each item of `xs` to
+    -- the cost of the list, plus at most two moves for each item after the range.
     stopped-moves : (xs held : List T) (lower : ℕ) (cause : ThinVecError) (in_hand : Option T)
         (rest : Hinted T A) → StopsBetween rule R v a b xs held lower cause in_hand rest w
         → w.cost.moves ≤ v.cost.moves + (2 * (length v.items - b) + length xs)
@@ -79,8 +80,8 @@ module _ {T A : Type 0} (v w : Thin T A) where
         spliced-moves s.placed (lower + length xs) (length xs) s.filled
         (omega (arith, ap length s.all, length-append s.placed others))
 
--- A call to `shrink_to_fit` adds no moves to the cost of the list. If the call frees the allocation
--- of an empty list, the number of moves even becomes 0.
+-- A call to `shrink_to_fit` does not increase the number of moves in the cost of the list. If the
+-- call frees the allocation of an empty list, it sets this number to 0.
 shrunk-moves : {T A : Type 0} (v : Thin T A) → (cost_shrunk v).moves ≤ v.cost.moves
 shrunk-moves v = go (length v.items == v.capacity) (length v.items == 0)
   where

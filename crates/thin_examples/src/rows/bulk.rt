@@ -50,9 +50,10 @@ pub fn row_24<A: Allocator + Copy>(alloc: A) -> Outcome {
     Ok(checks)
 }
 
-// Checks the error of a call to `extend` that failed because the size hint was too large. The cause
-// must be `CapacityOverflow`. The field `in_hand` must be `None`, because no item was taken from
-// the iterator. The iterator `rest` must still yield all of its items.
+// Checks `refused`, the error of a call to `extend` that failed because the size hint of the
+// iterator was too large. The field `cause` of the error must be `CapacityOverflow`. No item was
+// taken from the iterator. So the field `in_hand` must be `None`, and the iterator in the field
+// `rest` must still yield its two items.
 fn check_refused<A: Allocator>(checks: &mut Checks, refused: ExtendRefused<i32, Hinted<i32, A>>) {
     let ExtendRefused {
         cause,

@@ -53,9 +53,9 @@ pub fn row_9<A: Allocator + Copy>(alloc: A) -> Outcome {
     Ok(checks)
 }
 
-/// Checks the function `bounds` for a list of five items. The function takes two values of the type
-/// `Bound`, which describe the bounds of a range of the list. It must return the start and the end
-/// of this range, or `None` if the list has no such range.
+/// Checks the function `bounds` for a list of five items. The arguments of this function are two
+/// values of the type `Bound`, which describe a range of the list. The function must return the
+/// start and the end of this range, or `None` if the list has no such range.
 pub fn row_18<A: Allocator + Copy>(_alloc: A) -> Outcome {
     let mut checks = Checks::new();
     for (start, end, wanted) in [

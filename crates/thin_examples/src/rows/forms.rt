@@ -1,6 +1,6 @@
-//! Worked examples of `thin_vec!`, and of calls that iterate over, compare, hash, convert or write
-//! to lists. A worked example compares the results of calls with values that were worked out by
-//! hand.
+//! Worked examples of `thin_vec!`, and of methods that iterate over a list, compare two lists, hash
+//! a list, convert a list to or from another type, or write to a list. A worked example compares
+//! the results of calls with values that were worked out by hand.
 use crate::checks::Checks;
 use crate::rows::{Outcome, listed};
 use std::alloc::Allocator;

@@ -6,9 +6,10 @@ ghost use Rattle.std.specs.Prelude.{int_rem, pos};
 
 use thin_runner::judge::Judge;
 
-/// A judge that chooses the even numbers. For `dedup_by`, two numbers are duplicates if they are
-/// equal. For `dedup_by_key`, all numbers are duplicates, because they all have the key 0. The
-/// judge does not change the numbers.
+/// A judge makes decisions in place of a closure. With this judge, `retain` and `retain_mut` keep
+/// the even numbers, and `extract_if` removes the even numbers. For `dedup_by`, two numbers are
+/// duplicates if they are equal. For `dedup_by_key`, all numbers are duplicates, because they all
+/// have the key 0. The judge does not change the numbers.
 #[derive(Clone, Copy)]
 pub struct Evens;
 

@@ -20,8 +20,9 @@ pub fn row_21<A: Allocator + Copy>(alloc: A) -> Outcome {
     Ok(checks)
 }
 
-// Writes `value` to column `column` of row 1. The call to `set` returns the old value of this
-// column, which is compared with `before`. Does nothing if the table does not have three rows.
+// Calls the method `set` of the table to write `value` at row 1 and column `column`. Checks that
+// the method returns `before`, the value that the column had before the call. If the table does not
+// have three rows, does nothing.
 fn set<A: Allocator>(
     checks: &mut Checks,
     table: &mut Rows<char, A>,
@@ -35,8 +36,8 @@ fn set<A: Allocator>(
     Ok(())
 }
 
-// Removes the value in column `column` of row 1. The call to `remove` returns the removed value,
-// which is compared with `value`. Does nothing if the table does not have three rows.
+// Calls the method `remove` of the table to remove the entry at row 1 and column `column`. Checks
+// that the method returns `Some(value)`. If the table does not have three rows, does nothing.
 fn remove<A: Allocator>(
     checks: &mut Checks,
     table: &mut Rows<char, A>,

@@ -33,10 +33,10 @@ pub fn row_10<A: Allocator + Copy>(alloc: A) -> Outcome {
     Ok(checks)
 }
 
-// Checks the error of a failed call to `finish`, the method that completes a splice. The cause must
-// be `CapacityOverflow`. The field `held` must be empty, and the field `in_hand` must be `None`:
-// every item that was taken from the iterator was inserted into the list. The iterator `rest` must
-// still yield its last item.
+// Checks `refused`, the error of a failed call to `finish`. This method completes a splice. The
+// field `cause` of the error must be `CapacityOverflow`. The call inserted every item that it took
+// from the iterator. So the field `held` must be empty, and the field `in_hand` must be `None`. The
+// iterator in the field `rest` must still yield its last item.
 fn check_refused<A: Allocator>(
     checks: &mut Checks,
     refused: SpliceRefused<i32, Hinted<i32, A>, A>,
@@ -54,8 +54,9 @@ fn check_refused<A: Allocator>(
 }
 
 /// Checks that a splice fails if the size hint of its iterator is too large for any capacity. The
-/// method `finish`, which completes the splice, returns the error. The failed call has replaced the
-/// items of the range, but has inserted no further item.
+/// method `finish`, which completes the splice, returns the error. Before the failure, `finish`
+/// replaces the two items of the range with the first two items of the iterator. It does not insert
+/// the third item of the iterator.
 pub fn row_11<A: Allocator + Copy>(alloc: A) -> Outcome {
     let mut checks = Checks::new();
     let mut list = listed(alloc, [1, 2, 3, 4, 5])?;
@@ -83,7 +84,8 @@ fn check_edits_of_nothing<A: Allocator + Copy>(
     Ok(())
 }
 
-// Calls `retain` and `dedup_by` on the list, and returns the number of calls to their closures.
+// Calls `retain` and `dedup_by` on the list, and returns how many times the two methods called
+// their closures.
 fn count_questions<A: Allocator>(list: &mut ThinVec<i32, A>) -> u32 {
     let mut calls = 0u32;
     list.retain(|_item| {

@@ -9,7 +9,7 @@ use crate::line_error::LineError;
 use crate::words::count_of;
 use thin_runner::command::Command;
 
-/// Parses the words of a line as a command and a judge. A judge makes decisions in place of a
+/// Parses the words of a line as a command and a judge, which makes decisions in place of a
 /// closure. Returns `None` if the words do not have the form of a command with a judge.
 pub fn parse(words: &[&str]) -> Result<Option<Call>, LineError>
     ensures says { IfOk result (λ found. IfSome found (IsCall words.now)) }
@@ -33,8 +33,8 @@ pub fn parse(words: &[&str]) -> Result<Option<Call>, LineError>
     }
 }
 
-// Returns the command whose name is `name` if this command is `Retain`, `RetainMut`, `DedupBy` or
-// `DedupByKey`. Returns `None` for any other name. On a line with one of these commands, the three
+// Returns the command with the name `name`, if this command is `Retain`, `RetainMut`, `DedupBy` or
+// `DedupByKey`. Otherwise, returns `None`. On a line with one of these four commands, the three
 // words after the name describe a judge, which makes decisions in place of a closure.
 fn filter(name: &str) -> Option<Command<u64>>
     ensures filter { IfSome result (IsFilter name.now) }

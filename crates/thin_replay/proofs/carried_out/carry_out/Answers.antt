@@ -4,8 +4,8 @@ use Rattle.std.proofs.Common.{◌≡◌, [], ◌∷◌, ap, arith, ◌++◌, ◌
 use Rattle.thin_replay.proofs.RunLemmas.{headline-one, one_reply}
 use Rattle.thin_replay.proofs.carried_out.carry_out.Goals as goal
 
--- The run of the single command has exactly one reply, so the list of replies is not empty. So
--- `pop` returns `Some`, and the precondition of the following call to `unwrap` holds.
+-- The run carries out a single command, so it produces exactly one reply. The list of replies is
+-- not empty, and `pop` returns `Some`. So the precondition of the following call to `unwrap` holds.
 pub unwrap-requires : goal.unwrap-requires
 unwrap-requires g c =
     let one : c.push.new.self.items ≡ c.args.command ∷ [] =
@@ -17,8 +17,9 @@ unwrap-requires g c =
           c.in-Ok-run.ensures.ok,
     ))
 
--- The reply that `pop` returns is the only reply of the run. So the main theorem `Headline` holds
--- for the single command and this reply.
+-- The reply that `pop` returns is the only reply of the run. The main theorem (`Headline`), which
+-- describes the effects of a run, holds for this run. So it holds for the single command and this
+-- reply.
 pub returns-in-Ok-run-clause-ok : goal.returns-in-Ok-run-clause-ok
 returns-in-Ok-run-clause-ok g c =
     let one : c.push.new.self.items ≡ c.args.command ∷ [] =

@@ -1,6 +1,6 @@
--- This file proves the contract of `get`. The list of the entries of a row represents a map. If
--- `get` finds an entry of the column in the list, then the map has the value of this entry at the
--- column. If `get` finds no such entry, then the map has no value at the column.
+-- This file proves the contract of `get`. A row stores its entries in a list, which represents a
+-- map. If the list has an entry of the given column, then the map has the value of this entry at
+-- the column. If the list has no such entry, then the map has no value at the column.
 use Rattle.std.proofs.Common.{sym}
 use Rattle.thin_rows.proofs.RowLemmas.{get_at, get_gap}
 use Rattle.thin_rows.proofs.row.Row.get.Goals as goal

@@ -66,9 +66,9 @@ returns-in-Err-insert-clause-succeeds g c some =
     rw (← c.self.view_is, get_gap row.items c.self.invariant.rising c.args.column c.in-Err.at gap)
     at some
 
--- Suppose that `set` cannot insert a new entry. Then the stored list was full before the call, so
--- its capacity was the number of its entries. The error is `CapacityOverflow` if and only if the
--- growth rule chooses no capacity for one more entry.
+-- Suppose that `set` cannot insert a new entry. Then the list of entries was full before the call,
+-- so its capacity equals the number of its entries. The error is `CapacityOverflow` if and only if
+-- the capacity for one more entry would be too large.
 pub returns-in-Err-insert-clause-overflow : goal.returns-in-Err-insert-clause-overflow
 returns-in-Err-insert-clause-overflow g c =
     let row = c.self.inside.entries in

@@ -1,6 +1,6 @@
--- This file proves the contract of `value_mut`, which returns a mutable reference to the value of
--- an entry. The caller can change this value through the reference, but not the column of the
--- entry. So if the caller writes a new value, the map that the row represents has the new value at
+-- This file proves the contract of `value_mut`. The method returns a mutable reference to the value
+-- of an entry. The caller can change the value through this reference, but cannot change the column
+-- of the entry. If the caller writes a new value, the map that the row represents has this value at
 -- the same column.
 use Rattle.std.proofs.Common.{◌≡◌, Some, nat_cmp, length-set, refl, sym, ap, ◌∙◌}
 use Rattle.std.proofs.lemmas.Option.{get_or_from_slice_get}

@@ -4,10 +4,12 @@ use Rattle.std.proofs.Common.{◌≡◌, ◌+◌, ◌-◌, ◌^◌, ◌<◌, map
 use Rattle.std.specs.FinMap.{len}
 use Rattle.thin_rows.proofs.table.Rows.len.Given as goal
 
--- Two statements hold before each iteration. The first one is an equation: the number of entries of
--- the table is the count, plus the number of entries in the rows that have not been visited yet. A
--- side of this equation that is greater than `usize::MAX` is replaced with `usize::MAX`. The second
--- statement is that the count is at most `usize::MAX`.
+-- Two statements hold before each iteration:
+--
+-- - The number of entries of the table is equal to the count, plus the number of entries in the
+--   rows that have not been visited yet. Before these two numbers are compared, a number greater
+--   than `usize::MAX` is replaced with `usize::MAX`.
+-- - The count is at most `usize::MAX`.
 abbrev pub invariant-loop-row : goal.invariant-loop-row
 invariant-loop-row g l =
     (min (l.count + sum (map (λ row. len row) l.row-iterator.rest.now)) (2 ^ 64 - 1)

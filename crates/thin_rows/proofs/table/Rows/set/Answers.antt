@@ -12,9 +12,9 @@ use Rattle.thin_rows.specs.EntryType.{entry_type}
 use Rattle.thin_rows.specs.Table.{row_of}
 use Rattle.thin_rows.proofs.table.Rows.set.Goals as goal
 
--- A call may change the item at index `i` of the list `xs`. This item is `old` before the call and
--- `new` after the call, and the call returns `result`. Suppose that `new` equals `old` if the call
--- fails. Then, if the call fails, writing `new` to index `i` does not change `xs`.
+-- A call changes the item at index `i` of the list `xs` from `old` to `new`, and returns `result`.
+-- Suppose that a failed call does not change the item: if `result` is an error, then `new` equals
+-- `old`. So if the call fails, then writing `new` to index `i` does not change `xs`.
 left : {X Y E : Type 0} (result : Result Y E) (xs : List X) (i : ℕ) (old new : X)
     → slice_get xs i ≡ Some old → OnErr result (new ≡ old) → OnErr result (slice_set xs i new ≡ xs)
 left (Ok _) xs i old new there same = tt

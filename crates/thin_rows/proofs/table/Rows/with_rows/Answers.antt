@@ -1,7 +1,8 @@
 -- This file proves the contract of `with_rows`. After the loop, the list contains all rows of the
--- table. The errors of `with_rows` are the errors of `with_capacity`. The contract of `with_rows`
--- uses the item type `row_type`, and the contract of `with_capacity` uses an item type of the same
--- size and alignment. So `exact_capacity` returns the same capacity for both types.
+-- table. If `with_rows` fails, it returns the error of its call to `with_capacity`. The contract of
+-- `with_rows` uses the item type `row_type`, and the contract of `with_capacity` uses another item
+-- type of the same size and alignment. For both types, `exact_capacity` returns the same capacity.
+-- So both contracts agree about the error `CapacityOverflow`.
 use Rattle.std.proofs.Common.{◌≡◌, ◌∙◌, ap, arith, refl, replicate}
 use Rattle.std.specs.FinMap as map
 use Rattle.thin_rows.proofs.RowTypeLemmas.{error_tells, made_tells}
