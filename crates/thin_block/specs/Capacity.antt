@@ -18,7 +18,8 @@ IsAlign a = (w : Width) × (a ≡ bytes w)
 abbrev pub items_offset : ℕ → ℕ
 items_offset a = max 16 a
 
--- `block_align a` is the alignment in bytes of a block whose items have the alignment `a`.
+-- `block_align a` is the alignment in bytes of a block whose items have the alignment `a`. It is at
+-- least 8, because a block begins with words of 8 bytes.
 abbrev pub block_align : ℕ → ℕ
 block_align a = max 8 a
 
@@ -44,9 +45,9 @@ abbrev pub Fits : RattleType → ℕ → Type 0
 Fits R c = IsTrue (fits (type_size R) (type_align R) c)
 
 -- Suppose that an item takes `s` bytes. Then `first s` is the capacity that the rule `Doubling`
--- chooses for the first block of a list. (The rule chooses a greater capacity if the list needs
--- room for more items.) `first s` is 1 if `s` exceeds `usize::MAX / 8`, and 4 otherwise, as in the
--- Rust crate thin-vec.
+-- chooses for the first block of a list, unless the list needs room for more than `first s` items.
+-- In that case, the rule chooses a greater capacity. `first s` is 1 if `s` exceeds
+-- `usize::MAX / 8`, and 4 otherwise, as in the Rust crate thin-vec.
 unfoldable pub first : ℕ → ℕ
 first s = if nat_lt (2 ^ 61 - 1) s then 1 else 4
 

@@ -17,7 +17,8 @@ pub record Cost : Type 0 where
   -- block does not count.
   pub moves : ℕ
 
--- `cost_code` encodes a value of the type `Cost` as its three counts.
+-- `cost_code` encodes a value of the type `Cost` as a tuple of its three counts. The ghost field
+-- `cost` of the struct `Block` uses this encoding.
 abbrev pub cost_code : Coded Cost
 cost_code =
     code_by (ℕ × (ℕ × ℕ)) (coded× coded_ℕ (coded× coded_ℕ coded_ℕ))

@@ -63,16 +63,16 @@ least_power n = doubled_to n n 1
 -- `power_bytes s a c w` is the capacity that the rule `PowerBytes` chooses for items of size `s`
 -- and alignment `a`, if the old capacity is `c` and the required capacity is `w`. The rule computes
 -- the total size of the header and of `max w (2 * c)` items, and rounds it up to a power of two.
--- The new capacity is the greatest number of items that fit into this power of two together with
--- the header, or `None` if this number is too large. If `s` is 0, the rule chooses the same
--- capacity as `doubling`.
+-- The new capacity is the greatest number of items that fit into the rounded size together with the
+-- header, or `None` if this number is too large. If `s` is 0, the rule chooses the same capacity as
+-- `doubling`.
 unfoldable pub power_bytes : Rule
 power_bytes s a c w = if s == 0 then doubling s a c w else fitting s a
     ((least_power (items_offset a + max w (2 * c) * s) - items_offset a) / s)
 
--- `FillsPower s a c` holds if there is a power of two `p` such that `p` bytes have room for the
--- header and `c` items, but not for one more item. The size and the alignment of an item are `s`
--- and `a`.
+-- `FillsPower s a c` holds if there is a power of two `p` such that the header and `c` items fit
+-- into `p` bytes, but the header and `c + 1` items do not. The size and the alignment of an item
+-- are `s` and `a`.
 pub record FillsPower (s a c : ℕ) : Type 0 where
   pub power : ℕ
   pub is_power : IsPowerOfTwo power

@@ -56,8 +56,8 @@ abbrev pub whole_of : Ty → ℕ → Ty
 whole_of τ c = ty_struct []
     (tcons (ty_int w64) (tcons (ty_int w64) (tcons (ty_array τ c) tnil)))
 
--- `bare R` is the compiled type of an item, with all field names erased. If two item types have the
--- same layout, then they have the same bare type.
+-- `bare R` is the type of an item in the compiled code, with all field names erased. If two item
+-- types have the same layout, then `bare` gives the same type for both of them.
 abbrev pub bare : RattleType → Ty
 bare R = raw (lone R.mir)
 
@@ -76,16 +76,16 @@ word_of τ m = ty_struct [] (tcons (ty_array τ m) (tcons (ty_array (ty_int w64)
 abbrev pub words_of : RattleType → Option (ℕ × ℕ)
 words_of R = in_words (size (bare R))
 
--- `asked_for w τ c` is the type for which the memory of a block is requested: the allocator
--- provides memory for one value of this type. The block has `c` slots for items of the type `τ`. If
--- the items form words, `w` is `Some`, and the type is an array of words, which the allocator can
--- resize in place. Otherwise it is the type of the whole block.
+-- The memory of a block is requested from the allocator as memory for one value of a type.
+-- `asked_for w τ c` is this type for a block of `c` slots for items of the type `τ`. If the items
+-- form words, `w` is `Some`, and the type is an array of words, which the allocator can resize in
+-- place. Otherwise, `w` is `None`, and the type is the type of the whole block.
 abbrev pub asked_for : Option (ℕ × ℕ) → Ty → ℕ → Ty
 asked_for None τ c = whole_of τ c
 asked_for (Some w) τ c = ty_array (word_of τ w.0) (w.1 + div_ceil c w.0)
 
--- `asked R c` is the type for which the memory of a block with `c` slots for items of the type `R`
--- is requested. The allocator provides memory for one value of this type.
+-- The memory of a block is requested from the allocator as memory for one value of a type.
+-- `asked R c` is this type for a block of `c` slots for items of the type `R`.
 abbrev pub asked : RattleType → ℕ → Ty
 asked R c = asked_for (words_of R) (bare R) c
 
@@ -118,16 +118,18 @@ abbrev pub ways : Ty → ℕ → ℕ → ℕ → ℕ → Fml
 ways τ m zero b o = ftrue
 ways τ m (suc w) b o = fsep (way τ m b o) (ways τ m w b (o + size (word_of τ m)))
 
--- `header_way τ m k b o` is the right to convert uninitialized memory for the header into
--- uninitialized memory for `k` words, which are exactly as large as the header. The header is at
--- the offset `o` of the allocation `b`.
+-- Suppose that `m` items of the type `τ` form one word, and that `k` words are exactly as large as
+-- the header. Then `header_way τ m k b o` is the right to convert uninitialized memory for the
+-- header into uninitialized memory for `k` words. The header is at the offset `o` of the allocation
+-- `b`.
 abbrev pub header_way : Ty → ℕ → ℕ → ℕ → ℕ → Fml
 header_way τ m k b o = fwand (header_room b o) (froom (ty_array (word_of τ m) k) b o)
 
--- `slots_way τ m w c b o` contains everything that is needed to convert the memory of `c` slots
--- into memory for `w` words. It consists of the rights `ways` to convert memory for items into
--- memory for words, and of the unused memory directly after the last slot. The first slot is at the
--- offset `o` of the allocation `b`.
+-- Suppose that `m` items of the type `τ` form one word. `slots_way τ m w c b o` contains everything
+-- that is needed to convert the memory of `c` slots into memory for `w` words. It consists of `w`
+-- rights and of the unused memory directly after the last slot. Each right allows the conversion of
+-- memory for `m` items into memory for one word. The first slot is at the offset `o` of the
+-- allocation `b`.
 abbrev pub slots_way : Ty → ℕ → ℕ → ℕ → ℕ → ℕ → Fml
 slots_way τ m w c b o = fsep (ways τ m w b o) (froom (ty_array τ (w * m - c)) b (o + c * size τ))
 

@@ -1,8 +1,8 @@
--- This file proves that the rule `power_bytes` satisfies the law of growth rules. It also proves
--- that blocks for items of at least one byte fill a power of two: if the rule chooses the capacity
--- `c`, then for some power of two `p`, there is room in `p` bytes for the header and `c` items, but
--- not for one more item. The proofs are in `specs` and not in `proofs`, because the impl of
--- `Growth` refers to the lemma `power_bytes_law`.
+-- This file proves that the rule `power_bytes` satisfies the law of growth rules. It also proves a
+-- statement about items of at least one byte. Suppose that `power_bytes` chooses the capacity `c`
+-- for such items. Then there is a power of two `p` such that the header and `c` items fit into `p`
+-- bytes, but the header and `c + 1` items do not. The proofs are in `specs` and not in `proofs`,
+-- because the impl of `Growth` refers to the lemma `power_bytes_law`.
 use Rattle.std.specs.Prelude.{◌≡◌, ℕ, zero, suc, ◌+◌, ◌-◌, ◌*◌, ◌/◌, ◌^◌, ◌<◌, ◌≤◌, ◌==◌, nat_le, Bool, true, false, IsTrue, if◌then◌else◌, max, refl}
 use Rattle.std.specs.declared.option.Option.TheVariants.{Some}
 use Rattle.std.specs.Int.{IsPowerOfTwo, IsNextPowerOfTwo}
@@ -23,9 +23,9 @@ below_power : (n : ℕ) → n < 2 ^ n
 below_power zero = omega arith
 below_power (suc n) = omega (arith, below_power n, pow_more 2 n)
 
--- Suppose that `p` is a power of two, that `p / 2 < max 1 n`, and that `b` is the result of the
--- test `n <= p`. Suppose also that if `p < n`, then `next` is the least power of two that is at
--- least `n`. Then `if b then p else next` is the least power of two that is at least `n`.
+-- Suppose that `p` is a power of two with `p / 2 < max 1 n`, and that `b` is the result of the test
+-- `n <= p`. If `p < n`, suppose also that `next` is the least power of two that is at least `n`.
+-- Then `if b then p else next` is the least power of two that is at least `n`.
 one_step : (b : Bool) (n p next : ℕ) → nat_le n p ≡ b → IsPowerOfTwo p → p / 2 < max 1 n
     → (p < n → IsNextPowerOfTwo n next) → IsNextPowerOfTwo n (if b then p else next)
 one_step true n p next e power half later = (power, leb-true n p e, half)
@@ -77,10 +77,10 @@ unfolding power_bytes
 powers_of_none s a c w none = let test : (s == 0) ≡ true = grind (arith, nat_tests) in rw test refl
 
 -- Suppose that the size `s` of an item is at least 1. Let `c` be the old capacity, and `w` the
--- required capacity. Then `power_bytes` computes the size that the header and `max w (2 * c)` items
--- take in total, and rounds it up to a power of two. It chooses the greatest number of items that
--- fit into this power of two together with the header. If this number is too large, the result is
--- `None`.
+-- required capacity. Then `power_bytes` computes the total size of the header and of
+-- `max w (2 * c)` items, and rounds it up to a power of two. It chooses the greatest number of
+-- items that fit into the rounded size together with the header. If this number is too large, the
+-- result is `None`.
 pub powers_of_some : (s a c w : ℕ) → 0 < s → power_bytes s a c w ≡ fitting s a
     ((least_power (items_offset a + max w (2 * c) * s) - items_offset a) / s)
 unfolding power_bytes
@@ -103,8 +103,7 @@ module _ (s a c w n : ℕ) (some : 0 < s) (e : power_bytes s a c w ≡ Some n) w
   named : IsTrue (fits s a ((power - items_offset a) / s)) × ((power - items_offset a) / s ≡ n)
   named = fitting_is s a ((power - items_offset a) / s) n (sym (powers_of_some s a c w some) ∙ e)
 
-  -- The memory of `power` bytes has room for the header and for `max w (2 * c)` items, which take
-  -- `wanted` bytes.
+  -- The header and `max w (2 * c)` items fit into `power` bytes. These items take `wanted` bytes.
   room : items_offset a + wanted ≤ power
   room = (least_power_is (items_offset a + wanted)).1
 
@@ -120,8 +119,8 @@ module _ (s a c w n : ℕ) (some : 0 < s) (e : power_bytes s a c w ≡ Some n) w
         fits = subst (λ (k : ℕ). IsTrue (fits s a k)) named.1 named.0;
       }
 
-  -- For the capacity `n` that `power_bytes` chooses, there is a power of two `p` such that `p`
-  -- bytes have room for the header and `n` items, but not for one more item.
+  -- For the capacity `n` that `power_bytes` chooses, there is a power of two `p` such that the
+  -- header and `n` items fit into `p` bytes, but the header and `n + 1` items do not.
   pub powers_filled : FillsPower s a n
   powers_filled =
       let parts = div-add-mod' (power - items_offset a) s in

@@ -1,5 +1,5 @@
--- This file defines functions on rows. A row is a list of slots, and each slot is empty or holds an
--- item, as in std's `[Option<T>]`.
+-- This file defines functions on rows. A row is a list of slots, like a Rust slice of the type
+-- `[Option<T>]`. Each slot is empty or contains an item.
 use Rattle.std.specs.Prelude.{◌≡◌, ℕ, ◌+◌, ◌-◌, ◌<◌, ◌≤◌, List, [], ◌∷◌, ◌++◌, IsSome, Option, length, map, replicate, slice_index_or, take, drop}
 use Rattle.std.specs.declared.option.Option.TheVariants.{Some, None}
 
@@ -56,6 +56,7 @@ module _ {T : Type 0} where
   emptied i k s = laid i (empty k) s
 
   -- `moved from to k s` is the row `s` after the contents of the slots `from..from + k` have been
-  -- moved to the slots `to..to + k`.
+  -- moved to the slots `to..to + k`. The slots of the first range that are not in the second range
+  -- are then empty.
   unfoldable pub moved : ℕ → ℕ → ℕ → List (Option T) → List (Option T)
   moved from to k s = laid to (run from k s) (emptied from k s)

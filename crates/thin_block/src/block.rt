@@ -115,8 +115,8 @@ impl<T, A: Allocator> Block<T, A> {
         }
     }
 
-    /// Sets the stored length to `len`, as `set_len` does, but does not test whether the block has
-    /// an allocation. The block must have one.
+    /// Sets the stored length to `len`. Unlike `set_len`, this function does not test whether the
+    /// block has an allocation. The block must have one.
     pub fn store_len(&mut self, len: usize)
         requires block { 0 < length self.old.slots }
         requires in_bounds { len ≤ length self.old.slots }

@@ -9,7 +9,7 @@ use std::io;
 use std::io::ErrorKind;
 use thiserror::Error;
 
-/// The reason why a call on a list failed.
+/// The reason why a call to a method of a list failed.
 #[derive(Debug, Clone, Copy, PartialEq, Eq, Error)]
 pub enum ThinVecError {
     /// The call needed a capacity that is too large. It did not request memory for this capacity.

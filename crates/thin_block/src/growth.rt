@@ -1,5 +1,6 @@
-//! Defines the trait `Growth`. A growth rule is an implementation of this trait, and chooses the
-//! new capacity of a list that grows. Each growth rule is defined in its own file in `growth/`.
+//! Defines the trait `Growth`. A growth rule is a type that implements this trait. When a list has
+//! to grow, its growth rule chooses the new capacity. Each growth rule is defined in its own file
+//! in `growth/`.
 ghost use Rattle.std.specs.Prelude.{◌≡◌, ◌<◌, ℕ, Option};
 ghost use Rattle.std.specs.Mem.{type_size};
 ghost use Rattle.std.specs.Align.{type_align};
@@ -10,8 +11,8 @@ use crate::sizes::fits;
 pub mod doubling;
 pub mod power_bytes;
 
-/// A growth rule, which chooses the new capacity of a list that needs more room. Calls that ask for
-/// an exact capacity, such as `reserve_exact`, do not use the rule.
+/// A growth rule. The rule chooses the new capacity of a list that needs more room. Calls that ask
+/// for an exact capacity, such as `reserve_exact`, do not use the rule.
 pub trait Growth {
     /// The growth rule as a function on numbers. Its arguments are the size and the alignment of an
     /// item in bytes, the old capacity, and the required capacity. The required capacity exceeds
@@ -24,9 +25,9 @@ pub trait Growth {
         requires { cap < want }
         ensures value { result ≡ rule (type_size T.row) (type_align T.row) cap want };
 
-    /// The law of growth rules: each capacity that the rule chooses has room for the wanted items,
-    /// is at least twice the old capacity, and is small enough that a block of this capacity can be
-    /// allocated.
+    /// The law of growth rules. It states that each capacity that the rule chooses is at least the
+    /// required capacity, is at least twice the old capacity, and is small enough that a block of
+    /// this capacity can be allocated.
     ghost law: { KeepsLaw rule };
 }
 

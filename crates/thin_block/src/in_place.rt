@@ -21,9 +21,10 @@ use std::alloc::{AllocError, Allocator};
 use std::marker::PhantomData;
 use std::mem::{ManuallyDrop, replace};
 
-// The minimum number of words of 8 bytes for resizing a block in place. If the items of a block
-// form at least `LONG` words, the allocator resizes the block, and may leave the items at their
-// address. If there are fewer words, allocating a new block is cheaper.
+// The minimum number of words of 8 bytes that the items of a block must form so that the block is
+// resized in place. If the items form at least `LONG` words, the allocator resizes the block, and
+// may leave the items at their address. If they form fewer words, allocating a new block is
+// cheaper.
 pub(crate) const LONG: usize = 32;
 
 // Resizes an allocation from `held` to `wanted` values of the type `T`. Calls `alloc.grow` if
@@ -53,8 +54,9 @@ impl<T, A: Allocator> Block<T, A> {
     ghost use Rattle.thin_block.specs.Block.{IsFrom, seen};
 
     // Resizes the block to `cap` slots, and may leave the items at their address. `M` items form a
-    // word, and the header is as large as `K` words. `len` must be a multiple of `M` and at least
-    // `K * M`. The call fails only if the allocator fails. In this case, the block is unchanged.
+    // word, and the header is as large as `K` words. `len` is the length of the block, and must be
+    // a multiple of `M` and at least `K * M`. The call fails only if the allocator fails. In this
+    // case, the block is unchanged.
     #[cold]
     pub(crate) fn remake_in_place<const M: usize, const K: usize>(
         &mut self,

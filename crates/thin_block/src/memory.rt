@@ -75,8 +75,9 @@ impl<T, A: Allocator> Block<T, A> {
         self.resize(alloc, cap)
     }
 
-    // Sets the ghost counters of this block to the counters of the block `from`, plus one request
-    // for memory and `from.len()` copied items. At run time, this function does nothing.
+    // Sets the ghost counters of this block to the counters of the block `from`, but adds 1 to the
+    // count of requests for memory, and `from.len()` to the count of copied items. At run time,
+    // this function does nothing.
     fn charge_as(&mut self, from: &Block<T, A>)
         ensures changes { seen self.new ≡ record (seen self.old) {
           cost = growing from.now.len from.now.cost;
@@ -213,8 +214,8 @@ impl<T, A: Allocator> Block<T, A> {
         }
     }
 
-    /// Consumes a block without slots, as `release` does, but does not test whether the block has
-    /// an allocation.
+    /// Consumes a block without slots. Unlike `release`, this function does not test whether the
+    /// block has an allocation.
     pub fn forget_none(self)
         requires none { self.slots ≡ [] }
     {

@@ -10,7 +10,7 @@ use crate::sizes::HEADER_WORDS;
 use core::slots::Slots;
 use std::alloc::Allocator;
 
-// The function `copied` copies items one by one if there are at most `FEW` items.
+// The greatest number of items that the function `copied` copies one by one.
 const FEW: usize = 16;
 
 impl<T, A: Allocator> Block<T, A> {

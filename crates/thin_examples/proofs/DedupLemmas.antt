@@ -22,9 +22,13 @@ module _ {S T : Type 0} (R : S → T → T → Bool → S → T → T → Type 0
 
   -- This lemma is one step in the proof that `Kept` describes the result of `dedup_by`. Suppose
   -- that the closure has changed the item `x` into `x'` and the last kept item `k` into `k'`, and
-  -- has returned `b`. If `b` is true, `x'` is removed. In this case, suppose that `Kept k' xs zs`
-  -- holds. Otherwise, `x'` is the new last kept item. In this case, suppose that `zs` is `k' ∷ ys`,
-  -- and that `Kept x' xs ys` holds. Then `Kept k (x ∷ xs) zs` holds.
+  -- has returned `b`. Suppose also that one of these statements is true:
+  --
+  -- - `b` is true, so `x'` is removed, and `Kept k' xs zs` holds.
+  -- - `b` is false, so `x'` is the new last kept item. The list `zs` is `k' ∷ ys`, and
+  --   `Kept x' xs ys` holds.
+  --
+  -- Then `Kept k (x ∷ xs) zs` holds.
   one : (b : Bool) (x k x' k' : T) (xs zs : List T) → b ≡ same (f x) k → x' ≡ f x → k' ≡ k
       → MatchBool b (Kept k' xs zs) ((ys : List T) × Kept x' xs ys × (zs ≡ k' ∷ ys))
       → Kept k (x ∷ xs) zs
@@ -37,9 +41,9 @@ module _ {S T : Type 0} (R : S → T → T → Bool → S → T → T → Type 0
       ∙ ap (λ c. cond c (dedup_from same k (map f xs)) (k ∷ dedup_from same (f x) (map f xs)))
       b-is)
 
-  -- Suppose that `k` is the last item that `dedup_by` has kept, and that `xs` are the items after
-  -- `k`. Let `zs` be the list that remains of `k` and these items when `dedup_by` returns. Then
-  -- `Kept k xs zs` holds: `zs` is the list `k ∷ map f xs` without repeated items.
+  -- Suppose that `k` is the last item that `dedup_by` has kept, that `xs` are the items after `k`,
+  -- and that `dedup_by` turns the list `k ∷ xs` into the list `zs`. Then `Kept k xs zs` holds: `zs`
+  -- is the list `k ∷ map f xs` without repeated items.
   kept_from : (xs : List T) (s : S) (k : T) (zs : List T) → DedupsFrom R s k xs zs → Kept k xs zs
   kept_from [] s k zs h = h
   kept_from (x ∷ xs) s k zs h =
@@ -53,10 +57,10 @@ module _ {S T : Type 0} (R : S → T → T → Bool → S → T → T → Type 0
         | false ↦ λ m. (m.0, kept_from xs h.1 h.2 m.0 m.1, m.2)
       ]) h.5)
 
-  -- Let `x` be the first item of the list `xs`. Suppose that the items of `v` are `xs`, except that
-  -- the first item is `f x` and not `x`. If `dedup_by` turns `v` into the list `w`, then the items
-  -- of `w` are `dedup same (map f xs)`. So the result is the same as if `f` had been applied to
-  -- every item before the call.
+  -- If the list `xs` is not empty, let `x` be its first item. Suppose that the items of `v` are
+  -- `xs`, except that the first item is `f x` and not `x`. If `dedup_by` turns `v` into the list
+  -- `w`, then the items of `w` are `dedup same (map f xs)`. So the result is the same as if `f` had
+  -- been applied to every item before the call.
   pub deduped_mapped : {A : Type 0} {s : S} {v w : Thin T A} (xs : List T) (x : T)
       → x ≡ slice_index_or xs 0 x → v.items ≡ slice_set xs 0 (f x) → IsDedupedBy R s v w
       → w.items ≡ dedup same (map f xs)

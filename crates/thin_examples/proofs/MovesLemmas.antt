@@ -10,8 +10,7 @@ use Rattle.thin_vec.specs.ThinVec.{Thin}
 module _ {S T : Type 0} (R : S → T → Bool → S → Type 0)
     (yes : (s : S) (x : T) (b : Bool) (t : S) → R s x b t → b ≡ true) where
   -- Suppose that the closure always returns true, and that `a` lists its decisions about the items
-  -- `xs`. Then `a` equals `stay xs`, which lists the decision to keep the item for each item of
-  -- `xs`.
+  -- `xs`. Then `a` equals `stay xs`, which is the list of decisions that keep all items of `xs`.
   all-stay : (s t : S) (xs : List T) (a : Verdicts T) → Asked (Looks R) s xs a t → a ≡ stay xs
   all-stay s t [] a h = h.0
   all-stay s t (x ∷ xs) a h =

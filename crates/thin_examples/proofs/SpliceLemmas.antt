@@ -1,5 +1,6 @@
--- After a splice, a list consists of its front, the new items and its tail. This file proves that
--- this statement remains true if the values in the statement are replaced with equal values.
+-- After a splice, a list consists of its front, the items of an iterator, and its tail. This file
+-- proves that this statement remains true if the front, the iterator and the tail are replaced with
+-- equal ones.
 use Rattle.std.proofs.Common.{Option, subst, ◌≡◌, List, ◌++◌}
 use Rattle.std.specs.Iterator.Runs.{WholeRun}
 use Rattle.std.specs.Prelude.{OnOk}
@@ -7,8 +8,8 @@ use Rattle.std.specs.declared.result.Result.{Result}
 
 -- Consider this statement: if the result `r` is `Ok`, then the list `items` consists of `front`,
 -- all items that the iterator `s` yields, and `tail`, in this order. Suppose that the statement is
--- true, and that `s`, `front` and `tail` equal `s'`, `front'` and `tail'`. Then the statement is
--- also true for `s'`, `front'` and `tail'`.
+-- true, and that `s`, `front` and `tail` equal `s'`, `front'` and `tail'`, respectively. Then the
+-- statement is also true for `s'`, `front'` and `tail'`.
 pub run_between : {S T X E : Type 0} (steps : S → Option T → S → Type 0) (r : Result X E)
     (items : List T) {s s' : S} {front front' tail tail' : List T} → s ≡ s' → front ≡ front'
     → tail ≡ tail' → OnOk r (WholeRun steps s (λ p. items ≡ (front ++ p.items) ++ tail))

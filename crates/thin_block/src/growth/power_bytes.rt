@@ -1,5 +1,6 @@
-//! Defines the growth rule `PowerBytes`, under which each block fills a number of bytes that is a
-//! power of two.
+//! Defines the growth rule `PowerBytes`. For items of at least one byte, this rule rounds the size
+//! of a block up to a power of two, and chooses the greatest capacity for which a block fits into
+//! this many bytes.
 ghost use Rattle.std.specs.Prelude.{◌≡◌, ◌+◌, ◌*◌, ◌^◌, ◌<◌, ◌≤◌, IfNone, IfSome};
 ghost use Rattle.std.specs.Mem.{type_size};
 ghost use Rattle.std.specs.Align.{type_align};
@@ -9,10 +10,10 @@ use crate::growth::doubling::Doubling;
 use crate::growth::{Growth, fitting};
 use crate::sizes::{HEADER, item_size};
 
-/// A growth rule under which each block fills a number of bytes that is a power of two. The rule
-/// computes the size of a block for the required number of items, or for twice the old capacity if
-/// that number is greater. It rounds this size up to a power of two. The new capacity is the
-/// greatest number of items that fit into this power of two together with the header. If an
+/// A growth rule that rounds the size of a block up to a power of two. First, the rule computes the
+/// size in bytes of a block for the required number of items, or for twice the old capacity if that
+/// number is greater. Then it rounds this size up to a power of two. The new capacity is the
+/// greatest number of items that fit into the rounded size together with the header. If an
 /// allocator rounds requests up to powers of two, a block then wastes less than the size of one
 /// item. For items of size 0, the rule is the same as `Doubling`.
 ///
@@ -25,9 +26,10 @@ impl Growth for PowerBytes {
 
     ghost rule = { power_bytes };
 
-    // Returns the capacity that the rule chooses, or `None` if this capacity is too large. If items
-    // take at least one byte, the chosen capacity `n` fills a power of two: for some power of two
-    // `p`, the header and `n` items fit into `p` bytes, but the header and `n + 1` items do not.
+    // Returns the capacity that the rule chooses, or `None` if this capacity is too large. Suppose
+    // that items take at least one byte, and that the chosen capacity is `n`. Then there is a power
+    // of two `p` such that the header and `n` items fit into `p` bytes, but the header and `n + 1`
+    // items do not.
     fn next_capacity<T>(cap: usize, want: usize) -> Option<usize>
         requires { cap < want }
         ensures value { result ≡ power_bytes (type_size T.row) (type_align T.row) cap want }

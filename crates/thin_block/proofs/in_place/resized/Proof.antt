@@ -139,10 +139,10 @@ module _ (E : El) (Y : Al) {M : Type 1} {𝓤 : Ura M} (𝓛 : Logic 𝓤) (at_m
       fjoin ! $ nothing ! $ fjoin ! $ join ! $ move ! (3 ∷ 4 ∷ []) $ join ! $
       move ! (3 ∷ 0 ∷ []) $ join ! $ join ! $ done !
 
-  -- `from Ev x k` is the condition that must hold at the end of each branch of the conditional. It
-  -- states that the postcondition will hold after the remaining statements of the function body
-  -- have run. These are all statements except the first `k` statements. `Ev` is the environment of
-  -- the local variables, and `x` is the address of the old block.
+  -- `from Ev x k` is the condition that must hold at the end of each branch of the `if` statement
+  -- in `resized`. It states that the postcondition will hold after the rest of the function body
+  -- has run. This rest consists of all statements of the body except the first `k` statements. `Ev`
+  -- is the environment of the local variables, and `x` is the address of the old block.
   abbrev from : Env 𝓤 H → Ptr → ℕ → After 𝓤 H
   from Ev x k = then_runs 𝓛 C Λ Ev (after k (here E Y).body) (at_ret Ev (Post x))
 

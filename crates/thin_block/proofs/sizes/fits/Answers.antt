@@ -54,10 +54,11 @@ pub overflow_sub-result-2 : goal.overflow_sub-result-2
 overflow_sub-result-2 g c = let about = rounded (param 0 g.row.T) 0 in
     let is = c.align_of_block.ensures.value in omega arith
 
--- Suppose that `align` is the alignment of a block for items of the type `R`. The code compares the
--- capacity `c` with the quotient `(2 ^ 63 - align - 16) / size`. The result is the same if
--- `block_align (type_align R)` replaces `align` in this quotient. The lemmas `divided` and
--- `dividing` of `SizesLemmas` are about the quotient with `block_align (type_align R)`.
+-- Suppose that `align` equals `block_align (type_align R)`, which is the alignment of a block for
+-- items of the type `R`. The code tests whether the capacity `c` is at most the quotient
+-- `(2 ^ 63 - align - 16) / size`. The test has the same result if `block_align (type_align R)`
+-- replaces `align` in this quotient. The lemmas `divided` and `dividing` of `SizesLemmas` are about
+-- the quotient after this replacement.
 same_limit : (R : RattleType) (c size align : ℕ) → align ≡ block_align (type_align R)
     → leb c ((2 ^ 63 - align - 16) / size) ≡ leb c
     ((2 ^ 63 - block_align (type_align R) - 16) / size)

@@ -112,8 +112,8 @@ module _ (E : El) (m : ℕ) where
   word_fits v fits = (both (has_ty (ty_array (layout E.row) m) v) _ fits.0 tt, (fits.1, (tt, tt)))
 
   -- Suppose that `v` is the machine value of an array of the items `xs`. Then the resources that
-  -- this array owns can be converted into the resources that the word of the items `xs` owns. The
-  -- machine value of this word is `word_val v`.
+  -- this array owns can be converted into the resources of one word. This word consists of the
+  -- items `xs`, and its machine value is `word_val v`.
   word_made : {M : Type 1} {𝓤 : Ura M} (𝓛 : Logic 𝓤) (xs : List (el_x E)) (v : Val)
       → ent 𝓤 (sem 𝓛 (Arr.own_val xs (v ∷ [])))
       (sem 𝓛 (Wr.own_val (word (R E) N xs) (word_val v ∷ [])))

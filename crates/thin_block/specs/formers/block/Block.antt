@@ -43,9 +43,9 @@ abbrev pub on_slot : {X Y : Type 0} → (X → Y) → Option X → Option Y
 on_slot h None = None
 on_slot h (Some x) = Some (h x)
 
--- This module defines the type former of slots. The type former `g` of items states which values of
--- a type `X` an item contains. From `g`, the module constructs the type former of slots, which
--- states which values of the type `X` a slot contains.
+-- The parameter `g` of this module is the type former of items: it states which values of a type
+-- `X` an item contains. From `g`, the module constructs the type former of slots, which states
+-- which values of the type `X` a slot contains.
 module _ (g : Former {0}) where
   -- `slot_count a n` is `n` plus the number of values in a slot of the shape `a`. The shape of a
   -- slot describes everything about the slot except for its values.
@@ -155,12 +155,12 @@ module _ {X Y Z : Type 0} (d : Block X Z) where
     sound = sound;
   }
 
-  -- If the list `ys` is as long as the list of slots of the block `d`, then `Fits ys` holds: the
-  -- block `d` may have the slots `ys`. The block `d` is a parameter of this module.
+  -- The block `d` is a parameter of this module. If the list `ys` is as long as the list of slots
+  -- of `d`, then `Fits ys` holds: `d` may have the slots `ys`.
   pub fits : (ys : List (Option Y)) → length ys ≡ length d.slots → Fits ys
   fits ys e = (let le = d.sound.0 in omega (arith, e, le), d.sound.1 ∙ sym (any_same d.slots ys e))
 
-  -- There is at most one proof that the block `d` of this module may have given slots. More
+  -- Any two proofs that the block `d` of this module may have the same slots are equal. More
   -- precisely, suppose that the lists `ys` and `zs` are equal. Then any proof `p` of `Fits ys`
   -- equals any proof `q` of `Fits zs`.
   pub Fits-along : (ys zs : List (Option Y)) (e : ys ≡ zs) (p : Fits ys) (q : Fits zs)
@@ -181,9 +181,9 @@ mapped h d = holding d (map (on_slot h) d.slots)
     (fits d (map (on_slot h) d.slots) (length-map d.slots (on_slot h)))
 
 module _ (g : Former {0}) (Z : Type 0) where
-  -- Suppose that a row of values is split into slots, and that `a` lists the shapes of these slots.
-  -- Then the number of these slots is the length of `a`. The shape of a slot describes everything
-  -- about the slot except for its values.
+  -- The shape of a slot describes everything about the slot except for its values. Suppose that
+  -- `list_get` splits the row `v` of values into a list of slots with the shapes `a`, and a row of
+  -- `n` values. Then the list of slots has as many slots as `a` has shapes.
   pub length_got : (X : Type 0) (a : List (Option g.Shape)) (n : Count)
       (v : Row X (list_count (slot g) a n)) → length (list_get (slot g) X a n v).0 ≡ length a
   length_got X [] n v = refl
@@ -252,9 +252,9 @@ module _ (g : Former {0}) (Z : Type 0) where
     get-map = got-map;
   }
 
--- `the_weighed` adds depths to the type former of blocks. It contains the function that computes
--- the depth of a block. The depth of a block is the depth of its deepest item, or 0 if the block
--- contains no items.
+-- The type former of blocks states which values a block contains. `the_weighed` adds depths to this
+-- type former. It contains the function `weight`, which computes the depth of a block. The depth of
+-- a block is the depth of its deepest item, or 0 if the block contains no items.
 abbrev pub the_weighed : {g : Former {0}} → Weighed g → (Z : Type 0) → Weighed (the_former g Z)
 the_weighed w Z = record {
   weight = λ X μ d. most (slot_weight w X μ) d.slots;
@@ -275,8 +275,8 @@ the_empty Z z = record {
   sound = (omega arith, refl);
 }
 
--- Under the type former `this`, the only value in an item is the item itself. So the values in the
--- slots `xs` are the items in these slots, in order.
+-- The type former `this` states that each item contains exactly one value, which is the item
+-- itself. So under `this`, the values in the slots `xs` are the items in these slots, in order.
 pub items_listed : (X : Type 0) (xs : List (Option X))
     → listed _ (children (list (slot this)) X xs) ≡ items_in xs
 items_listed X [] = refl
@@ -287,8 +287,8 @@ items_listed X (Some x ∷ xs) = ap (λ l. x ∷ l) (items_listed X xs)
 abbrev pub the_items : (Z X : Type 0) → Block X Z → List X
 the_items Z X d = items_in d.slots
 
--- Under the type former `this`, the only value in an item is the item itself. So the values in the
--- block `d` are the items of `d`, in order.
+-- The type former `this` states that each item contains exactly one value, which is the item
+-- itself. So under `this`, the values in the block `d` are the items of `d`, in order.
 pub the_items_listed : (Z X : Type 0) (d : Block X Z)
     → listed _ (children (the_former this Z) X d) ≡ the_items Z X d
 the_items_listed Z X d = items_listed X d.slots

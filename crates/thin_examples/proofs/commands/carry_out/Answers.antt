@@ -12,10 +12,11 @@ use Rattle.thin_runner.specs.declared.command.Command.{Command}
 use Rattle.thin_runner.specs.declared.command.Reply.{Reply}
 use Rattle.thin_examples.proofs.commands.carry_out.Goals as goal
 
--- Suppose that the commands turn the list `old` into the list `new`, and that every clone equals
--- its original. Suppose also that `result` is `Ok` only if no reply reports a failed call. Then, if
--- `result` is `Ok`, the items of `new` are `fold (items_after here) old.items commands`. This fold
--- applies the function `items_after here` once for each command, in order.
+-- Suppose that the commands turn the list `old` into the list `new`, that every clone equals its
+-- original, and that `seen` lists the replies to the commands. Suppose also that if `result` is
+-- `Ok`, no reply in `seen` reports a failed call. Under these assumptions, if `result` is `Ok`,
+-- then the items of `new` are `fold (items_after here) old.items commands`. This fold starts with
+-- the items of `old`, and applies the function `items_after here` once for each command, in order.
 carried : {T A G J E : Type 0} (here : Setting T A J) (old new : Thin T A)
     (commands : List (Command T A G)) (before after seen : List (Reply T A G))
     (result : Result (Unit {0}) E) → ClonesEqual here.clones → before ≡ [] → seen ≡ after

@@ -1,6 +1,6 @@
 -- The closure that `halve_each` passes to `dedup_by` halves the later of two numbers, and compares
--- the half with the last number that was kept. So the items of the list after the call are the
--- result of the spec function `dedup` for the list of all halves.
+-- the half with the last number that was kept. So after the call, the list contains the numbers
+-- that the spec function `dedup` keeps if it is applied to the list of all halves.
 use Rattle.std.proofs.Common.{◌/◌, refl, rules}
 use Rattle.std.specs.Prelude.{◌==◌}
 use Rattle.thin_examples.proofs.DedupLemmas.{deduped_mapped}

@@ -1,5 +1,5 @@
--- In the loop of `count`, the variable `count` is the number of items that have been yielded so
--- far.
+-- In the loop of `count`, the variable `count` is the number of items that the iterator over `list`
+-- has yielded so far.
 use Rattle.std.proofs.Common.{◌≡◌, length}
 use Rattle.thin_examples.proofs.walks.count.Given as goal
 

@@ -1,5 +1,5 @@
--- In the loop of `least`, the variable `least` is the minimum of `start` and all items that have
--- been yielded so far.
+-- In the loop of `least`, the variable `least` is the minimum of `start` and all items that the
+-- iterator over `list` has yielded so far.
 use Rattle.std.proofs.Common.{◌≡◌, min}
 use Rattle.std.specs.List.{fold}
 use Rattle.thin_examples.proofs.walks.least.Given as goal

@@ -1,5 +1,5 @@
--- In the loop of `reversed_singly`, the items of the `Vec` are the items that have been yielded so
--- far, in the same order.
+-- In the loop of `reversed_singly`, the items of the `Vec` are the items that the reversed iterator
+-- over `list` has yielded so far, in the same order.
 use Rattle.std.proofs.Common.{◌≡◌}
 use Rattle.thin_examples.proofs.walks.reversed_singly.Given as goal
 

@@ -72,9 +72,10 @@ module _ (R : RattleType) (L : RowLaws R) where
 module _ {M : Type 1} {𝓤 : Ura M} (𝓛 : Logic 𝓤) where
   open 𝓛 use {H, A}
 
-  -- Suppose that `t l` describes what is lent for the lifetime `l`, and that `t` satisfies the laws
-  -- of shared references (`ShrLaws`). The lifetime `[]` is `'static`, so `t []` describes what is
-  -- lent for the lifetime `'static`. Then an owner of `t []` can lend `t l` for every lifetime `l`.
+  -- Suppose that `t` satisfies the laws of shared references (`ShrLaws`), and that `t κ` is what a
+  -- shared reference lends for the lifetime `κ`. The lifetime `[]` is `'static`. Then a borrow of
+  -- `t []` for a lifetime `κ` can be converted into `t κ`, if lifetime tokens show that `κ` and `l`
+  -- have not ended.
   Lends-kept : (t : Lft → Fml) → ShrLaws t → (l : Lft) → Lends 𝓛 (t []) t l
   Lends-kept t L l κ ts inc sp =
       let P : Fml = t [] in

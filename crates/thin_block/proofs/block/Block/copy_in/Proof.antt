@@ -1,7 +1,7 @@
--- This file proves the contract of `copy_in`, which copies items into adjacent empty slots with the
--- help of core's type `Slots`. The proof separates these slots from the other slots, and joins all
--- slots again at the end. The proof assumes the laws of separation logic, which the type `Logic`
--- states.
+-- This file proves the contract of `copy_in`, which copies items into adjacent empty slots. The
+-- function calls methods of the type `Slots`, which Rattle's library `core` defines in the module
+-- `core::slots`. The proof separates these slots from the other slots, and joins all slots again at
+-- the end. The proof assumes the laws of separation logic, which the type `Logic` states.
 use Rattle.std.proofs.Common.{◌≡◌, ℕ, Some, None, false, ◌+◌, ◌*◌, ◌^◌, ◌<◌, ◌≤◌, List, ◌∷◌, [], ◌++◌, length, refl, sym, subst, ◌∙◌, arith, w64}
 use lib.ListN.{length-map, length-replicate, replicate}
 use mir.Syntax.{Fn, Args, ty_array, a_type, dcons, dnil, named}
@@ -127,11 +127,11 @@ copy_in_spec 𝓤 𝓛 𝓜 𝓡 wired T A LT LA copies gc dc g d dd metc met md
     let words : WT (row_val b here n) = (tt, (record { fits = fk }, tt)) in
     lands_as ! made.0 refl (tt, words) $
     sets ! (of_opd ! (get ! refl)) refl (tt, words) $
-    -- The call to `from_raw_parts` has converted the empty slots into a value of core's type
-    -- `Slots`. The proof context now contains, in this order: [the value of the type `Slots`; the
-    -- lifetime tokens of `T`, of the slice `items` and of `A`; the other slots; the header; the
-    -- memory that stores the block's pointer; the right to close the borrow of the block; two ghost
-    -- resources that record the value of the block; the slice `items`].
+    -- The call to `from_raw_parts` has converted the empty slots into a value of the type
+    -- `core::slots::Slots`. The proof context now contains, in this order: [the value of the type
+    -- `Slots`; the lifetime tokens of `T`, of the slice `items` and of `A`; the other slots; the
+    -- header; the memory that stores the block's pointer; the right to close the borrow of the
+    -- block; two ghost resources that record the value of the block; the slice `items`].
     move ! (2 ∷ 1 ∷ []) $ join ! $ move ! (1 ∷ 9 ∷ 0 ∷ []) $
     let Cp = Copied V gc dc 𝓛 𝓜.mem 𝓡.returns in
     let y₂ : Cp.Ghost = at_copied V gc dc 𝓛 𝓜.mem 𝓡.returns κ₁ κ₂ q₁ q₂
@@ -153,11 +153,11 @@ copy_in_spec 𝓤 𝓛 𝓜 𝓡 wired T A LT LA copies gc dc g d dd metc met md
     let copy = is_copy.2 in
     let fz : slots_len f < 2 ^ 64 = slots_small f in
     lands_as ! is_copy.0 refl (tt, (tt, (record { fits = fz }, tt))) $
-    -- The call to `copied` has copied the items into the value of core's type `Slots`. The proof
-    -- context now contains, in this order: [the value of the type `Slots`; the lifetime tokens of
-    -- the slice `items`, of `T` and of `A`; the other slots; the header; the memory that stores the
-    -- block's pointer; the right to close the borrow of the block; two ghost resources that record
-    -- the value of the block].
+    -- The call to `copied` has copied the items into the value of the type `core::slots::Slots`.
+    -- The proof context now contains, in this order: [the value of the type `Slots`; the lifetime
+    -- tokens of the slice `items`, of `T` and of `A`; the other slots; the header; the memory that
+    -- stores the block's pointer; the right to close the borrow of the block; two ghost resources
+    -- that record the value of the block].
     let y₃ = at_into V 𝓛 𝓜.mem 𝓡.returns κ₂ q₂ f b here in
     move ! (0 ∷ 2 ∷ []) $
     use2 𝓛 (raw ((Into V 𝓛 𝓜.mem 𝓡.returns).pre y₃))
@@ -172,11 +172,11 @@ copy_in_spec 𝓤 𝓛 𝓜 𝓡 wired T A LT LA copies gc dc g d dd metc met md
     lands_last ! refl (parts_typed v₃ b here (slots_len f) e₃ fz) $
     continues ! 𝓜 𝓡 fn l 2 ((walk_of 𝓛 En₀ hs c).post z) $
     sets ! (of_opd ! (unit_lit !)) refl (tt, tt) $
-    -- The call to `into_raw_parts` has converted the value of core's type `Slots` back into slots
-    -- of the block. The proof context now contains, in this order: [these slots; the lifetime
-    -- tokens of `T`, of the slice `items` and of `A`; the other slots; the header; the memory that
-    -- stores the block's pointer; the right to close the borrow of the block; two ghost resources
-    -- that record the value of the block].
+    -- The call to `into_raw_parts` has converted the value of the type `core::slots::Slots` back
+    -- into slots of the block. The proof context now contains, in this order: [these slots; the
+    -- lifetime tokens of `T`, of the slice `items` and of `A`; the other slots; the header; the
+    -- memory that stores the block's pointer; the right to close the borrow of the block; two ghost
+    -- resources that record the value of the block].
     let many : slots_len f ≡ n = copy.same.count ∙ made.1.1 in
     let flags : length (slots_filled f) ≡ n = sym (slots_counts f).1 ∙ many in
     let filled : Filled (slots_filled f) 0 n =

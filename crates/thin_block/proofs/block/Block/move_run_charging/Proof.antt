@@ -188,10 +188,10 @@ move_run_charging_spec 𝓤 𝓛 𝓜 𝓡 wired T A LT LA g d dd met md =
     lands_last ! refl (subst (λ (u : Val). Holds (has_ty ty_unit u) × WT u) (sym e) (tt, tt)) $
     exec ! 𝓣.C 𝓣.Λ En (after 3 fn.body) (at_ret En Post) $
     sets ! (of_opd ! (unit_lit !)) refl (tt, tt) $
-    -- The items have been copied to their new address. The proof context now contains, in this
-    -- order: [the items at their new address; the memory at their old address; the lifetime tokens
-    -- of `T` and `A`; the other slots of `self`; the other slots of `to_block`; the header, the
-    -- memory that stores the pointer, the right to close the borrow, and two ghost resources of
+    -- The function has copied the items to their new address. The proof context now contains, in
+    -- this order: [the items at their new address; the memory at their old address; the lifetime
+    -- tokens of `T` and `A`; the other slots of `self`; the other slots of `to_block`; the header,
+    -- the memory that stores the pointer, the right to close the borrow, and two ghost resources of
     -- `to_block`; the same five entries for `self`].
     let laid_to : List (Option T.Denot) = laid to (full xs) y.slots in
     let long_full : length (full xs) ≡ k = length-map xs Some ∙ long in

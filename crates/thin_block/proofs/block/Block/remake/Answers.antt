@@ -1,5 +1,5 @@
--- This file proves two facts about `remake`. The slots from which `remake` moves items are filled.
--- When `remake` frees the old block, all slots of this block are empty.
+-- This file proves two facts about `remake`. First, the slots from which `remake` moves items are
+-- filled. Second, when `remake` frees the old block, all slots of this block are empty.
 use Rattle.std.proofs.Common.{◌≡◌, ℕ, length, List, None, sym, ap, ◌∙◌, arith}
 use Rattle.std.specs.Prelude.{Option}
 use Rattle.std.proofs.lemmas.List.{length-replicate}

@@ -4,7 +4,8 @@
 use Rattle.thin_block.specs.Cost.{growing}
 use Rattle.thin_block.proofs.block.Block.remake.Given as goal
 
--- The ghost argument for `move_run_charging` is the recorded cost of the old block (requests for
--- memory, copied items and moves), plus one request for memory and one copy of each item.
+-- The ghost argument for `move_run_charging` is the recorded cost of the old block, plus one
+-- request for memory and one copied item for each item of the block. A cost consists of the counts
+-- of requests for memory, copied items and moves.
 abbrev pub ghost-move_run_charging : goal.ghost-move_run_charging
 ghost-move_run_charging g a = growing a.k a.self.now.cost

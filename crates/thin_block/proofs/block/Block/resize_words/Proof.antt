@@ -82,8 +82,8 @@ resize_words_spec 𝓤 𝓛 𝓜 𝓡 wired T A m k LT LA fits_m fits_k g d dd m
     let H = 𝓛.H in
     let E : El = record { row = T; laws = LT } in
     let W : El = word_el T LT m in
-    -- `X` describes the type of words, including the memory layout of a word. It is the type
-    -- argument of the call to `resized`.
+    -- `X` is the type of a word, together with its memory layout. The function calls `resized` with
+    -- `X` as the type argument.
     let X : RattleType = arg (word_of (layout T) m) yes W.row in
     let EX : El = record {
       row = X;
@@ -236,10 +236,10 @@ resize_words_spec 𝓤 𝓛 𝓜 𝓡 wired T A m k LT LA fits_m fits_k g d dd m
     (words_in 𝓛 T LT m k b hd items count j v w old (o + 16) whole_words slots_are fill
     (hd.counts.covers old)) $ split ! $ move ! (4 ∷ []) $ fsplit ! $ fsplit ! $ drop ! $
     keep ! (2 ∷ 3 ∷ 4 ∷ 5 ∷ 0 ∷ 9 ∷ 10 ∷ 6 ∷ 7 ∷ 8 ∷ []) $
-    -- The proof has converted the slots into items and empty words. The proof context now contains,
-    -- in this order: [the items; the empty words; memory for the header; the right to free the
-    -- block; the shared reference to the allocator; the lifetime tokens of this reference and of
-    -- `T`, `A`, `M` and `K`].
+    -- The proof has split the slots into two parts: the items, and empty words. An empty word is
+    -- uninitialized memory for one word. The proof context now contains, in this order: [the items;
+    -- the empty words; memory for the header; the right to free the block; the shared reference to
+    -- the allocator; the lifetime tokens of this reference and of `T`, `A`, `M` and `K`].
     regoal ! (λ (us : List Val). prop (WpFn 𝓤 H C Λ fn us Post))
     (λ i. told i ++ (are.1.0.0 i ++ (are.1.1.0.0 i ++ (are.1.1.1.0.0 i ++ (are.1.1.1.1.0.0 i
     ++ (are.1.1.1.1.1.0.0 i ++ (are.1.1.1.1.1.1.0.0 i ++ (are.1.1.1.1.1.1.1.0.0 i ++ []))))))))

@@ -1,5 +1,5 @@
--- This file proves that after a successful call to `shrink`, the block has its first `cap` slots,
--- and no other slots.
+-- This file proves that a successful call to `shrink` keeps the first `cap` slots of the block, and
+-- removes all other slots.
 use Rattle.std.proofs.Common.{arith}
 use denote.Param.{param}
 use Rattle.thin_block.proofs.BlockLemmas.{slots-are}

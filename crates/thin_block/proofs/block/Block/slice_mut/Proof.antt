@@ -111,8 +111,8 @@ slice_mut_spec 𝓤 𝓛 𝓜 𝓡 wired T A LT LA g d dd met md =
     await ! tt $ pick ! (λ γ'. split3 ! $ returns ! (look_at ! 0 refl) $ free_all ! refl $
     -- The function has lent the items, and is about to return. The proof context now contains, in
     -- this order: [the `&mut` to the items; the lifetime token of this `&mut`; a resource which
-    -- states that the block will contain the final items of this `&mut` when the borrow ends; the
-    -- other lifetime tokens].
+    -- states that, when the borrow ends, the block will contain the items that the slice has at
+    -- that time; the other lifetime tokens].
     rewrite ! 0 (λ (n : ℕ). ‵
     ((MutSlice (named 0) κ (R E)).own_val
     (record { ref_ptr = (b, here); ghost_name = γ'; now = xs }) (slice_val (b, here) n ∷ [])))

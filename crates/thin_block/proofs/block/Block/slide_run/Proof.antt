@@ -1,8 +1,9 @@
 -- This file proves the contract of `slide_run`, which calls `slide` to move adjacent items up or
--- down within a block. If the items move by `d` slots, then the `d` slots next to them in this
--- direction are empty. The proof separates the items and these empty slots from the other slots,
--- and joins all slots again at the end. The proof assumes the laws of separation logic, which the
--- type `Logic` states.
+-- down within a block. If the items are moved up by `d` slots, then the `d` slots directly above
+-- the items are empty before the call. If the items are moved down by `d` slots, then the `d` slots
+-- directly below the items are empty before the call. The proof separates the items and these empty
+-- slots from the other slots, and joins all slots again at the end. The proof assumes the laws of
+-- separation logic, which the type `Logic` states.
 use Rattle.std.proofs.Common.{◌≡◌, ℕ, Some, ◌+◌, ◌*◌, ◌^◌, ◌<◌, ◌≤◌, List, ◌∷◌, [], ◌++◌, length, refl, sym, ap, subst, ◌∙◌, arith, w64}
 use lib.ListN.{length-map}
 use lib.Dec.{T as Holds}

@@ -74,8 +74,8 @@ slot_mut_spec 𝓤 𝓛 𝓜 𝓡 wired T A LT LA g d dd met md =
     await ! tt $ pick ! (λ γ'. split3 ! $ returns ! (look_at ! 0 refl) $ free_all ! refl $
     -- The function has lent the item, and is about to return. The proof context now contains, in
     -- this order: [the `&mut` to the item; the lifetime token of this `&mut`; a resource which
-    -- states that slot `i` of the block will contain the final value of this `&mut` when the borrow
-    -- ends; the other lifetime tokens].
+    -- states that, when the borrow ends, slot `i` of the block will contain the value that the item
+    -- has at that time; the other lifetime tokens].
     use0 𝓛 (raw (fact 𝓤 (get_or x.slots i None ≡ Some value)))
     (fact_i 𝓤 (get_or x.slots i None ≡ Some value) (emp 𝓤) item.1) $
     move ! (3 ∷ 0 ∷ []) $ join ! $

@@ -93,12 +93,12 @@ swap_spec 𝓤 𝓛 𝓜 𝓡 wired T A LT LA g d dd met md =
           says_all ! (_ ∷ []) refl $ done !)
       | inl same ↦
           takes_item E ! b (o + 16) x.slots i low one.1 (λ v good.
-          -- In this case, the slots `i` and `j` are the same slot. The proof has separated this
-          -- slot from the other slots. The proof context now contains, in this order: [the bytes of
-          -- the item; the resources that the item owns; the other slots; the header; the memory
-          -- that stores the block's pointer; the right to close the borrow of the block, together
-          -- with the lifetime token of this borrow; two ghost resources that record the value of
-          -- the block; the other lifetime tokens].
+          -- This part of the proof is about the case in which the slots `i` and `j` are the same
+          -- slot. The proof has separated this slot from the other slots. The proof context now
+          -- contains, in this order: [the bytes of the item; the resources that the item owns; the
+          -- other slots; the header; the memory that stores the block's pointer; the right to close
+          -- the borrow of the block, together with the lifetime token of this borrow; two ghost
+          -- resources that record the value of the block; the other lifetime tokens].
           let Bits = λ (k : ℕ). ‵ (fat full_share (layout T) b (k * sz E + (o + 16)) v) in
           sets ! (of_opd ! (load ! (through ! refl (stop !)) (look ! 0 refl))) refl good $
           rewrite ! 0 Bits same refl $

@@ -1,6 +1,6 @@
 -- This file proves the contract of `take_replacing`, which takes the item out of slot `i` and moves
--- the item in slot `j` into slot `i`. Up to the first write, the proof is the same as the proof for
--- `swap`. After that, it is the same as the proof for `take`, applied to slot `j`. The proof
+-- the item in slot `j` into slot `i`. Up to the first write, the proof is the same as the proof of
+-- `swap`. After the first write, it is the same as the proof of `take` for slot `j`. The proof
 -- assumes the laws of separation logic, which the type `Logic` states.
 use Rattle.std.proofs.Common.{◌≡◌, ℕ, Some, None, ◌+◌, ◌*◌, ◌<◌, List, ◌∷◌, [], ◌++◌, length, refl, sym, ap, ◌∙◌, arith, w64}
 use lib.ListN.{set, length-set}
@@ -102,12 +102,12 @@ take_replacing_spec 𝓤 𝓛 𝓜 𝓡 wired T A LT LA g d dd met md =
           says_all ! (_ ∷ _ ∷ []) (one.1, refl) $ done !)
       | inl same ↦
           takes_item E ! b (o + 16) x.slots i low one.1 (λ v good.
-          -- In this case, the slots `i` and `j` are the same slot. The proof has separated this
-          -- slot from the other slots. The proof context now contains, in this order: [the bytes of
-          -- the item; the resources that the item owns; the other slots; the header; the memory
-          -- that stores the block's pointer; the right to close the borrow of the block, together
-          -- with the lifetime token of this borrow; two ghost resources that record the value of
-          -- the block; the other lifetime tokens].
+          -- This part of the proof is about the case in which the slots `i` and `j` are the same
+          -- slot. The proof has separated this slot from the other slots. The proof context now
+          -- contains, in this order: [the bytes of the item; the resources that the item owns; the
+          -- other slots; the header; the memory that stores the block's pointer; the right to close
+          -- the borrow of the block, together with the lifetime token of this borrow; two ghost
+          -- resources that record the value of the block; the other lifetime tokens].
           let Bits = λ (k : ℕ). ‵ (fat full_share (layout T) b (k * sz E + (o + 16)) v) in
           sets ! (of_opd ! (load ! (through ! refl (stop !)) (look ! 0 refl))) refl good $
           rewrite ! 0 Bits same refl $

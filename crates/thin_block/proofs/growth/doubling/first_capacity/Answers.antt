@@ -1,5 +1,6 @@
--- This file proves the contract of `first_capacity`. The code caps the item size at `usize::MAX`
--- before it compares the size with a bound. The capped size exceeds the bound if and only if the
+-- This file proves the contract of `first_capacity`. The function returns 1 if the size of an item
+-- exceeds the bound `usize::MAX / 8`, and 4 otherwise. The code caps the size at `usize::MAX`
+-- before it compares the size with this bound. The capped size exceeds the bound if and only if the
 -- real size exceeds the bound.
 use Rattle.std.proofs.Common.{arith}
 use Rattle.std.specs.Mem.{type_size}
