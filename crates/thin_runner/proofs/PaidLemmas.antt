@@ -1,8 +1,5 @@
--- A command is a value that describes a call to a method of a list. A list is cheap (`IsCheap`) if
--- few items were copied, and memory was requested rarely, while the list grew. These lemmas are
--- about a sequence of commands that contains neither `ReserveExact` nor `ShrinkToFit`. If a list is
--- cheap before these commands, then it is also cheap after them. The number of items that growth
--- copies during these commands is at most the increase of the capacity.
+-- Lemmas about the commands other than `ReserveExact` and `ShrinkToFit`. A cheap list (`IsCheap`)
+-- stays cheap, and the number of items that growth copies is at most the increase of the capacity.
 use Rattle.std.proofs.Common.{◌≡◌, ℕ, suc, ◌+◌, ◌-◌, ◌^◌, ◌<◌, ◌≤◌, List, [], ◌∷◌, ◌++◌, Some, None, length, arith, ap, sym, subst, ◌∙◌, refl, inl, inr}
 use Rattle.std.proofs.lemmas.Bool.{cases_lt}
 use Rattle.std.proofs.lemmas.List.{length-append, length-set, length_push, length-drop, length-take}
@@ -31,10 +28,8 @@ use Rattle.thin_runner.specs.declared.command.Command.TheVariants.{Push, Pop, In
 use Rattle.thin_runner.specs.declared.command.Reply.{Reply}
 use Rattle.thin_runner.specs.declared.command.Reply.TheVariants.{Answers, Done, Item, List as Made, Other, Returned, Refused, Stopped, OutOfRange}
 
--- `IsCheapAt c k` holds if a list of capacity `c` and cost `k` is cheap. This depends on only two
--- of the numbers in the cost `k`: the number of requests for memory (`blocks`), and the number of
--- items that growth copied (`grown`). So if `IsCheapAt c k` holds, and these two numbers are the
--- same in the cost `k'` as in `k`, then `IsCheapAt c k'` also holds.
+-- `IsCheapAt c k` depends only on `k.blocks` and `k.grown`. If `k'` has the same two numbers, then
+-- `IsCheapAt c k` implies `IsCheapAt c k'`.
 cheap-same : (c : ℕ) (k k' : Cost) → k'.blocks ≡ k.blocks → k'.grown ≡ k.grown
     → IsCheapAt c k → IsCheapAt c k'
 cheap-same c k k' blocks grown h = record {
@@ -46,9 +41,8 @@ cheap-same c k k' blocks grown h = record {
       omega (arith, same, b);
 }
 
--- `IsPaid v w` states three facts about a list that was `v` before some calls and is `w` after
--- them. First, if `v` is cheap (`IsCheap`), then `w` is also cheap. Second, the number of items
--- that growth copied is at most the increase of the capacity. Third, the items of `w` fit into its
+-- `IsPaid v w` states three facts about a list that was `v` and is now `w`. A cheap list is still
+-- cheap, growth copied at most `w.capacity - v.capacity` items, and the items of `w` fit into its
 -- capacity.
 pub record IsPaid {T A : Type 0} (v w : Thin T A) : Type 0 where
   pub cheap : IsCheap v → IsCheap w
@@ -56,13 +50,11 @@ pub record IsPaid {T A : Type 0} (v w : Thin T A) : Type 0 where
   pub room : length w.items ≤ w.capacity
 
 module _ {T A : Type 0} where
-  -- `IsPaid v v` holds if the items of `v` fit into its capacity. So a list that does not change
-  -- satisfies `IsPaid`.
+  -- `IsPaid v v` holds if the items of `v` fit into its capacity.
   pub none-paid : (v : Thin T A) → length v.items ≤ v.capacity → IsPaid v v
   none-paid v room = record { cheap = λ c. c; copied = omega arith; room = room }
 
-  -- `IsPaid v w` bounds the cost of turning the list `v` into the list `w`. If `IsPaid v u` and
-  -- `IsPaid u w` hold, then `IsPaid v w` also holds.
+  -- `IsPaid` is transitive: if `IsPaid v u` and `IsPaid u w` hold, then `IsPaid v w` holds.
   pub join-paid : {v u w : Thin T A} → IsPaid v u → IsPaid u w → IsPaid v w
   join-paid p q = record {
     cheap = λ c. q.cheap (p.cheap c);
@@ -71,17 +63,12 @@ module _ {T A : Type 0} where
   }
 
 module _ {T A : Type 0} (v w : Thin T A) (room : length v.items ≤ v.capacity) where
-  -- `IsPaid v w` bounds the cost of a call that turns the list `v` into `w`. Suppose that the call
-  -- does not change the list, so that `w` equals `v`. If the items of `v` fit into its capacity,
-  -- then `IsPaid v w` holds.
+  -- If `w` equals `v`, and the items of `v` fit into its capacity, then `IsPaid v w` holds.
   same-paid : w ≡ v → IsPaid v w
   same-paid e = subst (IsPaid v) (sym e) (none-paid v room)
 
-  -- `IsPaid v w` bounds the cost of a call that turns the list `v` into `w`. Suppose that the call
-  -- does not grow the list. More exactly, `w` equals a list `u` that has the same capacity as `v`,
-  -- and at most as many items. Suppose also that the cost of `u` contains the same two numbers as
-  -- the cost of `v`: the number of requests for memory (`blocks`), and the number of items that
-  -- growth copied (`grown`). If the items of `v` fit into its capacity, then `IsPaid v w` holds.
+  -- If `w` equals a list `u` with the capacity, the `blocks` and the `grown` of `v`, and `u` has at
+  -- most as many items as `v`, then `IsPaid v w` holds.
   kept-paid : (u : Thin T A) → w ≡ u → u.capacity ≡ v.capacity
       → u.cost.blocks ≡ v.cost.blocks → u.cost.grown ≡ v.cost.grown
       → length u.items ≤ length v.items → IsPaid v w
@@ -96,12 +83,8 @@ module _ {T A : Type 0} (v w : Thin T A) (room : length v.items ≤ v.capacity) 
 
 module _ {T A J : Type 0} (here : Setting T A J) (law : KeepsLaw here.rule) (v w : Thin T A)
     (room : length v.items ≤ v.capacity) where
-  -- `IsPaid v w` bounds the cost of a call that turns the list `v` into `w`. Suppose that the call
-  -- reserves room for `n` more items, so that `capacity_for` gives the capacity of `w`. Suppose
-  -- also that `w` equals a list `u` that has at most `n` items more than `v`, and that the numbers
-  -- `blocks` and `grown` in the cost of `u` equal those in `cost_at v w.capacity`.
-  -- (`cost_at v w.capacity` is the cost of the list `v` after its capacity was changed to
-  -- `w.capacity`.) If the items of `v` fit into its capacity, then `IsPaid v w` holds.
+  -- If the items of `v` fit into its capacity, and a call reserves room for `n` more items and adds
+  -- at most `n`, then `IsPaid v w` holds for the resulting list `w`.
   ruled-paid : (u : Thin T A) (n : ℕ) → capacity_for here.rule here.R v n ≡ Some w.capacity
       → w ≡ u → u.cost.blocks ≡ (cost_at v w.capacity).blocks
       → u.cost.grown ≡ (cost_at v w.capacity).grown
@@ -124,11 +107,8 @@ module _ {T A J : Type 0} (here : Setting T A J) (law : KeepsLaw here.rule) (v w
         ];
       }
 
-  -- `IsPaid v w` bounds the cost of a call that turns the list `v` into `w`. Suppose that the call
-  -- fails with `cause`. The call needs room for `n` more items, and clones the items `sources`. It
-  -- fails if it cannot make room, or if cloning one of these items fails. In the second case, the
-  -- list may have grown before the failure. In both cases, `IsPaid v w` holds if the items of `v`
-  -- fit into its capacity.
+  -- If the items of `v` fit into its capacity, and a call that clones items fails and turns `v`
+  -- into `w`, then `IsPaid v w` holds. The list may have grown before the failure.
   refused-paid : (n : ℕ) (sources : List T) (cause : ThinVecError)
       → RefusesClone here v n sources cause w → IsPaid v w
   refused-paid n sources cause r = stopped r.2
@@ -139,9 +119,8 @@ module _ {T A J : Type 0} (here : Setting T A J) (law : KeepsLaw here.rule) (v w
       stopped (inl e) = same-paid v w room e
       stopped (inr s) = ruled-paid _ n s.3.0 s.3.1 refl refl (omega arith)
 
--- Each lemma of this module bounds the number of items after a change of a list. For example,
--- `few-take` is about the first `k` items of a list, and `all-more` is about two lists that are
--- joined.
+-- Each lemma of this module bounds the length of a list after a change, such as the length of
+-- `take k xs`.
 module _ {T : Type 0} where
   few-swap_remove : (xs : List T) (i : ℕ) (x : T) → length (swap_remove xs i x) ≤ length xs
   few-swap_remove xs i x =
@@ -185,9 +164,8 @@ module _ {T : Type 0} where
       omega (arith, ap length a.1, length-append xs a.0, count)
 
 module _ {T A G J : Type 0} (here : Setting T A J) (law : KeepsLaw here.rule) where
-  -- `IsPaid v w` bounds the cost of a command that turns the list `v` into `w`. If the command is
-  -- neither `ReserveExact` nor `ShrinkToFit`, and the items of `v` fit into its capacity, then
-  -- `IsPaid v w` holds.
+  -- If a command other than `ReserveExact` and `ShrinkToFit` turns the list `v` into `w`, and the
+  -- items of `v` fit into its capacity, then `IsPaid v w` holds.
   pub step-paid : (v w : Thin T A) (command : Command T A G) (reply : Reply T A G)
       → KeepsCheap command → length v.items ≤ v.capacity → Steps here v command reply w
       → IsPaid v w
@@ -268,9 +246,8 @@ module _ {T A G J : Type 0} (here : Setting T A J) (law : KeepsLaw here.rule) wh
   step-paid v w (Splice i j steps xs lower) (Refused cause) keeps room s = same-paid v w room s.1.2
   step-paid v w command reply keeps room s = absurd s.1
 
-  -- A run is a sequence of commands with their replies. `IsPaid v w` bounds the cost of a run that
-  -- turns the list `v` into `w`. Suppose that the run contains neither `ReserveExact` nor
-  -- `ShrinkToFit`. If the items of `v` fit into its capacity, then `IsPaid v w` holds.
+  -- If a run without `ReserveExact` and `ShrinkToFit` turns the list `v` into `w`, and the items of
+  -- `v` fit into its capacity, then `IsPaid v w` holds.
   pub runs-paid : (v w : Thin T A) (commands : List (Command T A G)) (replies : List (Reply T A G))
       → All KeepsCheap commands → length v.items ≤ v.capacity → Runs here v commands replies w
       → IsPaid v w

@@ -1,7 +1,5 @@
--- A run is a sequence of commands with their replies. Suppose that each clone equals its source,
--- and that no command of a run fails. Then two functions on plain lists of items predict the run.
--- For each command, `items_after` computes the items after the command, and `reply_to` computes the
--- reply.
+-- If each clone equals its source, and no command of a run fails, then `items_after` and `reply_to`
+-- compute the items and the replies of the run.
 use Rattle.std.proofs.Common.{◌≡◌, ℕ, ◌+◌, ◌-◌, ◌&&◌, ◌<◌, ◌≤◌, ◌↔◌, List, [], ◌∷◌, ◌++◌, All, Decides, IsSome, Option, Some, None, length, map, take, drop, true, arith, ap, nat_le, refl, slice_get, sym, take_all, ◌∙◌, inl, inr, append_assoc, length-append}
 use Rattle.std.proofs.lemmas.Bool.{and_from, and_parts, cases_lt, cond-false, cond-true, false_from_ne_true, false≢true, le-leb, leb-true, lt-ltb, ltb-true}
 use Rattle.std.proofs.lemmas.List.{append-nil, replicate-append-replicate}
@@ -29,9 +27,8 @@ use Rattle.thin_runner.proofs.JudgedLemmas.{dedup-pairs}
 use Rattle.thin_runner.proofs.WalkLemmas.{last-of}
 use Rattle.thin_runner.proofs.WeakerClonesLemmas.{zip-weaker}
 
--- `Some x ≡ None` is false, so it implies every statement `B`. The proofs use this lemma for the
--- reply to a failed call, which contains a cause of failure `x`. If no call failed, there is no
--- such reply.
+-- `Some x ≡ None` is false, so it implies every statement `B`. The proofs use this lemma to exclude
+-- the replies of failed calls.
 refused : {X B : Type 0} (x : X) → Some x ≡ None → B
 refused x e = cc
 
@@ -45,8 +42,6 @@ range-decides a b n = (
 )
 
 module _ {T A G : Type 0} where
-  -- `IsInRange xs command` holds if the index or the range of `command` is in bounds for the items
-  -- `xs`, or if `command` has neither. The Boolean function `in_range` tests this:
   -- `in_range xs command` is true if and only if `IsInRange xs command` holds.
   in_range-decides : (xs : List T) (command : Command T A G)
       → Decides (in_range xs command) (IsInRange xs command)
@@ -61,9 +56,8 @@ module _ {T A G : Type 0} where
   in_range-decides xs command = ((λ e. tt), (λ e. refl))
 
 module _ {T : Type 0} where
-  -- If a call to `pop` turns the list `xs` into `ys` and returns `o`, then `o` is the last item of
-  -- `xs`, and `ys` contains the items before the last one. If `xs` is empty, then `o` is `None`,
-  -- and `ys` is empty, too.
+  -- If `pop` turns the list `xs` into `ys` and returns `o`, then `o` is the last item of `xs`, and
+  -- `ys` is `xs` without it. If `xs` is empty, `o` is `None`.
   popped : (xs ys : List T) (o : Option T) → (IsSome o ↔ (0 < length xs))
       → xs ≡ ys ++ option_to_list o
       → (o ≡ slice_get xs (length xs - 1)) × (ys ≡ take (length xs - 1) xs)
@@ -78,15 +72,15 @@ module _ {T : Type 0} where
   popped [] ys None some e = (refl, sym (e ∙ append-nil ys))
   popped (x ∷ xs) ys None some e = absurd (false≢true (some.1 (omega arith)))
 
-  -- Suppose that each clone equals its source. If the items of `ys` are clones of the items of
-  -- `xs`, in order, then `ys` equals `xs`.
+  -- If each clone equals its source, and the items of `ys` are clones of the items of `xs`, in
+  -- order, then `ys` equals `xs`.
   zip-equal : {clones : T → T → Type 0} → ClonesEqual clones → (xs ys : List T)
       → AllZip clones xs ys → ys ≡ xs
   zip-equal {clones} equal xs ys z =
       each_same xs ys (zip-weaker clones (λ x y. y ≡ x) equal xs ys z)
 
-  -- Suppose that each clone equals its source. If each item of `ys` is a clone of `x`, then each
-  -- item of `ys` equals `x`.
+  -- If each clone equals its source, and each item of `ys` is a clone of `x`, then each item of
+  -- `ys` equals `x`.
   each-equal : {clones : T → T → Type 0} → ClonesEqual clones → (x : T) (ys : List T)
       → AllByRecursion (clones x) ys → ys ≡ replicate (length ys) x
   each-equal equal x [] e = refl
@@ -120,10 +114,8 @@ module _ {T : Type 0} where
       ap (λ (t : List T). (t ++ ys) ++ drop (length xs) xs) (take-length xs)
       ∙ (ap (λ (t : List T). (xs ++ ys) ++ t) (drop-length xs) ∙ append-nil (xs ++ ys))
 
-  -- Suppose that a command tests only the items `a..b` of the list `xs`, and removes some of them.
-  -- The list `verdicts` says which of the tested items are kept. Then the list after the command
-  -- contains the items of `xs` before the index `a`, the kept items, and the items of `xs` from the
-  -- index `b` on.
+  -- If only the items `a..b` of the list `xs` are tested, then the result is `take a xs`, the kept
+  -- items of the range, and `drop b xs`, in this order.
   left-around : (xs : List T) (a b : ℕ) (verdicts : Verdicts T)
       → left_at true (around xs a b verdicts) ≡ replace_range xs a b (left_at true verdicts)
   left-around xs a b verdicts =
@@ -135,10 +127,8 @@ module _ {T : Type 0} where
       ∙ ((λ i. before ++ (kept ++ left_at-stay after i)) ∙ sym (append_assoc before kept after)))
 
 module _ {T A G J : Type 0} (here : Setting T A J) (equal : ClonesEqual here.clones) where
-  -- Suppose that each clone equals its source. Suppose also that `command` turns the list `v` into
-  -- `w` and does not fail, and that its index or range is in bounds. Then, from `command` and the
-  -- items of `v`, the function `granted` computes `seen reply` and the items of `w`. Here,
-  -- `seen reply` is the part of the reply that the main theorem determines.
+  -- If each clone equals its source, and a command is in bounds and does not fail, then `granted`
+  -- computes the items after the command and the reply, as the value `seen reply`.
   does-granted : (v w : Thin T A) (command : Command T A G) (reply : Reply T A G)
       → IsGranted reply → Does here v command reply w
       → (seen reply, w.items) ≡ granted here v.items command
@@ -198,11 +188,8 @@ module _ {T A G J : Type 0} (here : Setting T A J) (equal : ClonesEqual here.clo
       λ j. (yields (d.0 j), d.1.items j)
   does-granted v w command reply ok d = absurd d
 
-  -- Suppose that each clone equals its source, and that `command` turns the list `v` into `w` and
-  -- does not fail. Then, from `command` and the items of `v`, the function `plain_step` computes
-  -- `seen reply` and the items of `w`. Here, `seen reply` is the part of the reply that the main
-  -- theorem determines. (A command whose index or range is out of bounds does not fail. Its reply
-  -- is `OutOfRange`.)
+  -- If each clone equals its source, and a command does not fail, then `plain_step` computes the
+  -- items after the command and the reply, as the value `seen reply`.
   step-plain : (v w : Thin T A) (command : Command T A G) (reply : Reply T A G)
       → IsGranted reply → Steps here v command reply w
       → (seen reply, w.items) ≡ plain_step here v.items command
@@ -218,12 +205,8 @@ module _ {T A G J : Type 0} (here : Setting T A J) (equal : ClonesEqual here.clo
       ∙ sym (cond-true (in_range v.items command) (granted here v.items command)
       (says (OutOfRange command), v.items) inside)
 
-  -- A run is a sequence of commands with their replies. Suppose that each clone equals its source,
-  -- and that no command of a run fails. Then two functions on plain lists of items predict the run.
-  -- The final items are the result of applying `items_after` for each command, in order. The reply
-  -- to a command is the result of applying `reply_to` to the command and to the items that the list
-  -- has before this command. (More exactly, `reply_to` computes the part of each reply that `seen`
-  -- extracts.)
+  -- If each clone equals its source, and no command of a run fails, then `items_after` computes the
+  -- final items, and `reply_to` computes the part of each reply that `seen` extracts.
   pub run-plain : (v w : Thin T A) (commands : List (Command T A G)) (replies : List (Reply T A G))
       → All IsGranted replies → Runs here v commands replies w
       → (w.items ≡ fold (items_after here) v.items commands)

@@ -1,6 +1,5 @@
--- If the growth rule is `Doubling`, then the capacity after a sequence of pushes and pops is at
--- most the largest of three numbers: 4, the capacity before the commands, and twice the greatest
--- length of the list.
+-- If the growth rule is `Doubling`, then the capacity after a run of pushes and pops is at most the
+-- largest of 4, the capacity before the run, and twice the greatest length during the run.
 use Rattle.std.proofs.Common.{◌≡◌, ℕ, ◌+◌, ◌*◌, ◌≤◌, max, List, [], ◌∷◌, Some, length, arith, ap, subst, inl, inr, All, ◌∙◌}
 use Rattle.std.proofs.lemmas.Bool.{cases_lt}
 use Rattle.std.proofs.lemmas.List.{length_push}
@@ -17,11 +16,8 @@ use Rattle.thin_runner.specs.declared.command.Command.TheVariants.{Push, Pop}
 use Rattle.thin_runner.specs.declared.command.Reply.{Reply}
 use Rattle.thin_runner.specs.declared.command.Reply.TheVariants.{Done, Item, Returned, OutOfRange}
 
--- This lemma joins a bound on the capacity after the first step of a run with a bound on the
--- capacity after the other steps. The capacity is `before` at the start of the run, `mid` after the
--- first step, and `after` at the end. The length is `len` at the start, `long` after the first
--- step, and at most `rest` from then on. The lemma proves that `after <= max before (max 4 (2 * max
--- len rest))`.
+-- A bound on the capacity after the first step (`mid`) and a bound for the other steps imply a
+-- bound for the whole run, from the capacity `before` to the capacity `after`.
 slack-join : (before mid after len long rest : ℕ) → mid ≤ max before (max 4 (2 * long))
     → after ≤ max mid (max 4 (2 * rest)) → long ≤ rest
     → after ≤ max before (max 4 (2 * max len rest))
@@ -56,7 +52,7 @@ module _ {T A G J : Type 0} (here : Setting T A J) (law : KeepsLaw here.rule)
   step-slack v w Pop reply only s = absurd s.1
   step-slack v w command reply only s = absurd only
 
-  -- The length before a run is at most `peak`, the greatest length during the run.
+  -- The length before a run is at most `peak`, which is the greatest length during the run.
   peak-first : (v w : Thin T A) (commands : List (Command T A G)) (replies : List (Reply T A G))
       (run : Runs here v commands replies w) → length v.items ≤ peak here v w commands replies run
   peak-first v w (c ∷ commands) (r ∷ replies) run = omega arith

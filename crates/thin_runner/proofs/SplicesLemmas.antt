@@ -1,7 +1,5 @@
--- The predicate `Replaces` describes a splice that succeeds, and `StopsBetween` describes a splice
--- that fails. These lemmas help to prove that one of these predicates holds after each call to
--- `Splice::finish` or `ThinVec::extend`. (A call to `extend` is described as a splice that replaces
--- the empty range at the end of the list.)
+-- Lemmas that prove `Replaces` after a splice or an `extend` that succeeds, and `StopsBetween`
+-- after one that fails. A call to `extend` is treated as a splice at the end of the list.
 use Rattle.std.proofs.Common.{◌≡◌, ℕ, ◌-◌, ◌*◌, ◌<◌, List, [], ◌∷◌, ◌++◌, None, Option, Some, ap, append_assoc, arith, drop, inl, inr, length, refl, subst, sym, take, ◌∙◌}
 use Rattle.std.proofs.lemmas.Bool.{false≢true}
 use Rattle.std.proofs.Math.Seq.{drop-length, take-length}
@@ -24,19 +22,17 @@ use Rattle.thin_runner.specs.commands.Splices.{HasPlacesFor, Replaces, StopsBetw
 use Rattle.thin_runner.specs.declared.hinted.Hinted.{Hinted}
 use Rattle.thin_runner.proofs.HintedLemmas.{yields-claim, yields-items}
 
--- An option of the form `Some x` is never `None`.
+-- `Some x` is never equal to `None`.
 some-none : {T : Type 0} {x : T} → Some x ≡ None → ⊥
 some-none e = cc
 
--- `MatchOption o P (λ _. Q)` means `P` if the option `o` is `None`, and `Q` if `o` is `Some`. So if
--- `o` is `Some`, this statement implies `Q`.
+-- If the option `o` is `Some`, then `MatchOption o P (λ _. Q)` implies `Q`.
 pub at-some-in-hand : {X : Type 0} (P Q : Type 0) (o : Option X) → MatchOption o P (λ _. Q)
     → IsSome o → Q
 at-some-in-hand P Q (Some x) q some = q
 at-some-in-hand P Q None p some = absurd (false≢true some)
 
--- `MatchOption o P (λ _. Q)` means `P` if the option `o` is `None`, and `Q` if `o` is `Some`. So if
--- `o` is `None`, this statement implies `P`.
+-- If the option `o` is `None`, then `MatchOption o P (λ _. Q)` implies `P`.
 pub at-no-in-hand : {X : Type 0} (P Q : Type 0) (o : Option X) → MatchOption o P (λ _. Q)
     → o ≡ None → P
 at-no-in-hand P Q (Some x) q none = absurd (some-none none)
@@ -49,20 +45,18 @@ no-items (x ∷ xs) none = absurd (omega (arith, none))
 
 module _ {T A : Type 0} (s : Hinted T A) (placed : List T)
     (error : SpliceRefused T (Hinted T A) A) where
-  -- `Broke` states that a call to `finish` on a `Splice` failed with `error`. The iterator of the
-  -- splice was `s` before the call. Before the failure, the call moved the items `placed` from this
-  -- iterator into the list.
+  -- `Broke` states that `finish` on a `Splice` with the iterator `s` failed with `error`, after it
+  -- had moved the items `placed` from `s` into the list.
   abbrev pub Broke : Type 0
   Broke = Stopped (HintedSteps {T = T} {A = A}) (can_next-default (Hinted T A) T) hinted_count s
       placed error
 
-  -- Suppose that `finish` failed with `error`. The items that the iterator `s` had before the call
-  -- are, in order:
+  -- If `finish` fails, no item of the iterator `s` is lost. Its items are, in order:
   --
-  -- - the items `placed`, which are in the list now
+  -- - the items `placed`, which are in the list
   -- - the items in `error.held`
   -- - the item in `error.in_hand`, if there is one
-  -- - the items that are left in the iterator `error.rest`
+  -- - the items of `error.rest`
   pub stopped-items : Broke → hinted_items s ≡ placed
       ++ (error.held.items ++ (option_to_list error.in_hand ++ hinted_items error.rest))
   stopped-items (inl gave) =
@@ -79,8 +73,8 @@ module _ {T A : Type 0} (s : Hinted T A) (placed : List T)
       ∙ (ap (λ (l : List T). (placed ++ held) ++ l) (ended.2.2.0.0 ∙ sym left)
       ∙ append_assoc placed held (option_to_list in_hand ++ hinted_items rest))
 
-  -- If `finish` failed, then the iterator `error.rest` after the call and the iterator `s` before
-  -- the call have size hints with the same lower bound.
+  -- If `finish` fails, then the size hint of the iterator `error.rest` has the same lower bound as
+  -- the size hint of `s`.
   pub stopped-claim : Broke → hinted_claim error.rest ≡ hinted_claim s
   stopped-claim (inl gave) =
       yields-claim s error.rest ((placed ++ error.held.items) ++ option_to_list error.in_hand)
@@ -88,19 +82,17 @@ module _ {T A : Type 0} (s : Hinted T A) (placed : List T)
   stopped-claim (inr ended) =
       ended.2.2.1 ∙ yields-claim s ended.2.0 (placed ++ error.held.items) ended.2.1
 
-  -- Suppose that `finish` failed, and that the error contains items in `held` but no item in
-  -- `in_hand`. Then the iterator has ended: `rest` has no items left.
+  -- If `finish` fails, and the error contains items in `held` but none in `in_hand`, then the
+  -- iterator `error.rest` has no items left.
   pub stopped-ended : Broke → error.in_hand ≡ None → 0 < length error.held.items
       → hinted_items error.rest ≡ []
   stopped-ended (inl gave) none some = absurd (omega (arith, ap length (gave.1 none), some))
   stopped-ended (inr ended) none some = ended.2.2.0.1
 
 module _ {T A : Type 0} (old : Thin T A) (a b : ℕ) where
-  -- An open block is a block that was taken out of its list, and that may have a gap between its
-  -- items. `IsOpened block alloc` states that `block` is the open block of a splice that replaces
-  -- the items `a..b` of the list `old`. The front of `block` contains the items of `old` before the
-  -- range, and its tail contains the items after the range. `block` has the capacity and the cost
-  -- of `old`, and `alloc` is the allocator of `old`.
+  -- `IsOpened block alloc` states that `block` is the open block of a splice that replaces the
+  -- items `a..b` of the list `old`. The items before the range are in its front, and the items
+  -- after it are in its tail.
   pub record IsOpened (block : Open T A) (alloc : A) : Type 0 where
     pub front : block.front ≡ take a old.items
     pub tail : block.tail ≡ drop b old.items
@@ -109,8 +101,8 @@ module _ {T A : Type 0} (old : Thin T A) (a b : ℕ) where
     pub cost : block.cost ≡ old.cost
 
   module _ (block : Open T A) (alloc : A) (is : IsOpened block alloc) where
-    -- `left_of block alloc` is the list of the items in the front and in the tail of the open
-    -- block. It equals `cut old a b`, which is the list `old` without the items `a..b`.
+    -- The front and the tail of the open block `block` together form the list `cut old a b`, which
+    -- is `old` without the items `a..b`.
     pub left-is : left_of block alloc ≡ cut old a b
     left-is = λ i. record {
       items = is.front i ++ is.tail i;
@@ -134,11 +126,8 @@ module _ {T A : Type 0} (old : Thin T A) (a b : ℕ) where
         subst (λ (v : Thin T A). CostsAdding v new (2 * (length old.items - b))) left-is
         (subst (λ (n : ℕ). CostsAdding (left_of block alloc) new (2 * n)) tail-count cost)
 
-    -- `IsExtended` states which capacity a list may have after the items of an iterator were added
-    -- to it. The last argument of `IsExtended` limits the number of items that the iterator could
-    -- yield. Suppose that `IsExtended` holds for the list `left_of block alloc`, which equals
-    -- `cut old a b`, and for the limit `left`. If `left` equals `at_most most`, then `IsExtended`
-    -- also holds for the list `cut old a b` and the limit `at_most most`.
+    -- If `IsExtended` holds for the list `left_of block alloc`, then it also holds for the list
+    -- `cut old a b`, which is equal to it.
     pub ruled : (rule : Rule) (R : RattleType) (new : Thin T A) (most : ℕ) (left : Count)
         → left ≡ at_most most
         → IsExtended rule R (left_of block alloc) new.capacity (length new.items) left
@@ -149,28 +138,25 @@ module _ {T A : Type 0} (old : Thin T A) (a b : ℕ) where
         subst (λ (n : Count). of (cut old a b) n) count
         (subst (λ (v : Thin T A). of v left) left-is is_ruled)
 
-    -- Suppose that the list `cut old a b` has room for `most` more items, and that `size` equals
-    -- `most`. Then the list `left_of block alloc`, which equals `cut old a b`, has room for `size`
-    -- more items.
+    -- If the list `cut old a b` has room for `most` more items, then the list
+    -- `left_of block alloc`, which is equal to it, also has this room.
     pub room-left : (most size : ℕ) → size ≡ most → HasRoomFor (cut old a b) most
         → HasRoomFor (left_of block alloc) size
     room-left most size count room =
         subst (λ (n : ℕ). HasRoomFor (left_of block alloc) n) (sym count)
         (subst (λ (v : Thin T A). HasRoomFor v most) (sym left-is) room)
 
--- The lemmas of this module show that `Replaces` and `StopsBetween` depend only on the value of the
--- resulting list. If one of them holds for a list, then it also holds for every list that equals
--- it.
+-- If `Replaces` or `StopsBetween` holds for the resulting list `v`, and `v` equals `w`, then it
+-- also holds for `w`.
 module _ {T A : Type 0} {rule : Rule} {R : RattleType} {old v w : Thin T A} {a b : ℕ} where
-  -- `Replaces` states that a splice turned the list `old` into another list. If `Replaces` holds
-  -- for the resulting list `v`, and `v` equals `w`, then `Replaces` also holds for `w`.
+  -- If `Replaces` holds for the resulting list `v`, and `v` equals `w`, then `Replaces` holds for
+  -- `w`.
   pub replaces-of : {placed : List T} {most : ℕ} → v ≡ w → Replaces rule R old a b placed most v
       → Replaces rule R old a b placed most w
   replaces-of {placed} {most} same =
       subst (λ (u : Thin T A). Replaces rule R old a b placed most u) same
 
-  -- `StopsBetween` states that a splice failed and turned the list `old` into another list. If
-  -- `StopsBetween` holds for the resulting list `v`, and `v` equals `w`, then `StopsBetween` also
+  -- If `StopsBetween` holds for the resulting list `v`, and `v` equals `w`, then `StopsBetween`
   -- holds for `w`.
   pub stops-of : {xs held : List T} {lower : ℕ} {cause : ThinVecError} {in_hand : Option T}
       {rest : Hinted T A} → v ≡ w
@@ -179,22 +165,20 @@ module _ {T A : Type 0} {rule : Rule} {R : RattleType} {old v w : Thin T A} {a b
   stops-of {xs} {held} {lower} {cause} {in_hand} {rest} same =
       subst (λ (u : Thin T A). StopsBetween rule R old a b xs held lower cause in_hand rest u) same
 
--- The lemmas of this module are about the empty range at the end of the list `old`. The range
--- begins and ends at the index `length old.items`.
+-- The lemmas of this module are about the empty range at the end of the list `old`.
 module _ {T A : Type 0} (old : Thin T A) where
   -- Removing the empty range at the end of the list `old` does not change the list.
   pub cut-end : cut old (length old.items) (length old.items) ≡ old
   cut-end = λ i. record old { items = take-append-drop (length old.items) old.items i }
 
-  -- The list `old` without the empty range at its end equals `old`. So if the list without this
-  -- range has room for `most` more items, then `old` also has room for `most` more items.
+  -- If the list `old` without the empty range at its end has room for `most` more items, then `old`
+  -- has room for `most` more items.
   room-end : (most : ℕ) → HasRoomFor (cut old (length old.items) (length old.items)) most
       → HasRoomFor old most
   room-end most = subst (λ (v : Thin T A). HasRoomFor v most) cut-end
 
-  -- Suppose that `most` items can replace the empty range at the end of the list `old` without new
-  -- memory (`HasPlacesFor`). Then `most` is 0, or `old` has room for `most` more items. So if a
-  -- statement `P` holds in each of these two cases, then `P` holds.
+  -- If `most` items can be put at the end of the list `old` without new memory, then `most` is 0,
+  -- or `old` has room for `most` more items. So `P` holds if it holds in both cases.
   pub places-end : (P : Type 0) (most : ℕ) → (most ≡ 0 → P) → (HasRoomFor old most → P)
       → HasPlacesFor old (length old.items) (length old.items) most → P
   places-end P most none fits (inl few) = none (omega (arith, few))
@@ -203,9 +187,8 @@ module _ {T A : Type 0} (old : Thin T A) where
 -- The lemmas of this module show that appending items to a list is the same as replacing the empty
 -- range at its end.
 module _ {T A : Type 0} (rule : Rule) (R : RattleType) (old new : Thin T A) where
-  -- `IsFilled placed most` describes a successful call to `extend`, which turned the list `old`
-  -- into `new`. The call appended the items `placed`, and the iterator could yield at most `most`
-  -- items. The fields are clauses of the contract of `extend`.
+  -- `IsFilled placed most` states what the contract of `extend` says if the call succeeds and
+  -- appends the items `placed`. The iterator could yield at most `most` items.
   pub record IsFilled (placed : List T) (most : ℕ) : Type 0 where
     pub items : new.items ≡ old.items ++ placed
     pub capacity : IsLoose rule R old.capacity new.capacity
@@ -216,8 +199,8 @@ module _ {T A : Type 0} (rule : Rule) (R : RattleType) (old new : Thin T A) wher
     pub cheap : IsCheap old → IsCheap new
     pub alloc : new.alloc ≡ old.alloc
 
-  -- If `IsFilled` holds, that is, if `extend` appended the items `placed`, then `Replaces` holds:
-  -- the items `placed` replaced the empty range at the end of the list.
+  -- If `extend` appended the items `placed` (`IsFilled`), then `Replaces` holds for the empty range
+  -- at the end of the list.
   pub replaces-end : {placed : List T} {most : ℕ} → IsFilled placed most
       → Replaces rule R old (length old.items) (length old.items) placed most new
   replaces-end {placed} {most} f =

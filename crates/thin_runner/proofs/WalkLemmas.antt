@@ -1,6 +1,5 @@
--- A step is a value that describes a call to `next` or `next_back` on an iterator over a range of
--- items. The function `walked` computes the results of a sequence of steps. These lemmas are about
--- sequences whose first step is `Back`, which describes a call to `next_back`.
+-- Lemmas about `walked`, which computes the results of calls to `next` and `next_back` on a range
+-- of items. The first call is `Back`, which is a call to `next_back`.
 use Rattle.std.proofs.Common.{◌≡◌, ◌-◌, List, [], ◌∷◌, ◌++◌, Option, None, Some, ap, arith, length, refl, subst, sym, take, ◌∙◌}
 use Rattle.std.proofs.Math.Seq.{take-append_seam}
 use Rattle.std.proofs.lemmas.List.{length_push}
@@ -16,9 +15,8 @@ module _ {T : Type 0} where
   last-of [] x = refl
   last-of (y ∷ xs) x = last-of xs x
 
-  -- If `xs` is not empty, let `item` be its last item, and let `ys` be the list of the items before
-  -- the last one. If `xs` is empty, let `item` be `None`, and let `ys` be empty. Then the results
-  -- of the steps `Back ∷ steps` on `xs` are `item`, followed by the results of `steps` on `ys`.
+  -- The results of the steps `Back ∷ steps` on the list `xs` are the last item of `xs`, followed by
+  -- the results of `steps` on the other items. If `xs` is empty, the first result is `None`.
   walked-last : (xs ys : List T) (item : Option T)
       → MatchOption item ((xs ≡ []) × (ys ≡ [])) (λ x. xs ≡ ys ++ x ∷ [])
       → (steps : List Step) → walked xs (Back ∷ steps) ≡ item ∷ walked ys steps
@@ -33,8 +31,7 @@ module _ {T : Type 0} where
       ∙ take-append_seam ys (x ∷ []) in
       λ i. last i ∷ walked (others i) steps
 
-  -- This lemma states the same as the lemma `walked-last`. But here, the first step is a variable
-  -- `step`, which is known to equal `Back`.
+  -- The lemma `walked-last` also applies if the first step is a variable `step` that equals `Back`.
   pub walked-back : (xs ys : List T) (item : Option T) (step : Step) → step ≡ Back
       → MatchOption item ((xs ≡ []) × (ys ≡ [])) (λ x. xs ≡ ys ++ x ∷ [])
       → (steps : List Step) → walked xs (step ∷ steps) ≡ item ∷ walked ys steps

@@ -1,7 +1,6 @@
--- The clone relation says which values may be clones of an item. A relation is weaker if it allows
--- at least the same clones. Every run that is possible with a clone relation is also possible with
--- a weaker relation. So if each clone equals its source, then every possible run is also possible
--- with equality as the clone relation.
+-- Every run that is possible with a clone relation is also possible with a weaker one, which allows
+-- at least the same clones. So if each clone equals its source, then equality can be used as the
+-- clone relation.
 use Rattle.std.proofs.Common.{◌≡◌, ℕ, List, [], ◌∷◌}
 use Rattle.std.specs.List.{AllZip}
 use Rattle.thin_vec.specs.List.Clones.{ClonesEqual, IsResized}
@@ -16,18 +15,15 @@ use Rattle.thin_runner.specs.declared.command.Reply.TheVariants.{Done, List as M
 
 module _ {T : Type 0} (clones like : T → T → Type 0)
     (weaker : (x y : T) → clones x y → like x y) where
-  -- Suppose that the relation `like` is weaker than `clones`: every clone that `clones` allows is
-  -- also allowed by `like`. If the items of `ys` are clones of the items of `xs`, in order,
-  -- according to `clones`, then they are also clones according to `like`.
+  -- If the relation `like` allows every clone that `clones` allows, then a list `ys` of clones of
+  -- `xs` according to `clones` is also a list of clones according to `like`.
   pub zip-weaker : (xs ys : List T) → AllZip clones xs ys → AllZip like xs ys
   zip-weaker [] [] z = tt
   zip-weaker (x ∷ xs) (y ∷ ys) z = (weaker x y z.0, zip-weaker xs ys z.1)
   zip-weaker xs ys z = absurd z
 
-  -- Suppose that the relation `like` is weaker than `clones`: every clone that `clones` allows is
-  -- also allowed by `like`. Suppose also that resizing the list `xs` to the length `n` with clones
-  -- of `x` may result in `ys` according to `clones`. Then `ys` is also a possible result according
-  -- to `like`.
+  -- If the relation `like` allows every clone that `clones` allows, then every result of `resize`
+  -- that is possible with `clones` is also possible with `like`.
   resized-weaker : (xs ys : List T) (n : ℕ) (x : T) → IsResized clones xs n x ys
       → IsResized like xs n x ys
   resized-weaker xs ys n x r = record {
@@ -38,10 +34,8 @@ module _ {T : Type 0} (clones like : T → T → Type 0)
 
 module _ {T A G J : Type 0} (here : Setting T A J) (like : T → T → Type 0)
     (weaker : (x y : T) → here.clones x y → like x y) where
-  -- A setting contains the values that all commands of a run share, such as the clone relation.
-  -- Suppose that the relation `like` is weaker than the clone relation of the setting `here`: it
-  -- allows at least the same clones. Then every step that is possible with the clone relation of
-  -- `here` is also possible with the clone relation `like`.
+  -- If the relation `like` allows every clone that `here.clones` allows, then every step that is
+  -- possible with `here.clones` is also possible with `like`.
   pub step-weaker : (old new : Thin T A) (command : Command T A G) (reply : Reply T A G)
       → Steps here old command reply new
       → Steps (record here { clones = like }) old command reply new
@@ -54,10 +48,8 @@ module _ {T A G J : Type 0} (here : Setting T A J) (like : T → T → Type 0)
       (s.0, (zip-weaker here.clones like weaker old.items copy.items s.1.0, s.1.1, s.1.2))
   step-weaker old new command reply s = s
 
-  -- A run is a sequence of commands with their replies. Suppose that the relation `like` is weaker
-  -- than the clone relation of the setting `here`: it allows at least the same clones. Then every
-  -- run that is possible with the clone relation of `here` is also possible with the clone relation
-  -- `like`.
+  -- If the relation `like` allows every clone that `here.clones` allows, then every run that is
+  -- possible with `here.clones` is also possible with `like`.
   pub run-weaker : (old new : Thin T A) (commands : List (Command T A G))
       (replies : List (Reply T A G)) → Runs here old commands replies new
       → Runs (record here { clones = like }) old commands replies new
@@ -70,7 +62,7 @@ module _ {T A G J : Type 0} (here : Setting T A J) (like : T → T → Type 0)
 -- In this module, each clone equals its source.
 module _ {T A G J : Type 0} (here : Setting T A J) (equal : ClonesEqual here.clones) where
   -- Every run that is possible with the clone relation of `here` is also possible with equality as
-  -- the clone relation. The lists and the replies of the run are the same with both relations.
+  -- the clone relation.
   pub run-equal : (old new : Thin T A) (commands : List (Command T A G))
       (replies : List (Reply T A G)) → Runs here old commands replies new
       → Runs (record here { clones = λ x y. y ≡ x }) old commands replies new

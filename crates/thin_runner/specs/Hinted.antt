@@ -1,29 +1,28 @@
--- Contracts describe an iterator of the type `Hinted` by two values. The first is the list of the
--- items that the iterator has not yielded yet. The second is the lower bound of its size hint.
+-- Contracts describe a `Hinted` iterator by the list of its remaining items and by the lower bound
+-- of its size hint.
 use Rattle.std.specs.Prelude.{◌≡◌, ℕ, ◌+◌, List, Option, length}
 use Rattle.std.specs.Iterator.{Count, YieldsFirst, at_most}
 use Rattle.std.specs.Vec.Iter.{into_iter_items}
 use Rattle.thin_runner.specs.declared.hinted.Hinted.{Hinted}
 
 module _ {T A : Type 0} where
-  -- `hinted_items` is the list of the items that the iterator has not yielded yet, in order.
+  -- `hinted_items` is the list of the remaining items of the iterator, in order.
   abbrev pub hinted_items : Hinted T A → List T
   hinted_items h = into_iter_items h.items
 
   -- `hinted_claim` is the lower bound of the iterator's size hint. It may exceed the number of
-  -- items that are left.
+  -- remaining items.
   abbrev pub hinted_claim : Hinted T A → ℕ
   hinted_claim h = h.lower
 
-  -- `hinted_count` is an upper bound on the number of items that the iterator may still yield. It
-  -- is the sum of two numbers: the number of items that are left, and the lower bound of the size
-  -- hint.
+  -- `hinted_count` is an upper bound on the number of items that the iterator may still yield: the
+  -- number of remaining items plus the lower bound of the size hint.
   abbrev pub hinted_count : Hinted T A → Count
   hinted_count h = at_most (hinted_claim h + length (hinted_items h))
 
-  -- `HintedSteps old item new` holds if a call to `next` may turn the iterator `old` into `new` and
-  -- return `item`. If items are left in `old`, the call must return the first of them. Otherwise,
-  -- it must return `None`. It must not change the lower bound of the size hint.
+  -- `HintedSteps old item new` holds if `next` may turn the iterator `old` into `new` and return
+  -- `item`: the first of the remaining items, or `None`. The lower bound of the size hint does not
+  -- change.
   abbrev pub HintedSteps : Hinted T A → Option T → Hinted T A → Type 0
   HintedSteps old item new =
       YieldsFirst hinted_items old item new × (hinted_claim new ≡ hinted_claim old)

@@ -2,10 +2,9 @@
 -- for each method of the trait `Judge`.
 use Rattle.std.specs.Prelude.{ℕ, Bool}
 
--- Each field is a function that describes one method. The function takes the state of the judge and
--- one or two items. It returns the decision, the items after the call, and the state of the judge
--- after the call. The function `key` returns a key instead of a decision. The function `look`
--- returns no item, because the method `look` cannot write to its item.
+-- Each field takes the state of the judge and one or two items. It returns the decision (or the
+-- key), the items after the call, and the next state. `look` returns no item, because it only reads
+-- its item.
 pub record Judging (T J : Type 0) : Type 0 where
   pub look : J → T → Bool × J
   pub keep : J → T → Bool × T × J

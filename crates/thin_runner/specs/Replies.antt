@@ -5,9 +5,8 @@ use Rattle.thin_runner.specs.declared.command.Reply.{Reply}
 use Rattle.thin_runner.specs.declared.command.Reply.TheVariants.{Other, Returned, Refused, Stopped}
 
 module _ {T A G : Type 0} where
-  -- `refusal_of reply` is the cause of the failure if the call failed, and `None` if the call
-  -- succeeded. If the index or the range of the command was out of bounds, no call was made, and
-  -- `refusal_of reply` is `None`, too.
+  -- `refusal_of reply` is the cause of the failure if the call failed, and `None` if it succeeded.
+  -- It is also `None` if no call was made because the command was out of bounds.
   abbrev pub refusal_of : Reply T A G → Option ThinVecError
   refusal_of (Other back refused) = refused
   refusal_of (Returned v cause) = Some cause
@@ -15,7 +14,7 @@ module _ {T A G : Type 0} where
   refusal_of (Stopped answers cause held in_hand rest) = Some cause
   refusal_of reply = None
 
-  -- `IsGranted reply` holds if no call failed. That is, the command succeeded, or no call was made
-  -- because the index or the range of the command was out of bounds.
+  -- `IsGranted reply` holds if no call failed: the command succeeded, or its index or range was out
+  -- of bounds.
   abbrev pub IsGranted : Reply T A G → Type 0
   IsGranted reply = refusal_of reply ≡ None

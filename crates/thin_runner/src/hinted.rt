@@ -1,5 +1,5 @@
-//! Defines the iterator `Hinted`. The lower bound of its size hint need not be correct: it may be
-//! greater or less than the number of items that the iterator yields.
+//! The iterator `Hinted`. The lower bound of its size hint may be greater or less than the number
+//! of remaining items.
 ghost use Rattle.std.specs.Prelude.{◌≡◌, IfSome, None};
 ghost use Rattle.std.specs.Iterator.{UpTo};
 ghost use Rattle.std.specs.Iterator.Runs.{YieldsInOrder};
@@ -8,13 +8,10 @@ ghost use Rattle.std.specs.Iterator.SizeHint.{IsWithinCount};
 use std::alloc::{Allocator, Global};
 use std::vec::IntoIter;
 
-/// An iterator that yields its items in order, and then always returns `None`. The lower bound of
-/// its size hint never changes.
+/// An iterator that yields its items in order, and then always returns `None`.
 ///
-/// This lower bound may exceed the number of items that are left. But the contract of `size_hint`
-/// requires a lower bound that is at most the value `remaining`, which exists only in contracts.
-/// For this reason, `remaining` is the sum of the number of items that are left and the lower
-/// bound.
+/// The lower bound of its size hint never changes, and may exceed the number of remaining items. To
+/// satisfy the contract of `size_hint`, `remaining` is the sum of both numbers.
 #[derive(Drop)]
 pub struct Hinted<T, A: Allocator = Global> {
     items: IntoIter<T, A>,

@@ -1,5 +1,5 @@
-//! Represents calls to methods of a `ThinVec` as values, which are called commands. The function
-//! `run` carries out a sequence of commands. Its contract is the main theorem about `ThinVec`.
+//! Represents calls to methods of a `ThinVec` as values, which are called commands. The contract of
+//! the function `run`, which carries out commands, is the main theorem about `ThinVec`.
 #![tactic(auto)]
 
 pub mod command;

@@ -1,4 +1,4 @@
-//! Defines the functions `step` and `run`, which carry out commands on a list.
+//! The functions `step` and `run`, which carry out commands on a list.
 ghost use Rattle.std.specs.Prelude.{◌≡◌, ◌<◌, ◌+◌, ◌≤◌, ◌↔◌, IsTrue, IfErr, IsOk, OnErr, OnOk, vec_capacity, vec_len};
 ghost use Rattle.thin_runner.specs.Headline.{Headline};
 ghost use Rattle.thin_runner.specs.Setting.{setting};
@@ -11,8 +11,7 @@ use std::alloc::Allocator;
 use std::marker::PhantomData;
 use thin_vec::{Growth, ThinVec, ThinVecError};
 
-// Returns whether the index or the range of `command` is in bounds. Also returns true if `command`
-// has neither an index nor a range.
+// Returns whether the index or the range of `command`, if it has one, is in bounds.
 fn is_in_range<T, A: Allocator, G: Growth>(
     list: &ThinVec<T, A, G>,
     command: &Command<T, A, G>,
@@ -32,12 +31,11 @@ fn is_in_range<T, A: Allocator, G: Growth>(
     }
 }
 
-/// Carries out one command, and returns the reply. The reply owns the values that the call
-/// returned.
+/// Carries out one command, and returns the reply.
 ///
-/// If the index or the range of the command is out of bounds, the list does not change, and the
-/// reply is `OutOfRange`, which contains the command. The lists and vectors that the command makes
-/// use the allocator `alloc`. A command that asks the judge gets its own copy of `judge`.
+/// If the index or the range is out of bounds, the list does not change, and the command is
+/// returned in the reply `OutOfRange`. New lists and vectors use `alloc`. A command that asks the
+/// judge gets a copy of `judge`.
 pub fn step<T: Clone + Eq, A: Allocator + Copy, G: Growth, J: Judge<T>>(
     alloc: A,
     list: &mut ThinVec<T, A, G>,
@@ -87,16 +85,16 @@ pub fn step<T: Clone + Eq, A: Allocator + Copy, G: Growth, J: Judge<T>>(
     }
 }
 
-/// Carries out the commands in order, and appends the reply to each command to `replies`.
+/// Carries out the commands in order, and appends the replies to `replies`.
 ///
-/// The function first reserves room for all replies. The lists and vectors that the commands make
-/// use the allocator `alloc`. Each command that asks the judge gets its own copy of `judge`.
+/// New lists and vectors use the allocator `alloc`. Each command that asks the judge gets its own
+/// copy of `judge`.
 ///
 /// # Errors
 ///
-/// Fails with `OutOfMemory` if there is not enough memory for the replies. In this case, no command
-/// is carried out, and all commands are dropped. A command that fails does not make `run` fail: the
-/// cause is in the reply to that command.
+/// Fails with `OutOfMemory` if there is not enough memory for the replies. Then no command is
+/// carried out, and all commands are dropped. A failed command does not make `run` fail: its reply
+/// contains the cause.
 pub fn run<T: Clone + Eq, A: Allocator + Copy, G: Growth, J: Judge<T>>(
     alloc: A,
     list: &mut ThinVec<T, A, G>,
@@ -118,9 +116,8 @@ pub fn run<T: Clone + Eq, A: Allocator + Copy, G: Growth, J: Judge<T>>(
         × (vec_capacity replies.new ≡ vec_capacity replies.old)) }
     ensures cause { IfErr result (λ cause. cause ≡ ThinVecError.OutOfMemory) }
 {
-    // The program does not use the result of this call, but the proof uses the contract of
-    // `capacity`. This contract states that the items of the list fit into its capacity. The proof
-    // of the clause `ok` needs this fact about the list before the first command.
+    // Only the proof needs this call. By the contract of `capacity`, the items of the list fit into
+    // its capacity before the first command.
     let _capacity = list.capacity();
     match replies.reserve(commands.len()) {
         Ok(()) => (),
@@ -133,9 +130,8 @@ pub fn run<T: Clone + Eq, A: Allocator + Copy, G: Growth, J: Judge<T>>(
             Err(_refused) => unreachable!(),
         }
     }
-    // The program does not use the result of this call, but the proof uses the contract of
-    // `capacity`. The field `within` of `Headline` follows from this contract, but not from the
-    // contract of `step`.
+    // Only the proof needs this call. The contract of `capacity` implies the field `within` of
+    // `Headline`, which does not follow from the contract of `step`.
     let _end = list.capacity();
     Ok(())
 }

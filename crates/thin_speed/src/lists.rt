@@ -1,5 +1,5 @@
-//! Defines the traits through which the workloads access lists. A workload is a task whose running
-//! time is measured.
+//! The traits through which the workloads use lists. A workload is a task whose running time is
+//! measured.
 //!
 //! Each method calls the list's method of the same name, unless its comment says otherwise. A
 //! method that returns a `Result` fails if there is no room for the items.
@@ -12,9 +12,8 @@ use std::alloc::{AllocError, Global};
 use std::io::Write;
 pub use thin::Thin;
 
-/// A kind of list: either `ThinVec`, or the `Vec` of Rattle's library. Each associated type is a
-/// list of this kind, with a certain type of items. For example, `Numbers` is a list of `u64`, and
-/// `Strings` is a list of `String`. The only exception is `Cells`, which is the type of a table.
+/// A kind of list: `ThinVec`, or the `Vec` of Rattle's library. Each associated type is a list of
+/// this kind, except `Cells`, which is a table.
 pub trait Family {
     type Numbers: Numbers;
 
@@ -40,8 +39,8 @@ pub trait Family {
 
     type Cells: Table;
 
-    /// Builds a tree of depth `depth`. Each node that is not a leaf has `width` children. Returns
-    /// the sum of the depths of all nodes, where a leaf has depth 0.
+    /// Builds a tree of depth `depth` with `width` children in each inner node. Returns the sum of
+    /// the depths of all nodes. A leaf has depth 0.
     ///
     /// # Errors
     ///
@@ -93,8 +92,8 @@ pub trait Numbers: List<u64> {
     /// numbers.
     fn extend_filtered(&mut self, items: &[u64]) -> Result<(), AllocError>;
 
-    /// Appends the first half of `items`, and then the second half, using two calls to `extend`.
-    /// The two iterators have the same type, so both calls run the same compiled code of `extend`.
+    /// Appends the two halves of `items` with two calls to `extend`. The two iterators have the
+    /// same type, so both calls run the same compiled code of `extend`.
     fn extend_twice(&mut self, items: &[u64]) -> Result<(), AllocError>;
 
     /// Appends copies of `items`.
@@ -111,14 +110,13 @@ pub trait Numbers: List<u64> {
     /// half.
     fn split_and_append(&mut self, alloc: Global) -> Result<(), AllocError>;
 
-    /// Drains the items from `start` up to, but not including, `end`. Mixes each drained item into
-    /// `sum` with the function `mixed`, and returns the new sum. If this range is out of bounds,
-    /// drains nothing and returns `sum`.
+    /// Drains the items `start..end`. Mixes each drained item into `sum`, and returns the new sum.
+    /// Does nothing if this range is out of bounds.
     fn drain_range(&mut self, start: usize, end: usize, sum: u64) -> u64;
 
-    /// Replaces the items from `start` up to, but not including, `end`, using `splice`. The new
-    /// items are `C::count()` consecutive numbers, beginning with `first`. The size hint of their
-    /// iterator is exact. Does nothing if the range is out of bounds.
+    /// Replaces the items `start..end` with `C::count()` consecutive numbers, beginning with
+    /// `first`, using `splice`. The size hint of the iterator is exact. Does nothing if the range
+    /// is out of bounds.
     fn splice_few<C: Count>(
         &mut self,
         alloc: Global,
@@ -127,9 +125,9 @@ pub trait Numbers: List<u64> {
         first: usize,
     ) -> Result<(), AllocError>;
 
-    /// Replaces the items from `start` up to, but not including, `end` with copies of `items`. Does
-    /// nothing if this range is out of bounds. This method is not inlined, so that its code cannot
-    /// be specialized for the lengths that a caller passes.
+    /// Replaces the items `start..end` with copies of `items`. Does nothing if this range is out of
+    /// bounds. This method is not inlined, so that its code cannot be specialized for certain
+    /// lengths.
     fn replace(&mut self, start: usize, end: usize, items: &[u64]) -> Result<(), AllocError>;
 
     /// Replaces the middle half of the list with the numbers below `end`, using `splice` and an
@@ -157,7 +155,7 @@ pub trait Numbers: List<u64> {
 /// A sparse table of numbers. Each number has a row and a column. The table is a `Rows` of the
 /// crate `thin_rows`, or a `BTreeMap`.
 pub trait Table: Drop {
-    /// Makes a table without entries that has at least `rows` rows.
+    /// Makes an empty table with at least `rows` rows.
     fn with_rows(alloc: Global, rows: usize) -> Result<Self, AllocError>;
 
     /// Writes `value` at row `row` and column `column`. Does nothing if the table is a `Rows`

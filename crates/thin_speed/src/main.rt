@@ -1,6 +1,5 @@
-//! Runs workloads, which are tasks whose running time is measured. Each line of the input names one
-//! workload. The program runs this workload and prints the sum that it computes. If a call of the
-//! workload fails, the program prints `refused`. If the line is invalid, it prints `no workload`.
+//! Runs the workload that each line of the input names, and prints the sum that it computes. Prints
+//! `refused` if the workload fails, and `no workload` if the line is invalid.
 #![tactic(auto)]
 
 mod lists;
@@ -24,12 +23,12 @@ fn main(rt: HostRuntime) -> io::Result<()> {
 }
 
 // Runs the workload that `line` names, and returns its result. Returns `None` if one of the first
-// four words of the line is missing or invalid. These words are:
+// four words of the line is missing or invalid:
 //
-// - the kind of list: `thin` for `ThinVec`, or `kit` for the `Vec` of Rattle's library
+// - the kind of list: `thin` or `kit`
 // - the name of the workload
-// - the size, such as the number of items, or the depth of a tree
-// - the number of times that the workload does its work
+// - the size, such as the length of a list
+// - how many times the workload does its work
 fn asked(alloc: Global, line: &str) -> Option<Outcome> {
     let mut words = line.split_whitespace();
     let list = words.next()?;

@@ -1,31 +1,28 @@
-//! Defines the items that the workloads put into lists, and the sums that the workloads compute
-//! from these items.
+//! The items that the workloads put into lists, and the sums that the workloads compute from these
+//! items.
 ghost use Rattle.std.specs.Prelude.{◌-◌};
 ghost use Rattle.std.specs.Iterator.{at_most};
 
 use std::alloc::{AllocError, Global};
 
-/// The sum that a workload computes, or the error of the call that failed. The sum is a checksum of
-/// the work. If a workload computes equal sums with two kinds of lists, then it most likely did the
-/// same work with both.
+/// The sum that a workload computes, or the error of the call that failed. Equal sums for two kinds
+/// of lists show that the workload most likely did the same work with both.
 pub type Outcome = Result<u64, AllocError>;
 
-/// Mixes `number` into `sum`, and returns the new sum. The result depends on the order in which
-/// numbers are mixed into a sum.
+/// Mixes `number` into `sum`, and returns the new sum, which depends on the order of the mixed
+/// numbers.
 pub fn mixed(sum: u64, number: u64) -> u64 {
     sum.wrapping_mul(31).wrapping_add(number)
 }
 
-/// An item of a list. The method `number` computes a number from the item. A workload can mix this
-/// number into a sum.
+/// An item of a list. Workloads mix the result of its method `number` into their sums.
 pub trait Item: Drop {
-    /// Computes a number from the item. For example, the number of a `u64` is the `u64` itself, and
-    /// the number of a string is its length.
+    /// Computes a number from the item, such as the length of a string.
     fn number(&self) -> u64;
 }
 
-/// Returns the sum of two numbers. The first is the length of `items`. The second is the number
-/// that the method `number` computes from the middle item. If `items` is empty, returns 0.
+/// Returns the length of `items` plus the result of calling `number` on the middle item. Returns 0
+/// if `items` is empty.
 pub fn seen<T: Item>(items: &[T]) -> u64 {
     let middle = match items.get(items.len() / 2) {
         Some(item) => item.number(),
@@ -210,8 +207,8 @@ impl Source<String> for Words {
     }
 }
 
-/// An iterator over the numbers from `next` up to, but not including, `end`. It does not define
-/// `size_hint`, so the lower bound of its size hint is 0.
+/// An iterator over the numbers `next..end`. It does not define `size_hint`, so the lower bound of
+/// its size hint is 0.
 #[derive(Drop)]
 pub struct Unhinted {
     next: u64,
@@ -288,7 +285,7 @@ pub trait Pick {
     fn picks(number: u64) -> bool;
 }
 
-/// A test that picks the even numbers. Of the numbers 0, 1, 2 and so on, it picks every second one.
+/// A test that picks the even numbers.
 pub struct Even;
 
 impl Pick for Even {
@@ -298,8 +295,8 @@ impl Pick for Even {
     }
 }
 
-/// A test that picks a number if the highest bit of its hash is 0. Of the numbers 0, 1, 2 and so
-/// on, it picks about half, in an irregular pattern.
+/// A test that picks a number if the highest bit of its hash is 0. It picks about half of the
+/// numbers, in an irregular pattern.
 pub struct Random;
 
 impl Pick for Random {
@@ -309,8 +306,7 @@ impl Pick for Random {
     }
 }
 
-/// A test that picks all numbers except 1. Of the numbers 0, 1, 2 and so on, it picks all except
-/// the second.
+/// A test that picks all numbers except 1.
 pub struct NotOne;
 
 impl Pick for NotOne {
@@ -320,8 +316,8 @@ impl Pick for NotOne {
     }
 }
 
-/// A test that picks the numbers whose last two bits are not both 0. Of the numbers 0, 1, 2 and so
-/// on, it picks three out of four.
+/// A test that picks the numbers that are not multiples of 4. Of the numbers 0, 1, 2 and so on, it
+/// picks three out of four.
 pub struct ThreeOfFour;
 
 impl Pick for ThreeOfFour {
@@ -331,8 +327,8 @@ impl Pick for ThreeOfFour {
     }
 }
 
-/// A test that picks the numbers below a million. All numbers in the lists of the workloads are
-/// below a million, so every item is picked.
+/// A test that picks the numbers below a million. All items of the workloads are below a million,
+/// so every item is picked.
 pub struct All;
 
 impl Pick for All {
@@ -342,8 +338,8 @@ impl Pick for All {
     }
 }
 
-/// A test that picks the numbers above a million. All numbers in the lists of the workloads are
-/// below a million, so no item is picked.
+/// A test that picks the numbers above a million. All items of the workloads are below a million,
+/// so no item is picked.
 pub struct Nothing;
 
 impl Pick for Nothing {
@@ -354,7 +350,7 @@ impl Pick for Nothing {
 }
 
 /// A test that picks the numbers whose last four bits are not all 1. Of the numbers 0, 1, 2 and so
-/// on, it picks fifteen in a row, skips one, picks the next fifteen, and so on.
+/// on, it picks fifteen in a row, skips one, and so on.
 pub struct InARun;
 
 impl Pick for InARun {

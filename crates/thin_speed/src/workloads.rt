@@ -1,5 +1,5 @@
-//! Defines the workloads, which are tasks whose running time is measured. Each workload can run on
-//! any kind of list.
+//! The workloads, which are tasks whose running time is measured. Each workload can run on any kind
+//! of list.
 mod editing;
 mod filtering;
 mod growing;
@@ -19,9 +19,8 @@ pub use crate::workloads::names::named;
 use crate::workloads::tables::run_tables;
 use std::alloc::Global;
 
-/// Runs `workload` on lists of the kind `F`, and returns the sum that the workload computes. `size`
-/// is, for example, the number of items of a list, or the depth of a tree. The workload does its
-/// work `times` times.
+/// Runs `workload` on lists of the kind `F`, and returns the sum that it computes. The workload
+/// does its work `times` times. `size` is, for example, the length of a list.
 ///
 /// # Errors
 ///

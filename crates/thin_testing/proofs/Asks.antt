@@ -1,7 +1,5 @@
--- The function `refuses` returns whether the allocator `Refusing` refuses a request. These lemmas
--- are about calls to this function. If the caller has a shared reference to the field `counts` of
--- the allocator, which contains its counters, then the precondition of the call holds. The call
--- returns a Boolean. The lemmas assume the laws of the separation logic (`Logic`).
+-- Lemmas about calls to `refuses`, which returns whether the allocator `Refusing` refuses a
+-- request. The lemmas assume the laws of the separation logic (`Logic`).
 use Rattle.std.proofs.Common.{◌≡◌, ℕ, Bool, List, [], ◌∷◌, refl, ap}
 use seplogic.Ra.Ura.{Ura}
 use mir.Val.{Val, vbool, vptr}
@@ -31,10 +29,9 @@ module _ {M : Type 1} {𝓤 : Ura M} (𝓛 : Logic 𝓤) (at_mem : Memory → SP
   abbrev pub Asks : Contract 𝓤
   Asks = triple_of 𝓛 RF.signature (RF.spec 𝓛 at_mem run)
 
-  -- `at_asks κ q c k` contains the ghost arguments for a call to `refuses`. Ghost arguments exist
-  -- only in the proof. The call passes a shared reference to the counts. Here, `κ` is the lifetime
-  -- of the reference, `c` is the address of the counts, and `k` is their value. The caller has a
-  -- share `q` of a token, which proves that `κ` has not ended.
+  -- `at_asks κ q c k` contains the ghost arguments for a call to `refuses`. `κ` is the lifetime of
+  -- the shared reference to the counts, and `q` is a share of the token of `κ`. The counts have the
+  -- address `c` and the value `k`.
   abbrev pub at_asks : Lft → Share → ℕ × ℕ → Row.Denot → Asks.Ghost
   at_asks κ q c k = (
     (
@@ -51,8 +48,8 @@ module _ {M : Type 1} {𝓤 : Ura M} (𝓛 : Logic 𝓤) (at_mem : Memory → SP
     (κ : Lft) (q : Share) (c : ℕ × ℕ) (k : Row.Denot) where
   open 𝓛 use {H, A}
 
-  -- Suppose that the caller has a shared reference to the counts with the lifetime `κ`, and a token
-  -- that proves that `κ` has not ended. Then the precondition of `refuses` holds.
+  -- If the counts are shared for the lifetime `κ`, and a token proves that `κ` has not ended, then
+  -- the precondition of `refuses` holds.
   pub Asks-goes : ent 𝓤 (sep 𝓤 (sem 𝓛 (hidden_shr Row κ k c.0 c.1)) (A.lft κ q))
       ((Asks 𝓛 at_mem run).pre (at_asks 𝓛 at_mem run κ q c k))
   Asks-goes =
@@ -61,8 +58,8 @@ module _ {M : Type 1} {𝓤 : Ura M} (𝓛 : Logic 𝓤) (at_mem : Memory → SP
       nothing ! $ move ! (1 ∷ []) $ fjoin ! $ nothing ! $ move ! (2 ∷ []) $ join ! $ join ! $
       nothing ! $ move ! (1 ∷ []) $ done !
 
-  -- After a call to `refuses`, the returned value `v` is a Boolean. The caller also has its token
-  -- again, which proves that the lifetime `κ` has not ended. (The token exists only in the proof.)
+  -- A call to `refuses` returns a Boolean, and gives the token of the lifetime `κ` back to the
+  -- caller.
   pub Asks-gives : (v : Val) → ent 𝓤 ((Asks 𝓛 at_mem run).post (at_asks 𝓛 at_mem run κ q c k) v)
       (H.⇛ (ex 𝓤 (λ (y : Bool). guard 𝓤 (v ≡ vbool y) (A.lft κ q))))
   Asks-gives v =

@@ -1,7 +1,5 @@
--- The functions `granted` and `returned` count the blocks of the allocator `Refusing`. These lemmas
--- are about calls to these functions. If the caller has a shared reference to the counts of the
--- allocator, then the preconditions of both functions hold. Both functions return the unit value.
--- The lemmas assume the laws of the separation logic (`Logic`).
+-- Lemmas about calls to `granted` and `returned`, which count the blocks of the allocator
+-- `Refusing`. The lemmas assume the laws of the separation logic (`Logic`).
 use Rattle.std.proofs.Common.{◌≡◌, ℕ, List, [], ◌∷◌, refl, ap}
 use seplogic.Ra.Ura.{Ura}
 use mir.Val.{Val, vunit, vptr}
@@ -37,12 +35,9 @@ module _ {M : Type 1} {𝓤 : Ura M} (𝓛 : Logic 𝓤) (at_mem : Memory → SP
   abbrev pub Returned : Contract 𝓤
   Returned = triple_of 𝓛 RE.signature (RE.spec 𝓛 at_mem run)
 
-  -- `at_granted κ q c k y v` contains the ghost arguments for a call to `granted`. Ghost arguments
-  -- exist only in the proof. The call has two arguments. The first is a shared reference to the
-  -- counts of the allocator: `κ` is the lifetime of the reference, `c` is the address of the
-  -- counts, and `k` is their value. The second is `y`, the answer of the inner allocator to a
-  -- request, and `v` is its machine value. The caller has a share `q` of a token, which proves that
-  -- `κ` has not ended.
+  -- `at_granted κ q c k y v` contains the ghost arguments for a call to `granted` with the answer
+  -- `y`, whose machine value is `v`. The counts have the address `c` and the value `k`, and `q` is
+  -- a share of the token of the lifetime `κ`.
   abbrev pub at_granted : Lft → Share → ℕ × ℕ → Row.Denot → Answer.Denot → Val → Granted.Ghost
   at_granted κ q c k y v = (
     (
@@ -55,10 +50,9 @@ module _ {M : Type 1} {𝓤 : Ura M} (𝓛 : Logic 𝓤) (at_mem : Memory → SP
     tt,
   )
 
-  -- `at_returned κ q c k` contains the ghost arguments for a call to `returned`. Ghost arguments
-  -- exist only in the proof. The call passes a shared reference to the counts. Here, `κ` is the
-  -- lifetime of the reference, `c` is the address of the counts, and `k` is their value. The caller
-  -- has a share `q` of a token, which proves that `κ` has not ended.
+  -- `at_returned κ q c k` contains the ghost arguments for a call to `returned`. `κ` is the
+  -- lifetime of the shared reference to the counts, and `q` is a share of the token of `κ`. The
+  -- counts have the address `c` and the value `k`.
   abbrev pub at_returned : Lft → Share → ℕ × ℕ → Row.Denot → Returned.Ghost
   at_returned κ q c k =
       (((κ, tt), (q, tt), tt, (record { ref_ptr = c; now = k }, tt), (vptr c.0 c.1 ∷ [], tt)), tt)
@@ -67,10 +61,8 @@ module _ {M : Type 1} {𝓤 : Ura M} (𝓛 : Logic 𝓤) (at_mem : Memory → SP
     (κ : Lft) (q : Share) (c : ℕ × ℕ) (k : Row.Denot) where
   open 𝓛 use {H, A}
 
-  -- Suppose that the caller has a shared reference to the counts with the lifetime `κ`, and a token
-  -- that proves that `κ` has not ended. Let `y` be an answer of the inner allocator to a request,
-  -- and let `v` be its machine value. Then the precondition of `granted` holds for a call with this
-  -- answer.
+  -- If the counts are shared for the lifetime `κ`, and a token proves that `κ` has not ended, then
+  -- the precondition of `granted` holds for every answer `y`.
   pub Granted-goes : (y : Answer.Denot) (v : Val)
       → ent 𝓤 (emp 𝓤) (sem 𝓛 (Answer.own_val y (v ∷ [])))
       → ent 𝓤 (sep 𝓤 (sem 𝓛 (hidden_shr Row κ k c.0 c.1)) (A.lft κ q))
@@ -82,9 +74,8 @@ module _ {M : Type 1} {𝓤 : Ura M} (𝓛 : Logic 𝓤) (at_mem : Memory → SP
       move ! (1 ∷ []) $ fjoin ! $
       nothing ! $ move ! (2 ∷ []) $ join ! $ join ! $ nothing ! $ move ! (1 ∷ []) $ done !
 
-  -- After a call to `granted`, the returned value `v` is the unit value. The caller also has its
-  -- token again, which proves that the lifetime `κ` has not ended. (The token exists only in the
-  -- proof.)
+  -- A call to `granted` returns the unit value, and gives the token of the lifetime `κ` back to the
+  -- caller.
   pub Granted-gives : (y : Answer.Denot) (w v : Val)
       → ent 𝓤 ((Granted 𝓛 at_mem run).post (at_granted 𝓛 at_mem run κ q c k y w) v)
       (H.⇛ (guard 𝓤 (v ≡ vunit) (A.lft κ q)))
@@ -98,8 +89,8 @@ module _ {M : Type 1} {𝓤 : Ura M} (𝓛 : Logic 𝓤) (at_mem : Memory → SP
       split ! $ split ! $ move ! (1 ∷ []) $
       feq_l ! (λ e. split ! $ at_once ! $ check ! (ap only e) $ keep ! (0 ∷ []) $ done !))
 
-  -- Suppose that the caller has a shared reference to the counts with the lifetime `κ`, and a token
-  -- that proves that `κ` has not ended. Then the precondition of `returned` holds.
+  -- If the counts are shared for the lifetime `κ`, and a token proves that `κ` has not ended, then
+  -- the precondition of `returned` holds.
   pub Returned-goes : ent 𝓤 (sep 𝓤 (sem 𝓛 (hidden_shr Row κ k c.0 c.1)) (A.lft κ q))
       ((Returned 𝓛 at_mem run).pre (at_returned 𝓛 at_mem run κ q c k))
   Returned-goes =
@@ -108,9 +99,8 @@ module _ {M : Type 1} {𝓤 : Ura M} (𝓛 : Logic 𝓤) (at_mem : Memory → SP
       nothing ! $ move ! (1 ∷ []) $ fjoin ! $ nothing ! $ move ! (2 ∷ []) $ join ! $ join ! $
       nothing ! $ move ! (1 ∷ []) $ done !
 
-  -- After a call to `returned`, the value `v` that the call returned is the unit value. The caller
-  -- also has its token again, which proves that the lifetime `κ` has not ended. (The token exists
-  -- only in the proof.)
+  -- A call to `returned` returns the unit value, and gives the token of the lifetime `κ` back to
+  -- the caller.
   pub Returned-gives : (v : Val)
       → ent 𝓤 ((Returned 𝓛 at_mem run).post (at_returned 𝓛 at_mem run κ q c k) v)
       (H.⇛ (guard 𝓤 (v ≡ vunit) (A.lft κ q)))

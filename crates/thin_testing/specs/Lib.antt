@@ -1,3 +1,3 @@
--- The module `Multiples` defines the two growth rules that only tests use. It also proves that both
--- rules satisfy `KeepsLaw`, the law that every growth rule must satisfy.
+-- The module `Multiples` defines the two growth rules that only tests use, and proves that both
+-- keep the law of growth rules (`KeepsLaw`).
 pub mod Multiples

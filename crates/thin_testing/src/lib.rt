@@ -1,6 +1,5 @@
-//! Provides types for the tests of several crates. `Refusing` is an allocator that refuses one
-//! request, which the test chooses. `Fourfold` and `Threefold` are growth rules that only tests
-//! use. The trait `Ruled` computes the capacities that tests expect.
+//! Types that several test crates use: the allocator `Refusing`, the growth rules `Fourfold` and
+//! `Threefold`, and the trait `Ruled`, which computes the expected capacities.
 #![tactic(auto)]
 
 mod multiples;

@@ -1,26 +1,21 @@
-//! Defines `Refusing`, an allocator for tests. It wraps another allocator, `inner`, and refuses one
-//! request, which the test chooses.
+//! `Refusing` is an allocator for tests. It passes requests on to an allocator `inner`, but refuses
+//! one request, which the test chooses. Each call to `allocate`, `grow` or `shrink` is a request.
 //!
-//! A request is a call to `allocate`, `grow` or `shrink`, so each growth of a list is one request.
-//! The methods `grow` and `shrink` call the methods of the same name of `inner`, which may resize a
-//! block in place. Pass the allocator by reference, as `&Refusing<Global>`. A reference to an
-//! allocator is itself an allocator, and it is `Copy`.
+//! Pass it by reference, as `&Refusing<Global>`. A reference to an allocator is itself an
+//! allocator, and it is `Copy`.
 //!
-//! The method `blocks` returns the number of blocks that are allocated and have not been freed yet.
-//! So a test can detect a leak, although no contract says that a list frees its block. A block that
-//! is grown or shrunk still counts as one block. The sizes of blocks are not counted, so a call
-//! that requests too many bytes is not detected.
+//! The method `blocks` returns the number of allocated blocks, so that a test can detect a leak.
+//! The sizes of blocks are not counted.
 //!
-//! Contracts cannot mention the contents of a `Cell`. So only tests show which request is refused,
-//! and what `requests` and `blocks` return. It is proved that every block comes from `inner`, and
-//! that a block that is freed is returned to `inner`.
+//! Contracts cannot mention the contents of a `Cell`. So it is only tested, and not proved, which
+//! request is refused and what `requests` and `blocks` return. It is proved that every block comes
+//! from `inner` and is returned to `inner`.
 use std::alloc::{AllocError, Allocator};
 use std::cell::Cell;
 
-// The counters of an allocator `Refusing`, and the number of the request that it refuses.
-// `requests` is the number of requests since the allocator was created or since the last call to
-// `refuse`. `blocks` is the number of blocks that are allocated and have not been freed yet.
-// `refused` is the number of the refused request, or 0 if no request is refused.
+// The counters of a `Refusing`. `requests` counts the requests since the creation or the last call
+// to `refuse`, and `blocks` counts the allocated blocks. `refused` is the number of the refused
+// request, or 0 if there is none.
 #[derive(Drop)]
 struct Counts {
     requests: Cell<u64>,
@@ -54,8 +49,8 @@ pub struct Refusing<B: Allocator> {
 }
 
 impl<B: Allocator> Refusing<B> {
-    /// Returns an allocator that refuses the request with the number `refused`. The first request
-    /// has the number 1. If `refused` is 0, no request is refused. The new allocator owns `inner`.
+    /// Returns an allocator that owns `inner` and refuses the request with the number `refused`.
+    /// The first request has the number 1. If `refused` is 0, no request is refused.
     pub fn new(inner: B, refused: u64) -> Refusing<B> {
         Refusing {
             inner,
@@ -68,20 +63,19 @@ impl<B: Allocator> Refusing<B> {
     }
 
     /// Sets the count of requests to 0. After that, the request with the number `refused` is
-    /// refused. If `refused` is 0, no request is refused.
+    /// refused, or no request if `refused` is 0.
     pub fn refuse(&self, refused: u64) {
         self.counts.requests.set(0);
         self.counts.refused.set(refused);
     }
 
-    /// Returns the number of requests since the allocator was created or since the last call to
-    /// `refuse`. A refused request counts, too.
+    /// Returns the number of requests since the creation of the allocator or the last call to
+    /// `refuse`. Refused requests count, too.
     pub fn requests(&self) -> u64 {
         self.counts.requests.get()
     }
 
-    /// Returns the number of blocks that are allocated and have not been freed yet. A call to
-    /// `refuse` does not change this number.
+    /// Returns the number of allocated blocks. A call to `refuse` does not change this number.
     pub fn blocks(&self) -> u64 {
         self.counts.blocks.get()
     }

@@ -1,8 +1,7 @@
-//! Tests of `ThinVec`, of `Block`, of the table `Rows`, of the example functions and worked
-//! examples in `thin_examples`, and of the allocator `Refusing`.
+//! Tests of `ThinVec`, `Block`, `Rows`, `Refusing`, and of the crate `thin_examples`.
 //!
-//! The tests are in a crate of their own, because the checker proves the contracts of a crate twice
-//! if the crate contains tests. So the contracts of the tested crates are proved only once.
+//! The checker proves the contracts of a crate twice if the crate contains tests. For this reason,
+//! the tests are in a crate of their own.
 #![tactic(auto)]
 
 #[cfg(test)]

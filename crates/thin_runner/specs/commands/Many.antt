@@ -8,16 +8,11 @@ use Rattle.thin_runner.specs.Setting.{Setting}
 use Rattle.thin_runner.specs.commands.Items.{Grows}
 
 module _ {T A J : Type 0} (here : Setting T A J) where
-  -- `RefusesClone old k sources cause new` holds if a call may fail with `cause` and turn the list
-  -- `old` into `new`. The call needs room for `k` more items, and clones the items `sources`. The
-  -- failed call does not change the items of the list.
+  -- `RefusesClone old k sources cause new` describes a call that clones the items `sources` and
+  -- fails with `cause`. The items of the list do not change.
   --
-  -- There are two cases. In the first case, nothing changes. (If the list already has enough room,
-  -- this is possible only if cloning one of the items `sources` may fail.) In the second case, the
-  -- call has reserved the room, perhaps by growth, and then failed to clone one of the items
-  -- `sources`. Each item that was cloned before the failure counts as one move. In both cases, the
-  -- cause is `CapacityOverflow` if and only if the list has too little room and the growth rule
-  -- chooses no capacity with enough room.
+  -- Either nothing changes at all, or the call makes room for `k` more items and then fails to
+  -- clone one of `sources`. Each clone made before counts as one move.
   abbrev pub RefusesClone : Thin T A → ℕ → List T → ThinVecError → Thin T A → Type 0
   RefusesClone old k sources cause new =
       ((capacity_for here.rule here.R old k ≡ None) ↔ (cause ≡ CapacityOverflow))

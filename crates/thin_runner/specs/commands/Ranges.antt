@@ -5,9 +5,9 @@ use Rattle.thin_runner.specs.declared.command.Step.{Step}
 use Rattle.thin_runner.specs.declared.command.Step.TheVariants.{Front, Back}
 
 module _ {T : Type 0} where
-  -- `walked xs steps` is the list of the results of the steps, in order, on a range with the items
-  -- `xs`. The step `Front` removes and returns the first item that is left. The step `Back` removes
-  -- and returns the last item that is left. Both steps return `None` if no item is left.
+  -- `walked xs steps` is the list of the results of the steps on a range with the items `xs`.
+  -- `Front` removes and returns the first of the remaining items, and `Back` the last. Both return
+  -- `None` if the range is empty.
   abbrev pub walked : List T → List Step → List (Option T)
   walked xs [] = []
   walked xs (Front ∷ steps) = slice_get xs 0 ∷ walked (drop 1 xs) steps

@@ -5,8 +5,7 @@ use Rattle.thin_vec.specs.Cost.{moving}
 use Rattle.thin_vec.specs.ThinVec.{Thin, cost_new}
 
 module _ {T A : Type 0} where
-  -- `made a xs` is a new list with the allocator `a` and the items `xs`. Its capacity equals its
-  -- length.
+  -- `made a xs` is a new list with the allocator `a`, the items `xs`, and the capacity `length xs`.
   abbrev pub made : A → List T → Thin T A
   made a xs = record {
     items = xs;

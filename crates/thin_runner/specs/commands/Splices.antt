@@ -1,4 +1,4 @@
--- These definitions describe a splice, which replaces the items of a range with the items of an
+-- These definitions describe a splice, which replaces a range of a list with the items of an
 -- iterator. (std: `Vec::splice`, `Vec::extend`)
 use Rattle.std.specs.Prelude.{◌≡◌, ◌↔◌, ◌⊎◌, ℕ, ◌+◌, ◌-◌, ◌*◌, ◌<◌, ◌≤◌, List, [], ◌++◌, IsSome, None, Option, drop, length, take}
 use Rattle.std.specs.Borrow.{RattleType}
@@ -20,22 +20,18 @@ module _ {T A : Type 0} (old : Thin T A) (a b : ℕ) where
   abbrev pub cut : Thin T A
   cut = record old { items = remove_range old.items a b }
 
-  -- `HasPlacesFor most` holds if `most` items can replace the items `a..b` without new memory.
-  -- There are two such cases. In the first case, the range `a..b` has at least `most` items. In the
-  -- second case, no item follows the range, and the list has room for `most` more items after the
-  -- range has been removed.
+  -- `HasPlacesFor most` holds if `most` items can replace the range `a..b` without new memory: the
+  -- range has at least `most` items, or it is at the end of the list and the capacity is
+  -- sufficient.
   abbrev pub HasPlacesFor : ℕ → Type 0
   HasPlacesFor most = (most ≤ b - a) ⊎ ((b ≡ length old.items) × HasRoomFor cut most)
 
 module _ {T A : Type 0} (rule : Rule) (R : RattleType) (old : Thin T A) (a b : ℕ) where
-  -- `Replaces placed most new` holds if a call may replace the items `a..b` of the list `old` with
-  -- the items `placed`, so that the list becomes `new`. The new items come from an iterator that
-  -- could yield at most `most` items. Each placed item counts as one move. Each item after the
-  -- range counts as at most two moves.
+  -- `Replaces placed most new` holds if replacing the items `a..b` of the list `old` with `placed`
+  -- may result in `new`. The iterator could yield at most `most` items.
   --
-  -- If the capacity changed, then the growth rule chose the new capacity. Either it chose this
-  -- capacity for at most as many items as `new` has. Or it chose this capacity when the call
-  -- reserved room for the lower bound of a size hint, which is at most `most`.
+  -- Each placed item counts as one move, and each item after the range as at most two. If the
+  -- capacity changed, the growth rule chose it.
   pub record Replaces (placed : List T) (most : ℕ) (new : Thin T A) : Type 0 where
     pub items : new.items ≡ (take a old.items ++ placed) ++ drop b old.items
     pub capacity : IsLoose rule R old.capacity new.capacity
@@ -46,10 +42,9 @@ module _ {T A : Type 0} (rule : Rule) (R : RattleType) (old : Thin T A) (a b : �
     pub cheap : IsCheap old → IsCheap new
     pub alloc : new.alloc ≡ old.alloc
 
-  -- `StopsBetween` describes a splice, or a call to `extend`, that failed with `cause` and turned
-  -- the list `old` into `new`. The iterator had the items `xs`. Before the failure, the call put
-  -- some of these items into the list (perhaps none). The field `placed` contains these items. All
-  -- other items of the iterator are in `held`, in `in_hand`, or in `rest`.
+  -- `StopsBetween` describes a splice or an `extend` that failed with `cause`. The items `placed`
+  -- are in the list. All other items `xs` of the iterator are in `held`, in `in_hand`, or in
+  -- `rest`.
   pub record StopsBetween (xs held : List T) (lower : ℕ) (cause : ThinVecError)
       (in_hand : Option T) (rest : Hinted T A) (new : Thin T A) : Type 0 where
     pub placed : List T
@@ -57,37 +52,30 @@ module _ {T A : Type 0} (rule : Rule) (R : RattleType) (old : Thin T A) (a b : �
     pub claim : rest.lower ≡ lower
     pub filled : Replaces placed (lower + length xs) new
     pub no_room : ¬ (HasPlacesFor old a b (lower + length xs))
-    -- Suppose that `held` is empty, and that `in_hand` is `None`. Then the call failed because it
-    -- could not reserve room for `h` more items in the list `new`. Here, `h` is a lower bound that
-    -- the size hint of `rest` may have. It is at most the sum of `rest.lower` and the number of
-    -- items that are left in `rest`. The cause is `CapacityOverflow` if and only if the growth rule
-    -- chooses no capacity for `h` more items.
+    -- If `held` is empty and `in_hand` is `None`, then the call failed because it could not reserve
+    -- room for the lower bound of the size hint of `rest`.
     pub by_hint : held ≡ [] → in_hand ≡ None
         → FailsAtHint rule R new (at_most (rest.lower + length (into_iter_items rest.items))) cause
-    -- Suppose that `held` contains items, and that `in_hand` is `None`. Then the cause is
-    -- `CapacityOverflow` if and only if the growth rule chooses no capacity that has room for both
-    -- the items of the list `new` and the items in `held`.
+    -- If `held` has items and `in_hand` is `None`, then the cause is `CapacityOverflow` if and only
+    -- if the growth rule has no capacity for the items of `new` and of `held` together.
     pub by_held : 0 < length held → in_hand ≡ None
         → (cause ≡ CapacityOverflow) ↔ (capacity_for rule R new (length held) ≡ None)
-    -- If `in_hand` contains an item, and the list `old` has items after the range, then the cause
-    -- is `OutOfMemory`. In this case, the call failed because there was not enough memory to put
-    -- the item into the vector `held`.
+    -- If `in_hand` is `Some`, and items follow the range, then the cause is `OutOfMemory`: the item
+    -- could not be put into `held`.
     pub by_in_hand : b < length old.items → IsSome in_hand → cause ≡ OutOfMemory
-    -- Suppose that `in_hand` contains an item, and that no item of `old` follows the range. Then
-    -- the cause is `CapacityOverflow` if and only if the growth rule chooses no capacity for one
-    -- more item.
+    -- If `in_hand` is `Some`, and no item follows the range, then the cause is `CapacityOverflow`
+    -- if and only if the growth rule has no capacity for one more item.
     pub by_push : b ≡ length old.items → IsSome in_hand
         → (cause ≡ CapacityOverflow) ↔ (capacity_for rule R new 1 ≡ None)
     -- If `held` contains items and `in_hand` is `None`, then the iterator has ended: `rest` has no
     -- items left.
     pub ended : in_hand ≡ None → 0 < length held → into_iter_items rest.items ≡ []
-    -- If the list `old` has items after the range `a..b`, then the call placed at least as many
-    -- items as the range had.
+    -- If items follow the range `a..b` in the list `old`, then the call placed at least `b - a`
+    -- items.
     pub range : b < length old.items → b - a ≤ length placed
-    -- If no item follows the range, then `held` is empty. If `in_hand` also contains an item, then
-    -- the list `new` is full: its length equals its capacity.
+    -- If no item follows the range, then `held` is empty. If `in_hand` is also `Some`, then the
+    -- list `new` is full.
     pub at_end : b ≡ length old.items → (held ≡ [])
         × (IsSome in_hand → length new.items ≡ new.capacity)
-    -- If no item follows the range, and `in_hand` is `None`, then the call placed no item. The list
-    -- `new` is the list `old` without the items of the range.
+    -- If no item follows the range, and `in_hand` is `None`, then the call placed no item.
     pub unchanged : b ≡ length old.items → in_hand ≡ None → new ≡ cut old a b

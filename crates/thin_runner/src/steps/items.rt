@@ -1,5 +1,4 @@
-//! Implements the commands that add, remove or replace a single item, and the commands `Truncate`
-//! and `Clear`.
+//! The commands that add, remove or replace a single item, and the commands `Truncate` and `Clear`.
 ghost use Rattle.std.specs.Prelude.{◌<◌, ◌≤◌, length};
 ghost use Rattle.thin_runner.specs.Setting.{setting};
 ghost use Rattle.thin_runner.specs.Steps.{Steps};

@@ -1,5 +1,4 @@
-//! Implements the commands that may add many items: `Resize`, `ExtendFromSlice`, `Extend` and
-//! `Append`.
+//! The commands that may add many items: `Resize`, `ExtendFromSlice`, `Extend` and `Append`.
 ghost use Rattle.thin_runner.specs.Setting.{setting};
 ghost use Rattle.thin_runner.specs.Steps.{Steps};
 ghost use Rattle.thin_runner.specs.declared.command.Command.TheVariants.{Resize, ExtendFromSlice, Extend, Append};

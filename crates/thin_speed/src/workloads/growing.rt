@@ -77,7 +77,7 @@ pub fn run_growing<F: Family>(
     }
 }
 
-/// In each of `times` rounds, makes a new list, and pushes `size` items onto it.
+/// Makes a new list, and pushes `size` items onto it. Does this `times` times.
 ///
 /// # Errors
 ///
@@ -99,8 +99,7 @@ pub fn push<L: List<T>, T: Item, S: Source<T>>(
     Ok(sum)
 }
 
-/// In each of `times` rounds, makes a new list, pushes `size` numbers onto it, and then pops all of
-/// them.
+/// Makes a new list, pushes `size` numbers onto it, and pops all of them. Does this `times` times.
 ///
 /// # Errors
 ///
@@ -171,8 +170,8 @@ impl<L: Numbers> Make<L> for ExtendFilter {
     }
 }
 
-/// A workload that makes a list with enough capacity for a slice, and then extends the list with
-/// the two halves of the slice. The workload calls `extend` once for each half.
+/// A workload that makes a list with enough capacity for a slice, and then calls `extend` once for
+/// each half of the slice.
 pub struct ExtendTwice;
 
 impl<L: Numbers> Make<L> for ExtendTwice {
@@ -242,8 +241,8 @@ impl<L: Numbers> Make<L> for Copied {
     }
 }
 
-/// In each of `times` rounds, makes a new list of bytes and calls `write_all` `size` times. Each of
-/// these calls appends five bytes to the list.
+/// Makes a new list, and appends five bytes to it with each of `size` calls to `write_all`. Does
+/// this `times` times.
 ///
 /// # Errors
 ///
@@ -263,8 +262,8 @@ pub fn write_five<L: List<u8> + Write>(alloc: Global, size: usize, times: usize)
     Ok(sum)
 }
 
-/// In each of `times` rounds, fills a list with `size` numbers, and then consumes the list from the
-/// front, using `into_iter`.
+/// Fills a list with `size` numbers, and then consumes it with `into_iter`. Does this `times`
+/// times.
 ///
 /// # Errors
 ///

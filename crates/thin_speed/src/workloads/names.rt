@@ -1,4 +1,4 @@
-//! Assigns a name to each workload. The input of this program contains these names.
+//! The names of the workloads, as they are written in the input of this program.
 use crate::workloads::editing::Editing;
 use crate::workloads::filtering::Filtering;
 use crate::workloads::growing::Growing;

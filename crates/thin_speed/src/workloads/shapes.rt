@@ -1,16 +1,14 @@
-//! Defines the loops that many workloads share, and the traits for the work inside these loops.
+//! The loops that many workloads share, and the traits for the work inside these loops.
 use crate::lists::{List, Numbers};
 use crate::numbers::{Item, Outcome, Source, mixed, seen};
 use std::alloc::{AllocError, Global};
 
 /// A task that a workload repeats on a list.
 pub trait Work<L, T> {
-    /// Does the work once, and returns the new sum. Some implementations mix the items that they
-    /// remove into `sum`. The other implementations return `sum` unchanged.
+    /// Does the work once, and returns the new sum.
     ///
-    /// The meaning of `number` depends on the caller. The function `refilled` passes the length of
-    /// the list. The function `repeated` passes the number of times that the work has already been
-    /// done.
+    /// `number` depends on the caller: `refilled` passes the length of the list, and `repeated`
+    /// passes how many times the work has been done.
     ///
     /// # Errors
     ///
@@ -28,8 +26,8 @@ impl<L, T> Work<L, T> for Idle {
     }
 }
 
-/// Clears `list`, and then pushes `size` items onto it. The list keeps its allocation if its
-/// capacity is large enough.
+/// Clears `list`, and pushes `size` items onto it. The list keeps its allocation if its capacity is
+/// sufficient.
 ///
 /// # Errors
 ///
@@ -47,8 +45,8 @@ pub fn refill<L: List<T>, T: Drop, S: Source<T>>(
     Ok(())
 }
 
-/// Makes a list. In each of `times` rounds, clears the list, pushes `size` items onto it, and does
-/// the work `W` on it.
+/// Makes a list. Then, `times` times, clears it, pushes `size` items onto it, and does the work
+/// `W`.
 ///
 /// # Errors
 ///
@@ -83,7 +81,7 @@ pub fn filled<L: List<u64>>(alloc: Global, size: usize) -> Result<L, AllocError>
     Ok(list)
 }
 
-/// Makes a list of `size` numbers, and then does the work `W` on this list `times` times.
+/// Makes a list of `size` numbers, and then does the work `W` on it `times` times.
 ///
 /// # Errors
 ///
@@ -98,10 +96,10 @@ pub fn repeated<L: Numbers, W: Work<L, u64>>(alloc: Global, size: usize, times: 
     Ok(mixed(sum, seen(list.as_slice())))
 }
 
-/// A way of making a list. Some workloads measure how long it takes to make a list in this way.
+/// A way of making a list, for the workloads that measure how long this takes.
 pub trait Make<L> {
-    /// Makes a new list. Some implementations take its items from `source`, whose length is `size`.
-    /// The other implementations use only `size`.
+    /// Makes a new list, from the items of `source` or only from `size`, which is the length of
+    /// `source`.
     ///
     /// # Errors
     ///
@@ -109,7 +107,7 @@ pub trait Make<L> {
     fn make(alloc: Global, size: usize, source: &L) -> Result<L, AllocError>;
 }
 
-/// In each of `times` rounds, makes a new list with the function `M::make`.
+/// Makes `times` new lists with the function `M::make`.
 ///
 /// # Errors
 ///

@@ -1,5 +1,5 @@
-//! Tests of calls that take an allocator as an argument. Such a call must allocate its result with
-//! this allocator, and not with the allocator of the list, even if the list is empty.
+//! Tests of calls that take an allocator. Such a call must allocate its result with this allocator,
+//! even if the list is empty.
 use crate::tests::support::assertions::{assert_counts, assert_len, assert_same};
 use crate::tests::support::claims::Claims;
 use crate::tests::support::items::{list_of, refusing_nth};
@@ -24,8 +24,8 @@ fn move_into_vec<A: Allocator>(rt: &impl Abort, list: ThinVec<i32, A>, alloc: A)
     push_one_more(rt, vec, len)
 }
 
-// Converts the list to a boxed slice with the allocator `alloc`, converts the boxed slice to a
-// `Vec`, and pushes one more item to the `Vec`.
+// Converts the list to a boxed slice with the allocator `alloc`, converts the slice to a `Vec`, and
+// pushes one more item.
 fn move_into_boxed_slice<A: Allocator>(
     rt: &impl Abort,
     list: ThinVec<i32, A>,
@@ -71,8 +71,8 @@ fn copy_into_vec<A: Allocator + Copy>(
     move_into_vec(rt, copy, alloc)
 }
 
-// Converts the list to an iterator, clones the iterator with the allocator `alloc`, and extends a
-// new list with the items that the clone yields. Then calls `move_into_vec` with the new list.
+// Extends a new list with the items of an iterator, which is a clone of `list.into_iter()` with the
+// allocator `alloc`. Then calls `move_into_vec` with the new list.
 fn clone_iter_into_vec<A: Allocator + Copy>(
     rt: &impl Abort,
     list: ThinVec<i32, A>,
@@ -86,8 +86,8 @@ fn clone_iter_into_vec<A: Allocator + Copy>(
     move_into_vec(rt, list, alloc)
 }
 
-// Moves the items of `list` into a `Vec` with the allocator `other`, using one of six functions.
-// The value of `way` (0 to 5) selects the function.
+// Moves the items of `list` into a `Vec` with the allocator `other`. The value of `way` (0 to 5)
+// selects one of six functions for this.
 fn move_by_way(
     rt: &impl Abort,
     way: u32,
@@ -104,9 +104,8 @@ fn move_by_way(
     }
 }
 
-// Makes a list of `items`, and moves the items into a `Vec` with another allocator. Does this with
-// each of the six functions that `move_by_way` calls. Asserts each time that the allocator of the
-// list then has no allocated block, and that the other allocator has one.
+// Moves a list of `items` into a `Vec` with another allocator, in each of the six ways of
+// `move_by_way`. Asserts each time that only the other allocator has a block.
 fn assert_each_way_moves_the_block(rt: &impl Abort, alloc: Global, items: &[i32]) {
     let own = refusing_nth(rt, alloc, 0);
     let other = refusing_nth(rt, alloc, 0);

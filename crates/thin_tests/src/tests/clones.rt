@@ -56,9 +56,8 @@ fn assert_extended<'a>(
     assert_same(rt, (list.len(), list.capacity()), (len, 4));
 }
 
-// Tries twice to append clones of three items to a list of one item. In the first attempt, only one
-// item can be cloned. Asserts that this attempt fails and drops the clone. In the second attempt,
-// all three items can be cloned. Asserts that this attempt succeeds.
+// Tries twice to append clones of three items. Asserts that the first attempt fails and drops its
+// clone, because only one item can be cloned, and that the second attempt succeeds.
 fn assert_extended_at_second_try(
     rt: &impl Abort,
     alloc: Global,
@@ -83,9 +82,8 @@ fn row_37_extend_from_slice_drops_its_clones_if_one_fails(rt: HostRuntime) {
     assert_same(&rt, drops.get(), 8);
 }
 
-// Tries to replace the first of two items with clones of three items. The number in `granted` says
-// how many items can be cloned. It is less than three, so the call fails. Asserts that the failed
-// call drops the clones that it has made.
+// Tries to replace the first of two items with clones of three items. Asserts that this fails,
+// because fewer than three items can be cloned, and that the clones are dropped.
 fn assert_replace_range_fails(
     rt: &impl Abort,
     alloc: Global,

@@ -1,6 +1,5 @@
-//! Tests that methods such as `retain` drop their closure when the call ends, together with the
-//! values that the closure owns. Also tests that an `ExtractIf` drops its closure when the
-//! `ExtractIf` is dropped.
+//! Tests that methods such as `retain` drop their closure when the call ends, and that an
+//! `ExtractIf` drops its closure when it is dropped itself.
 use crate::tests::support::assertions::{assert_items, assert_len, assert_same};
 use crate::tests::support::counted::Counted;
 use crate::tests::support::items::list_of;
@@ -9,14 +8,14 @@ use std::process::Abort;
 use std::rc::Rc;
 use thin_vec::ThinVec;
 
-// Returns whether `item` is not 2. The tests call this function in closures. Each of these closures
-// owns a value, and passes a reference to this value as `_owned`.
+// Returns whether `item` is not 2. The tests call this function in a closure that owns a value, and
+// pass a reference to this value as `_owned`.
 fn is_not_two(_owned: &Counted<'_>, item: i32) -> bool {
     item != 2
 }
 
-// Asserts that the list contains 1 and 3 after a call that took a closure. Also asserts that the
-// value that this closure owned has been dropped exactly once. The number of drops is in `drops`.
+// Asserts that the list contains 1 and 3, and that the value that the closure owned has been
+// dropped exactly once.
 fn assert_without_two(rt: &impl Abort, list: &ThinVec<i32>, drops: &Cell<u32>) {
     assert_items(rt, list.as_slice(), &[1, 3]);
     assert_same(rt, drops.get(), 1);
@@ -58,9 +57,8 @@ fn dedup_by_key_drops_its_closure(rt: HostRuntime) {
     assert_without_two(&rt, &list, &drops);
 }
 
-// Tests the closure of `extract_if`, which owns an `Rc`. The reference count of the `Rc` shows
-// whether the closure has been dropped. In the other tests, the closure owns a `Counted`, which
-// borrows a cell. Here, the borrow checker does not accept a closure with a borrow.
+// Tests when `extract_if` drops its closure. The closure owns an `Rc`, whose reference count shows
+// this. The borrow checker accepts no closure that borrows a cell here.
 #[test]
 fn extract_if_drops_its_closure(rt: HostRuntime) {
     let kept = Rc::new(rt.alloc(), 2).ok().expect(&rt, "memory");

@@ -1,6 +1,5 @@
-//! Functions whose contracts state the capacity of a list after each of five pushes. They also
-//! state how many blocks are allocated, and how many items are copied, while the list grows. So all
-//! these numbers are proved to be correct.
+//! Functions whose contracts state the capacity of a list, the number of allocated blocks and the
+//! number of copied items after each of five pushes.
 ghost use Rattle.std.specs.Prelude.{◌≡◌, ◌+◌, ◌*◌, ◌<◌, [], ◌∷◌, IfOk, OnOk, length};
 ghost use Rattle.thin_vec.specs.ThinVec.{HasRoomFor};
 
@@ -8,8 +7,7 @@ use std::alloc::Allocator;
 use thin_vec::{ThinVec, ThinVecError};
 
 /// Pushes five items to a new list. Returns the list, and its capacity after each push. The first
-/// push allocates memory for 4 items. The fifth push copies the 4 items to a new allocation, which
-/// has room for 8 items.
+/// push allocates memory for 4 items, and the fifth copies them to a new allocation for 8.
 pub fn five_pushes<A: Allocator>(alloc: A) -> Result<(ThinVec<u32, A>, [usize; 5]), ThinVecError>
     ensures capacities { IfOk result (λ made. made.1 ≡ 4 ∷ 4 ∷ 4 ∷ 4 ∷ 8 ∷ []) }
     ensures grown { IfOk result (λ made. made.0.cost.grown ≡ 4) }
@@ -29,8 +27,8 @@ pub fn five_pushes<A: Allocator>(alloc: A) -> Result<(ThinVec<u32, A>, [usize; 5
     Ok((list, [first, second, third, fourth, fifth]))
 }
 
-// Pushes an item to a full list. If the capacity of the list is 0, the push sets it to 4.
-// Otherwise, the push doubles it.
+// Pushes an item to a full list. This doubles the capacity of the list, or sets it to 4 if it was
+// 0.
 fn push_full<A: Allocator>(list: &mut ThinVec<u32, A>) -> Result<(), ThinVecError>
     requires full { length list.old.items ≡ list.old.capacity }
     requires few { list.old.capacity < 100 }

@@ -1,5 +1,5 @@
-//! Tests of `extend` and `from_iter`. They cover the same cases as the tests of the Rust crate
-//! `thin-vec`, and check what a failed call returns.
+//! Tests of `extend` and `from_iter`. They cover the cases that the Rust crate `thin-vec` tests,
+//! and check what a failed call returns.
 use crate::tests::support::assertions::{assert_counts, assert_list, assert_same};
 use crate::tests::support::claims::Claims;
 use crate::tests::support::counted::Counted;

@@ -1,5 +1,5 @@
-//! Defines a function that drops an `ExtractIf` early. The contract of this function shows what a
-//! caller can prove in this case.
+//! A function that drops an `ExtractIf` early. Its contract shows what a caller can prove about
+//! this.
 ghost use Rattle.std.specs.Prelude.{◌≡◌, ◌≤◌, length};
 
 use std::alloc::Allocator;

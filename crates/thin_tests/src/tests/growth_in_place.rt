@@ -1,6 +1,5 @@
-//! Tests of lists that are long enough to grow and shrink in place, with items of 1, 2, 4, 8 or 16
-//! bytes. Most tests try each change of the capacity twice. The allocator refuses the first request
-//! and grants the second request.
+//! Tests of lists that are long enough to grow and shrink in place. Most tests try each change of
+//! the capacity twice, and the allocator refuses the first attempt.
 use crate::tests::support::assertions::assert_same;
 use crate::tests::support::items::push;
 use std::alloc::{Allocator, Global};
@@ -14,10 +13,8 @@ trait Numbered: Copy + PartialEq + Debug + Drop {
     fn numbered(number: usize) -> Self;
 }
 
-// For `u8`, the function `numbered` returns its argument modulo 251. If a list contains the values
-// of consecutive numbers, then any two neighboring 8-byte words of the list contain different
-// bytes. The modulus is not 256. Otherwise, the values would repeat every 256 bytes, and a test
-// would not notice if bytes were moved by 256.
+// For `u8`, `numbered` returns its argument modulo 251. With the modulus 256, the items would
+// repeat every 256 bytes, and a test would not notice if bytes were moved by 256.
 impl Numbered for u8 {
     fn numbered(number: usize) -> u8 {
         (number % 251) as u8
@@ -60,8 +57,8 @@ impl Numbered for u128 {
     }
 }
 
-// Asserts that the list has length `len` and capacity `capacity`, and that each item is the value
-// that is made from its own index.
+// Asserts that the list has length `len` and capacity `capacity`, and that each item is made from
+// its own index.
 fn assert_numbered<T: Numbered, A: Allocator, G: Growth>(
     rt: &impl Abort,
     list: &ThinVec<T, A, G>,
@@ -78,8 +75,7 @@ fn assert_numbered<T: Numbered, A: Allocator, G: Growth>(
     assert_same(rt, found, (len, len, capacity));
 }
 
-// Pushes items until the list has no spare capacity. Each item is the value that is made from its
-// own index.
+// Pushes items until the list has no spare capacity. Each item is made from its own index.
 fn fill<T: Numbered, A: Allocator, G: Growth>(rt: &impl Abort, list: &mut ThinVec<T, A, G>) {
     for number in list.len()..list.capacity() {
         push(rt, list, T::numbered(number));
@@ -87,8 +83,7 @@ fn fill<T: Numbered, A: Allocator, G: Growth>(rt: &impl Abort, list: &mut ThinVe
 }
 
 // Tries twice to push an item of `size` bytes to a full list. Asserts that the first push fails and
-// leaves the list unchanged. Asserts that the second push succeeds, and grows the list to the
-// capacity that the growth rule provides.
+// changes nothing, and that the second push grows the list to the expected capacity.
 fn assert_grows<T: Numbered, B: Allocator, G: Ruled>(
     rt: &impl Abort,
     refusing: &Refusing<B>,
@@ -138,7 +133,7 @@ fn make_capacity<T: Drop, A: Allocator, G: Growth>(
 }
 
 // Tries twice to change the capacity of the list to `capacity`. Asserts that the first attempt
-// fails with `OutOfMemory` and leaves the list unchanged, and that the second attempt succeeds.
+// fails with `OutOfMemory` and changes nothing, and that the second succeeds.
 fn assert_capacity_made<T: Numbered, B: Allocator>(
     rt: &impl Abort,
     refusing: &Refusing<B>,
@@ -155,9 +150,9 @@ fn assert_capacity_made<T: Numbered, B: Allocator>(
     assert_same(rt, refusing.requests(), 2);
 }
 
-// Makes a full list of `len` items. Then changes its capacity to `len + more`, to `len + 2 * more`,
-// and back to `len + more`. Then fills the list, truncates it to `len` items, and reduces its
-// capacity to `len`. Checks each change of the capacity with `assert_capacity_made`.
+// Makes a full list of `len` items. Increases its capacity twice by `more`, and then decreases it
+// by `more`. Fills the list, truncates it to `len` items, and shrinks it to this length. Checks
+// each change of the capacity.
 fn assert_capacities<T: Numbered, B: Allocator>(
     rt: &impl Abort,
     refusing: &Refusing<B>,
@@ -179,11 +174,8 @@ fn assert_capacities<T: Numbered, B: Allocator>(
     assert_same(rt, refusing.blocks(), 1);
 }
 
-// Runs `assert_pushes` and `assert_capacities` for an item type of `size` bytes. A list can grow in
-// place only if its items take at least 256 bytes. For this reason, `assert_capacities` is run with
-// lists whose items take about 256 bytes. If an item is smaller than 8 bytes, then at some of the
-// tested capacities the items fill a whole number of 8-byte words. At the other tested capacities,
-// they fill the last word only in part.
+// Runs `assert_pushes` and `assert_capacities` for items of `size` bytes. A list can grow in place
+// only if its items take at least 256 bytes, so `assert_capacities` uses lists of about this size.
 fn assert_type<T: Numbered>(rt: &impl Abort, alloc: Global, size: usize) {
     let refusing = Refusing::new(alloc, 0);
     for first in [0, 5, 261] {
@@ -225,9 +217,8 @@ fn a_list_of_pairs_of_words_grows_and_shrinks_in_place(rt: HostRuntime) {
     assert_type::<u128>(&rt, rt.alloc(), 16);
 }
 
-// Pushes 3000 items to a list. Before each growth of this list, another list is made. The
-// allocation of the other list lies directly behind the allocation of the growing list, which
-// therefore cannot grow in place.
+// Pushes 3000 items to a list. Before each growth, another list is allocated directly behind this
+// list, so that this list cannot grow in place.
 fn assert_pushes_beside_neighbours<T: Numbered>(rt: &impl Abort, alloc: Global) {
     let mut neighbours = ThinVec::<ThinVec<u8>>::new(alloc);
     let mut list = ThinVec::<T>::new(alloc);

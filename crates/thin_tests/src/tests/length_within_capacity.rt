@@ -1,6 +1,5 @@
-//! Defines functions that rely on two facts about every list: its length is at most its capacity,
-//! and its capacity is less than 2^63. The prover finds both facts by itself. So these functions
-//! need no handwritten proof, and no call to `len` that tells the prover these facts.
+//! Functions that rely on two facts about every list: its length is at most its capacity, and its
+//! capacity is less than 2^63. The prover finds both facts without help.
 ghost use Rattle.std.specs.Prelude.{◌≡◌, ◌+◌, ◌<◌, ◌≤◌, IsTrue, length, take};
 
 use std::alloc::Allocator;
@@ -19,7 +18,7 @@ pub fn replace_last<T: Drop, A: Allocator, G: Growth>(list: &mut ThinVec<T, A, G
 }
 
 /// Replaces all items with the single item `value`, and returns whether this succeeded. If the list
-/// was not empty, the call succeeds and allocates no memory.
+/// was not empty, the call succeeds without allocating memory.
 pub fn replace_all<T: Drop, A: Allocator, G: Growth>(list: &mut ThinVec<T, A, G>, value: T) -> bool
     ensures succeeds { 0 < length list.old.items → IsTrue result }
 {
@@ -28,7 +27,7 @@ pub fn replace_all<T: Drop, A: Allocator, G: Growth>(list: &mut ThinVec<T, A, G>
 }
 
 /// Truncates the list to `at` items, and returns `at + count`. The list has at least `at + count`
-/// items before the call, so the sum does not overflow.
+/// items before the call, so this sum does not overflow.
 pub fn truncate_and_add<T: Drop, A: Allocator, G: Growth>(
     list: &mut ThinVec<T, A, G>,
     at: usize,

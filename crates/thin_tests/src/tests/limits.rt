@@ -39,8 +39,8 @@ fn next_capacity_follows_doubling(rt: HostRuntime) {
     );
 }
 
-// Tests that an allocation of 2^62 bytes has room for 2^62 - 16 items of one byte. For one more
-// item, the growth rule `PowerBytes` chooses no capacity, but the growth rule `Doubling` does.
+// Tests that an allocation of 2^62 bytes has room for 2^62 - 16 one-byte items. For one more item,
+// `PowerBytes` chooses no capacity, but `Doubling` does.
 #[test]
 fn power_bytes_has_no_capacity_past_2_to_62_bytes(rt: HostRuntime) {
     let last = (1 << 62) - 16;
@@ -67,9 +67,8 @@ fn errors_print_their_texts(rt: HostRuntime) {
     assert_same(&rt, cause, ThinVecError::OutOfMemory);
 }
 
-// Proves the largest capacity of a list of one-byte items for two alignments above 16, namely 32
-// and 256. These limits are proved instead of tested, because no type of Rattle has such an
-// alignment. Also proves the offset at which the items begin in an allocation.
+// Proves the largest capacity of a list of one-byte items, and the offset of the items, for the
+// alignments 32 and 256. This cannot be tested, because no type of Rattle has such an alignment.
 #[tactic(auto, unfolding(thin_block::specs::Capacity::fits))]
 fn states_limits_at_greater_alignments()
     ensures byte_items { items_offset 1 ≡ 16 }

@@ -1,4 +1,4 @@
-//! Tests `run`, which carries out commands on a list. If there are no commands, `run` must not
+//! A test of `run`, which carries out commands on a list. If there are no commands, `run` must not
 //! request memory.
 use crate::tests::support::assertions::assert_same;
 use crate::tests::support::items::refusing_nth;

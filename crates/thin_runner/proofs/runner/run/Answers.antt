@@ -1,5 +1,5 @@
--- Each iteration of the loop in `run` carries out one command. So all commands have run when the
--- loop ends. The clause `ok` of `run`, which states the main theorem, follows from this fact.
+-- Each iteration of the loop in `run` carries out one command. So all commands have been carried
+-- out when the loop ends, and the main theorem follows.
 use Rattle.std.proofs.Common.{◌≡◌, ◌∷◌, [], ap, arith, length, rules}
 use Rattle.std.specs.Vec.Iter.{into_iter_items}
 use Rattle.std.proofs.lemmas.List.{nil_from_length}

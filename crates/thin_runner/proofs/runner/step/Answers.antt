@@ -1,8 +1,5 @@
--- `Steps` states how a command may change a list, and which replies it may get. The function `step`
--- has a `match` with one arm for each kind of command. Each arm calls the method that carries out
--- the command. The clause `allowed` of this method states `Steps` for the pattern of the arm. In
--- the arm, `command` equals this pattern. So `Steps` also holds for `command`, as the clause
--- `allowed` of `step` states.
+-- In each arm of the `match` in `step`, `command` equals the pattern of the arm. So the clause
+-- `allowed` of the called method implies the clause `allowed` of `step`.
 use Rattle.thin_runner.proofs.runner.step.Goals as goal
 
 pub returns-in-Push : goal.returns-in-Push

@@ -1,5 +1,5 @@
--- The iterator that `new` returns yields its items in order. The reason is that each call to `next`
--- yields the first item that has not been yielded yet.
+-- The iterator that `new` returns yields its items in order, because each call to `next` yields the
+-- first of the remaining items.
 use Rattle.std.proofs.Common.{length, ap, rules}
 use Rattle.std.proofs.iter.runs.Sources.{from_front, as_is}
 use Rattle.thin_runner.specs.Hinted.{HintedSteps, hinted_items}

@@ -1,7 +1,5 @@
--- `dedup` compares items with `==`. It does not call a judge, which is a value that makes decisions
--- about items. But `Steps` describes the command `Dedup` by the decisions of a judge that compares
--- items with `==`. The lemma `deduped-alike` proves that `dedup` keeps the same items as such a
--- judge.
+-- `dedup` compares items with `==` and calls no judge. The lemma `deduped-alike` proves that it
+-- keeps the same items as a judge that compares with `==`.
 use Rattle.std.proofs.Common.{rules}
 use Rattle.thin_runner.proofs.JudgedLemmas.{deduped-alike}
 use Rattle.thin_runner.proofs.steps.Setting.dedup.Goals as goal

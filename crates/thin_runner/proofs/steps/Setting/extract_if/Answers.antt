@@ -1,6 +1,5 @@
--- The closure of the `ExtractIf` owns a judge, which is a value that makes decisions about items. A
--- call to `next` asks this judge about each item that it tests. When the `ExtractIf` is dropped,
--- the items that have not been tested remain in the list.
+-- Each call to `next` asks the judge that the closure owns. When the `ExtractIf` is dropped, the
+-- items that have not been tested remain in the list.
 use Rattle.std.proofs.Common.{ℕ, ◌≡◌, ◌+◌, ◌-◌, ◌++◌, ◌∷◌, [], false, suc, take, slice_range, ap, arith, refl, rules, sym, ◌∙◌, append_assoc}
 use Rattle.std.proofs.lemmas.List.{append-nil}
 use Rattle.thin_vec.specs.Edits.ExtractIf.{extract_callee, extract_rest, extract_tail}

@@ -1,5 +1,5 @@
--- `Steps` states how the command `Resize` may change a list, and which replies it may get. The
--- contract of `resize` implies this statement, both on success and on failure.
+-- The contract of `resize` implies what `Steps` states about the command `Resize`, both on success
+-- and on failure.
 use Rattle.std.proofs.Common.{rules}
 use Rattle.thin_runner.proofs.steps.Setting.resize.Goals as goal
 

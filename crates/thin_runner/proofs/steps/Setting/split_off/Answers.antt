@@ -1,5 +1,5 @@
--- `Steps` states how the command `SplitOff` may change a list, and which replies it may get. The
--- contract of `split_off` implies this statement, both on success and on failure.
+-- The contract of `split_off` implies what `Steps` states about the command `SplitOff`, both on
+-- success and on failure.
 use Rattle.std.proofs.Common.{rules, arith}
 use Rattle.std.proofs.lemmas.Grind.{common_steps}
 use Rattle.thin_runner.proofs.steps.Setting.split_off.Goals as goal

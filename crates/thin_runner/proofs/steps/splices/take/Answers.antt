@@ -1,5 +1,4 @@
--- The step `Back` on a `Splice` yields the last item that is left in the range. The items before
--- this item remain in the range.
+-- The step `Back` on a `Splice` removes and returns the last of the remaining items of the range.
 use Rattle.std.proofs.Common.{rules}
 use Rattle.thin_runner.proofs.WalkLemmas.{walked-back}
 use Rattle.thin_runner.proofs.steps.splices.take.Goals as goal

@@ -1,7 +1,6 @@
--- `allocate` first calls `refuses`. If `refuses` returns `true`, `allocate` returns an error.
--- Otherwise, `allocate` asks the inner allocator for a block, and returns its answer. If this
--- answer is `Ok`, the function `granted` counts the block. The proof assumes the laws of the
--- separation logic (`Logic`).
+-- `allocate` returns an error if `refuses` returns true. Otherwise, it returns the answer of the
+-- inner allocator, and `granted` counts the block if this answer is `Ok`. The proof assumes the
+-- laws of the separation logic (`Logic`).
 use Rattle.std.proofs.Common.{◌≡◌, ℕ, zero, suc, ◌+◌, ◌^◌, ◌<◌, true, false, Bool, List, [], ◌∷◌, Ok, Err, refl, w64, Bor}
 use seplogic.Ra.Ura.{Ura}
 use mir.Syntax.{Ty, Args, Fn, Body, seq, skip, a_type, dnil, dcons}
@@ -107,8 +106,8 @@ module _ (Z : Al) {M : Type 1} {𝓤 : Ura M} (𝓛 : Logic 𝓤) (at_mem : Memo
     abbrev Post : Val → SProp 𝓤
     Post = (walk_of 𝓛 (ended Z) (stayed Z) held).post bound
 
-    -- Suppose that `allocate` returns an error, either because the request was refused or because
-    -- the inner allocator failed. Then the postcondition of `allocate` holds.
+    -- If `allocate` returns an error, because the request was refused or because the inner
+    -- allocator failed, then the postcondition of `allocate` holds.
     refused : Sq 𝓛 (‵ (flft κ₁ q₁) ∷ (‵ (flft κ₂ q₂) ⊛ ‵ ftrue) ∷ [])
         (prop (Post (answer_val false 0 0)))
     refused =
@@ -139,10 +138,8 @@ module _ (Z : Al) {M : Type 1} {𝓤 : Ura M} (𝓛 : Logic 𝓤) (at_mem : Memo
         fsplit ! $ use1 𝓛 (‵ (hidden_shr Row κ₁ r.now.counts c.0 c.1)) (id⊢ 𝓤 _) $
         shr_dup ! Row the_row_laws.shr_laws r.now.counts c.0 c.1 κ₁ $
         keep ! (0 ∷ 7 ∷ 3 ∷ 8 ∷ 1 ∷ []) $
-        -- At this point, the proof has five resources, in this order: the shared reference to the
-        -- counts, the token of the lifetime `κ₁`, the inner allocator, the token of the lifetime
-        -- `κ₂`, and a copy of the shared reference to the counts. The next step enters the body of
-        -- `allocate`.
+        -- The next step enters the body of `allocate`. Proof context, in order: the shared counts;
+        -- the token of `κ₁`; the inner allocator; the token of `κ₂`; a copy of the shared counts.
         enter ! 𝓣.C 𝓣.Λ (here Z) vs _ $
         alloc_all ! (λ l. pass_all ! refl
         ((tt, tt), ((tt, record { fits = fn }), ((tt, record { fits = fa }), tt))) $

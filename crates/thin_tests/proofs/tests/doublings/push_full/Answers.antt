@@ -1,6 +1,5 @@
--- This file proves the contract of `push_full`, which pushes an item to a full list. The growth
--- rule determines the new capacity. The numbers of copied items and of allocated blocks follow from
--- the new capacity.
+-- The proof of the contract of `push_full`. The growth rule determines the new capacity, which
+-- determines how many items are copied and how many blocks are allocated.
 use Rattle.std.proofs.Common.{arith}
 use Rattle.thin_block.proofs.CapacityLemmas.{doubling_first, doubling_next}
 use Rattle.thin_vec.proofs.ThinVecLemmas.{costs}

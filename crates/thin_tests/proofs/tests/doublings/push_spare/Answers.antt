@@ -1,5 +1,5 @@
--- This file proves the contract of `push_spare`, which pushes an item to a list with spare
--- capacity. The capacity does not change, so the push copies no items to a new allocation.
+-- The proof of the contract of `push_spare`. The capacity does not change, so no items are copied
+-- to a new allocation.
 use Rattle.std.proofs.Common.{arith}
 use Rattle.thin_vec.proofs.ThinVecLemmas.{costs}
 use Rattle.thin_tests.proofs.tests.doublings.push_spare.Goals as goal
