@@ -1,5 +1,4 @@
--- These modules contain the definitions that the contracts of `thin_vec` use. Some of these
--- definitions are in the crate `thin_block`.
+-- These modules contain definitions that the contracts of `thin_vec` use.
 pub mod ThinVec
 pub mod Cheap
 pub mod List

@@ -17,11 +17,8 @@ use Rattle.thin_vec.specs.ThinVec.{IsThin}
 use Rattle.thin_vec.proofs.ListLemmas.{Settled, settled, length-front, thin-room, front-grow}
 
 module _ (rule : Rule) (law : KeepsLaw rule) (R : RattleType) where
-  -- `KeepsLaw` is the law that every growth rule satisfies. Suppose that a block of capacity `c`
-  -- has to grow in order to hold `w` items, and that `w` is less than `2 ^ 64`. If the rule chooses
-  -- a capacity (`o` is `Some`), then this capacity satisfies `Grows`: it is large enough for the
-  -- items, at least twice the old capacity, and small enough to be allocated. In the conclusion,
-  -- `c'` and `w'` are equal to `c` and `w`.
+  -- If a growth rule chooses a capacity for `w < 2 ^ 64` items, then this capacity is at least `w`,
+  -- at least twice the old capacity, and small enough to be allocated.
   pub grows-rule : (w : ℕ) {c c' w' : ℕ} {o : Option ℕ}
       → o ≡ rule (type_size R) (type_align R) c w → c ≡ c' → w ≡ w' → c < w → w < 2 ^ 64
       → IfSome o (λ n. Grows R c' w' n)
@@ -35,15 +32,13 @@ module _ (rule : Rule) (law : KeepsLaw rule) (R : RattleType) where
       }
 
 module _ {T : Type 0} where
-  -- `empty c` is a row of `c` empty slots. It is equal to `front [] c`, the slots of an empty list
-  -- of capacity `c`.
+  -- A row of `c` empty slots is equal to `front [] c`, the slots of an empty list of capacity `c`.
   pub front-none : (c : ℕ) → empty {T = T} c ≡ front [] c
   front-none c = let same : c ≡ c - 0 = omega arith in ap (λ (m : ℕ). empty m) same
 
 module _ {T A : Type 0} {b : Block T A} {a : A} (t : IsThin b a) where
-  -- Suppose that the block `b` of a list is replaced with a block `b'`, which has `c` slots and the
-  -- same allocator. If the first slots of `b'` hold the same items in order, and all its other
-  -- slots are empty, then `b'` is the block of a list with the same items and the capacity `c`.
+  -- If the block of a list is replaced with a block `b'` of `c` slots that has the same items in
+  -- its first slots and the same allocator, then `b'` is the block of a list with the same items.
   settle-remade : (b' : Block T A) (c : ℕ) {s : List (Option T)} {k : Cost}
       → seen b' ≡ record (seen b) { slots = s; alloc = Some a; cost = k }
       → s ≡ front (items_in b.slots) c → length (items_in b.slots) ≤ c
@@ -52,9 +47,8 @@ module _ {T A : Type 0} {b : Block T A} {a : A} (t : IsThin b a) where
       settled b' a (items_in b.slots) c (ap (λ v. v.slots) w ∙ e) (ap (λ v. v.len) w ∙ t.packed.len)
       room (λ x h. some-same (sym h ∙ ap (λ v. v.alloc) w))
 
-  -- Suppose that `r` is the result of a call that tried to grow the block of a list to `c` slots,
-  -- and that `b'` is the block after this call. Whether or not the call succeeded, `b'` is the
-  -- block of a list with the same items, and has at most `c` slots.
+  -- If a call tried to grow the block of a list to `c` slots, then the block after the call holds
+  -- the same items and has at most `c` slots, even if the call failed.
   pub settle-tried : {X E : Type 0} (r : Result X E) (b' : Block T A) (c : ℕ)
       → length b.slots < c
       → OnOk r (seen b' ≡ record (seen b) {
@@ -76,9 +70,8 @@ module _ {T A : Type 0} {b : Block T A} {a : A} (t : IsThin b a) where
     omega (arith, ap (λ (q : Block T A). length q.slots) same),
   )
 
-  -- Suppose that the first `k` slots of a block hold all items of its list. If the block shrinks to
-  -- these slots, then the new block `b'` is the block of a list with the same items and the
-  -- capacity `k`.
+  -- If a block shrinks to `k` slots, and these slots hold all its items, then the new block `b'` is
+  -- the block of a list with the same items and the capacity `k`.
   pub settle-shrink : (b' : Block T A) (k : ℕ) {m : Cost} → length (items_in b.slots) ≤ k
       → k ≤ length b.slots
       → seen b' ≡ record (seen b) { slots = take k b.slots; alloc = Some a; cost = m }

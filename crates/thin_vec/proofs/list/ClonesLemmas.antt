@@ -1,6 +1,5 @@
 -- These lemmas are for calls that clone items. Most of them are about clones that are written into
--- the empty slots after the last item of a list. The last two lemmas are about the items in a range
--- of a list.
+-- the slots after the last item of a list.
 use Rattle.std.proofs.Common.{◌≡◌, ◌+◌, ◌-◌, ◌<◌, ◌≤◌, [], ◌∷◌, ◌++◌, ◌∙◌, List, Option, Some, ap, append_assoc, arith, drop, get_or, length, refl, suc, sym, take, zero, ℕ}
 use Rattle.std.proofs.lemmas.List.{get_or-drop, get_or-take, get_or_append_left, length-drop, length-take-le, map_push, replicate-append-replicate}
 use Rattle.std.proofs.lemmas.List.Elements.{All-from_recursion, all_zip_more, length_all_zip, recursion_from_All}
@@ -23,9 +22,8 @@ module _ {T : Type 0} {clones : T → T → Type 0} {sources : List T} {n i : �
   length-copies few = sym (length_all_zip clones (take n sources) lays.copies lays.cloned)
       ∙ length-take-le n sources few
 
-  -- Suppose that clones of the first `n` items of `sources` are in the slots from index `i` onward.
-  -- If a clone `y` of the next item is written into the next slot, then clones of the first `n + 1`
-  -- items are in the slots from index `i` onward.
+  -- If clones of the first `n` items of `sources` are in the slots from index `i` onward, and a
+  -- clone of the next item is written into the next slot, then clones of `n + 1` items are there.
   pub lays-more : (y : T) {x : T} {s'' : List (Option T)} → n < length sources
       → i + length sources ≤ length s → x ≡ get_or sources n x → clones x y
       → s'' ≡ set s' (i + n) (Some y) → LaysClones clones sources (n + 1) i s s''
@@ -48,8 +46,7 @@ pub all-repeated : {T : Type 0} (clones : T → T → Type 0) (x : T) (n m : ℕ
 all-repeated {T} clones x n m ys cloned = All-from_recursion (clones x) ys (each n m ys cloned)
   where
     -- If `ys` consists of clones of the first `n` items of `replicate m x`, then every item of `ys`
-    -- is a clone of `x`. The conclusion is stated with `AllByRecursion`, which defines by recursion
-    -- that all items of a list satisfy a predicate.
+    -- is a clone of `x`, stated with `AllByRecursion`.
     each : (n m : ℕ) (ys : List T) → AllZip clones (take n (replicate m x)) ys
         → AllByRecursion (clones x) ys
     each zero m [] e = tt
@@ -60,9 +57,8 @@ all-repeated {T} clones x n m ys cloned = All-from_recursion (clones x) ys (each
     each (suc n) (suc m) (y ∷ ys) e = (e.0, each n m ys e.1)
 
 module _ {T : Type 0} (clones : T → T → Type 0) where
-  -- Suppose that every clone of `x` equals `x`. Suppose also that the list `ys` consists of the
-  -- items `xs`, followed by `n` clones of `x`, and that `zs` is the list `ys`, followed by `x`
-  -- itself. Then `zs` is `xs ++ replicate m x`, where `m` is `n + 1`.
+  -- If every clone of `x` equals `x`, then the list of the items `xs`, `n` clones of `x`, and `x`
+  -- itself is `xs ++ replicate m x`, where `m` is `n + 1`.
   pub equal-repeated : (n m : ℕ) {x : T} {xs ys zs : List T} → CloneEquals clones x
       → AppendsRepeats clones x n xs ys → zs ≡ ys ++ x ∷ [] → m ≡ n + 1 → zs ≡ xs ++ replicate m x
   equal-repeated n m {x} {xs} equal repeats last one =
@@ -81,9 +77,8 @@ module _ {T : Type 0} (clones : T → T → Type 0) where
       each [] e = refl
       each (y ∷ ys) e = λ i. equal y e.0 i ∷ each ys e.1 i
 
--- A new list `v` has no items, and its capacity is 0. So if room for `k` items is reserved in `v`,
--- the new capacity is `ruled_capacity rule R 0 k`, the capacity that the growth rule chooses if the
--- capacity 0 has to become at least `k`.
+-- The new list `v` has the capacity 0. So if room for `k` items is reserved, the new capacity is
+-- `ruled_capacity rule R 0 k`, which the growth rule chooses.
 pub capacity-new : {T A : Type 0} (rule : Rule) (R : RattleType) (v : Thin T A) (a : A) (k : ℕ)
     → IsNew v a → capacity_for rule R v (k - length v.items) ≡ ruled_capacity rule R 0 k
 capacity-new rule R v a k new =
@@ -92,15 +87,14 @@ capacity-new rule R v a k new =
     (let e : length v.items + (k - length v.items) ≡ k = omega (arith, ap length new.items) in
     e)
 
--- If the item of `xs` at index `i` does not satisfy the predicate `P`, then `All P xs` is false:
--- not all items of `xs` satisfy `P`.
+-- If the item of `xs` at index `i` does not satisfy the predicate `P`, then `All P xs` is false.
 pub not-all : {X : Type 0} (P : X → Type 0) (xs : List X) (i : ℕ) → i < length xs
     → HoldsAt (λ x. ¬ (P x)) xs i → All P xs → ⊥
 not-all P [] i low never all = absurd (omega arith)
 not-all P (x ∷ xs) i low never all = never x (all i x low)
 
--- A rule set is a list of lemmas that a proof can pass to the prover. This rule set contains only
--- `capacity-new`, the lemma about the capacity of a new list.
+-- A rule set is a list of lemmas that a proof can pass to the prover. This one contains only the
+-- lemma about the capacity of a new list.
 pub ruleset new_lists = (capacity-new)
 
 module _ {T : Type 0} (xs : List T) (a b : ℕ) (within : b ≤ length xs) where
@@ -108,9 +102,8 @@ module _ {T : Type 0} (xs : List T) (a b : ℕ) (within : b ≤ length xs) where
   pub length-range : length (slice_range xs a b) ≡ b - a
   length-range = length-take-le (b - a) (drop a xs) (omega (arith, length-drop a xs))
 
-  -- If `b` is at most the length of `xs`, the range `a..b` is a part of the list `xs`, and of any
-  -- longer list `xs ++ ys`. Suppose that `x` is the item of `xs ++ ys` at index `a + i`, and that
-  -- `i` is less than `b - a`. Then `x` is also the item at index `i` of the range.
+  -- If `b ≤ length xs`, `i < b - a`, and `x` is the item of `xs ++ ys` at index `a + i`, then `x`
+  -- is also the item at index `i` of the range `a..b` of `xs`.
   pub get-range : (ys : List T) (i : ℕ) (x : T) → i < b - a → x ≡ get_or (xs ++ ys) (a + i) x
       → x ≡ get_or (slice_range xs a b) i x
   get-range ys i x less is = is ∙ (get_or_append_left xs ys x (a + i) (omega arith)

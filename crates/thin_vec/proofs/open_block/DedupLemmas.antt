@@ -1,12 +1,5 @@
--- These lemmas are for the `dedup` methods, which test each item against the last item that was
--- kept before it. During such a method, the block of the list is called an open block. Its items
--- are in three parts: the front items (the items before the edited range, and the items that were
--- kept so far), the middle items (the items of the range that were not tested yet), and the tail
--- items (the items after the range).
---
--- At run time, an open block is a value of the type `Inside`. In contracts, the same open block is
--- a value of the type `Open`. The lemmas about open blocks state how the value of the type `Open`
--- changes when a method writes into one or two slots.
+-- These lemmas are for the `dedup` methods, which compare each item with the last kept item. They
+-- say how the view of an open block changes if a method writes into one or two slots.
 use Rattle.std.proofs.Common.{◌≡◌, ◌≢◌, ℕ, zero, suc, ◌+◌, ◌-◌, ◌<◌, ◌≤◌, List, [], ◌∷◌, ◌++◌, Option, Some, None, length, take, drop, refl, sym, ap, ◌∙◌, arith, length-append, append_assoc, get_or}
 use Rattle.std.proofs.lemmas.List.{drop_at, get_or_at, get_or-set_other, length-drop, length-take-le, length_push, set_at, take_at}
 use Rattle.std.specs.Prelude.{IsSome, slice_range}
@@ -27,26 +20,24 @@ use Rattle.thin_vec.proofs.ListLemmas.{length-full}
 use Rattle.thin_vec.proofs.open_block.SiftLemmas.{row-at, same-past, write-step, written}
 
 module _ {T : Type 0} where
-  -- The following lemmas are about two items in neighboring slots.
+  -- These lemmas are about two items in neighboring slots.
 
-  -- `over s 0 ws` is the row of slots `s` after its first items were overwritten with the items
-  -- `ws`. If `ws` is empty, nothing is overwritten. So `over s 0 []` is `s`.
+  -- `over s 0 ws` is the row of slots `s` after the items `ws` have been written into its first
+  -- slots. So `over s 0 []` is `s`.
   over-none : (s : List (Option T)) → over s 0 [] ≡ s
   over-none [] = refl
   over-none (None ∷ s) = refl
   over-none (Some x ∷ s) = refl
 
-  -- `Neighbours` states that the slots `i` and `i + 1` hold the items `k` and `x`. It also states
-  -- that two ways to replace these items have the same result. The first way overwrites both items
-  -- at once with the list of `k'` and `x'` (`over`). The second way sets slot `i` to `k'`, and then
-  -- slot `i + 1` to `x'` (`set`).
+  -- `Neighbours` states that the slots `i` and `i + 1` hold the items `k` and `x`, and that writing
+  -- `k'` and `x'` into them at once has the same result as writing them one after the other.
   pub record Neighbours (s : List (Option T)) (i : ℕ) (k x k' x' : T) : Type 0 where
     pub first : slot s i ≡ Some k
     pub second : slot s (suc i) ≡ Some x
     pub now : over s i (k' ∷ x' ∷ []) ≡ set (set s i (Some k')) (suc i) (Some x')
 
-  -- If the slots `i` and `i + 1` hold the items `k` and `x`, then `Neighbours` holds for these
-  -- items and any new items `k'` and `x'`.
+  -- If the slots `i` and `i + 1` hold the items `k` and `x`, then `Neighbours` holds for any new
+  -- items `k'` and `x'`.
   pub neighbours : (s : List (Option T)) (i : ℕ) (k x k' x' : T) → Some k ∷ Some x ∷ [] ≡ take 2
       (drop i s) → Neighbours s i k x k' x'
   neighbours [] zero k x k' x' e = absurd (cons-not-nil e)
@@ -65,14 +56,12 @@ module _ {T : Type 0} where
       let h = neighbours s i k x k' x' e in
       record { first = h.first; second = h.second; now = ap (λ (r : List (Option T)). p ∷ r) h.now }
 
-  -- In this module, the slice `all` contains the two items in the slots `i` and `i + 1`. It is
-  -- split into the slices `a` and `b`, which contain one item each.
+  -- In this module, the slice `all` contains the items in the slots `i` and `i + 1`. It is split
+  -- into the slices `a` and `b`, which contain one item each.
   module _ (s : List (Option T)) (i : ℕ) (all a b : List T) (within : i + 2 ≤ length s)
       (lent : full all ≡ slice_range s i (i + 2)) (cut : all ≡ a ++ b) (one : length a ≡ 1) where
-    -- Suppose that the slice `a` consists of the item `k`, and that the slice `b` consists of the
-    -- item `x`. Then two statements are true. First, `Neighbours` holds, so the slots `i` and
-    -- `i + 1` hold `k` and `x`. Second, writing `k'` into `a` and `x'` into `b` puts `k'` into slot
-    -- `i` and `x'` into slot `i + 1`, and changes no other slot.
+    -- If the slices `a` and `b` consist of the items `k` and `x`, then `Neighbours` holds, and
+    -- writing `k'` into `a` and `x'` into `b` changes only the slots `i` and `i + 1`.
     pub parts-of : {k x : T} (k' x' : T) → k ≡ get_or a 0 k → x ≡ get_or b 0 x
         → Neighbours s i k x k' x'
         × (over s i (set a 0 k' ++ set b 0 x') ≡ set (set s i (Some k')) (suc i) (Some x'))
@@ -100,15 +89,13 @@ module _ {T : Type 0} where
         (h, (λ j. over s i (set (p.1 j) 0 k' ++ set (q.1 j) 0 x')) ∙ h.now)
 
 module _ {T A : Type 0} where
-  -- The following lemmas are about open blocks. An open block is the block of a list during an
-  -- edit. Its items are in three parts: the front items (the items before the edited range, and the
-  -- items that were kept so far), the middle items (the items of the range that were not tested
-  -- yet), and the tail items (the items after the range).
+  -- These lemmas are about open blocks. The front contains the items before the range and the kept
+  -- items, the middle run contains the untested items, and the tail contains the items after the
+  -- range.
 
-  -- `WrittenTwo` states that two neighboring middle items of the open block `h` were overwritten:
-  -- the items `x` and `y`, at the indices `k` and `k + 1`, became `x'` and `y'`. The block of the
-  -- new open block is `b`. Contracts describe the new open block by the same value as `h`, except
-  -- that these two items are different.
+  -- `WrittenTwo` states that `x'` and `y'` have replaced the middle items of `h` at the indices `k`
+  -- and `k + 1`. The view of the new open block differs from the view of `h` only in these two
+  -- items.
   pub record WrittenTwo (h : Inside T A) (o : IsOpen h) (k : ℕ) (b : Block T A)
       (x y x' y' : T) : Type 0 where
     pub pre : List T
@@ -126,9 +113,8 @@ module _ {T A : Type 0} where
 
   module _ (h : Inside T A) (o : IsOpen h) (b : Block T A)
       (kept : seen b ≡ record (seen h.block) { slots = b.slots }) where
-    -- If two neighboring middle items of the open block `h` were overwritten, and no other slot was
-    -- changed, then `WrittenTwo` holds: contracts describe the new open block by the same value as
-    -- `h`, except that these two items are different.
+    -- If two neighboring middle items of the open block `h` have been overwritten, and no other
+    -- slot has changed, then `WrittenTwo` holds for the new block `b`.
     pub write-two-step : (k : ℕ) {x y : T} (x' y' : T) → suc k < length (open_of h).rest
         → slot h.block.slots (h.rest_start + k) ≡ Some x
         → slot h.block.slots (suc (h.rest_start + k)) ≡ Some y
@@ -184,9 +170,8 @@ module _ {T A : Type 0} where
           };
         }
 
-  -- `WrittenLast` states that `x`, the last front item of the open block `h`, was overwritten with
-  -- `y`. The block of the new open block is `b`. Contracts describe the new open block by the same
-  -- value as `h`, except that this item is different.
+  -- `WrittenLast` states that `y` has replaced `x`, the last front item of the open block `h`. The
+  -- view of the new open block differs from the view of `h` only in this item.
   pub record WrittenLast (h : Inside T A) (b : Block T A) (x y : T) : Type 0 where
     pub pre : List T
     pub was : (open_of h).front ≡ pre ++ x ∷ []
@@ -199,9 +184,8 @@ module _ {T A : Type 0} where
       len = h.len;
     }) (record (open_of h) { front = pre ++ y ∷ [] })
 
-  -- If the last front item of the open block `h` was overwritten, and no other slot was changed,
-  -- then `WrittenLast` holds: contracts describe the new open block by the same value as `h`,
-  -- except that this item is different.
+  -- If the last front item of the open block `h` has been overwritten, and no other slot has
+  -- changed, then `WrittenLast` holds for the new block `b`.
   pub write-last-step : (h : Inside T A) (o : IsOpen h) (b : Block T A) {x : T} (y : T)
       → 0 < length (open_of h).front → slot h.block.slots (h.front_end - 1) ≡ Some x
       → seen b ≡ record (seen h.block) { slots = set h.block.slots (h.front_end - 1) (Some y) }
@@ -254,9 +238,8 @@ module _ {T A : Type 0} where
             (ap (λ (z : Seen T A). z.cost) now);
       }
 
-  -- The gap of the open block `h` consists of the empty slots directly after the front items. If
-  -- the item `x` was written into the first slot of the gap, then `x` is the last front item of the
-  -- new open block, and the gap is one slot shorter than before.
+  -- If the item `x` is written into the first slot of the gap of the open block `h`, then `x`
+  -- becomes the last front item, and the gap becomes one slot shorter.
   pub put-step : (h : Inside T A) (o : IsOpen h) (b : Block T A) (x : T) {c : Cost}
       → 0 < (open_of h).gap
       → seen b ≡ record (seen h.block)

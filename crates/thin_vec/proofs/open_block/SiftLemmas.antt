@@ -1,12 +1,5 @@
--- These lemmas are for methods that test the items of an open block, which is the block of a list
--- during an edit. Its items are in three parts: the front items (the items before the edited range,
--- and the items that were kept so far), the middle items (the items of the range that were not
--- tested yet), and the tail items (the items after the range). The empty slots after the front
--- items are called the gap.
---
--- In this file, `h` is the open block as it is stored at run time, and `open_of h` is the value
--- that describes it in contracts. The lemmas state what this value is after one of the middle items
--- was tested, and after the first `k` middle items became front items.
+-- These lemmas are for methods that test the middle items of an open block. They say how the view
+-- of this block changes if one item is tested, or if the first `k` middle items become front items.
 use Rattle.std.proofs.Common.{◌≡◌, ℕ, zero, suc, ◌+◌, ◌-◌, ◌<◌, ◌≤◌, List, [], ◌∷◌, ◌++◌, Option, Some, None, length, take, drop, refl, sym, ap, ◌∙◌, arith, length-append, append_assoc}
 use Rattle.std.proofs.lemmas.List.{get_or_at, length-drop, length-take-le, set_at, take-append-drop}
 use lib.ListN.{set}
@@ -35,9 +28,8 @@ split-at (x ∷ xs) (suc k) low =
     (x ∷ p.0, p.1, p.2, ap suc p.3, ap (λ l. x ∷ l) p.4)
 
 module _ {T : Type 0} where
-  -- Suppose that a row consists of the slots `a`, then the slots of the items `pre`, `x` and
-  -- `post`, and then the slots `z`. This row can be split into the slots before the slot of `x`,
-  -- the slot of `x` itself, and the slots after it.
+  -- A row with the slots of the items `pre`, `x` and `post` can be split into the slots before the
+  -- slot of `x`, this slot itself, and the slots after it.
   pub row-at : (a : List (Option T)) (pre : List T) (x : T) (post : List T) (z : List (Option T))
       → a ++ (full (pre ++ x ∷ post) ++ z) ≡ (a ++ full pre) ++ (Some x ∷ (full post ++ z))
   row-at a pre x post z =
@@ -46,22 +38,21 @@ module _ {T : Type 0} where
       ∙ sym (append_assoc a (full pre) (Some x ∷ (full post ++ z))))
 
 module _ {T A : Type 0} where
-  -- Suppose that the open blocks `v` and `w` have equal tail items. Suppose also that they have
-  -- equally many empty slots before the tail items, and equally many empty slots after the tail
-  -- items. Then the slots after the middle items are equal in both blocks.
+  -- If two open blocks have equal tail items, and equally many empty slots before and after the
+  -- tail items, then their slots after the middle items are equal.
   pub same-past : (v w : Open T A) → w.gap_after ≡ v.gap_after → w.tail ≡ v.tail
       → v.capacity - reach v ≡ w.capacity - reach w → past_rest v ≡ past_rest w
   same-past v w b t n = λ i. empty (sym b i) ++ (full (sym t i) ++ empty (n i))
 
   module _ (h : Inside T A) (o : IsOpen h) (b : Block T A) (k : ℕ)
       (low : k < length (open_of h).rest) where
-    -- `v` is the value that describes the open block `h` in contracts, before the middle item at
-    -- index `k` is overwritten.
+    -- `v` is the view of the open block `h` that contracts use, before the middle item at index `k`
+    -- is overwritten.
     abbrev v : Open T A
     v = open_of h
 
-    -- `written` is the open block `h` after its middle item at index `k` was overwritten. Its slots
-    -- are the slots of the block `b`.
+    -- `written` is the open block `h` after its middle item at index `k` has been overwritten. Its
+    -- slots are the slots of the block `b`.
     abbrev pub written : Inside T A
     written = record {
       block = b;
@@ -72,14 +63,13 @@ module _ {T A : Type 0} where
       len = h.len;
     }
 
-    -- `written-seen ys` is the value `v`, but with the list `ys` as its middle items. If the middle
-    -- items of the open block `written` are `ys`, then contracts describe `written` by this value.
+    -- `written-seen ys` is the view of the open block `written` that contracts use, if its middle
+    -- items are `ys`. This view differs from `v` only in the middle items.
     abbrev pub written-seen : List T → Open T A
     written-seen ys = record v { rest = ys }
 
-    -- `Written x y` states that the middle item `x` at index `k` was overwritten with `y`.
-    -- Contracts describe the new open block by the same value as the old one, except that this item
-    -- is different.
+    -- `Written x y` states that `y` has replaced the middle item `x` at index `k`. The view of the
+    -- new open block differs from the old view only in this item.
     pub record Written (x y : T) : Type 0 where
       pub pre : List T
       pub post : List T
@@ -87,9 +77,8 @@ module _ {T A : Type 0} where
       pub was : v.rest ≡ pre ++ x ∷ post
       pub shown : Found written (written-seen (pre ++ y ∷ post))
 
-    -- If the slot of the middle item at index `k` held `x`, and `y` was written into this slot,
-    -- then `Written x y` holds: contracts describe the new open block by the same value as the old
-    -- one, except that this item is different.
+    -- If the slot of the middle item at index `k` held `x`, and `y` was written into it, then
+    -- `Written x y` holds.
     pub write-step : (x y : T) → slot h.block.slots (h.rest_start + k) ≡ Some x
         → seen b ≡ record (seen h.block)
         { slots = set h.block.slots (h.rest_start + k) (Some y) } → Written x y
@@ -150,13 +139,13 @@ module _ {T A : Type 0} where
 
   -- In this module, the first `k` middle items are moved to the end of the front items.
   module _ (h : Inside T A) (o : IsOpen h) (k : ℕ) (low : k ≤ length (open_of h).rest) where
-    -- `u` is the value that describes the open block `h` in contracts, before its first `k` middle
-    -- items are moved.
+    -- `u` is the view of the open block `h` that contracts use, before its first `k` middle items
+    -- are moved.
     abbrev u : Open T A
     u = open_of h
 
-    -- `moved_run b` is the open block `h` after its first `k` middle items became front items. Its
-    -- slots are the slots of the block `b`.
+    -- `moved_run b` is the open block `h` after its first `k` middle items have become front items.
+    -- Its slots are the slots of the block `b`.
     abbrev pub moved_run : Block T A → Inside T A
     moved_run b = record {
       block = b;
@@ -167,17 +156,14 @@ module _ {T A : Type 0} where
       len = h.len;
     }
 
-    -- `moved_run-seen b` is the value that describes the open block `moved_run b` in contracts. It
-    -- differs from the old value `u` in two ways: the first `k` middle items have become the last
-    -- `k` front items, and the cost is the cost of the block `b`.
+    -- `moved_run-seen b` is the view of the open block `moved_run b` that contracts use. It differs
+    -- from `u` in its front items, its middle items and its cost.
     abbrev pub moved_run-seen : Block T A → Open T A
     moved_run-seen b = record u
         { front = u.front ++ take k u.rest; rest = drop k u.rest; cost = b.cost }
 
-    -- Suppose that the block `b` has the same allocator as before, and that its slots are, in this
-    -- order: the slots of the front items, the slots of the moved items, the gap, and all later
-    -- slots. Then `moved_run b` is a valid open block, and contracts describe it by the value
-    -- `moved_run-seen b`.
+    -- If `b` contains the slots of the front items, the slots of the moved items, the gap, and all
+    -- later slots, in this order, then `moved_run-seen b` is the view of `moved_run b`.
     moved_run-shows : (b : Block T A)
         → b.slots ≡ full u.front
         ++ (full (take k u.rest) ++ (empty u.gap ++ (full (drop k u.rest) ++ past_rest u)))
@@ -209,9 +195,8 @@ module _ {T A : Type 0} where
         })
         alloc refl
 
-    -- The slots from the first middle item onward are, in this order: the slots of the first `k`
-    -- middle items, the slots of the other middle items, and `past_rest u` (the slots after the
-    -- middle items).
+    -- The slots from the first middle item onward are the slots of the first `k` middle items, the
+    -- slots of the other middle items, and the slots after them.
     cut : full u.rest ++ past_rest u ≡ full (take k u.rest) ++ (full (drop k u.rest) ++ past_rest u)
     cut =
         ap (λ (l : List T). full l ++ past_rest u) (sym (take-append-drop k u.rest))
@@ -219,15 +204,14 @@ module _ {T A : Type 0} where
         (full-append (take k u.rest) (drop k u.rest)) ∙ append_assoc (full (take k u.rest))
         (full (drop k u.rest)) (past_rest u))
 
-    -- The slots of the open block `h` are, in this order: the slots of the front items, the gap,
-    -- the slots of the items to be moved, and all later slots.
+    -- The slots of the open block `h` are the slots of the front items, the gap, the slots of the
+    -- items to be moved, and all later slots.
     parted : h.block.slots ≡ full u.front
         ++ (empty u.gap ++ (full (take k u.rest) ++ (full (drop k u.rest) ++ past_rest u)))
     parted = o.row ∙ ap (λ (r : List (Option T)). full u.front ++ (empty u.gap ++ r)) cut
 
-    -- If there is no gap after the front items, then the first `k` middle items become front items
-    -- without being moved. Contracts describe the resulting open block by the value `moved_run-seen
-    -- h.block`.
+    -- If there is no gap, then the first `k` middle items become front items without being moved.
+    -- The view of the resulting open block is `moved_run-seen h.block`.
     pub pass-step : u.gap ≡ 0 → Found (moved_run h.block) (moved_run-seen h.block)
     pass-step none =
         moved_run-shows h.block
@@ -237,9 +221,8 @@ module _ {T A : Type 0} where
         ++ (full (take k u.rest) ++ (empty n ++ (full (drop k u.rest) ++ past_rest u))))
         (sym none))) refl
 
-    -- Suppose that the first `k` middle items were moved to the slots directly after the front
-    -- items, and that `b` is the resulting block. Then `moved_run b` is a valid open block, and
-    -- contracts describe it by the value `moved_run-seen b`.
+    -- If the first `k` middle items are moved directly after the front items, and `b` is the
+    -- resulting block, then `moved_run-seen b` is the view of the open block `moved_run b`.
     pub move_run_down-step : (b : Block T A) {c : Cost}
         → seen b ≡ record (seen h.block)
         { slots = moved h.rest_start h.front_end k h.block.slots; cost = c }
@@ -253,9 +236,8 @@ module _ {T A : Type 0} where
         (full (drop k u.rest) ++ past_rest u) (sym (length-full u.front ∙ o.front))
         (sym o.gap) (sym few))) (ap (λ (z : Seen T A). z.alloc) now)
 
-  -- Suppose that the first middle item was moved from its slot to the slot directly after the front
-  -- items. Then contracts describe the new open block by a value in which this item is the last
-  -- front item.
+  -- If the first middle item is moved to the slot directly after the front items, then this item is
+  -- the last front item in the view of the new open block.
   pub move_one_down-step : (h : Inside T A) (o : IsOpen h) (some : 1 ≤ length (open_of h).rest)
       → 0 < (open_of h).gap → (b : Block T A) {x : T} {c : Cost}
       → slot h.block.slots h.rest_start ≡ Some x
@@ -293,6 +275,6 @@ module _ {T A : Type 0} where
       ++ (empty w.gap ++ (full (drop 1 (firsts same parts.2 i)) ++ past_rest w))))))))
       (ap (λ (z : Seen T A). z.alloc) now)
     where
-      -- If `y` is equal to `x`, and `xs` is equal to `y ∷ ys`, then `x ∷ ys` is equal to `xs`.
+      -- If `y ≡ x` and `xs ≡ y ∷ ys`, then `x ∷ ys` is equal to `xs`.
       firsts : {x y : T} {ys xs : List T} → y ≡ x → xs ≡ y ∷ ys → x ∷ ys ≡ xs
       firsts {x} {y} {ys} e f = ap (λ (a : T). a ∷ ys) (sym e) ∙ sym f

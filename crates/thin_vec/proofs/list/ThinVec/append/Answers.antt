@@ -1,4 +1,4 @@
--- `append` calls `reserve` with the number of items of `other`. So the list gets the capacity that
+-- `append` calls `reserve` with the number of items of `other`. The list gets the capacity that
 -- `reserve` chooses, and `append` returns any error of `reserve`.
 use Rattle.std.proofs.Common.{Ok, arith, ap, sym, ◌∙◌}
 use denote.Param.{param}

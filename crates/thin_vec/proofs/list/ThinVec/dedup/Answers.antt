@@ -1,8 +1,6 @@
--- `dedup` compares items with `==`. So after the call, the list contains the items that the
--- specification function `dedup` returns for the old items. The specification function `unlike`
--- says for each old item except the first whether the item is kept. Each kept item that follows the
--- first removed item is moved once, so `unlike` also determines the number of moves. The list never
--- becomes longer.
+-- `dedup` compares items with `==`, so the list contains the items that the specification function
+-- `dedup` returns. The function `unlike` says which items are kept, and so determines the number of
+-- moves.
 use Rattle.std.proofs.Common.{ap, ◌∙◌}
 use Rattle.thin_block.specs.Cost.{moving}
 use Rattle.thin_vec.specs.Edits.Retain.{moved_down}

@@ -1,6 +1,5 @@
--- `dedup_by_key` calls `dedup_those` with a test that compares the keys of two items. The closure
--- `key` returns these keys. So what the contract of `dedup_those` says about the test is also true
--- for `key`. The list never becomes longer.
+-- `dedup_by_key` calls `dedup_those` with a test that compares two keys, which the closure `key`
+-- returns. So the guarantees of `dedup_those` about the test are also true for `key`.
 use Rattle.std.specs.Fn.{ComparesKeys}
 use Rattle.thin_vec.proofs.edits.DedupLemmas.{deduped-through, few-deduped}
 use Rattle.thin_vec.proofs.list.ThinVec.dedup_by_key.Goals as goal

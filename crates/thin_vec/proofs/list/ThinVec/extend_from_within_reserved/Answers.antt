@@ -1,4 +1,4 @@
--- If no clone fails, a clone of every item of the range is appended. If every clone also equals its
+-- If all items of the range can be cloned, their clones are appended. If every clone equals its
 -- original, the appended items are the items of the range.
 use Rattle.std.proofs.Common.{◌++◌, ap, arith, take_all, ◌∙◌}
 use Rattle.std.proofs.lemmas.List.Elements.{same_from_all_zip}

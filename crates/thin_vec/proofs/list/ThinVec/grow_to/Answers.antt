@@ -1,6 +1,5 @@
--- If the growth succeeds, the items are in the first slots of a larger block. If the allocator
--- fails, the items are in the first slots of the old block. So the list contains the same items in
--- both cases.
+-- The items are in the first slots of the larger block, or, if the allocator fails, of the old
+-- block. So the list contains the same items in both cases.
 use Rattle.std.proofs.Common.{◌≤◌, ap, ◌∙◌, arith, length, refl}
 use denote.Param.{param}
 use Rattle.thin_block.specs.Slots.{items_in}
@@ -10,8 +9,8 @@ use Rattle.thin_vec.proofs.ListLemmas.{Settled, thin_of-becomes}
 use Rattle.thin_vec.proofs.ThinVecLemmas.{within-settled}
 use Rattle.thin_vec.proofs.list.ThinVec.grow_to.Goals as goal
 
--- Whether or not the growth succeeds, the resulting block is the block of a list with the same
--- items, and it has at most `cap` slots.
+-- Even if the growth fails, the resulting block is the block of a list with the same items, and has
+-- at most `cap` slots.
 tried : (g : _) (c : goal.After-grow g)
     → Settled c.grow.new.self c.self.inside.alloc
     (items_in c.self.inside.block.slots) (length c.grow.new.self.slots)

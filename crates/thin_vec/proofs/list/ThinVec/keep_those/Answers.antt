@@ -1,6 +1,5 @@
 -- `keep_those` calls `sift`, which tests each item and drops the items that are not kept. So the
--- list contains exactly the kept items after the call. The capacity does not change, and it is
--- large enough for these items.
+-- list contains exactly the kept items after the call.
 use Rattle.std.proofs.Common.{◌≡◌, arith, rules}
 use Rattle.thin_vec.proofs.ThinVecLemmas.{within-like}
 use Rattle.std.proofs.lemmas.Grind.{common_steps}

@@ -1,6 +1,5 @@
--- Before each iteration of the loop, the items in `vec`, followed by the items that are still in
--- the iterator, are the items of the original list. The capacity of `vec` does not change, and each
--- iteration reduces the number of items in the iterator.
+-- Before each iteration, the items in `vec`, followed by the items that are still in the iterator,
+-- are the original items. The capacity of `vec` does not change.
 use Rattle.std.proofs.Common.{◌≡◌, ◌+◌, ◌++◌, length, vec_capacity, vec_len}
 use Rattle.thin_vec.proofs.list.ThinVec.moved_to.Given as goal
 

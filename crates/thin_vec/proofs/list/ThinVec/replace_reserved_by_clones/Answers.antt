@@ -1,7 +1,6 @@
--- If there are more new items than items in the range, the surplus clones are made first, in slots
--- directly after the range. The other clones are appended to the list, and `replace_by_last` then
--- moves them into the range. If a clone fails, all clones are dropped, so the list contains its old
--- items again.
+-- The surplus clones are made first, in slots directly after the range. The other clones are
+-- appended, and `replace_by_last` moves them into the range. If an item cannot be cloned, all
+-- clones are dropped.
 use Rattle.std.proofs.Common.{if◌then◌else◌, ◌≡◌, ◌+◌, ◌-◌, ◌≤◌, ◌++◌, ◌∙◌, ap, arith, eqb, length, length-append, subst, sym}
 use Rattle.std.proofs.lemmas.List.Elements.{length_all_zip}
 use Rattle.std.specs.List.{AllZip}

@@ -1,5 +1,4 @@
--- When the loop variable is `i`, the first `len` slots still hold their items, the slots `len..i`
--- are empty, and the slots from index `i` onward are unchanged.
+-- When the loop variable is `i`, the slots `len..i` are empty, and all other slots are unchanged.
 use Rattle.std.proofs.Common.{◌≡◌}
 use Rattle.thin_block.specs.Block.{IsFrom}
 use Rattle.thin_vec.proofs.list.InsertRemoveLemmas.{emptying}

@@ -1,13 +1,12 @@
--- The front of the block contains the items that were kept so far. If there are no empty slots
--- after the front, then the items before the first item to be removed stay in their slots, and
--- become part of the front.
+-- If there are no empty slots after the front, then the items before the first item to be removed
+-- remain in their slots and become part of the front.
 use Rattle.std.proofs.Common.{◌≡◌, ◌<◌, ◌++◌, ◌∙◌, ap, drop, sym, take}
 use Rattle.std.proofs.lemmas.Bool.{false≢true}
 use Rattle.thin_vec.proofs.RetainLemmas.{moving-before}
 use Rattle.thin_vec.proofs.open_block.OpenBlock.advance.Goals as goal
 
--- The clause `advances` holds if there is no gap after the kept items, because then no item is
--- moved, and no move is counted.
+-- If there is no gap after the kept items, then no item is moved, and no move is counted. So the
+-- clause `advances` holds.
 pub returns-clause-advances : goal.returns-clause-advances
 returns-clause-advances g c =
     let v = c.args.self.now in

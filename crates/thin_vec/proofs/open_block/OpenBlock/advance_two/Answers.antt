@@ -1,6 +1,5 @@
--- `advance_two` first tests two items. The clause `advances` holds in each of three cases: the
--- first item is to be removed, the second item is to be removed, or both are kept. If both are
--- kept, the later items are tested up to the first item to be removed.
+-- `advance_two` first tests two items. There are three cases: the first is to be removed, only the
+-- second is to be removed, or both are kept. If both are kept, later items are tested.
 use Rattle.std.proofs.Common.{◌≡◌, ◌++◌, ◌∙◌, ap, arith, drop, rules, sym, take}
 use Rattle.std.proofs.lemmas.List.{append-nil}
 use Rattle.thin_block.specs.Cost.{moving}
@@ -28,8 +27,8 @@ returns-then-not-test-clause-advances g c =
       });
     }
 
--- If the test keeps the first item and decides to remove the second item, the first item is moved
--- to the end of the kept items. So the clause `advances` holds.
+-- If the test keeps the first item and decides to remove the second, the first item is moved to the
+-- end of the kept items. So the clause `advances` holds.
 pub returns-then-not-test-2-clause-advances : goal.returns-then-not-test-2-clause-advances
 returns-then-not-test-2-clause-advances g c =
     let R = g.J.Test.tests in

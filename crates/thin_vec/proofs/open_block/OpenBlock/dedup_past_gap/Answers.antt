@@ -1,8 +1,6 @@
--- `Dedups` describes a part of the removal of duplicates, in which some of the untested items were
--- tested, and were then either kept or removed. If `Dedups` describes the first iterations of the
--- loop, and also describes the next iteration, then it describes all these iterations together.
--- After each iteration, there is at least one front item, so the next item can be compared with the
--- last kept item.
+-- If `Dedups` describes the iterations of the loop that have already been carried out, and also the
+-- next iteration, then it describes all of them together. There is always a kept item to compare
+-- with.
 use Rattle.thin_vec.proofs.edits.DedupLemmas.{dedups-start, dedups-then}
 use Rattle.thin_vec.proofs.open_block.OpenBlock.dedup_past_gap.Goals as goal
 

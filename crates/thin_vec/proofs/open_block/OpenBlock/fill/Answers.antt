@@ -1,5 +1,5 @@
--- `put_iter` puts the items that the iterator yields into the gap of empty slots directly after the
--- front items. So these items become front items, and each of them shortens the gap by one slot.
+-- `put_iter` puts the items that the iterator yields into the gap directly after the front items.
+-- So they become front items, and each of them shortens the gap by one slot.
 use Rattle.std.proofs.Common.{◌≡◌, ◌-◌, ◌++◌, ◌≤◌, ◌∙◌, ap, arith, length, sym}
 use Rattle.thin_block.proofs.BlockLemmas.{slots-are}
 use Rattle.thin_block.specs.Block.{seen}
@@ -10,7 +10,7 @@ use Rattle.thin_vec.proofs.PutLemmas.{filled-fits, filled-room}
 use Rattle.thin_vec.proofs.open_block.OpenBlock.fill.Goals as goal
 
 -- After the call to `fill`, the yielded items are in the slots directly after the front items, and
--- the cost counts one more move for each of them. Nothing else in the block has changed.
+-- one move has been counted for each of them.
 stored : (g : _) (c : goal.After-self-1 g) → seen c.replace-none.new.dest
     ≡ record (seen c.self.inside.block) {
       slots = laid c.self.inside.front_end (full c.put_iter-block.ensures.filled.0.items)

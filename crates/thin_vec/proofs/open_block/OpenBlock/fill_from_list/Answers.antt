@@ -1,6 +1,5 @@
--- `move_run_to` moves the items of the list `other` into the gap of empty slots directly after the
--- front items of the open block. So these items become front items, and all slots of `other` are
--- then empty.
+-- `move_run_to` moves the items of the list `other` into the gap directly after the front items. So
+-- they become front items, and all slots of `other` are then empty.
 use Rattle.thin_block.proofs.BlockLemmas.{then-len}
 use Rattle.thin_block.specs.Cost.{moving}
 use Rattle.thin_block.specs.Slots.{full, items_in, laid, run}

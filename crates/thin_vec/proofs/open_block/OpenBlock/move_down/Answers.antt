@@ -1,5 +1,5 @@
--- Each iteration of the loop moves one more middle item to the end of the front items, at the cost
--- of one move. So each iteration preserves the loop invariant.
+-- Each iteration moves one more middle item to the end of the front items, at the cost of one move.
+-- So it preserves the loop invariant.
 use Rattle.std.proofs.Common.{◌++◌, drop, take, ap, sym, ◌∙◌, append_assoc}
 use Rattle.std.proofs.Math.Seq.{take-add}
 use Rattle.std.proofs.lemmas.List.{drop-drop}
@@ -7,8 +7,8 @@ use Rattle.thin_block.specs.Cost.{moving}
 use Rattle.thin_vec.proofs.RetainLemmas.{moving-more}
 use Rattle.thin_vec.proofs.open_block.OpenBlock.move_down.Goals as goal
 
--- If `done` items have been moved to the end of the front items before an iteration of the loop,
--- then `done + 1` items have been moved there after this iteration.
+-- If `done` items have been moved to the end of the front items before an iteration, then
+-- `done + 1` items have been moved there after it.
 pub loop-done-preserved : goal.loop-done-preserved
 loop-done-preserved g c =
     let n = c.loop-done.done in

@@ -1,7 +1,6 @@
--- `Sifts` describes a part of the removal of items, in which some of the untested items were
--- tested, and were then either kept or removed. If `Sifts` describes the first iterations of the
--- loop, and also describes the next iteration, then it describes all these iterations together.
--- After the loop, `sift_last` tests the remaining item, if there is one.
+-- If `Sifts` describes the iterations of the loop that have already been carried out, and also the
+-- next iteration, then it describes all of them together. After the loop, `sift_last` tests the
+-- remaining item, if any.
 use Rattle.thin_vec.proofs.RetainLemmas.{sifts-start, sifts-then}
 use Rattle.thin_vec.proofs.open_block.OpenBlock.sift_past_gap.Goals as goal
 

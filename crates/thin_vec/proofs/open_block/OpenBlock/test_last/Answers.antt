@@ -1,5 +1,5 @@
--- The last front item is the last kept item, and its slot is not empty. After the test, this slot
--- holds the item as the test left it, and nothing else has changed.
+-- The last front item is the last kept item. After the test, its slot holds the item as the test
+-- left it. Nothing else has changed.
 use Rattle.std.proofs.Common.{◌-◌, refl, ap, sym, ◌∙◌, arith, length}
 use Rattle.thin_block.specs.Lends.{with_item}
 use Rattle.thin_vec.proofs.open_block.DedupLemmas.{WrittenLast, last-filled, write-last-step}

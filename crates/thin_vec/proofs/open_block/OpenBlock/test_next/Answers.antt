@@ -1,5 +1,5 @@
--- The slot of the first middle item is not empty. After the test, this slot holds the item as the
--- test left it, and nothing else has changed.
+-- The slot of the first middle item is not empty. After the test, it holds the item as the test
+-- left it. Nothing else has changed.
 use Rattle.thin_block.proofs.BlockLemmas.{slots-are}
 use Rattle.std.proofs.Common.{◌≡◌, ◌<◌, ◌+◌, refl, ap, sym, ◌∙◌, arith, length}
 use Rattle.thin_vec.specs.OpenBlock.{open_of}

@@ -1,5 +1,5 @@
--- The slots of the middle items at the indices `k - 1` and `k` are not empty. After the test, these
--- slots hold the two items as the test left them, and nothing else has changed.
+-- The slots of the middle items at the indices `k - 1` and `k` are not empty. After the test, they
+-- hold the items as the test left them. Nothing else has changed.
 use Rattle.std.proofs.Common.{◌-◌, ap, sym, ◌∙◌, arith, length}
 use Rattle.thin_vec.specs.OpenBlock.{open_of}
 use Rattle.thin_vec.proofs.OpenBlockLemmas.{rest-filled}

@@ -1,5 +1,5 @@
--- The tail items are the last items of the block. At least `count` empty slots follow them, so they
--- can be moved up by `count` slots. The gap before the tail items becomes `count` slots longer.
+-- At least `count` empty slots follow the tail items, so these items can be moved up by `count`
+-- slots. The gap before the tail items becomes `count` slots longer.
 use Rattle.std.proofs.Common.{◌≡◌, ℕ, ◌+◌, ◌-◌, ◌≤◌, ◌∙◌, ap, arith, length, subst, sym}
 use Rattle.std.specs.Prelude.{IsSome}
 use Rattle.thin_block.specs.Block.{seen}
@@ -11,9 +11,8 @@ use Rattle.thin_vec.specs.declared.open_block.OpenBlock.TheInside.{Inside}
 use Rattle.thin_vec.proofs.OpenBlockLemmas.{Found, reached, spare-empty, tail-filled, widen-step, widened, widened-seen}
 use Rattle.thin_vec.proofs.open_block.OpenBlock.widen.Goals as goal
 
--- Suppose that contracts describe the open block `h` by the value `v`. The tail items of `h` end
--- directly before slot `h.len`. So if `v` has at least `k` empty slots after its tail items, then
--- `h` has at least `k` slots from index `h.len` onward.
+-- If the view `v` of the open block `h` has at least `k` empty slots after the tail items, then `h`
+-- has at least `k` slots from index `h.len` onward.
 fits : {T A : Type 0} (h : Inside T A) (v : Open T A) (k : ℕ) → Shows h (open_of h) → open_of h ≡ v
     → reach v + k ≤ v.capacity → h.len + k ≤ (open_of h).capacity
 fits h v k shows is room =
@@ -34,8 +33,8 @@ open_gap-opened-requires-clause-filled g c = λ j low high.
     subst (λ b. IsSome (slot b.slots j)) (sym c.replace-block.ensures.value)
     (tail-filled c.self.inside (open_of c.self.inside) o j low (omega (arith, high, o.tail)))
 
--- After the call to `widen`, the tail items have been moved up by `count` slots, and the cost
--- counts one more move for each of them. Nothing else in the block has changed.
+-- After the call to `widen`, the tail items have been moved up by `count` slots, and one move has
+-- been counted for each of them. Nothing else has changed.
 stored : (g : _) (c : goal.After-self-2-1 g)
     → let h = c.self.inside in
     seen c.replace-none.new.dest ≡ record (seen h.block) {

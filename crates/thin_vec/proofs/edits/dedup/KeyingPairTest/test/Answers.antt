@@ -1,6 +1,5 @@
--- The test of `dedup_by_key` compares two items: the last item that was kept, and a later item. It
--- calls the closure for the later item, and then for the kept item. It returns whether the two keys
--- that the closure returned are equal.
+-- The test of `dedup_by_key` calls the closure first for the later item, and then for the last kept
+-- item. It returns whether the two keys are equal.
 use Rattle.std.proofs.Common.{rules}
 use Rattle.thin_vec.proofs.edits.dedup.KeyingPairTest.test.Goals as goal
 

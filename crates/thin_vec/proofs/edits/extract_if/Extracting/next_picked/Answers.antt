@@ -1,6 +1,5 @@
--- `advance` tests items until it reaches the first item to be extracted. The tested items before
--- that item are kept. Then `next_picked` removes and returns that item, or returns `None` if there
--- is no such item.
+-- `advance` tests items until it reaches the first item to be extracted. `next_picked` removes and
+-- returns this item, or returns `None` if there is no such item.
 use Rattle.std.proofs.Common.{◌≡◌, ◌∙◌, [], ap, arith, rules, sym, take}
 use Rattle.std.proofs.lemmas.Bool.{false≢true}
 use Rattle.std.specs.Fn.{CalledAtMut}
@@ -8,8 +7,8 @@ use Rattle.thin_vec.proofs.edits.ExtractIfLemmas.{cost-of, picked-count, picked-
 use Rattle.thin_vec.proofs.RetainLemmas.{none-left}
 use Rattle.thin_vec.proofs.edits.extract_if.Extracting.next_picked.Goals as goal
 
--- If `advance` returns true, it has reached an item to be extracted, and `next_picked` removes and
--- returns this item. So the clause `extracts` holds.
+-- If `advance` returns true, it has reached an item to be extracted. `next_picked` removes and
+-- returns this item, so the clause `extracts` holds.
 pub returns-then-advance-clause-extracts : goal.returns-then-advance-clause-extracts
 returns-then-advance-clause-extracts g c =
     let R = CalledAtMut g.F.FnMut in

@@ -1,6 +1,6 @@
--- `from_iter` makes a list whose capacity is the lower bound of the iterator's size hint, and then
--- calls `extend_unhinted`. The clauses about the list and about the cause of a failure follow from
--- the contracts of these two steps.
+-- `from_iter` makes a list whose capacity is the lower bound of the size hint, and then calls
+-- `extend_unhinted`. The clauses about the list and the error follow from the contracts of these
+-- two steps.
 use Rattle.std.specs.Iterator.{Yields}
 use Rattle.std.specs.Option.{option_to_list}
 use Rattle.std.proofs.Common.{None, [], refl, Some, inl, inr, ◌++◌, ◌≡◌, ◌∙◌, ap, arith, length, subst, sym}
@@ -15,11 +15,8 @@ use Rattle.thin_vec.specs.List.Extend.{IsCollectedList}
 use Rattle.thin_vec.proofs.list.extend.ThinVec+T+A.from_iter.Goals.{After-extend_unhinted}
 use Rattle.thin_vec.proofs.list.extend.ThinVec+T+A.from_iter.Goals as goal
 
--- `IsCollectedList` describes a list that was made from the items of an iterator: it states which
--- capacity and which cost the list may have. The list satisfies `IsCollectedList` after the call to
--- `extend_unhinted`. Before this call, the capacity of the list is exactly the lower bound of the
--- size hint. The call keeps this capacity, or the growth rule chooses a new one. `IsCollectedList`
--- allows both.
+-- After the call to `extend_unhinted`, the capacity is the lower bound of the size hint, or the
+-- growth rule has chosen it. `IsCollectedList` allows both.
 collected : (g : _) (c : After-extend_unhinted g)
     → IsCollectedList doubling (param 0 g.row.T) c.args.alloc c.extend_unhinted.new.self
     (g.I.Iterator.remaining c.args.iter)
