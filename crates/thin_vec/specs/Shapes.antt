@@ -1,6 +1,5 @@
--- The following lemmas are about rows of slots that consist of filled slots, followed by empty
--- slots. The file is in `specs`, not in `proofs`, because a definition in `specs/formers` needs the
--- lemmas.
+-- These lemmas are about rows of filled slots, followed by empty slots. They are in `specs` because
+-- a definition in `specs/formers` needs them.
 use Rattle.std.specs.Prelude.{◌≡◌, ℕ, suc, zero, List, [], ◌∷◌, ◌++◌, Bool, true, false, Option, length, map, replicate}
 use Rattle.std.specs.declared.option.Option.TheVariants.{Some, None}
 use mathlib.Core.Path.{refl, ap, ◌∙◌}
@@ -8,46 +7,40 @@ use native.Mathlib.Omega.{arith}
 use Rattle.std.specs.Option.{is_some}
 use Rattle.thin_block.specs.Slots.{empty, full, items_in}
 
--- `shape n m` is a list of flags that describes a row of `n` filled slots, followed by `m` empty
--- slots. The flag of a filled slot is true, and the flag of an empty slot is false.
+-- `shape n m` is the list of flags of `n` filled slots (true), followed by `m` empty slots (false).
 abbrev pub shape : ℕ → ℕ → List Bool
 shape n m = replicate n true ++ replicate m false
 
--- `head_of bs` is a number that encodes the first flag of the list `bs`: 1 for true, and 2 for
--- false. If the list is empty, the number is 0.
+-- `head_of bs` encodes the first flag of `bs`: 1 for true, 2 for false, and 0 if `bs` is empty.
 head_of : List Bool → ℕ
 head_of [] = 0
 head_of (true ∷ bs) = 1
 head_of (false ∷ bs) = 2
 
--- `tail_of bs` is the list `bs` without its first flag. If `bs` is empty, so is the result.
+-- `tail_of bs` is the list `bs` without its first flag, or the empty list if `bs` is empty.
 abbrev tail_of : List Bool → List Bool
 tail_of [] = []
 tail_of (b ∷ bs) = bs
 
--- The function `is_some` returns true for a filled slot and false for an empty slot. If it is
--- applied to each slot of a row of `m` empty slots, the results are `replicate m false`.
+-- Applied to each of `m` empty slots, the function `is_some` returns false.
 none_shape : (X : Type 0) (m : ℕ) → map is_some (let none : List (Option X) = empty m in
     none) ≡ replicate m false
 none_shape X zero = refl
 none_shape X (suc m) = ap (λ l. false ∷ l) (none_shape X m)
 
--- The row of slots `full ys ++ empty m` contains the items `ys`, followed by `m` empty slots. The
--- flags of this row, which say which slots are filled, are `shape (length ys) m`.
+-- The list `shape (length ys) m` says which slots are filled in the row `full ys ++ empty m`.
 front_shape : {X : Type 0} (ys : List X) (m : ℕ)
     → map is_some (full ys ++ empty m) ≡ shape (length ys) m
 front_shape {X} [] m = none_shape X m
 front_shape (y ∷ ys) m = ap (λ l. true ∷ l) (front_shape ys m)
 
--- Suppose that the row of slots `s` consists of filled slots, followed by `m` empty slots. Let `n`
--- be the number of filled slots. Then the flags of `s`, which say which slots are filled, are
--- `replicate n true ++ replicate m false`.
+-- If the row `s` consists of `n` filled slots, followed by `m` empty slots, its flags are `n` times
+-- true, followed by `m` times false.
 pub to_shape : {X : Type 0} (s : List (Option X)) (m : ℕ) → s ≡ full (items_in s) ++ empty m
     → map is_some s ≡ shape (length (items_in s)) m
 to_shape s m e = ap (map is_some) e ∙ front_shape (items_in s) m
 
--- If the flags of the row of slots `s` are `replicate m false`, that is, if no slot is filled, then
--- `s` consists of `m` empty slots.
+-- If the flags of the row `s` are `m` times false, then `s` consists of `m` empty slots.
 all_none : {X : Type 0} (s : List (Option X)) (m : ℕ)
     → map is_some s ≡ replicate m false → s ≡ empty m
 unfolding head_of
@@ -57,18 +50,16 @@ all_none (x ∷ s) zero e = let n = ap length e in absurd (omega (arith, n))
 all_none (Some x ∷ s) (suc m) e = let n : 1 ≡ 2 = ap head_of e in absurd (omega (arith, n))
 all_none (None ∷ s) (suc m) e = ap (λ l. None ∷ l) (all_none s m (ap tail_of e))
 
--- Suppose that the row of slots `None ∷ s` has the same flags as the row `full ys ++ empty m`. (The
--- flags of a row say which slots are filled.) Then the two rows are equal. (In this case, `ys` is
--- empty, because the first slot of `None ∷ s` is empty.)
+-- If the same slots are filled in the rows `None ∷ s` and `full ys ++ empty m`, then the two rows
+-- are equal.
 none_first : {X : Type 0} (s : List (Option X)) (ys : List X) (m : ℕ)
     → false ∷ map is_some s ≡ shape (length ys) m → None ∷ s ≡ full ys ++ empty m
 unfolding head_of
 none_first s [] m e = all_none (None ∷ s) m e
 none_first s (y ∷ ys) m e = let n : 2 ≡ 1 = ap head_of e in absurd (omega (arith, n))
 
--- Suppose that the row of slots `s` contains `n` items, and that its flags, which say which slots
--- are filled, are `replicate n true ++ replicate m false`. Then `s` consists of `n` filled slots,
--- followed by `m` empty slots.
+-- If the flags of the row `s` are `n` times true, followed by `m` times false, then `s` consists of
+-- `n` filled slots, followed by `m` empty slots.
 pub from_shape : {X : Type 0} (s : List (Option X)) (m : ℕ)
     → map is_some s ≡ shape (length (items_in s)) m → s ≡ full (items_in s) ++ empty m
 unfolding head_of

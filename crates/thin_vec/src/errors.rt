@@ -1,5 +1,5 @@
 //! The errors of calls that take an argument by value. If such a call fails, the error holds the
-//! parts of the argument that the call did not use. So the caller owns these parts again.
+//! unused parts of the argument, which the caller owns again.
 ghost use Rattle.std.specs.Prelude.{◌≡◌};
 ghost use Rattle.std.specs.IoError.{error_kind};
 ghost use Rattle.std.specs.declared.io.ErrorKind.TheVariants as Kind;
@@ -11,11 +11,11 @@ use std::io::ErrorKind;
 use std::{fmt, io};
 use thin_block::ThinVecError;
 
-/// The error of a call, such as `push`, that takes one argument by value. On failure, such a call
-/// returns the argument in this error.
+/// The error of a call, such as `push`, that takes one argument by value. The error returns this
+/// argument to the caller.
 #[derive(Drop)]
 pub struct Rejected<S> {
-    /// The argument of the failed call, unchanged. The caller owns it again.
+    /// The unchanged argument of the failed call. The caller owns it again.
     pub value: S,
     /// The reason why the call failed.
     pub cause: ThinVecError,
@@ -27,10 +27,10 @@ pub struct ExtendRefused<T, I> {
     /// The reason why the call failed.
     pub cause: ThinVecError,
     /// The last item that was taken from the iterator. The list was full, and could not grow to
-    /// hold this item. At its start, the call reserves room for `n` items, where `n` is the lower
-    /// bound of the size hint. If this fails, the call takes no item, and `in_hand` is `None`.
+    /// hold this item. `None` means that the call took no item, because it could not reserve room
+    /// for the lower bound of the size hint.
     pub in_hand: Option<T>,
-    /// The rest of the iterator, which yields the items that have not been taken yet.
+    /// The rest of the iterator, which yields the items that have not been taken.
     pub rest: I,
 }
 
@@ -38,36 +38,34 @@ pub struct ExtendRefused<T, I> {
 #[derive(Drop)]
 pub struct CollectRefused<T, I, A: Allocator = Global> {
     /// The list that `from_iter` was making. It holds the items that were appended before the
-    /// failure, and owns the allocator that was passed to `from_iter`.
+    /// failure, and owns the allocator.
     pub list: ThinVec<T, A>,
     /// The reason why the call failed.
     pub cause: ThinVecError,
     /// The last item that was taken from the iterator. The list was full, and could not grow to
-    /// hold this item. At its start, the call allocates the first block. The capacity of this block
-    /// is the lower bound of the size hint. If this fails, the call takes no item, and `in_hand` is
-    /// `None`.
+    /// hold this item. `None` means that the call took no item, because it could not allocate the
+    /// first block, whose capacity is the lower bound of the size hint.
     pub in_hand: Option<T>,
-    /// The rest of the iterator, which yields the items that have not been taken yet.
+    /// The rest of the iterator, which yields the items that have not been taken.
     pub rest: I,
 }
 
 /// The error of `Splice::finish`. The items that were moved into the list before the failure stay
-/// in the list.
+/// there.
 #[derive(Drop)]
 pub struct SpliceRefused<T, I, A: Allocator = Global> {
     /// The reason why the call failed.
     pub cause: ThinVecError,
-    /// The items that were collected from the iterator, but could not be moved into the list. The
-    /// vector uses the allocator that was passed to `finish`.
+    /// The items that were collected from the iterator, but not moved into the list. The vector
+    /// uses the allocator that was passed to `finish`.
     pub held: Vec<T, A>,
-    /// The last item that was taken from the iterator, after the items in `held`. The call failed
-    /// because there was no room for this item. If `in_hand` is `None`, the call failed because it
-    /// could not reserve room in the list. It needed this room for the items in `held`, or for `n`
-    /// items, where `n` is the lower bound of the size hint.
+    /// The item, taken after those in `held`, for which there was no room. If it is `None`, the
+    /// call could not reserve room in the list for the items in `held`, or for the lower bound of
+    /// the size hint.
     pub in_hand: Option<T>,
-    /// The rest of the iterator, which yields the items that have not been taken yet. If `held` is
-    /// not empty and `in_hand` is `None`, the iterator has returned `None`, and `next` must not be
-    /// called on it again. In all other cases, `next` may be called.
+    /// The rest of the iterator, which yields the items that have not been taken. If `held` is not
+    /// empty and `in_hand` is `None`, it has already returned `None`, and `next` must not be called
+    /// on it.
     pub rest: I,
 }
 
@@ -138,8 +136,8 @@ impl<T: Drop, I: Drop, A: Allocator> From<SpliceRefused<T, I, A>> for AllocError
 impl<S: Drop> From<Rejected<S>> for io::Error {
     ghost from_gives = { λ _ error. error_kind error ≡ Kind.OutOfMemory };
 
-    // Drops all fields of the argument. The kind of the returned error is `OutOfMemory`, even if
-    // the cause was `CapacityOverflow`, because std has no `ErrorKind` for a capacity overflow.
+    // Drops the argument. The kind of the returned error is always `OutOfMemory`, because std has
+    // no `ErrorKind` for a capacity overflow.
     fn from(_refused: Rejected<S>) -> io::Error {
         io::Error::from(ErrorKind::OutOfMemory)
     }
@@ -148,8 +146,8 @@ impl<S: Drop> From<Rejected<S>> for io::Error {
 impl<T: Drop, I: Drop> From<ExtendRefused<T, I>> for io::Error {
     ghost from_gives = { λ _ error. error_kind error ≡ Kind.OutOfMemory };
 
-    // Drops all fields of the argument. The kind of the returned error is `OutOfMemory`, even if
-    // the cause was `CapacityOverflow`, because std has no `ErrorKind` for a capacity overflow.
+    // Drops the argument. The kind of the returned error is always `OutOfMemory`, because std has
+    // no `ErrorKind` for a capacity overflow.
     fn from(_refused: ExtendRefused<T, I>) -> io::Error {
         io::Error::from(ErrorKind::OutOfMemory)
     }
@@ -158,8 +156,8 @@ impl<T: Drop, I: Drop> From<ExtendRefused<T, I>> for io::Error {
 impl<T: Drop, I: Drop, A: Allocator> From<CollectRefused<T, I, A>> for io::Error {
     ghost from_gives = { λ _ error. error_kind error ≡ Kind.OutOfMemory };
 
-    // Drops all fields of the argument. The kind of the returned error is `OutOfMemory`, even if
-    // the cause was `CapacityOverflow`, because std has no `ErrorKind` for a capacity overflow.
+    // Drops the argument. The kind of the returned error is always `OutOfMemory`, because std has
+    // no `ErrorKind` for a capacity overflow.
     fn from(_refused: CollectRefused<T, I, A>) -> io::Error {
         io::Error::from(ErrorKind::OutOfMemory)
     }
@@ -168,14 +166,14 @@ impl<T: Drop, I: Drop, A: Allocator> From<CollectRefused<T, I, A>> for io::Error
 impl<T: Drop, I: Drop, A: Allocator> From<SpliceRefused<T, I, A>> for io::Error {
     ghost from_gives = { λ _ error. error_kind error ≡ Kind.OutOfMemory };
 
-    // Drops all fields of the argument. The kind of the returned error is `OutOfMemory`, even if
-    // the cause was `CapacityOverflow`, because std has no `ErrorKind` for a capacity overflow.
+    // Drops the argument. The kind of the returned error is always `OutOfMemory`, because std has
+    // no `ErrorKind` for a capacity overflow.
     fn from(_refused: SpliceRefused<T, I, A>) -> io::Error {
         io::Error::from(ErrorKind::OutOfMemory)
     }
 }
 
-// `Debug` and `Display` print only the cause of an error. So the types of the other fields need not
+// `Debug` and `Display` print only the cause of an error, so the types of the other fields need not
 // implement these traits.
 impl<S> fmt::Debug for Rejected<S> {
     fn fmt<W: fmt::Write>(&self, f: &mut fmt::Formatter<W>) -> fmt::Result {

@@ -1,6 +1,5 @@
--- The definitions in this file describe calls that clone items. In this file, `clones x y` states
--- that cloning `x` may result in `y`, and `infallible x` states that cloning `x` cannot fail. (See
--- std's trait `Clone`.)
+-- These definitions describe calls that clone items. `clones x y` states that cloning `x` may
+-- result in `y`, and `infallible x` states that cloning `x` cannot fail.
 use Rattle.std.specs.Prelude.{◌≡◌, ℕ, ◌^◌, ◌<◌, ◌≤◌, List, [], ◌∷◌, ◌++◌, All, HoldsAt, Option, length, take}
 use Rattle.std.specs.List.{AllZip}
 use Rattle.thin_block.specs.Cost.{Cost, moving}
@@ -13,23 +12,20 @@ module _ {T : Type 0} (clones : T → T → Type 0) where
   abbrev pub CloneEquals : T → Type 0
   CloneEquals x = (y : T) → clones x y → y ≡ x
 
-  -- `ClonesEqual` states that, for every item of the type `T`, each clone of the item equals the
-  -- item.
+  -- `ClonesEqual` states that every clone of an item of the type `T` equals the item.
   abbrev pub ClonesEqual : Type 0
   ClonesEqual = (x : T) → CloneEquals x
 
-  -- `LaysClones sources n i s s'` compares the slots of a block before a call (`s`) and after it
-  -- (`s'`). It states that the call wrote clones of the first `n` items of `sources` into the slots
-  -- from index `i` onward, and changed no other slot.
+  -- `LaysClones sources n i s s'` states that writing clones of the first `n` items of `sources`
+  -- into the slots `s`, from index `i` onward, results in the slots `s'`.
   pub record LaysClones (sources : List T) (n i : ℕ) (s s' : List (Option T)) : Type 0 where
     pub copies : List T
     pub cloned : AllZip clones (take n sources) copies
     pub slots : s' ≡ laid i (full copies) s
 
-  -- `IsClonedList v w` states what std's `Clone` guarantees about a clone `w` of the list `v`. The
-  -- list `w` consists of clones of the items of `v`, in the same order. It has the same allocator
-  -- as `v`, and its capacity is exactly the number of items. Its recorded cost is the cost of a new
-  -- list of this capacity, plus one move for each item.
+  -- `IsClonedList v w` holds if the list `w` is a clone of the list `v`. Its items are clones of
+  -- the items of `v`, in order, and its capacity is exactly their number. Each clone counts as one
+  -- move.
   abbrev pub IsClonedList : {A : Type 0} → Thin T A → Thin T A → Type 0
   IsClonedList v w =
       AllZip clones v.items w.items × (length w.items ≡ length v.items)
@@ -37,8 +33,8 @@ module _ {T : Type 0} (clones : T → T → Type 0) where
       × (w.cost ≡ moving (length v.items) (cost_new (length v.items))) × IsCheap w
       × (w.capacity < 2 ^ 63)
 
--- `AppendsRepeats clones x n xs ys` states that the list `ys` consists of the items of `xs`,
--- followed by `n` clones of `x`. The parameter `clones` says which items are clones of `x`.
+-- `AppendsRepeats clones x n xs ys` holds if the list `ys` consists of the items of `xs`, followed
+-- by `n` clones of `x`.
 pub record AppendsRepeats {T : Type 0} (clones : T → T → Type 0) (x : T) (n : ℕ)
     (xs ys : List T) : Type 0 where
   pub copies : List T
@@ -46,10 +42,8 @@ pub record AppendsRepeats {T : Type 0} (clones : T → T → Type 0) (x : T) (n 
   pub count : length copies ≡ n
   pub items : ys ≡ xs ++ copies
 
--- `IsResized clones xs n x ys` states that the list `ys` is a possible result of resizing the list
--- `xs` to the length `n`. If `xs` has at least `n` items, `ys` consists of the first `n` items of
--- `xs`. Otherwise, `ys` consists of all items of `xs`, then clones of `x`, and finally `x` itself,
--- so that it has `n` items in total. The parameter `clones` says which items are clones of `x`.
+-- `IsResized clones xs n x ys` holds if `ys` is a possible result of resizing the list `xs` to the
+-- length `n`. If items are added, they are clones of `x`, followed by `x` itself.
 pub record IsResized {T : Type 0} (clones : T → T → Type 0) (xs : List T) (n : ℕ) (x : T)
     (ys : List T) : Type 0 where
   pub shorter : n ≤ length xs → ys ≡ take n xs
@@ -58,11 +52,8 @@ pub record IsResized {T : Type 0} (clones : T → T → Type 0) (xs : List T) (n
   pub len : length ys ≡ n
 
 -- `StopsAtClone infallible sources before after` describes a call that clones the items of
--- `sources` in order, until cloning an item fails. Here, `infallible x` states that cloning `x`
--- cannot fail. Let `at` be the index of the item that could not be cloned. This item does not
--- satisfy `infallible`. Before the failure, the call made `at` clones, and each clone counts as one
--- move. `before` is the recorded cost before the first clone, and `after` is the recorded cost
--- after the failure. So `after` is `before` plus `at` moves.
+-- `sources` in order, until an item cannot be cloned. Each clone counts as one move, which changes
+-- the cost from `before` to `after`.
 pub record StopsAtClone {T : Type 0} (infallible : T → Type 0) (sources : List T)
     (before after : Cost) : Type 0 where
   pub at : ℕ
@@ -70,11 +61,9 @@ pub record StopsAtClone {T : Type 0} (infallible : T → Type 0) (sources : List
   pub fallible : HoldsAt (λ x. ¬ (infallible x)) sources at
   pub cost : after ≡ moving at before
 
--- `CostsUpToClone infallible sources v w` describes the cost of a call that cloned the items of
--- `sources` into a list in order, until cloning an item failed. The call changed the list from `v`
--- to `w`. Each clone that was made before the failure counts as one move. If the capacity changed,
--- the cost also includes one request for memory, and each item of `v` counts as copied.
--- (`infallible x` states that cloning `x` cannot fail.)
+-- `CostsUpToClone infallible sources v w` describes the cost of a call that clones items of
+-- `sources` until an item cannot be cloned. The call changes the list from `v` to `w`, and each
+-- clone counts as one move.
 abbrev pub CostsUpToClone : {T A : Type 0} → (T → Type 0) → List T → Thin T A → Thin T A → Type 0
 CostsUpToClone infallible sources v w =
     StopsAtClone infallible sources (cost_at v w.capacity) w.cost

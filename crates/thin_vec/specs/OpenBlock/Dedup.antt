@@ -1,6 +1,5 @@
--- The definitions in this file describe how duplicates are removed from an open block, which is the
--- block of a list during an edit. A test decides for each item whether the item duplicates the last
--- item that was kept. (See std's `Vec::dedup_by`.)
+-- These definitions describe how duplicates are removed from an open block, as in std's
+-- `Vec::dedup_by`. A test decides for each item whether the item duplicates the last kept item.
 use Rattle.std.specs.Prelude.{◌≡◌, ◌⊎◌, ℕ, suc, ◌<◌, List, [], ◌∷◌, ◌++◌, Bool, true, false, Option, Some, length, replicate, slice_set}
 use Rattle.thin_block.specs.Cost.{moving}
 use Rattle.thin_block.specs.Slots.{slot}
@@ -8,14 +7,12 @@ use Rattle.thin_vec.specs.Edits.Retain.{moved_down, trues}
 use Rattle.thin_vec.specs.Edits.Dedup.{AskedLast, AskedPairs}
 use Rattle.thin_vec.specs.Open.{Open}
 
--- `R s x k b t y l` describes one call of a test, which compares the item `x` with the last kept
--- item `k`. The result `b` is true if `x` is to be removed. The call changes the state of the test
--- from `s` to `t`, the item from `x` to `y`, and the kept item from `k` to `l`.
+-- `R s x k b t y l` describes one test of the item `x` against the last kept item `k`. `b` is true
+-- if `x` is to be removed. The test changes its state from `s` to `t`, `x` to `y`, and `k` to `l`.
 module _ {S T : Type 0} (R : S → T → T → Bool → S → T → T → Type 0) where
-  -- `IsPairAskedAt k s xs b t ys` states that the item at index `k` of the list `xs` was tested
-  -- against the item before it. The flag `b` is true if the tested item is to be removed. The test
-  -- changed its own state from `s` to `t`. It may also have changed the two items, and `ys` is the
-  -- list after these changes.
+  -- `IsPairAskedAt k s xs b t ys` states that the item at index `k` of `xs` was tested against the
+  -- item directly before it. `b` is true if the tested item is to be removed. The test changed its
+  -- state from `s` to `t`, and the list from `xs` to `ys`.
   pub record IsPairAskedAt (k : ℕ) (s : S) (xs : List T) (b : Bool) (t : S)
       (ys : List T) : Type 0 where
     pub before : List T
@@ -29,10 +26,9 @@ module _ {S T : Type 0} (R : S → T → T → Bool → S → T → T → Type 0
     pub asked : R s later kept b t later_left kept_left
     pub now : ys ≡ before ++ kept_left ∷ later_left ∷ after
 
-  -- `IsLastAsked s x xs b t y ys` states that the item `x` was tested against the last item of the
-  -- list `xs`. The flag `b` is true if `x` is to be removed. The test changed its own state from
-  -- `s` to `t`, and the item from `x` to `y`. It may also have changed the last item of `xs`, and
-  -- `ys` is the list after this change.
+  -- `IsLastAsked s x xs b t y ys` states that the item `x` was tested against the last item of
+  -- `xs`. `b` is true if `x` is to be removed. The test changed its state from `s` to `t`, `x` to
+  -- `y`, and `xs` to `ys`.
   pub record IsLastAsked (s : S) (x : T) (xs : List T) (b : Bool) (t : S) (y : T)
       (ys : List T) : Type 0 where
     pub before : List T
@@ -42,10 +38,9 @@ module _ {S T : Type 0} (R : S → T → T → Bool → S → T → T → Type 0
     pub asked : R s x kept b t y kept_left
     pub now : ys ≡ before ++ kept_left ∷ []
 
-  -- `IsNextAsked s k xs b t l ys` states that the first item of the list `xs` was tested against
-  -- the kept item `k`. The flag `b` is true if the first item is to be removed. The test changed
-  -- its own state from `s` to `t`, and the kept item from `k` to `l`. It may also have changed the
-  -- first item of `xs`, and `ys` is the list after this change.
+  -- `IsNextAsked s k xs b t l ys` states that the first item of `xs` was tested against the kept
+  -- item `k`. `b` is true if the tested item is to be removed. The test changed its state from `s`
+  -- to `t`, `k` to `l`, and `xs` to `ys`.
   pub record IsNextAsked (s : S) (k : T) (xs : List T) (b : Bool) (t : S) (l : T)
       (ys : List T) : Type 0 where
     pub later : T
@@ -56,9 +51,8 @@ module _ {S T : Type 0} (R : S → T → T → Bool → S → T → T → Type 0
     pub now : ys ≡ later_left ∷ after
 
   -- `AreAskedIn s i slots b t slots'` states that the item in slot `i + 1` was tested against the
-  -- item in slot `i`. The flag `b` is true if the item in slot `i + 1` is to be removed. The test
-  -- changed its own state from `s` to `t`. It may also have changed the two items, and `slots'` are
-  -- the slots after these changes.
+  -- item in slot `i`. `b` is true if the tested item is to be removed. The test changed its state
+  -- from `s` to `t`, and the slots to `slots'`.
   pub record AreAskedIn (s : S) (i : ℕ) (slots : List (Option T)) (b : Bool) (t : S)
       (slots' : List (Option T)) : Type 0 where
     pub kept : T
@@ -70,12 +64,9 @@ module _ {S T : Type 0} (R : S → T → T → Bool → S → T → T → Type 0
     pub asked : R s later kept b t later_left kept_left
     pub now : slots' ≡ slice_set (slice_set slots i (Some kept_left)) (suc i) (Some later_left)
 
-  -- `PairsAskedUpTo m s xs t ys` describes a search for the first item of `xs` that is to be
-  -- removed. From the second item of `xs` on, each item was tested against the item before it. The
-  -- search stopped at the first item that is to be removed, and `m` is the index of this item. If
-  -- there is no such item, the search stopped at the end of `xs`, and `m` is the length of `xs`.
-  -- The test changed its own state from `s` to `t`. It may also have changed the items, and `ys` is
-  -- the list after these changes.
+  -- `PairsAskedUpTo m s xs t ys` states that items of `xs` were tested, each against the item
+  -- directly before it, up to the first duplicate. This duplicate is at index `m`; without a
+  -- duplicate, `m` is `length xs`. The tests changed their state from `s` to `t`, and `xs` to `ys`.
   pub record PairsAskedUpTo (m : ℕ) (s : S) (xs : List T) (t : S) (ys : List T) : Type 0 where
     pub first : T
     pub done : List T
@@ -92,14 +83,9 @@ module _ {S T : Type 0} (R : S → T → T → Bool → S → T → T → Type 0
     pub stops : ((length over ≡ 1) × (stays ≡ replicate more true ++ false ∷ []))
         ⊎ ((over ≡ []) × ((after ≡ []) × (stays ≡ replicate more true)))
 
-  -- `Dedups s v t w` states that some or all middle items of an open block were tested for
-  -- duplicates, and that this changed the block from `v` to `w`. The middle items are the items
-  -- that have not been tested yet. They were tested in order, starting with the first middle item
-  -- of `v`. Each item was tested against the last item that was kept before it. (The first middle
-  -- item was tested against the last item of the front, which is the first part of the block.) Each
-  -- kept item was moved to the end of the front. Each of these items counts as one move. The other
-  -- tested items were removed. In `w`, there is at least one empty slot after the front. The test
-  -- changed its state from `s` to `t`.
+  -- `Dedups s v t w` describes testing some or all middle items for duplicates. This changes the
+  -- open block from `v` to `w`, and the state of the test from `s` to `t`. Duplicates are removed,
+  -- and the other tested items are moved to the front.
   pub record Dedups {A : Type 0} (s : S) (v : Open T A) (t : S) (w : Open T A) : Type 0 where
     pub before : List T
     pub first : T
@@ -117,14 +103,9 @@ module _ {S T : Type 0} (R : S → T → T → Bool → S → T → T → Type 0
       cost = moving (trues stays) v.cost;
     }
 
-  -- `IsDeduped s v t w` states that all duplicates among the middle items of an open block were
-  -- removed, and that this changed the block from `v` to `w`. The middle items are the items that
-  -- have not been tested yet. The first middle item of `v` was kept without a test. Each later
-  -- middle item was tested, in order, against the last item that was kept before it. The front of
-  -- `w`, which is the first part of the block, consists of the kept items. (The front of `v` is
-  -- empty: the function `dedup_rest`, whose contract uses this statement, requires this.) The
-  -- middle run of `w` is empty. Each kept item that follows the first removed item counts as one
-  -- move. The test changed its state from `s` to `t`.
+  -- `IsDeduped s v t w` describes testing all middle items except the first for duplicates. This
+  -- changes the open block from `v` to `w`, and the state of the test from `s` to `t`. Duplicates
+  -- are removed, and the kept items form the front of `w`.
   pub record IsDeduped {A : Type 0} (s : S) (v : Open T A) (t : S) (w : Open T A) : Type 0 where
     pub stays : List Bool
     pub asked : AskedPairs R s v.rest stays w.front t

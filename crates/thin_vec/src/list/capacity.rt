@@ -1,5 +1,5 @@
-//! The methods that reserve room in a list. The function `grow_to` is the only function that grows
-//! a list. The function `capacity_for` is the only function that calls the growth rule.
+//! The methods that reserve room in a list. Only `grow_to` grows a list, and only `capacity_for`
+//! calls the growth rule.
 ghost use Rattle.std.specs.Prelude.{◌≡◌, ◌+◌, ◌<◌, ◌≤◌, [], IfErr, IfOk, IfSome, IsErrOf, IsFalse, IsOk, IsTrue, None, OnErr, OnOk, Some, length};
 ghost use Rattle.thin_block.specs.Capacity.{Fits};
 ghost use Rattle.thin_block.specs.Cost.{growing};
@@ -17,21 +17,15 @@ impl<T, A: Allocator, G: Growth> ThinVec<T, A, G> {
 
     /// Reserves room for at least `additional` more items. If there is not enough room, the list
     /// grows to the capacity that the growth rule chooses, which is at least twice the old
-    /// capacity. Otherwise, nothing changes.
-    ///
-    /// When a list grows, its block may be moved to another address. In this case, every item is
-    /// copied.
+    /// capacity. Growing may copy every item to another address.
     ///
     /// # Errors
     ///
-    /// Fails only if there is not enough room. On failure, the list is unchanged.
+    /// Fails only if the list has to grow. On failure, the list is unchanged.
     ///
-    /// - `CapacityOverflow`: the growth rule chooses no capacity, because the new capacity would be
-    ///   too large.
+    /// - `CapacityOverflow`: the growth rule chooses no capacity, because it would exceed
+    ///   `isize::MAX`, or its block would take more than `isize::MAX` bytes.
     /// - `OutOfMemory`: the allocator failed.
-    ///
-    /// A capacity is too large if it exceeds `isize::MAX`, or if its block would take more than
-    /// `isize::MAX` bytes.
     pub fn reserve(&mut self, additional: usize) -> Result<(), ThinVecError>
         // On success.
         ensures room { OnOk result (HasRoomFor self.new additional) }
@@ -55,14 +49,14 @@ impl<T, A: Allocator, G: Growth> ThinVec<T, A, G> {
     }
 
     /// Reserves room for exactly `additional` more items. If there is not enough room, the list
-    /// grows, and the new capacity is the length plus `additional`. Otherwise, nothing changes.
+    /// grows, and the new capacity is the length plus `additional`.
     ///
-    /// If a list grows only through this method, each call may copy all items of the list. The
-    /// method `reserve` avoids this: whenever it grows the list, it at least doubles the capacity.
+    /// If a list grows only through this method, each call may copy all items. The method `reserve`
+    /// avoids this, because it at least doubles the capacity.
     ///
     /// # Errors
     ///
-    /// Fails only if there is not enough room. On failure, the list is unchanged.
+    /// Fails only if the list has to grow. On failure, the list is unchanged.
     ///
     /// - `CapacityOverflow`: the length plus `additional` is too large for a capacity.
     /// - `OutOfMemory`: the allocator failed.
@@ -97,8 +91,8 @@ impl<T, A: Allocator, G: Growth> ThinVec<T, A, G> {
         }
     }
 
-    // Reserves room for exactly `capacity` items in a list that has no block. In contrast to
-    // `reserve_exact`, this function does not test whether there is already room.
+    // Reserves room for exactly `capacity` items in a list without a block. Unlike `reserve_exact`,
+    // this function does not test whether there is already room.
     #[tactic(auto, using(thin_block::proofs::CapacityLemmas::exact))]
     pub(crate) fn reserve_first(&mut self, capacity: usize) -> Result<(), ThinVecError>
         requires none { self.old.capacity ≡ 0 }
@@ -111,8 +105,7 @@ impl<T, A: Allocator, G: Growth> ThinVec<T, A, G> {
             → IsErrOf result ThinVecError.CapacityOverflow }
         ensures cause { IfErr result (IsCause (exact_capacity T.row 0 capacity)) }
 
-        // On success, only the fields `capacity` and `cost` of the list change. On failure, nothing
-        // changes.
+        // On success, only the fields `capacity` and `cost` change. On failure, nothing changes.
         ensures changes { self.new ≡ record self.old {
           capacity = self.new.capacity;
           cost = self.new.cost;
@@ -133,10 +126,9 @@ impl<T, A: Allocator, G: Growth> ThinVec<T, A, G> {
         self.grow_to(capacity)
     }
 
-    // Reserves room for at least `additional` more items, with the same contract as `reserve`. This
-    // function is meant for calls that add several items. If `additional` is known at compile time,
-    // for example because it is the length of a literal, the compiled code checks for room with a
-    // single comparison. (The compiled code of `reserve` does this only if `additional` is 1.)
+    // Reserves room like `reserve`, for calls that add several items. If `additional` is known at
+    // compile time, the compiled code checks for room with a single comparison. (With `reserve`,
+    // this is so only if `additional` is 1.)
     #[tactic(auto, using(thin_block::proofs::CapacityLemmas::ruled))]
     pub(crate) fn reserve_run(&mut self, additional: usize) -> Result<(), ThinVecError>
         // On success.
@@ -161,9 +153,7 @@ impl<T, A: Allocator, G: Growth> ThinVec<T, A, G> {
     }
 
     // Returns whether there is room for `additional` more items. If `additional` exceeds
-    // `isize::MAX`, the function returns false, because no list has so much room. Otherwise, it
-    // adds `additional` to the length. The length is also at most `isize::MAX`, so this addition
-    // cannot overflow.
+    // `isize::MAX`, no list has so much room, and adding `additional` to the length could overflow.
     fn has_room_for(&self, additional: usize) -> bool
         ensures within { IsWithin T.row self.now }
         ensures room { IsTrue result → HasRoomFor self.now additional }
@@ -177,10 +167,8 @@ impl<T, A: Allocator, G: Growth> ThinVec<T, A, G> {
         len + additional <= cap
     }
 
-    // Grows the list to make room for `additional` more items. The list must not have room for
-    // these items yet. This function does the part of `reserve` that is needed only if there is not
-    // enough room. Most calls to `reserve` find enough room. That is why this part is a separate
-    // function, and is marked as cold.
+    // Grows the list to make room for `additional` more items. There must not be room for them yet.
+    // This part of `reserve` is a separate, cold function because most calls find enough room.
     #[cold]
     fn grow_for(&mut self, additional: usize) -> Result<(), ThinVecError>
         requires more { self.old.capacity < length self.old.items + additional }
@@ -189,8 +177,7 @@ impl<T, A: Allocator, G: Growth> ThinVec<T, A, G> {
         // capacity.
         ensures overflow { TellsOverflow (capacity_for G.rule T.row self.old additional) result }
 
-        // On success, only the fields `capacity` and `cost` of the list change. On failure, nothing
-        // changes.
+        // On success, only the fields `capacity` and `cost` change. On failure, nothing changes.
         ensures changes { self.new ≡ record self.old {
           capacity = self.new.capacity;
           cost = self.new.cost;
@@ -210,8 +197,7 @@ impl<T, A: Allocator, G: Growth> ThinVec<T, A, G> {
     }
 
     // Returns the capacity that the growth rule chooses for `additional` more items, or `None` if
-    // the rule chooses no capacity. The list must not have room for these items yet. No other
-    // function calls the growth rule.
+    // it chooses no capacity. There must not be room for these items yet.
     #[tactic(auto, using(thin_block::proofs::CapacityLemmas::ruled))]
     fn capacity_for(&self, additional: usize) -> Option<usize>
         requires more { self.now.capacity < length self.now.items + additional }
@@ -226,16 +212,15 @@ impl<T, A: Allocator, G: Growth> ThinVec<T, A, G> {
         }
     }
 
-    // Grows the list to the capacity `cap`. No other function grows a list. Both this function and
-    // `Block::grow` are inlined. So if a caller grows a list that it has just made, the compiled
-    // code does not test whether the list already has a block.
+    // Grows the list to the capacity `cap`. This function and `Block::grow` are inlined, so that
+    // growing a list that the caller has just made need not test whether there is a block.
     #[inline(always)]
     pub(crate) fn grow_to(&mut self, cap: usize) -> Result<(), ThinVecError>
         requires larger { self.old.capacity < cap }
         requires fits { Fits T.row cap }
         requires within { IsWithin T.row self.old }
 
-        // In every case, only the fields `capacity` and `cost` of the list may change.
+        // Only the fields `capacity` and `cost` of the list may change.
         ensures changes { self.new ≡ record self.old {
           capacity = self.new.capacity;
           cost = self.new.cost;
@@ -256,9 +241,8 @@ impl<T, A: Allocator, G: Growth> ThinVec<T, A, G> {
     }
 
     // Makes an empty list whose capacity is exactly `capacity`. The function `fits` must return
-    // true for `capacity`, which means that a block of this capacity is not too large. If
-    // `capacity` is 0, the list has no block. All methods that make a list with an exact capacity
-    // use this function, except `from_iter`, which uses `reserve_first`.
+    // true for `capacity`, which means that it is not too large. If `capacity` is 0, the list has
+    // no block.
     pub(crate) fn with_fitting_capacity(
         alloc: A,
         capacity: usize,
@@ -300,7 +284,7 @@ impl<T, A: Allocator> ThinVec<T, A> {
     ///
     /// # Errors
     ///
-    /// On failure, no list is made, and `alloc` is dropped.
+    /// On failure, `alloc` is dropped.
     ///
     /// - `CapacityOverflow`: `capacity` exceeds `isize::MAX`, or a block of this capacity would
     ///   take more than `isize::MAX` bytes.
