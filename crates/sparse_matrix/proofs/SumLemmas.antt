@@ -1,5 +1,5 @@
 -- A sum over the entries of a sparse row equals the sum over all columns, because a column without
--- an entry contributes 0 to the sum.
+-- an entry contributes 0.
 use Rattle.std.proofs.Common.{◌≡◌, ◌≢◌, ℕ, zero, suc, ◌+◌, ◌*◌, ◌<◌, Bool, true, false, cond, ◌&&◌, T, List, [], ◌∷◌, Some, None, inl, inr, Ordering, Less, Equal, Greater, is_eq, is_lt, length, map, sum, sum_by, nat_cmp, ap, arith, refl, sym, ◌∙◌}
 use Rattle.std.specs.Cmp.{nat_cmp_total, tied_itself}
 use Rattle.std.specs.FinMap as columns
@@ -32,8 +32,8 @@ same_sum f g (suc n) same =
     let last : f n ≡ g n = same n (omega arith) in
     λ i. rest i + last i
 
--- `sum_below n f` is `f 0 + f 1 + .. + f (n - 1)`. If `c < n`, `f c ≡ v + g c`, and `f` and `g`
--- agree at all other numbers, then `sum_below n f ≡ v + sum_below n g`.
+-- If `f c ≡ v + g c` for some `c < n`, and `f` and `g` agree at all other numbers, then
+-- `sum_below n f ≡ v + sum_below n g`.
 sum_differs : (f g : ℕ → ℕ) (c v n : ℕ) → c < n → f c ≡ v + g c → ((j : ℕ) → j ≢ c → f j ≡ g j)
     → sum_below n f ≡ v + sum_below n g
 sum_differs f g c v zero inside here others = absurd (omega arith)
@@ -53,8 +53,8 @@ no_sum f zero = refl
 no_sum f (suc n) = let rest = no_sum f n in omega arith
 
 module _ (f : ℕ → ℕ) where
-  -- The function `f` maps each column to a number. `term entries j` is `x * f j` if `entries`
-  -- contains the number `x` in column `j`. It is 0 if `entries` contains no number in column `j`.
+  -- `term entries j` is `x * f j` if `entries` contains the number `x` in column `j`, and 0 if
+  -- there is no entry in column `j`.
   abbrev term : List (ℕ × ℕ) → ℕ → ℕ
   term entries j = unwrap_or (find nat_cmp j entries) 0 * f j
 
@@ -66,9 +66,8 @@ module _ (f : ℕ → ℕ) where
       (is_less (nat_cmp x e.0) (both_hold _ _ below).0)
       ∙ none_found x entries (both_hold _ _ below).1
 
-  -- Suppose that the columns of the entries are strictly increasing and less than `n`. Then the sum
-  -- of `x * f c` over all entries `(c, x)` equals the sum of `term entries j` over all columns `j`
-  -- less than `n`. For a column `j` without an entry, `term entries j` is 0.
+  -- If the columns of `entries` are strictly increasing and less than `n`, then the sum of
+  -- `x * f c` over all entries `(c, x)` is `sum_below n (term entries)`.
   entries_sum : (entries : List (ℕ × ℕ)) (n : ℕ) → T (is_sorted nat_cmp entries)
       → ((k : ℕ) → k < length entries → (slice_index_or entries k (0, 0)).0 < n)
       → sum_by (λ e. e.1 * f e.0) entries ≡ sum_below n (term entries)
@@ -97,10 +96,8 @@ module _ (f : ℕ → ℕ) where
           ∙ (let nothing : term entries e.0 ≡ 0 * f e.0 = ap (λ o. unwrap_or o 0 * f e.0) none in
           omega (arith, nothing))
 
--- Suppose that `entries` is the list of the entries of `row`, and that all of them are in columns
--- less than `n`. Then the sum of `x * f c` over all entries `(c, x)` equals a sum over all columns
--- `j` less than `n`. In this second sum, `f j` is multiplied by the number in column `j`, or by 0
--- if column `j` has no entry.
+-- If all entries of `row` are in columns less than `n`, then summing `x * f c` over the entries
+-- `(c, x)` is the same as summing over all columns less than `n`, with 0 for missing entries.
 pub row_sum : (f : ℕ → ℕ) (row : Columns ℕ) (n : ℕ) (entries : List (ℕ × ℕ))
     → entries ≡ columns.entries row
     → ((k : ℕ) → k < length entries → (slice_index_or entries k (0, 0)).0 < n)

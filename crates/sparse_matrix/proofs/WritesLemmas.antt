@@ -1,5 +1,5 @@
--- These lemmas are about loops that write the entries of a row into a matrix. Each iteration writes
--- one entry, and no two entries are written at the same place.
+-- These lemmas are about loops that write the entries of a row into a matrix, one entry per
+-- iteration, each at a different place.
 use Rattle.std.proofs.Common.{◌≡◌, ◌≢◌, ℕ, ◌+◌, ◌<◌, ◌≤◌, List, Some, None, inl, inr, length, ap, arith, refl, subst, sym, ◌∙◌}
 use Rattle.std.specs.FinMap as columns
 use Rattle.std.specs.Option.{unwrap_or}
@@ -12,10 +12,9 @@ use Rattle.thin_rows.proofs.TableLemmas.{in_order, is_listed, listed}
 never : {P : Type 0} {x : ℕ} → None ≡ Some x → P
 never e = cc
 
--- In this module, a loop writes the entries of `row` into a matrix. Each column `j` of `row` has
--- its own place in the matrix, and an entry in column `j` is written at this place. Before the
--- loop, this place contains the number `old j`. Suppose that the number `v` is written at a place
--- that contains the number `u`. Then the place contains the number `write u v` afterward.
+-- In this module, a loop writes the entries of `row` into a matrix. Each column `j` has its own
+-- place, which contains `old j` before the loop. Writing `v` at a place that contains `u` leaves
+-- `write u v` there.
 module _ (write : ℕ → ℕ → ℕ) (row : Columns ℕ) (old : ℕ → ℕ) where
   abbrev column : ℕ → ℕ
   column k = (slice_index_or (columns.entries row) k (0, 0)).0
@@ -23,8 +22,8 @@ module _ (write : ℕ → ℕ → ℕ) (row : Columns ℕ) (old : ℕ → ℕ) w
   abbrev number : ℕ → ℕ
   number k = (slice_index_or (columns.entries row) k (0, 0)).1
 
-  -- `IsWritten n now` holds if, for each column `j`, `now j` is the number at column `j` after the
-  -- first `n` entries of the row have been written.
+  -- `IsWritten n now` holds if, after the first `n` entries of the row have been written, the
+  -- number at each column `j` is `now j`.
   pub record IsWritten (n : ℕ) (now : ℕ → ℕ) : Type 0 where
     pub done : (k : ℕ) → k < n → now (column k) ≡ write (old (column k)) (number k)
     pub left : (j : ℕ) → ((k : ℕ) → k < n → column k ≢ j) → now j ≡ old j
@@ -33,10 +32,8 @@ module _ (write : ℕ → ℕ → ℕ) (row : Columns ℕ) (old : ℕ → ℕ) w
   pub none_written : IsWritten 0 old
   none_written = record { done = λ k less. absurd (omega arith); left = λ j none. refl }
 
-  -- Suppose that `IsWritten n now` holds: for each column `j`, `now j` is the number at column `j`
-  -- after the first `n` entries have been written. Suppose also that the entry at index `n` is
-  -- written next, and that this changes only the number at the column of this entry. If `next j` is
-  -- the number at each column `j` after this write, then `IsWritten (n + 1) next` holds.
+  -- If `IsWritten n now` holds, and the loop then writes only the entry at index `n`, then
+  -- `IsWritten (n + 1) next` holds. Here, `next j` is the number at column `j` after this write.
   pub one_more : (n : ℕ) (now next : ℕ → ℕ) → n < length (columns.entries row) → IsWritten n now
       → next (column n) ≡ write (now (column n)) (number n)
       → ((j : ℕ) → j ≢ column n → next j ≡ now j) → IsWritten (n + 1) next
@@ -54,12 +51,9 @@ module _ (write : ℕ → ℕ → ℕ) (row : Columns ℕ) (old : ℕ → ℕ) w
         ∙ h.left j (λ k less. none k (omega (arith, less)));
   }
 
-  -- Suppose that `entries` is the list of the entries of `row`, and that `IsWritten n now` holds:
-  -- for each column `j`, `now j` is the number at column `j` after the first `n` entries have been
-  -- written. Suppose also that the entry at index `n` is written next, and that this changes only
-  -- the number at the column of this entry. If `next j` is the number at each column `j` after this
-  -- write, then `IsWritten (n + 1) next` holds. This is the lemma `one_more`, restated with the
-  -- variable `entries`.
+  -- This is the lemma `one_more` for a list `entries` that equals the list of the entries of `row`:
+  -- if `IsWritten n now` holds, and the entry at index `n` is written next, then
+  -- `IsWritten (n + 1) next` holds.
   pub next_written : (entries : List (ℕ × ℕ)) → entries ≡ columns.entries row → (n : ℕ)
       (now next : ℕ → ℕ) → n < length entries → IsWritten n now
       → next (slice_index_or entries n (0, 0)).0
@@ -68,10 +62,9 @@ module _ (write : ℕ → ℕ → ℕ) (row : Columns ℕ) (old : ℕ → ℕ) w
       → IsWritten (n + 1) next
   next_written entries is = rw is one_more
 
-  -- Suppose that `row` has `n` entries, and that `IsWritten n now` holds: after all entries have
-  -- been written, `now j` is the number at each column `j`. For a column `j`, let `v` be the number
-  -- of `row` in this column, or 0 if `row` has no entry there. If writing 0 at column `j` would
-  -- change nothing, so that `write (old j) 0` is `old j`, then `now j` is `write (old j) v`.
+  -- If `row` has `n` entries, `IsWritten n now` holds, and writing 0 over `old j` would change
+  -- nothing, then `now j` is `write (old j) v`. Here, `v` is the number of `row` in column `j`, or
+  -- 0 if there is none.
   pub all_written : (n : ℕ) (now : ℕ → ℕ) → n ≡ length (columns.entries row) → IsWritten n now
       → (j : ℕ) → write (old j) 0 ≡ old j
       → now j ≡ write (old j) (unwrap_or (columns.get row j) 0)
@@ -88,8 +81,8 @@ module _ (write : ℕ → ℕ → ℕ) (row : Columns ℕ) (old : ℕ → ℕ) w
             ∙ listed row k (0, 0) (omega (arith, less, all))))) ∙ sym zero
       ] refl
 
--- Suppose that the table `t` has no value in column `n` or in any later column. Then all entries in
--- each row of `t` are in columns less than `n`.
+-- If `value_at t i j` is `None` for every row `i` and every column `j ≥ n`, then all entries of the
+-- table `t` are in columns less than `n`.
 pub columns_below : (t : Table ℕ) (n : ℕ) → ((i j : ℕ) → n ≤ j → value_at t i j ≡ None) → (i : ℕ)
     (entries : List (ℕ × ℕ)) → entries ≡ columns.entries (row_of t i) → (k : ℕ)
     → k < length entries → (slice_index_or entries k (0, 0)).0 < n

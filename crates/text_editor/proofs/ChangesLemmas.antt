@@ -1,5 +1,4 @@
--- These lemmas are about changes to a text. Some of them state that a change can be undone. The
--- others are about the texts that result if a list of changes is applied to a text, one change
+-- These lemmas are about changes to a text: undoing a change, and applying a list of changes one
 -- after another.
 use Rattle.std.proofs.Common.{◌≡◌, ℕ, zero, suc, ◌+◌, ◌-◌, ◌≤◌, List, [], ◌∷◌, ◌++◌, length, take, drop, reverse, slice_range, refl, sym, ap, subst, ◌∙◌, arith, length-append, append_assoc}
 use Rattle.std.proofs.lemmas.List.{drop-drop, drop_at, length-drop, length-reverse, length-take-le, reverse-append, take-append-drop, take_at}
@@ -7,17 +6,17 @@ use Rattle.std.specs.List.{replace_range}
 use Rattle.text_editor.specs.Changes.{AllFit, FitAlong, Fits, changed, texts_along, texts_of}
 use Rattle.text_editor.specs.declared.change.Change.{Change}
 
--- The next lemmas are about a change `change`, which turns the text `text` into the text `new`. The
--- range of the change is within `text`, and the change inserts `n` characters.
+-- In this module, `change` turns the text `text` into the text `new`. The change inserts `n`
+-- characters, and its range is within `text`.
 module _ (change : Change) (n : ℕ) (text new : List ℕ) (fits : Fits change text)
     (count : n ≡ length change.characters.items) (made : new ≡ changed change text) where
-  -- The change begins at index `change.start`, which is at most the length of `text`. So the part
-  -- of `text` before that index has exactly `change.start` characters.
+  -- The part of `text` before index `change.start` has `change.start` characters, because this
+  -- index is at most the length of `text`.
   short : length (take change.start text) ≡ change.start
   short = length-take-le change.start text (omega (arith, fits.start_le_end, fits.in_bounds))
 
-  -- The change inserts `n` characters, which begin at index `change.start` of the text `new`. The
-  -- range of these characters is within `new`.
+  -- The range of the inserted characters, `change.start..change.start + n`, is within the text
+  -- `new`.
   pub comes_in : change.start + n ≤ length new
   comes_in =
       let front : List ℕ = take change.start text in
@@ -29,8 +28,8 @@ module _ (change : Change) (n : ℕ) (text new : List ℕ) (fits : Fits change t
         length-append front change.characters.items,
       )
 
-  -- Suppose that `old` consists of the characters that the change removed from `text`. If the
-  -- inserted characters in `new` are replaced with `old`, then the result is `text` again.
+  -- If `old` consists of the characters that the change removed, then replacing the inserted
+  -- characters in `new` with `old` restores `text`.
   pub takes_back : (old : List ℕ) → old ≡ slice_range text change.start change.end
       → text ≡ replace_range new change.start (change.start + n) old
   takes_back old is =
@@ -50,30 +49,25 @@ module _ (change : Change) (n : ℕ) (text new : List ℕ) (fits : Fits change t
       ∙ (ap (λ (l : List ℕ). take s text ++ l) (take-append-drop (e - s) (drop s text))
       ∙ take-append-drop s text)))
 
--- In the next lemmas, `changes` is the list `rest` followed by `change`. Applying `change` to the
--- text `text` results in the text `after`.
+-- In this module, `changes` is the list `rest` followed by `change`, and applying `change` to
+-- `text` results in the text `after`.
 module _ (changes rest : List Change) (change : Change) (text after : List ℕ)
     (is : changes ≡ rest ++ change ∷ []) (made : after ≡ changed change text) where
-  -- The list `changes` consists of `rest` and then `change`. So its reverse is `change`, followed
+  -- Since `changes` is `rest` followed by `change`, the reverse of `changes` is `change` followed
   -- by the reverse of `rest`.
   turned : reverse changes ≡ change ∷ reverse rest
   turned = ap (λ (cs : List Change). reverse cs) is ∙ reverse-append rest (change ∷ [])
 
-  -- Suppose that `changes` are applied to `text` one after another, from the last change in the
-  -- list to the first. `texts_of changes text` is the list of the texts after each change. The last
-  -- change in the list turns `text` into `after`, so `after` is the first of these texts. The other
-  -- changes are `rest`, and they are applied to `after`. So the remaining texts are
-  -- `texts_of rest after`.
+  -- `texts_of` applies the changes of a list from the last to the first. The last change turns
+  -- `text` into `after`, so `after` is the first resulting text. The other texts result from
+  -- applying `rest` to `after`.
   pub texts_of-last : texts_of changes text ≡ after ∷ texts_of rest after
   texts_of-last =
       ap (λ (cs : List Change). texts_along cs text) turned
       ∙ ap (λ (t : List ℕ). t ∷ texts_along (reverse rest) t) (sym made)
 
-  -- Suppose that `changes` are applied to `text` one after another, from the last change in the
-  -- list to the first. `AllFit changes text` states that each change fits the text to which it is
-  -- applied. The last change in the list is `change`. It turns `text` into `after`, and the other
-  -- changes are `rest`. If `change` fits `text`, and `AllFit rest after` holds, then
-  -- `AllFit changes text` holds.
+  -- If `change` fits `text` and results in `after`, and the other changes, `rest`, fit `after`
+  -- (`AllFit`), then all `changes` fit `text`. They are applied from the last to the first.
   pub AllFit-last : Fits change text → AllFit rest after → AllFit changes text
   AllFit-last fits all =
       subst (λ (cs : List Change). FitAlong cs text) (sym turned)
@@ -84,24 +78,21 @@ nothing : (changes : List Change) → length changes ≡ 0 → changes ≡ []
 nothing [] e = refl
 nothing (change ∷ changes) e = absurd (omega arith)
 
--- `texts_along changes text` is the list of the texts that result if `changes` are applied to
--- `text` one after another. This list contains one text for each change.
+-- `texts_along changes text` contains one text for each change, so it is as long as `changes`.
 length-texts_along : (changes : List Change) (text : List ℕ)
     → length (texts_along changes text) ≡ length changes
 length-texts_along [] text = refl
 length-texts_along (change ∷ changes) text =
     ap (λ (n : ℕ). suc n) (length-texts_along changes (changed change text))
 
--- `texts_of changes text` is the list of the texts that result if `changes` are applied to `text`
--- one after another, from the last change to the first. This list contains one text for each
--- change.
+-- `texts_of changes text` contains one text for each change, so it is as long as `changes`.
 pub length-texts_of : (changes : List Change) (text : List ℕ)
     → length (texts_of changes text) ≡ length changes
 length-texts_of changes text =
     length-texts_along (reverse changes) text ∙ length-reverse changes
 
--- If only the first `k` changes of a list are applied to a text, then the resulting texts are the
--- first `k` of the texts that result from all changes of the list.
+-- If only the first `k` changes of a list are applied to a text, then the results are the first `k`
+-- texts of `texts_along changes text`.
 texts_along-take : (k : ℕ) (changes : List Change) (text : List ℕ)
     → texts_along (take k changes) text ≡ take k (texts_along changes text)
 texts_along-take zero changes text = refl
@@ -131,20 +122,18 @@ reverse-drop m changes =
     length-reverse (drop m changes) ∙ length-drop m changes in
     rw whole (sym (take_at left (reverse (take m changes)) (length changes - m) count))
 
--- The next lemmas are about a list of changes from which the first `m` changes are removed.
+-- In this module, the first `m` changes are removed from the list `changes`.
 module _ (m : ℕ) (changes : List Change) (text : List ℕ) where
   -- `texts_of` applies the changes of a list from the last to the first. So if the first `m`
-  -- changes are removed from the list, only the last `m` of the resulting texts are lost.
+  -- changes are removed, only the last `m` resulting texts are missing.
   pub texts_of-drop : texts_of (drop m changes) text
       ≡ take (length changes - m) (texts_of changes text)
   texts_of-drop =
       ap (λ (cs : List Change). texts_along cs text) (reverse-drop m changes)
       ∙ texts_along-take (length changes - m) (reverse changes) text
 
-  -- Suppose that `changes` are applied to `text` one after another, from the last change in the
-  -- list to the first, and that each change fits the text to which it is applied (`AllFit`). Then
-  -- the same holds for the list `changes` without its first `m` changes, because these changes are
-  -- applied last.
+  -- If all changes of a list fit a text when they are applied from the last to the first, then the
+  -- list without its first `m` changes fits the text, too.
   pub AllFit-drop : AllFit changes text → AllFit (drop m changes) text
   AllFit-drop all =
       subst (λ (cs : List Change). FitAlong cs text) (sym (reverse-drop m changes))

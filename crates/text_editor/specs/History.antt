@@ -1,15 +1,15 @@
--- In contracts, the state of an editor is a `History`.
+-- The record `History` is the view of an editor that contracts use.
 use Rattle.std.specs.Prelude.{◌≡◌, ℕ, List, []}
 
--- A `History` contains the current text and two lists of texts. Repeated calls to `undo` restore
--- the texts in `past`, and repeated calls to `redo` restore the texts in `future`. In each list,
--- the first text is the one that the next call restores.
+-- A `History` contains the text, the texts that repeated calls to `undo` restore (`past`), and the
+-- texts that repeated calls to `redo` restore (`future`). In each list, the text to restore next is
+-- the first.
 pub record History : Type 0 where
   pub past : List (List ℕ)
   pub text : List ℕ
   pub future : List (List ℕ)
 
--- `IsNew history` holds if the text is empty, and there is nothing to undo and nothing to redo.
+-- `IsNew history` holds if the text is empty, and there is nothing to undo or redo.
 pub record IsNew (history : History) : Type 0 where
   pub past : history.past ≡ []
   pub text : history.text ≡ []

@@ -14,8 +14,8 @@ pub struct Change {
 impl Change {
     ghost use Rattle.text_editor.specs.Changes.{AllFit, Fits, changed, texts_of};
 
-    /// Applies the change to `text`, and appends to `back` a change that undoes the applied change.
-    /// The appended change owns the characters that were replaced.
+    /// Applies the change to `text`, and appends to `back` a change that undoes it. The appended
+    /// change owns the replaced characters.
     ///
     /// # Errors
     ///

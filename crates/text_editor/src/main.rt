@@ -1,5 +1,5 @@
-//! The core of a text editor. It reads one command from each line of the input, and runs the
-//! command on a text. Edits of the text can be undone.
+//! The core of a text editor. Each line of the input is one command, and edits of the text can be
+//! undone.
 #![tactic(auto)]
 
 mod change;
@@ -20,8 +20,8 @@ fn main(rt: HostRuntime) -> io::Result<()> {
     Ok(())
 }
 
-// Runs the command that is written in `line`. Prints the text if the command is `print`. Prints the
-// error if `line` is not a command, or if the command fails.
+// Runs the command in `line`, and prints the text if the command is `print`. Prints an error if
+// `line` is not a command, or if the command fails.
 fn answer(rt: &impl Print, alloc: Global, editor: &mut Editor, line: &str) -> io::Result<()> {
     match Command::parse(alloc, line) {
         Ok(Command::Print) => print_text(rt, editor.text()),

@@ -1,14 +1,8 @@
--- These lemmas are steps of proofs about function bodies. Some steps symbolically execute code that
--- computes the address of a slot. The other steps separate the memory of one or two slots from the
--- memory of the other slots. All lemmas assume the laws of the separation logic (`Logic`).
+-- These lemmas are steps of proofs about function bodies:
 --
--- - `its_ptr` symbolically evaluates an operand that reads the pointer of a block.
--- - `slot_found` symbolically executes the statements that compute the address of a slot:
---   `(p.add(HEADER_WORDS) as *mut T).add(i)`.
--- - `moves_on` symbolically executes the statements that compute `p.add(i)`.
--- - `takes_slot` separates one slot from the other slots.
--- - `takes_item` separates one filled slot from the other slots.
--- - `takes_two` separates two filled slots from the other slots.
+-- - `its_ptr` evaluates an operand that reads the pointer of a block.
+-- - `moves_on` and `slot_found` execute the code that computes the address of a slot.
+-- - `takes_slot`, `takes_item` and `takes_two` separate one or two slots from the other slots.
 use Rattle.std.proofs.Common.{◌≡◌, ℕ, zero, Some, None, ◌+◌, ◌*◌, ◌^◌, ◌<◌, ◌≤◌, List, [], ◌∷◌, length, true, refl, sym, ap, subst, arith, w64}
 use lib.Dec.{T}
 use lib.ListN.{get_or}
@@ -33,18 +27,16 @@ use Rattle.thin_block.specs.Ownership.{fits_block, place as slot_place, places}
 use Rattle.thin_block.proofs.HeaderMemory.{Br, block_val}
 use Rattle.thin_block.proofs.SlotMemory.{Slot, sz, reach, besides, slot_out, Two}
 
--- Suppose that a block with the slots `xs` is small enough to be allocated, and that
--- `i ≤ length xs`. Then `i` items take less than `2 ^ 64` bytes.
+-- If a block with the slots `xs` is small enough to be allocated, and `i ≤ length xs`, then `i`
+-- items take less than `2 ^ 64` bytes.
 pub near : (E : El) (xs : List (Slot E)) (i : ℕ) → fits_block (R E) (length xs) ≡ true
     → i ≤ length xs → i * sz E < 2 ^ 64
 near E xs i fits le = let low = reach (R E) i (length xs) fits le in omega arith
 
 module _ (E : El) (Y : Al) {M : Type 1} {𝓤 : Ura M} {𝓛 : Logic 𝓤} {K : Type 0}
     {Γ : List (Item 𝓤)} {h s : Item 𝓤} where
-  -- Symbolically evaluates an operand that reads the pointer of a block through a reference. The
-  -- local variable `p` holds the reference, which points to the offset `ro` of the allocation `rb`.
-  -- The block's pointer is stored there. The value of the operand is this pointer, which points to
-  -- the offset `o` of the allocation `b`.
+  -- Symbolically evaluates an operand that reads a block's pointer through the reference in the
+  -- local variable `p`. The result is the pointer to the offset `o` of the allocation `b`.
   pub its_ptr : K → {Ev : Env 𝓤 𝓛.H} {p b o rb ro : ℕ} {q : Share}
       → at 𝓛 p (h ∷ s ∷ ‵
       (cell_at full_share (Br E Y).mir (block_val (block_ptr b o) ∷ []) rb ro) ∷ Γ)
@@ -57,13 +49,12 @@ module _ (E : El) (Y : Al) {M : Type 1} {𝓤 : Ura M} {𝓛 : Logic 𝓤} {K : 
 module _ {M : Type 1} {𝓤 : Ura M} (𝓛 : Logic 𝓤) (Ev : Env 𝓤 𝓛.H) where
   open 𝓛 use {H}
 
-  -- `holds p v` is an entry of the proof context. It states that the local variable `p` holds the
-  -- value `v`.
+  -- `holds p v` is the context entry that says that the local variable `p` holds the value `v`.
   abbrev holds : ℕ → Val → Item 𝓤
   holds p v = ‵ (fat full_share (spot_of 𝓤 H Ev p).0 (spot_of 𝓤 H Ev p).1 zero v)
 
-  -- `free p Γ` is an entry of the proof context `Γ`. It states that the code may assign a value to
-  -- the local variable `p`. Before the assignment, `p` may hold any value of its type, or no value.
+  -- `free p Γ` is the entry of the proof context `Γ` that lets the code assign a value to the local
+  -- variable `p`.
   abbrev free : ℕ → List (Item 𝓤) → Item 𝓤
   free p Γ = nth 𝓛 0 (free_needs 𝓛 (((spot_of 𝓤 H Ev p).0, (spot_of 𝓤 H Ev p).1) ∷ [])
       (at 𝓛 p Γ ∷ ‵ ftrue ∷ []))
@@ -73,59 +64,47 @@ module _ {M : Type 1} {𝓤 : Ura M} (𝓛 : Logic 𝓤) (Ev : Env 𝓤 𝓛.H) 
   Takes p v = T (has_ty (spot_of 𝓤 H Ev p).0 v)
 
   module _ (Γ : List (Item 𝓤)) (E : El) (b o i p₃ p₄ : ℕ) where
-    -- The computation of `p.add(i)` first stores the product of `i` and the item size in the local
-    -- variable `p₃`. `far` is the proof context `Γ` after this statement.
+    -- `far` is the proof context `Γ` after the first statement of `p.add(i)`, which stores the size
+    -- of `i` items in the local variable `p₃`.
     abbrev far : List (Item 𝓤)
     far = set 𝓛 p₃ (holds p₃ (vint w64 (i * sz E))) Γ
 
-    -- `gone` is the proof context `Γ` after `p.add(i)` has been computed. In `gone`, the local
-    -- variable `p₃` holds the product of `i` and the item size, and the local variable `p₄` holds
-    -- the address of item `i`.
+    -- `gone` is the proof context `Γ` after `p.add(i)` has been computed: `p₃` holds the size of
+    -- `i` items, and `p₄` holds the address of item `i`.
     abbrev pub gone : List (Item 𝓤)
     gone = set 𝓛 p₄ (holds p₄ (vptr b (i * sz E + o))) far
 
-    -- The computation of `p.add(i)` reads and assigns several local variables. `goes_by p pᵢ` lists
-    -- the entries that the proof context contains for these variables, in the order in which the
-    -- computation uses the variables. The local variable `p` holds the address of the first item,
-    -- and `pᵢ` holds the index `i`. The lemma `moves_on` requires that this list equals
-    -- `goes_with p pᵢ`, which lists the entries that the computation needs.
+    -- `goes_by p pᵢ` lists the context entries for the local variables that `p.add(i)` uses. The
+    -- lemma `moves_on` requires that they equal the needed entries, `goes_with p pᵢ`.
     abbrev pub goes_by : ℕ → ℕ → List (Item 𝓤)
     goes_by p pᵢ = at 𝓛 pᵢ Γ ∷ at 𝓛 p₃ Γ ∷ at 𝓛 p far ∷ at 𝓛 p₃ far ∷ at 𝓛 p₄ far ∷ []
 
-    -- `goes_with p pᵢ` lists the entries of the proof context that the computation of `p.add(i)`
-    -- needs. The entries state which values the local variables hold, and to which local variables
-    -- the code may assign a value. The lemma `moves_on` requires that this list equals
-    -- `goes_by p pᵢ`, which lists the entries that the proof context contains.
+    -- `goes_with p pᵢ` lists the context entries that computing `p.add(i)` needs. The lemma
+    -- `moves_on` requires that they equal the actual entries, `goes_by p pᵢ`.
     abbrev pub goes_with : ℕ → ℕ → List (Item 𝓤)
     goes_with p pᵢ = holds pᵢ (vint w64 i) ∷ free p₃ Γ ∷ holds p (vptr b o)
         ∷ holds p₃ (vint w64 (i * sz E)) ∷ free p₄ far ∷ []
 
   module _ (Γ : List (Item 𝓤)) (E : El) (b o i p₁ p₂ : ℕ) where
-    -- Four statements compute the address of a slot. The first statement stores the address of the
-    -- first slot in the local variable `p₁`. `first` is the proof context `Γ` after this statement.
+    -- `first` is the proof context `Γ` after the first of the four statements that compute the
+    -- address of a slot: `p₁` holds the address of the first slot.
     abbrev first : List (Item 𝓤)
     first = set 𝓛 p₁ (holds p₁ (vptr b (o + 16))) Γ
 
-    -- Four statements compute the address of a slot. The first two statements store the address of
-    -- the first slot in the local variables `p₁` and `p₂`. `turned` is the proof context `Γ` after
-    -- these two statements.
+    -- `turned` is the proof context `Γ` after the first two of the four statements that compute the
+    -- address of a slot: `p₁` and `p₂` hold the address of the first slot.
     abbrev pub turned : List (Item 𝓤)
     turned = set 𝓛 p₂ (holds p₂ (vptr b (o + 16))) first
 
-    -- Four statements compute the address of a slot. `meets p₃ p₄ p pᵢ` lists the entries that the
-    -- proof context contains for the local variables that these statements use. The local variable
-    -- `p` holds the pointer of the block, and `pᵢ` holds the index of the slot. The statements
-    -- assign values to `p₁`, `p₂`, `p₃` and `p₄`. The lemma `slot_found` requires that this list
-    -- equals `needs p₃ p₄ p pᵢ`, which lists the entries that the statements need.
+    -- `meets p₃ p₄ p pᵢ` lists the context entries for the local variables that computing the
+    -- address of a slot uses. The lemma `slot_found` requires that they equal the needed entries,
+    -- `needs p₃ p₄ p pᵢ`.
     abbrev pub meets : ℕ → ℕ → ℕ → ℕ → List (Item 𝓤)
     meets p₃ p₄ p pᵢ = at 𝓛 p Γ ∷ at 𝓛 p₁ Γ ∷ at 𝓛 p₁ first ∷ at 𝓛 p₂ first
         ∷ goes_by turned E b (o + 16) i p₃ p₄ p₂ pᵢ
 
-    -- Four statements compute the address of a slot. `needs p₃ p₄ p pᵢ` lists the entries of the
-    -- proof context that these statements need. The entries state which values the local variables
-    -- hold, and to which local variables the code may assign a value. The lemma `slot_found`
-    -- requires that this list equals `meets p₃ p₄ p pᵢ`, which lists the entries that the proof
-    -- context contains.
+    -- `needs p₃ p₄ p pᵢ` lists the context entries that computing the address of a slot needs. The
+    -- lemma `slot_found` requires that they equal the actual entries, `meets p₃ p₄ p pᵢ`.
     abbrev pub needs : ℕ → ℕ → ℕ → ℕ → List (Item 𝓤)
     needs p₃ p₄ p pᵢ = holds p (vptr b o) ∷ free p₁ Γ ∷ holds p₁ (vptr b (o + 16)) ∷ free p₂ first
         ∷ goes_with turned E b (o + 16) i p₃ p₄ p₂ pᵢ
@@ -180,9 +159,8 @@ module _ (E : El) {M : Type 1} {𝓤 : Ura M} {𝓛 : Logic 𝓤} {K : Type 0} {
 
 module _ (E : El) {M : Type 1} {𝓤 : Ura M} {𝓛 : Logic 𝓤} {K : Type 0} {Γ : List (Item 𝓤)}
     {G : Goal 𝓤 𝓛.H} {h : Item 𝓤} where
-  -- Separates the memory of slot `i` from the memory of the other slots. Before this step, the
-  -- proof context begins with the header and all slots. After this step, it begins with slot `i`,
-  -- the other slots and the header, in this order.
+  -- Separates slot `i` from the other slots. Proof context before this step: the header; all slots.
+  -- Proof context after it: slot `i`; the other slots; the header.
   pub takes_slot : K → {x : Slot E} (b o : ℕ) (xs : List (Slot E)) (i : ℕ) → i < length xs
       → get_or xs i None ≡ x
       → Step K 𝓛 (‵ (slot_place (R E) x b (i * sz E + o)) ∷ ‵ (besides E 𝓛 b o xs i) ∷ h ∷ Γ) G
@@ -194,8 +172,8 @@ module _ (E : El) {M : Type 1} {𝓤 : Ura M} {𝓛 : Logic 𝓤} {K : Type 0} {
       rewrite k 0 (λ (x : Slot E). ‵ (slot_place (R E) x b (i * sz E + o))) e refl $ rest)
 
 module _ (E : El) {M : Type 1} (𝓤 : Ura M) where
-  -- `Bits b o v` says that the memory at the offset `o` of the allocation `b` holds `v`, which is
-  -- the machine value of an item.
+  -- `Bits b o v` says that the memory at the offset `o` of the allocation `b` holds the machine
+  -- value `v` of an item.
   abbrev Bits : ℕ → ℕ → Val → Item 𝓤
   Bits b o v = ‵ (fat full_share (elτ E) b o v)
 
@@ -205,9 +183,8 @@ module _ (E : El) {M : Type 1} (𝓤 : Ura M) where
 
 module _ (E : El) {M : Type 1} {𝓤 : Ura M} {𝓛 : Logic 𝓤} {K : Type 0} {Γ : List (Item 𝓤)}
     {G : Goal 𝓤 𝓛.H} {h : Item 𝓤} where
-  -- Separates the filled slot `i` from the other slots, so that a proof can read the item in slot
-  -- `i`. After this step, the proof context begins with these entries, in this order: the bytes of
-  -- the item; the resources that the item owns; the other slots; the header.
+  -- Separates the filled slot `i` from the other slots. Proof context afterward, in order: the
+  -- bytes of the item; the resources that the item owns; the other slots; the header.
   pub takes_item : K → {x : el_x E} (b o : ℕ) (xs : List (Slot E)) (i : ℕ) → i < length xs
       → get_or xs i None ≡ Some x
       → ((v : Val) → Good E v → Seq K 𝓛 (Bits E 𝓤 b (i * sz E + o) v ∷ Owned E 𝓤 x v
@@ -218,10 +195,9 @@ module _ (E : El) {M : Type 1} {𝓤 : Ura M} {𝓛 : Logic 𝓤} {K : Type 0} {
       use1 𝓛 (some (λ (v : Val). given (Good E v) (Bits E 𝓤 b (i * sz E + o) v ⊛ Owned E 𝓤 x v)))
       (el_out E 𝓛 b x (i * sz E + o)) $ pick k (λ v. learn k (λ good. split k $ next v good))
 
-  -- Separates the filled slots `i` and `j` from the other slots. After this step, the proof context
-  -- begins with these entries, in this order: the bytes of the item in slot `j`; the resources that
-  -- this item owns; the bytes of the item in slot `i`; the resources that this item owns; the other
-  -- slots; the header.
+  -- Separates the filled slots `i` and `j` from the other slots. Proof context afterward, in order:
+  -- the bytes and the resources of the item in slot `j`; the same for slot `i`; the other slots;
+  -- the header.
   pub takes_two : K → {x y : el_x E} (b o : ℕ) (xs : List (Slot E)) (i j : ℕ)
       (p : Two E 𝓛 b o xs i j) → (get_or xs i None ≡ Some x) × (get_or xs j None ≡ Some y)
       → ((v w : Val) → Good E v → Good E w → Seq K 𝓛 (Bits E 𝓤 b (j * sz E + o) w ∷ Owned E 𝓤 y w

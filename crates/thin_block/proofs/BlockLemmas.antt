@@ -1,19 +1,18 @@
--- These two lemmas are about records of the type `Seen`. Such a record contains the parts of a
--- block that contracts mention. The first lemma is about the field `slots`, and the second lemma is
--- about the field `len`.
+-- These two lemmas are about the record `Seen`, which contains the parts of a block that contracts
+-- mention.
 use Rattle.std.proofs.Common.{◌≡◌, ℕ, List, ap, ◌∙◌}
 use Rattle.std.specs.Prelude.{Option}
 use Rattle.thin_block.specs.Block.{Seen}
 
 module _ {T A : Type 0} where
-  -- Suppose that the records `v` and `w` are equal, and that the field `slots` of `w` is the list
-  -- `s`. Then `v` equals the record `w` with its field `slots` set to `s`.
+  -- If the records `v` and `w` are equal, and the field `slots` of `w` is `s`, then `v` is `w` with
+  -- its field `slots` set to `s`.
   pub slots-are : {v w : Seen T A} {s : List (Option T)} → v ≡ w → w.slots ≡ s
       → v ≡ record w { slots = s }
   slots-are {w = w} e h = e ∙ ap (λ (s : List (Option T)). record w { slots = s }) h
 
-  -- Suppose that the records `v` and `u` are equal. If `w` is the record `v` with its field `len`
-  -- set to `n`, then `w` is also the record `u` with its field `len` set to `n`.
+  -- If the records `v` and `u` are equal, and `w` is `v` with its field `len` set to `n`, then `w`
+  -- is also `u` with its field `len` set to `n`.
   pub then-len : {u v w : Seen T A} {n : ℕ} → w ≡ record v { len = n } → v ≡ u
       → w ≡ record u { len = n }
   then-len {n = n} e h = e ∙ ap (λ (v : Seen T A). record v { len = n }) h

@@ -1,6 +1,5 @@
--- These lemmas are about the functions that choose the new capacity of a block. `ruled_capacity`
--- uses a growth rule, and `exact_capacity` chooses exactly the wanted capacity. `Fits` says that a
--- block of a given capacity is small enough to be allocated.
+-- These lemmas are about the functions that choose a new capacity, `ruled_capacity` and
+-- `exact_capacity`, and about capacities that are small enough to be allocated (`Fits`).
 use Rattle.std.proofs.Common.{if◌then◌else◌, Bool, true, false, IsTrue, ◌≡◌, ℕ, zero, suc, ◌*◌, ◌^◌, ◌<◌, ◌≤◌, ap, refl, subst, sym, ◌∙◌, arith}
 use Rattle.std.specs.declared.option.Option.TheVariants.{Some, None}
 use borrow.Author.Tests.{lt-ltb, le-ltb, le-leb, lt-leb}
@@ -15,31 +14,29 @@ use Rattle.thin_block.specs.Capacity.{fits, first, Fits}
 use Rattle.thin_block.specs.Growth.{Rule, KeepsLaw, doubling, exact_capacity, fitting, ruled_capacity}
 use Rattle.thin_block.proofs.SizesLemmas.{opened, closed, fits_none, fits_tells, fits_yes, rounded}
 
--- `ruled_capacity rule R c w` is the capacity of a block after it has reserved room for `w` items
--- under the growth rule `rule`. If the old capacity `c` suffices for `w` items, then the capacity
--- does not change: the result is `Some c`.
+-- If the old capacity `c` suffices for `w` items, then `ruled_capacity` is `Some c`: the capacity
+-- does not change.
 pub ruled-same : (rule : Rule) (R : RattleType) (c w : ℕ) → w ≤ c
     → ruled_capacity rule R c w ≡ Some c
 unfolding ruled_capacity
 ruled-same rule R c w enough = rw (le-leb w c enough) refl
 
--- Suppose that the old capacity `c` is less than the required capacity `w`. If `w` exceeds
--- `usize::MAX`, then `ruled_capacity rule R c w` is `None`: there is no new capacity.
+-- If the required capacity `w` exceeds both the old capacity `c` and `usize::MAX`, then
+-- `ruled_capacity` is `None`: there is no new capacity.
 pub ruled-overflow : (rule : Rule) (R : RattleType) (c w : ℕ) → c < w → 2 ^ 64 ≤ w
     → ruled_capacity rule R c w ≡ None
 unfolding ruled_capacity
 ruled-overflow rule R c w more high = rw (lt-leb w c more) (rw (le-ltb w (2 ^ 64) high) refl)
 
--- Suppose that the old capacity `c` is less than the required capacity `w`. If `w` fits into a
--- `usize`, then `ruled_capacity rule R c w` is the result of the growth rule `rule` for `c` and
--- `w`.
+-- If the required capacity `w` exceeds the old capacity `c` and fits into a `usize`, then
+-- `ruled_capacity` is the result of the growth rule `rule`.
 pub ruled-rule : (rule : Rule) (R : RattleType) (c w : ℕ) → c < w → w < 2 ^ 64
     → ruled_capacity rule R c w ≡ rule (type_size R) (type_align R) c w
 unfolding ruled_capacity
 ruled-rule rule R c w more word = rw (lt-leb w c more) (rw (lt-ltb w (2 ^ 64) word) refl)
 
--- `Grown R c w n` holds if `n` is at least `w` and at least `2 * c`, and a block of capacity `n`
--- for items of type `R` is small enough to be allocated.
+-- `Grown R c w n` holds if `n` is at least `w` and at least `2 * c`, and a block of capacity `n` is
+-- small enough to be allocated.
 pub record Grown (R : RattleType) (c w n : ℕ) : Type 0 where
   pub enough : w ≤ n
   pub doubled : 2 * c ≤ n
@@ -48,9 +45,8 @@ pub record Grown (R : RattleType) (c w n : ℕ) : Type 0 where
 none_some : {A B : Type 0} (x : A) → None ≡ Some x → B
 none_some x e = cc
 
--- Suppose that `rule` satisfies the law of growth rules (`KeepsLaw`), and that `c < w`. If
--- `ruled_capacity rule R c w` is `Some n`, then `Grown R c w n` holds: `n` is at least `w` and at
--- least `2 * c`, and a block of capacity `n` is small enough to be allocated.
+-- If `rule` satisfies the law of growth rules, and `ruled_capacity` chooses `n` for `c < w`, then
+-- `Grown R c w n` holds: `n` is at least `w` and `2 * c`, and small enough to be allocated.
 pub ruled-grows : (rule : Rule) (R : RattleType) (c w n : ℕ) → KeepsLaw rule → c < w
     → ruled_capacity rule R c w ≡ Some n → Grown R c w n
 ruled-grows rule R c w n law more e = elim (dec_lt w (2 ^ 64)) [
@@ -83,12 +79,11 @@ fits-less R c d e less =
 pub fits-none : (R : RattleType) → Fits R 0
 fits-none R = closed R 0 (fits_none R)
 
--- The next lemmas are about fewer than `2 ^ 31` items, each of which takes fewer than `2 ^ 31`
--- bytes. A block for these items is far below every size limit. Proofs about a known item type use
--- these lemmas.
+-- The next lemmas are about fewer than `2 ^ 31` items of fewer than `2 ^ 31` bytes each. A block
+-- for these items is far below every size limit.
 
--- If there are fewer than `2 ^ 31` items, and each item takes fewer than `2 ^ 31` bytes, then all
--- items together take fewer than `2 ^ 62` bytes.
+-- Fewer than `2 ^ 31` items of fewer than `2 ^ 31` bytes each take fewer than `2 ^ 62` bytes in
+-- total.
 pub few_bytes : (c s : ℕ) → c < 2 ^ 31 → s < 2 ^ 31 → c * s < 2 ^ 62
 few_bytes c s few small =
     let wide : c * s ≤ c * (2 ^ 31) =
@@ -103,9 +98,8 @@ small_fits R c few small =
     let about = rounded R 0 in
     closed R c (fits_yes R c (omega arith) (omega (arith, about.most)))
 
--- Suppose that a block with the capacity `c` needs room for `w` items, and that each item takes
--- less than `2 ^ 31` bytes. If `c` is 0, and `w` is at least 1 and at most 4, then the rule
--- `doubling` chooses the capacity 4.
+-- If an item takes less than `2 ^ 31` bytes, and a block of capacity 0 needs room for 1 to 4 items,
+-- then the rule `doubling` chooses the capacity 4.
 pub doubling_first : (R : RattleType) (c w : ℕ) → c ≡ 0 → 0 < w → w ≤ 4 → type_size R < 2 ^ 31
     → ruled_capacity doubling R c w ≡ Some 4
 unfolding doubling fitting first
@@ -117,9 +111,8 @@ doubling_first R c w none some few small =
     subst (Fits R) (sym four) (small_fits R 4 (omega arith) small) in
     ruled-rule doubling R c w more (omega arith) ∙ (rw fit (ap Some four))
 
--- Suppose that `0 < c < 2 ^ 30`, and that an item takes less than `2 ^ 31` bytes. If the capacity
--- `c` is too small for `w` items, but `2 * c` suffices, then the rule `doubling` chooses the
--- capacity `2 * c`.
+-- If `0 < c < 2 ^ 30`, `c < w ≤ 2 * c`, and an item takes less than `2 ^ 31` bytes, then the rule
+-- `doubling` chooses the capacity `2 * c`.
 pub doubling_next : (R : RattleType) (c w : ℕ) → 0 < c → c < w → w ≤ 2 * c → c < 2 ^ 30
     → type_size R < 2 ^ 31 → ruled_capacity doubling R c w ≡ Some (2 * c)
 unfolding doubling fitting
@@ -130,16 +123,14 @@ doubling_next R c w some more enough few small =
     subst (Fits R) (sym twice) (small_fits R (2 * c) (omega arith) small) in
     ruled-rule doubling R c w more (omega arith) ∙ (rw fit (ap Some twice))
 
--- `exact_capacity R c w` is the capacity of a block after it has reserved room for exactly `w`
--- items of type `R`. If the old capacity `c` suffices for `w` items, then the capacity does not
--- change: the result is `Some c`.
+-- If the old capacity `c` suffices for `w` items, then `exact_capacity` is `Some c`: the capacity
+-- does not change.
 pub exact-same : (R : RattleType) (c w : ℕ) → w ≤ c → exact_capacity R c w ≡ Some c
 unfolding exact_capacity
 exact-same R c w enough = rw (le-leb w c enough) refl
 
--- Suppose that the old capacity `c` is less than the required capacity `w`. If a block of capacity
--- `w` is small enough to be allocated, then `exact_capacity R c w` is `Some w`: the new capacity is
--- exactly `w`.
+-- If the required capacity `w` exceeds the old capacity `c`, and a block of capacity `w` is small
+-- enough to be allocated, then `exact_capacity` is `Some w`.
 pub exact-fits : (R : RattleType) (c w : ℕ) → c < w → Fits R w → exact_capacity R c w ≡ Some w
 unfolding exact_capacity fitting
 exact-fits R c w more fit = rw (lt-leb w c more, fit) refl
@@ -155,28 +146,26 @@ pub fitting_none : (R : RattleType) (n : ℕ) → (Fits R n → ⊥)
 unfolding fitting
 fitting_none R n never = no_answer (fits (type_size R) (type_align R) n) n never
 
--- Suppose that the old capacity `c` is less than the required capacity `w`. If a block of capacity
--- `w` is too large to be allocated, then `exact_capacity R c w` is `None`: there is no new
--- capacity.
+-- If the required capacity `w` exceeds the old capacity `c`, and a block of capacity `w` is too
+-- large to be allocated, then `exact_capacity` is `None`.
 pub exact-overflow : (R : RattleType) (c w : ℕ) → c < w → (Fits R w → ⊥)
     → exact_capacity R c w ≡ None
 unfolding exact_capacity
 exact-overflow R c w more never = rw (lt-leb w c more) (fitting_none R w never)
 
--- Suppose that the old capacity is 0. If a block of capacity `w` is too large to be allocated, then
--- `exact_capacity R 0 w` is `None`: there is no new capacity.
+-- If the old capacity is 0, and a block of capacity `w` is too large to be allocated, then
+-- `exact_capacity` is `None`.
 pub exact-none : (R : RattleType) (w : ℕ) → (Fits R w → ⊥) → exact_capacity R 0 w ≡ None
 exact-none R zero never = absurd (never (fits-none R))
 exact-none R (suc w) never = exact-overflow R 0 (suc w) (omega arith) never
 
--- Suppose that the old capacity `c` is less than the required capacity `w`. If `w` exceeds
--- `usize::MAX`, then `exact_capacity R c w` is `None`: there is no new capacity.
+-- If the required capacity `w` exceeds both the old capacity `c` and `usize::MAX`, then
+-- `exact_capacity` is `None`: there is no new capacity.
 pub exact-past : (R : RattleType) (c w : ℕ) → c < w → 2 ^ 64 ≤ w → exact_capacity R c w ≡ None
 exact-past R c w more high =
     exact-overflow R c w more (λ fit. let small = fits-small R w fit in absurd (omega arith))
 
--- The next two lemmas assume that the item types `R` and `S` have the same size and the same
--- alignment.
+-- In this module, the item types `R` and `S` have the same size and the same alignment.
 module _ (R S : RattleType) (c w : ℕ) (size : type_size R ≡ type_size S)
     (align : type_align R ≡ type_align S) where
   -- If the item types `R` and `S` have the same size and the same alignment, then `exact_capacity`

@@ -1,6 +1,5 @@
--- These lemmas verify a call of the function `copied` within the proof of its caller. The function
--- copies the items of a slice into a value of the type `Slots`, which the crate `core` declares.
--- The lemmas assume the laws of the separation logic (`Logic`).
+-- These lemmas verify a call of the function `copied`, which copies the items of a slice into a
+-- value of type `Slots`.
 use mathlib.Core.Path.{◌≡◌, refl, sym, ap, ◌∙◌}
 use Prim.Native.Nat.{ℕ}
 use mathlib.Core.List.{List, [], ◌∷◌}
@@ -55,10 +54,8 @@ module _ (E : El) (g : Ghosts (el_x E)) (d : Dict) {M : Type 1} {𝓤 : Ura M} (
     abbrev pub Slice : Fml
     Slice = (ShrSlice (named 0) κ₀ (copied 0 E.row)).own_val s (shr_slice_vals s)
 
-    -- A call of the function `copied` copies the items of a slice into a value `r` of the type
-    -- `Slots`. `IsCopy z` states what is known about the new value `z` after the call: `z` has the
-    -- same slots in memory as `r`, all these slots are filled, and they hold the items of the
-    -- slice.
+    -- `IsCopy z` holds if `z` has the same slots in memory as `r`, and all of them are filled with
+    -- the items of the slice.
     pub record IsCopy (z : (Row E).Denot) : Type 0 where
       pub same : SamePlaces r z
       pub items : slots_items z ≡ s.now
@@ -73,14 +70,11 @@ module _ (E : El) (g : Ghosts (el_x E)) (d : Dict) {M : Type 1} {𝓤 : Ura M} (
         use0 𝓛 (raw (fact 𝓤 (slots_len r ≡ length s.now)))
         (fact_i 𝓤 (slots_len r ≡ length s.now) (emp 𝓤) long) $
         use0 𝓛 (raw (fact 𝓤 (κ₁ ⊑ E.row.lives))) (fact_i 𝓤 (κ₁ ⊑ E.row.lives) (emp 𝓤) le) $ join ! $
-        -- The previous steps have joined the facts that the call requires into one entry of the
-        -- proof context. The proof context now holds these entries, in this order: the facts; the
-        -- lifetime tokens of the slice and of its item type; the value of type `Slots`; the slice.
+        -- The required facts have been joined into one entry. Proof context, in order: the facts;
+        -- the lifetime tokens; the value of type `Slots`; the slice.
         nothing ! $ move ! (5 ∷ 0 ∷ []) $ fjoin ! $ move ! (4 ∷ 0 ∷ []) $ fjoin ! $
-        -- The previous steps have joined the arguments of the call into one entry of the proof
-        -- context. The proof context now holds these entries, in this order: the value of type
-        -- `Slots` and the slice; the facts that the call requires; the lifetime tokens of the slice
-        -- and of its item type.
+        -- The arguments of the call have been joined into one entry. Proof context, in order: the
+        -- arguments; the required facts; the lifetime tokens.
         nothing ! $ move ! (4 ∷ 0 ∷ []) $ join ! $ move ! (3 ∷ 0 ∷ []) $ join ! $ join ! $ done !
 
     pub Copied-gives : (v : Val) → slots_ptr r ≡ block_ptr b o

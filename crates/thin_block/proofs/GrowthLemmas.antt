@@ -1,13 +1,12 @@
--- This file proves that a growth rule must sometimes choose more than the wanted capacity. A rule
--- that never does so breaks the law of growth rules.
+-- This file proves that a growth rule that never chooses more than the wanted capacity breaks the
+-- law of growth rules.
 use Rattle.std.specs.Prelude.{◌*◌, ◌≤◌, refl}
 use Rattle.std.proofs.Common.{arith}
 use Rattle.thin_block.specs.Capacity.{fits}
 use Rattle.thin_block.specs.Growth.{KeepsLaw, fitting}
 
--- A rule that always chooses exactly the wanted capacity breaks the law of growth rules. For
--- example, if a block of capacity 4 needs room for 5 items, this rule chooses 5, but the law
--- demands at least 8.
+-- The rule that always chooses the wanted capacity breaks the law of growth rules. For example, it
+-- grows a block of capacity 4 to the capacity 5, but the law demands at least 8.
 pub want_alone_breaks : KeepsLaw (λ s a c w. fitting s a w) → ⊥
 unfolding fitting fits
 want_alone_breaks law =

@@ -1,15 +1,9 @@
--- These lemmas are about the machine value of a block and the parts of its memory. They split a
--- block into its parts, and put the parts back together. The lemmas assume the laws of the
--- separation logic (`Logic`).
+-- These lemmas are about the memory of a block:
 --
--- - `block_val` is the machine value of a block, and `block_own` states what its fields own.
--- - `whole_size` and `whole_align` are about the size and the alignment of a whole block.
 -- - `carve` splits the memory of a whole block into its parts.
 -- - `header` states what a block owns besides its slots.
--- - `header_fits` proves that a block with this header is small enough to be allocated.
--- - `alloc_there` says that a block with slots has an allocator.
 -- - `block_had` splits a block into its header and its slots, and `block_made` is the inverse.
--- - `block_opens` splits the block behind a `&mut`, and `block_closes` is the inverse.
+-- - `block_opens` splits the block behind a mutable reference, and `block_closes` is the inverse.
 use Rattle.std.proofs.Common.{◌≡◌, Bool, true, ℕ, Some, None, ◌+◌, ◌*◌, ◌<◌, List, [], ◌∷◌, ◌++◌, length, refl, sym, ap, subst, ◌∙◌, arith, w64}
 use seplogic.Ra.Ura.{Ura}
 use mir.Syntax.{Ty, Tys, Width, Args, w8, w16, w32, w128, a_type, dcons, dnil, ty_int, ty_array, tcons, tnil}
@@ -48,24 +42,22 @@ use Rattle.std.specs.Align.{type_align}
 use Rattle.thin_block.specs.Capacity.{block_align, block_bytes}
 use Rattle.thin_block.proofs.SizesLemmas.{fits_none}
 
--- `plainly Rs` is the struct type with the field types `Rs` and an empty name. This type can stand
--- for any struct type with these field types, because what a struct owns does not depend on its
--- name.
+-- `plainly Rs` is the struct type with the field types `Rs` and an empty name. What a struct owns
+-- does not depend on its name.
 abbrev pub plainly : List RattleType → RattleType
 plainly Rs = Struct (record { name = []; args = []; types = []; fields = Rs })
 
--- `block_val p` is the machine value of a block with the pointer `p`. It is a struct that consists
--- of `p` and of two fields that take no bytes.
+-- `block_val p` is the machine value of a block with the pointer `p`: a struct of `p` and two
+-- fields that take no bytes.
 abbrev pub block_val : Ptr → Val
 block_val p = vstruct (vcons (ptr_val p) (vcons (vstruct vnil) (vcons (vstruct vnil) vnil)))
 
--- Suppose that `p` is the pointer of a block, and that `vs` is the list of the machine values that
--- represent the block. `block_own p vs` states what the fields of this block own.
+-- `block_own p vs` states what the fields of a block own if its pointer is `p` and its machine
+-- values are `vs`.
 abbrev pub block_own : Ptr → List Val → Fml
 block_own p = (plainly (RawPtr ∷ plainly [] ∷ plainly [] ∷ [])).own_val (p, (tt, (tt, tt)))
 
--- If `vs` is the list of the machine values that represent a block with the pointer `p`, then `vs`
--- contains exactly one value, and this value is `block_val p`.
+-- The only machine value of a block with the pointer `p` is `block_val p`.
 pub block_told : (p : Ptr) (vs : List Val) → shadow (block_own p vs) → vs ≡ block_val p ∷ []
 block_told p vs s = s.1.0
     ∙ (λ i. vstruct (of_list (s.1.1.0 i ++ (s.1.1.1.0.1.0 i ++ (s.1.1.1.1.0.1.0 i ++ [])))) ∷ [])
@@ -79,11 +71,8 @@ block_own_made 𝓛 p =
       (refl, (refl, ((tt, (refl, tt)), ((tt, (refl, tt)), tt)))),
     )
 
--- The following lemmas are about the layout of a block in memory.
---
--- The alignment of every type is `bytes w` for some width `w`, where a width is 8, 16, 32, 64 or
--- 128 bits. So if `P (bytes w)` holds for every width `w`, then `P (align τ)` holds for every type
--- `τ`.
+-- If `P (bytes w)` holds for every width `w`, then `P (align τ)` holds for every type `τ`, because
+-- every alignment is `bytes w` for some width `w`.
 by_width : (P : ℕ → Type 0) → ((w : Width) → P (bytes w)) → (τ : Ty) → P (align τ)
 by_width P each τ = subst P (sym (align-bytes τ)) (each (align_w τ))
 
@@ -112,17 +101,15 @@ module _ (R : RattleType) (c : ℕ) where
   abbrev τ : Ty
   τ = lone R.mir
 
-  -- `items` is the type of the memory of all slots. It is an array of possibly uninitialized items.
+  -- `items` is the type of the memory of all slots: an array of possibly uninitialized items.
   abbrev pub items : Ty
   items = raw (ty_array τ c)
 
-  -- `whole R c` is the type of the memory of a whole block: the header and `c` slots. The alignment
-  -- of this type is the number that `block_align` computes.
+  -- The memory of a whole block with `c` slots has the alignment that `block_align` computes.
   pub whole_align : align (whole R c) ≡ block_align (type_align R)
   whole_align = ap (λ (a : ℕ). max 8 (max 8 (max a 1))) (align-raw τ) ∙ (aligned τ).0
 
-  -- `whole R c` is the type of the memory of a whole block: the header and `c` slots. The size of
-  -- this type is the number that `block_bytes` computes.
+  -- The memory of a whole block with `c` slots has the size that `block_bytes` computes.
   pub whole_size : size (whole R c) ≡ block_bytes (type_size R) (type_align R) c
   whole_size =
       let ends : up (align items) 16 + size items ≡ max 16 (align τ) + c * size τ =
@@ -132,9 +119,8 @@ module _ (R : RattleType) (c : ℕ) where
 module _ {M : Type 1} {𝓤 : Ura M} (𝓛 : Logic 𝓤) (R : RattleType) where
   open 𝓛 use {H}
 
-  -- Splits the memory of a whole block into memory for the capacity, memory for the length, and
-  -- memory for the slots. The result also contains the right to put these three parts back
-  -- together.
+  -- Splits the memory of a whole block into memory for the capacity, the length and the slots, and
+  -- the right to put these parts back together.
   pub carve : (c b o : ℕ) → ent 𝓤 (H.room (whole R c) b o)
       (sep 𝓤 (H.room (ty_int w64) b o)
       (sep 𝓤 (H.room (ty_int w64) b (o + 8))
@@ -162,17 +148,16 @@ module _ {M : Type 1} {𝓤 : Ura M} (𝓛 : Logic 𝓤) (R : RattleType) where
       move ! (2 ∷ 4 ∷ []) $ join ! $ move ! (2 ∷ 0 ∷ []) $ join ! $ move ! (1 ∷ 0 ∷ []) $ join ! $
       by ! (apply∗ 𝓤 rooms (H.room (whole R c) b o))
 
--- `header` states what a block owns besides its slots. If the block has an allocator, the block
--- owns its header and the right to free the allocation. Otherwise, the block owns a share of the
--- static header.
+-- `header` states what a block owns besides its slots: its header and the right to free the
+-- allocation, or, without an allocator, a share of the static header.
 abbrev pub header : {D : Type 0} → (D → Ty → Ptr → Fml) → RattleType → ℕ → ℕ
     → Option D → ℕ → ℕ → Fml
 header t R n c None b o = fsep (lent_at usize (block_ptr b o) 0 [])
     (lent_at usize (block_ptr b (o + 8)) 0 [])
 header t R n c (Some a) b o = frame (t a) R n c b o
 
--- Suppose that the option `a` contains the allocator of a block if and only if the list `xs` of the
--- block's slots is not empty. If `xs` is not empty, then `a` contains an allocator.
+-- If `is_some a` equals `any xs`, and the list `xs` of slots is not empty, then the option `a`
+-- contains an allocator.
 pub alloc_there : {D X : Type 0} (a : Option D) (xs : List X) → is_some a ≡ any xs → 0 < length xs
     → (h : D) × (a ≡ Some h)
 alloc_there (Some h) xs is some = (h, refl)
@@ -204,9 +189,8 @@ module _ {D : Type 0} (t : D → Ty → Ptr → Fml) (R : RattleType) {M : Type 
 
 module _ {D : Type 0} (t : D → Ty → Ptr → Fml) (R : RattleType) {M : Type 1} {𝓤 : Ura M}
     {𝓛 : Logic 𝓤} {K : Type 0} {Γ : List (Item 𝓤)} {G : Goal 𝓤 𝓛.H} where
-  -- Proves that a block is small enough to be allocated, and passes this fact to the rest of the
-  -- proof. The fact follows from the header of the block, which is the first entry of the proof
-  -- context.
+  -- Derives from the header of a block that the block is small enough to be allocated, and passes
+  -- this fact to the rest of the proof.
   pub header_fits : K → (n : ℕ) (xs : List (Option R.Denot)) (a : Option D)
       (b o : ℕ) → is_some a ≡ any xs
       → (fits_block R (length xs) ≡ true → Seq K 𝓛 (‵ (header t R n (length xs) a b o) ∷ Γ) G)
@@ -219,8 +203,8 @@ module _ {D : Type 0} (t : D → Ty → Ptr → Fml) (R : RattleType) {M : Type 
   header_fits k n (x ∷ xs) None b o is next = absurd (clash is)
 
 module _ (E : El) (Y : Al) where
-  -- The functions of a block have two type arguments: the item type and the allocator type. `args`
-  -- contains both.
+  -- `args` contains the type arguments of a block's functions: the item type and the allocator
+  -- type.
   abbrev pub args : Args
   args = bounded (a_type ∷ a_type ∷ []) (E.row, (Y.row, tt)) (dcons Y.d (dcons Y.drops dnil))
 
@@ -232,14 +216,13 @@ module _ (E : El) (Y : Al) where
   abbrev pub t : Y.row.Denot → Ty → Ptr → Fml
   t = Y.g.dealloc_token
 
-  -- `Header x b o` states what the block `x` owns besides its slots. If `x` has an allocator, `x`
-  -- owns its header and the right to free the allocation. Otherwise, `x` owns a share of the static
-  -- header.
+  -- `Header x b o` states what the block `x` owns besides its slots: its header and the right to
+  -- free the allocation, or, without an allocator, a share of the static header.
   abbrev pub Header : Br.Denot → ℕ → ℕ → Fml
   Header x b o = header t (R E) x.len (length x.slots) x.alloc b o
 
-  -- `Slots x b o` is the memory of the slots of the block `x`. The header of this block begins at
-  -- the offset `o` of the allocation `b`.
+  -- `Slots x b o` is the memory of the slots of the block `x`, whose header begins at the offset
+  -- `o` of the allocation `b`.
   abbrev pub Slots : Br.Denot → ℕ → ℕ → Fml
   Slots x b o = places (R E) x.slots b (o + 16)
 
@@ -274,10 +257,9 @@ module _ (E : El) (Y : Al) {M : Type 1} {𝓤 : Ura M} {𝓛 : Logic 𝓤} {K : 
 
 module _ (E : El) (Y : Al) {M : Type 1} {𝓤 : Ura M} {𝓛 : Logic 𝓤} {K : Type 0}
     {Γ : List (Item 𝓤)} {G : Goal 𝓤 𝓛.H} where
-  -- Splits the block behind a `&mut` into its parts. After this step, the proof context begins with
-  -- these entries, in this order: the header; the slots; the memory that holds the block's pointer;
-  -- the open borrow of the block, which includes its lifetime token; the current value of the
-  -- block, as the `&mut` records it; the same value, as the borrow records it.
+  -- Splits the block behind a mutable reference. Proof context afterward, in order: the header; the
+  -- slots; the memory of the block's pointer; the open borrow; the value that the reference
+  -- records; the same value, recorded by the borrow.
   pub block_opens : K → Soaks G → {κ : Lft} {q : Share} {γ : GName} (x : (Br E Y).Denot) (rb ro : ℕ)
       → ((b o : ℕ) → x.at ≡ block_ptr b o → fits_block (R E) (length x.slots) ≡ true
       → Seq K 𝓛 (‵ (Header E Y x b o) ∷ ‵ (Slots E Y x b o) ∷ ‵
@@ -292,8 +274,8 @@ module _ (E : El) (Y : Al) {M : Type 1} {𝓤 : Ura M} {𝓛 : Logic 𝓤} {K : 
       rewrite k 2 (λ (us : List Val). ‵ (cell_at full_share (Br E Y).mir us rb ro))
       is refl $ next b o at fits))
 
-  -- Puts the header and the slots of the block behind a `&mut` back together, and closes the borrow
-  -- of the block.
+  -- Puts the header and the slots of the block behind a mutable reference back together, and closes
+  -- the borrow of the block.
   pub block_closes : K → Soaks G → {κ : Lft} {q : Share} {u v : Gv} {γ : GName} (x : (Br E Y).Denot)
       (b o rb ro : ℕ) → x.at ≡ block_ptr b o
       → Step K 𝓛 (‵ (fobs γ ((Br E Y).coded.code x)) ∷ ‵

@@ -1,10 +1,8 @@
--- A method may lend the items of a block to its caller as a `&mut`. These lemmas say what holds
--- after the `&mut` has ended: the block owns all its parts again, and its slots hold the items with
--- their new values. The lemmas assume the laws of the separation logic (`Logic`).
+-- These lemmas return lent items to their block after the mutable reference has ended. The slots
+-- then hold the new values.
 --
--- - `Waiting` consists of the parts of a block that are never lent: all parts except the slots.
--- - `item_back` is for a `&mut` to the item in one slot.
--- - `items_back` is for a `&mut` to the items in adjacent slots.
+-- - `item_back` is for a mutable reference to one item.
+-- - `items_back` is for a mutable reference to contiguous items.
 use Rattle.std.proofs.Common.{◌≡◌, ℕ, ◌+◌, ◌*◌, ◌<◌, ◌≤◌, List, ◌∷◌, [], length, Some, refl, sym, ◌∙◌, arith}
 use Rattle.std.proofs.lemmas.List.{length-map, length-set}
 use seplogic.Ra.Ura.{Ura}
@@ -32,15 +30,14 @@ module _ (E : El) (Y : Al) {M : Type 1} {𝓤 : Ura M} (𝓛 : Logic 𝓤) (x : 
   abbrev B : Type 0
   B = (Br E Y).Denot
 
-  -- `Waiting` consists of two parts of a block: the header, and the memory that holds the block's
-  -- pointer. The block keeps these parts while its slots are lent.
+  -- `Waiting` consists of the parts that a block keeps while its slots are lent: the header, and
+  -- the memory of the block's pointer.
   abbrev pub Waiting : Fml
   Waiting = fsep (Header E Y x b o)
       (cell_at full_share (Br E Y).mir (block_val (block_ptr b o) ∷ []) rb ro)
 
-  -- Suppose that the list `s` is as long as the block's list of slots. Then the memory of the slots
-  -- `s` and the other parts of the block (`Waiting`) can be joined. The result is the block with
-  -- the slots `s`.
+  -- If `s` is as long as the block's list of slots, then the memory of the slots `s` and the other
+  -- parts of the block (`Waiting`) form a block with the slots `s`.
   pub slots_back : (s : List (Slot E)) (same : length s ≡ length x.slots)
       → ent 𝓤 (sep 𝓤 (sem 𝓛 (places (R E) s b (o + 16))) (sem 𝓛 Waiting))
       (sem 𝓛 ((mem (Br E Y)).own_at (with_slots x s same) rb ro))
@@ -54,8 +51,8 @@ module _ (E : El) (Y : Al) {M : Type 1} {𝓤 : Ura M} (𝓛 : Logic 𝓤) (x : 
       (λ us. fsep (cell_at full_share (Br E Y).mir us rb ro)
       ((Br E Y).own_val (with_slots x s same) us)) (block_val (block_ptr b o) ∷ []) $ done !
 
-  -- Suppose that a `&mut` to the item in slot `i` has ended, and that the item now has the value
-  -- `w`. Then the parts of the block can be joined into a whole block in which slot `i` holds `w`.
+  -- After a mutable reference to the item in slot `i` has ended, the parts of the block can be
+  -- joined into a block in which slot `i` holds the new value `w`.
   pub item_back : (i : ℕ) → i < length x.slots → (w : el_x E)
       → ent 𝓤 (sep 𝓤 (sem 𝓛 ((mem (R E)).own_at w b (i * sz E + (o + 16))))
       (sem 𝓛 (fsep (besides E 𝓛 b (o + 16) x.slots i) Waiting)))
@@ -69,9 +66,8 @@ module _ (E : El) (Y : Al) {M : Type 1} {𝓤 : Ura M} (𝓛 : Logic 𝓤) (x : 
       (slot_in E 𝓛 b (o + 16) x.slots i within (Some w)) $
       by ! (slots_back y.slots (length-set x.slots i (Some w)))
 
-  -- Suppose that a `&mut` to the `k` items in the slots `i..i + k` has ended, and that the items
-  -- now have the values `ws`. Then the parts of the block can be joined into a whole block in which
-  -- these slots hold `ws`.
+  -- After a mutable reference to the items in the slots `i..i + k` has ended, the parts of the
+  -- block can be joined into a block in which these slots hold the new values `ws`.
   pub items_back : (i k : ℕ) → i + k ≤ length x.slots
       → ((n : ℕ) → i ≤ n → n < i + k → IsSome (slot x.slots n))
       → (ws : List (el_x E)) → length ws ≡ k

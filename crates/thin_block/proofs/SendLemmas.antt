@@ -1,7 +1,6 @@
--- These lemmas say when a block may be sent to another thread (`block_send`), and when a block may
--- be shared between threads (`block_sync`). `Keyless` says that a resource does not depend on the
--- thread that owns the resource. `Common` says that the resources behind a `&` do not depend on the
--- thread that uses the `&`.
+-- These lemmas say when a block may be sent to another thread (`block_send`) or shared between
+-- threads (`block_sync`). `Keyless` says that a resource does not depend on the thread that owns
+-- it. `Common` says the same of shared resources.
 use Rattle.std.specs.Prelude.{ℕ, zero, suc, ◌+◌, List, [], ◌∷◌, length, Option}
 use Rattle.std.specs.declared.option.Option.TheVariants.{Some, None}
 use Rattle.std.specs.Int.{div_ceil}
@@ -28,9 +27,8 @@ number_send = search sendable
 number_sync : IsSync usize
 number_sync = search sendable
 
--- The rights to convert memory for items into memory for `w` words do not depend on the thread that
--- owns these rights. A word is a struct of 8 or 16 bytes that consists of whole items. Here, it
--- consists of `m` items of the type `τ`.
+-- The rights to convert memory for items into memory for `w` words of `m` items each do not depend
+-- on the thread that owns these rights.
 ways_Keyless : (τ : Ty) (m w b o : ℕ) → Keyless (ways τ m w b o)
 ways_Keyless τ m zero b o = tt
 ways_Keyless τ m (suc w) b o = ((tt, tt), ways_Keyless τ m w b (o + size (word_of τ m)))
@@ -56,14 +54,14 @@ module _ (R : RattleType) where
   places_Keyless s (x ∷ xs) b o =
       (place_Keyless s x b o, places_Keyless s xs b (o + type_size R))
 
-  -- If items may be shared between threads, then the resources behind a `&` to a slot do not depend
-  -- on the thread that uses the `&`.
+  -- If items may be shared between threads, then the resources behind a shared reference to a slot
+  -- do not depend on the thread that uses the reference.
   place_Common : IsSync R → (x : Option R.Denot) (p : Ptr) → Common (place_lent R x p)
   place_Common y (Some x) p κ = seen R y p x κ
   place_Common y None p κ = tt
 
-  -- If items may be shared between threads, then the resources behind a `&` to several slots do not
-  -- depend on the thread that uses the `&`.
+  -- If items may be shared between threads, then the resources behind a shared reference to several
+  -- slots do not depend on the thread that uses the reference.
   places_Common : IsSync R → (xs : List (Option R.Denot)) (b o : ℕ)
       → Common (places_lent R xs b o)
   places_Common y [] b o κ = tt
@@ -71,9 +69,8 @@ module _ (R : RattleType) where
       (place_Common y x (block_ptr b o) κ, places_Common y xs b (o + type_size R) κ)
 
   module _ (Z : RattleType) (g : Ghosts Z.Denot) where
-    -- Suppose that items may be sent to another thread, and that the right to free memory does not
-    -- depend on the thread that owns this right. Then the resources of a block do not depend on the
-    -- thread that owns the block.
+    -- If items and the right to free memory may be sent to another thread, then the resources of a
+    -- block do not depend on the thread that owns the block.
     block_Keyless : IsSend R → Frees g g.dealloc_token → (p : Ptr) (n : ℕ)
         (xs : List (Option R.Denot)) (a : Option Z.Denot)
         → Keyless (block_owns g.dealloc_token R p n xs a)
@@ -99,8 +96,8 @@ module _ (R : RattleType) where
       places_Keyless s xs b (o + 16),
     )
 
-    -- If items may be shared between threads, then the resources behind a `&` to a block do not
-    -- depend on the thread that uses the `&`.
+    -- If items may be shared between threads, then the resources behind a shared reference to a
+    -- block do not depend on the thread that uses the reference.
     block_Common : IsSync R → (p : Ptr) (n : ℕ) (xs : List (Option R.Denot)) (a : Option Z.Denot)
         → Common (block_lent R p n xs a)
     block_Common y null_ptr n xs a κ = tt

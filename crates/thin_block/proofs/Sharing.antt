@@ -1,7 +1,5 @@
--- A `&` to a block gives access to the block's pointer, to the capacity and the length in the
--- header, and to each item. `block_seen` splits such a `&` into its parts, and `run_seen` converts
--- a `&` to items in adjacent slots into a `&` to a slice. The lemmas assume the laws of the
--- separation logic (`Logic`).
+-- These lemmas are about shared references to a block. `block_seen` splits such a reference into
+-- its parts, and `run_seen` converts a shared reference to contiguous items into a slice.
 use Rattle.std.proofs.Common.{◌≡◌, ℕ, zero, suc, Some, None, ◌+◌, ◌*◌, ◌≤◌, List, [], ◌∷◌, ◌++◌, length, Bool, true, refl, sym, ap, subst, ◌∙◌, arith}
 use native.Mathlib.Nat.{zero-mul, suc-mul}
 use lib.ListN.{drop, take-append-drop}
@@ -59,7 +57,7 @@ module _ (R : RattleType) {D : Type 0} {M : Type 1} {𝓤 : Ura M} (𝓛 : Logic
   words_lent n (x ∷ xs) None b o is le = absurd (clash is)
 
 module _ (E : El) (Y : Al) {M : Type 1} {𝓤 : Ura M} (𝓛 : Logic 𝓤) (κ : Lft) where
-  -- `Words` is a struct type. Its fields are those fields of a block that exist at run time.
+  -- `Words` is the struct type of those fields of a block that exist at run time.
   abbrev Words : RattleType
   Words = Struct (shape (block.the_type (R E) (param 1 Y.row) Y.g))
 
@@ -81,9 +79,8 @@ module _ (E : El) (Y : Al) {M : Type 1} {𝓤 : Ura M} (𝓛 : Logic 𝓤) (κ :
 
 module _ (E : El) (Y : Al) {M : Type 1} {𝓤 : Ura M} {𝓛 : Logic 𝓤} {K : Type 0}
     {Γ : List (Item 𝓤)} {G : Goal 𝓤 𝓛.H} where
-  -- Splits a `&` to a block into its parts. After this step, the proof context begins with these
-  -- entries, in this order: the `&` to the block's pointer; the `&` to the capacity; the `&` to the
-  -- length; the `&` to the slots.
+  -- Splits a shared reference to a block. Proof context afterward, in order: shared references to
+  -- the block's pointer, to the capacity, to the length and to the slots.
   pub block_seen : K → {κ : Lft} (x : (Br E Y).Denot) (rb ro : ℕ)
       → ((b o : ℕ) → x.at ≡ block_ptr b o → fits_block (R E) (length x.slots) ≡ true
       → Seq K 𝓛 (‵ (hidden_shr RawPtr κ x.at rb (ro + 0)) ∷ ‵
@@ -126,8 +123,8 @@ module _ (E : El) {M : Type 1} {𝓤 : Ura M} (𝓛 : Logic 𝓤) (b : ℕ) (κ 
   up_to (y ∷ ys) rest o = qed 𝓛 (‵ (Seen o (Some y ∷ (full ys ++ rest))) ∷ []) ∵ fsplit ! $
       fsplit ! $ keep ! (1 ∷ 2 ∷ []) $ frame ! $ by ! (up_to ys rest (o + s))
 
-  -- If the slots `i..i + k` hold the items `ys`, then a `&` to all slots gives access to the items
-  -- `ys` as the elements of a slice.
+  -- If the slots `i..i + k` hold the items `ys`, then a shared reference to all slots gives access
+  -- to a slice of `ys`.
   pub run_seen : (xs : List (Slot E)) (i k o : ℕ) (ys : List (el_x E)) → i ≤ length xs
       → run i k xs ≡ full ys → ent 𝓤 (sem 𝓛 (Seen o xs))
       (sem 𝓛 (elements_shared (R E) ys b (i * s + o) κ))

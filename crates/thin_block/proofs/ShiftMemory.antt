@@ -1,11 +1,8 @@
--- These lemmas are about moving a run, which consists of the items in adjacent slots. They separate
--- the memory of the old and the new slots of a run from the memory of the other slots of a block.
--- After the run has been moved, they put the memory of all slots back together. The lemmas assume
--- the laws of the separation logic (`Logic`).
+-- These lemmas separate the memory that a move of items uses from the memory of the other slots.
+-- After the move, they put the memory back together (`Moves`).
 --
--- - `Moves` says that the memory can be separated before the move, and put back together later.
--- - `apart` proves `Moves` if the old and the new slots of the run do not overlap.
--- - `slides` proves `Moves` if the run is moved through empty slots.
+-- - `apart` is for a move between slots that do not overlap.
+-- - `slides` is for a move through empty slots.
 use Rattle.std.proofs.Common.{◌≡◌, ◌⊎◌, Bool, true, false, ℕ, Some, None, ◌+◌, ◌-◌, ◌*◌, ◌<◌, ◌≤◌, List, [], ◌∷◌, ◌++◌, length, refl, sym, ap, ◌∙◌, arith, append_assoc}
 use Rattle.std.proofs.lemmas.List.{length-map, length-replicate, length-append, length-take}
 use mathlib.Core.Logic.{inl, inr, ⊎_elim}
@@ -29,15 +26,14 @@ use Rattle.thin_block.specs.Shifts.{IsShifted}
 use Rattle.thin_block.proofs.SlotsLemmas.{empty-run, parted-run, run-split, length-run, moved_left, moved_right, moved_over, moved_back}
 use Rattle.thin_block.proofs.SlotMemory.{Slot, sz, cut, glue, around, run_out, run_in, to_items, of_items, to_room, of_room}
 
--- Suppose that each slot takes `s` bytes, and that slot 0 begins at the offset `o`. If `c ≡ d + a`,
--- then slot `c` begins `d * s` bytes after the beginning of slot `a`.
+-- If slot 0 begins at the offset `o`, each slot takes `s` bytes, and `c ≡ d + a`, then slot `c`
+-- begins `d * s` bytes after the beginning of slot `a`.
 pub further : (a d c s o : ℕ) → c ≡ d + a → c * s + o ≡ d * s + (a * s + o)
 further a d c s o e = let sum = add_times d a s in
     let same : c * s ≡ (d + a) * s = ap (λ (k : ℕ). k * s) e in omega arith
 
--- `laid i new s` is the list `s` with the slots `i..i + length new` replaced with the slots `new`.
--- If `new` consists of `n` slots, then `laid i new s` consists of three parts: the slots of `s`
--- before index `i`, the slots `new`, and the slots of `s` from index `i + n` onward.
+-- If `new` consists of `n` slots, then `laid i new s` consists of the slots of `s` before index
+-- `i`, the slots `new`, and the slots of `s` from index `i + n` onward.
 laid-over : {T : Type 0} (s new : List (Option T)) (i n : ℕ) → length new ≡ n
     → laid i new s ≡ take i s ++ (new ++ drop (i + n) s)
 laid-over s new i n long = ap (λ (k : ℕ). take i s ++ (new ++ drop (i + k) s)) long
@@ -66,9 +62,8 @@ module _ (E : El) {M : Type 1} {𝓤 : Ura M} (𝓛 : Logic 𝓤) (b o : ℕ) (s
   abbrev Room : ℕ → ℕ → Fml
   Room n at = froom (ty_array (elτ E) n) b at
 
-  -- `Moves Was Is` is about a move that turns the memory `Was` of some slots into the memory `Is`.
-  -- It states that, before the move, `Was` can be separated from the memory of the other slots. It
-  -- also states that, after the move, `Is` can be joined with the memory of the other slots.
+  -- `Moves Was Is` holds if the memory `Was` can be separated from the other slots before a move,
+  -- and the memory `Is` can be joined with them after the move.
   pub record Moves (Was Is : Fml) : Type 1 where
     pub Rest : Fml
     pub out : ent 𝓤 (sem 𝓛 (Row o slots)) (sep 𝓤 (sem 𝓛 Was) (sem 𝓛 Rest))
@@ -80,10 +75,9 @@ module _ (E : El) {M : Type 1} {𝓤 : Ura M} (𝓛 : Logic 𝓤) (b o : ℕ) (s
   empty-long : (n : ℕ) → length (empty {T = el_x E} n) ≡ n
   empty-long n = length-replicate n None
 
-  -- Suppose that the slots `from..from + k` hold items, and that the `d` slots directly before them
-  -- are empty. Then the memory of the items and of the `d` empty slots can be separated from the
-  -- memory of the other slots. After the items have been moved down by `d` slots, the memory of all
-  -- slots can be put back together.
+  -- If the slots `from..from + k` hold items, and the `d` slots directly before them are empty,
+  -- then the memory for moving the items down by `d` slots can be separated from the other slots
+  -- and put back (`Moves`).
   pub slides_down : (d : ℕ) → from ≡ to + d → from + k ≤ length slots → run to d slots ≡ empty d
       → Moves (memory_before_copy (R E) false d k (block_ptr b src) (block_ptr b dst) xs)
       (memory_after_copy (R E) false d k (block_ptr b src) (block_ptr b dst) xs)
@@ -133,10 +127,9 @@ module _ (E : El) {M : Type 1} {𝓤 : Ura M} (𝓛 : Logic 𝓤) (b o : ℕ) (s
             rewrite ! 0 (λ (l : S). ‵ (Row o l)) result refl $ done !;
       }
 
-  -- Suppose that the slots `from..from + k` hold items, and that the `d` slots directly after them
-  -- are empty. Then the memory of the items and of the `d` empty slots can be separated from the
-  -- memory of the other slots. After the items have been moved up by `d` slots, the memory of all
-  -- slots can be put back together.
+  -- If the slots `from..from + k` hold items, and the `d` slots directly after them are empty, then
+  -- the memory for moving the items up by `d` slots can be separated from the other slots and put
+  -- back (`Moves`).
   pub slides_up : (d : ℕ) → to ≡ from + d → to + k ≤ length slots → run (from + k) d slots ≡ empty d
       → Moves (memory_before_copy (R E) true d k (block_ptr b src) (block_ptr b dst) xs)
       (memory_after_copy (R E) true d k (block_ptr b src) (block_ptr b dst) xs)
@@ -184,9 +177,8 @@ module _ (E : El) {M : Type 1} {𝓤 : Ura M} (𝓛 : Logic 𝓤) (b o : ℕ) (s
             rewrite ! 0 (λ (l : S). ‵ (Row o l)) result refl $ done !;
       }
 
-  -- Splits the memory of the slots `ys ++ (mid ++ zs)` into the memory of `ys`, the memory of `zs`
-  -- and the memory of `mid`. The list `ys` consists of `k` slots. The memory of `ys` begins at the
-  -- offset `lo`, and the memory of `zs` begins at the offset `hi`.
+  -- Splits the memory of the slots `ys ++ (mid ++ zs)` into the memory of `ys`, of `zs` and of
+  -- `mid`. The memory of `ys` begins at the offset `lo`, and that of `zs` at the offset `hi`.
   cut3 : (ys mid zs : S) (lo hi : ℕ) → length ys ≡ k → hi ≡ length mid * s + (k * s + lo)
       → ent 𝓤 (sem 𝓛 (Row lo (ys ++ (mid ++ zs))))
       (sep 𝓤 (sem 𝓛 (Row lo ys)) (sep 𝓤 (sem 𝓛 (Row hi zs)) (sem 𝓛 (Row (k * s + lo) mid))))
@@ -226,11 +218,9 @@ module _ (E : El) {M : Type 1} {𝓤 : Ura M} (𝓛 : Logic 𝓤) (b o : ℕ) (s
       let same : length mid * s ≡ m * s = ap (λ (n : ℕ). n * s) count in
       omega arith
 
-  -- Suppose that the slots `from..from + k` hold items, and that the slots `to..to + k` somewhere
-  -- above them are empty. Between the items and these empty slots are `m` slots. Then the memory of
-  -- the items and of the empty slots can be separated from the memory of the other slots. After the
-  -- items have been moved up into the empty slots, the memory of all slots can be put back
-  -- together.
+  -- Suppose that `k` slots hold items, and that `m` other slots and `k` empty slots follow. Then
+  -- the memory for moving the items up into the empty slots can be separated from the other slots
+  -- and put back (`Moves`).
   goes_over : (m : ℕ) → to ≡ from + k + m → to + k ≤ length slots
       → run to k slots ≡ empty k → Moves Was Is
   goes_over m apart within gap =
@@ -288,11 +278,9 @@ module _ (E : El) {M : Type 1} {𝓤 : Ura M} (𝓛 : Logic 𝓤) (b o : ℕ) (s
             rewrite ! 0 (λ (l : S). ‵ (Row o l)) result refl $ done !;
       }
 
-  -- Suppose that the slots `from..from + k` hold items, and that the slots `to..to + k` somewhere
-  -- below them are empty. Between these empty slots and the items are `m` slots. Then the memory of
-  -- the items and of the empty slots can be separated from the memory of the other slots. After the
-  -- items have been moved down into the empty slots, the memory of all slots can be put back
-  -- together.
+  -- Suppose that `k` slots are empty, and that `m` other slots and `k` slots with items follow.
+  -- Then the memory for moving the items down into the empty slots can be separated from the other
+  -- slots and put back (`Moves`).
   goes_back : (m : ℕ) → from ≡ to + k + m → from + k ≤ length slots
       → run to k slots ≡ empty k → Moves Was Is
   goes_back m apart within gap =
@@ -350,15 +338,13 @@ module _ (E : El) {M : Type 1} {𝓤 : Ura M} (𝓛 : Logic 𝓤) (b o : ℕ) (s
             rewrite ! 0 (λ (l : S). ‵ (Row o l)) result refl $ done !;
       }
 
-  -- `Bare` is the precondition `empty` of the function `move_run`. It states that each slot to
-  -- which an item is moved is empty, or is one of the slots from which the items are moved.
+  -- `Bare` is the precondition `empty` of `move_run`: each slot to which an item is moved is empty,
+  -- or is one of the slots from which items are moved.
   abbrev pub Bare : Type 0
   Bare = (i : ℕ) → to ≤ i → i < to + k → (i < from) ⊎ (from + k ≤ i) → slot slots i ≡ None
 
-  -- Suppose that adjacent items are to be moved to empty slots, and that the old and the new slots
-  -- of the items do not overlap. Then the memory of the old and the new slots can be separated from
-  -- the memory of the other slots. After the move, the memory of all slots can be put back
-  -- together.
+  -- If the old and the new slots of the items do not overlap, and the new slots are empty, then the
+  -- memory for the move can be separated from the other slots and put back (`Moves`).
   pub apart : from + k ≤ length slots → to + k ≤ length slots → Bare → (from + k ≤ to)
       ⊎ (to + k ≤ from) → Moves Was Is
   apart source target bare far =
@@ -379,22 +365,18 @@ module _ (E : El) {M : Type 1} {𝓤 : Ura M} (𝓛 : Logic 𝓤) (b o : ℕ) (s
   Way up = Moves (memory_before_copy (R E) up (distance up) k (block_ptr b src) (block_ptr b dst)
       xs) (memory_after_copy (R E) up (distance up) k (block_ptr b src) (block_ptr b dst) xs)
 
-  -- `GapAbove up` is about a move of items from the slots `from..from + k` to the slots `to..to +
-  -- k`. If `up` is true, the items are moved up, and `GapAbove up` states that `from ≤ to` and that
-  -- the slots `from + k..to + k` are empty. If `up` is false, `GapAbove up` states nothing.
+  -- If `up` is true, `GapAbove up` states that `from ≤ to`, and that the slots `from + k..to + k`,
+  -- through which the items are moved up, are empty. Otherwise, it states nothing.
   abbrev pub GapAbove : Bool → Type 0
   GapAbove up = up ≡ true → (from ≤ to) × AreEmpty slots (from + k) (to - from)
 
-  -- `GapBelow up` is about a move of items from the slots `from..from + k` to the slots `to..to +
-  -- k`. If `up` is false, the items are moved down, and `GapBelow up` states that `to ≤ from` and
-  -- that the slots `to..from` are empty. If `up` is true, `GapBelow up` states nothing.
+  -- If `up` is false, `GapBelow up` states that `to ≤ from`, and that the slots `to..from`, through
+  -- which the items are moved down, are empty. Otherwise, it states nothing.
   abbrev pub GapBelow : Bool → Type 0
   GapBelow up = up ≡ false → (to ≤ from) × AreEmpty slots to (from - to)
 
-  -- Suppose that adjacent items are to be moved up or down, and that all slots through which they
-  -- are moved are empty. Then the memory of the items and of these empty slots can be separated
-  -- from the memory of the other slots. After the move, the memory of all slots can be put back
-  -- together.
+  -- If all slots through which adjacent items are moved up or down are empty, then the memory for
+  -- the move can be separated from the other slots and put back (`Moves`).
   pub slides : from + k ≤ length slots → to + k ≤ length slots → (up : Bool) → GapAbove up
       → GapBelow up → Way up
   slides source target true above below =
@@ -408,10 +390,8 @@ module _ (E : El) {M : Type 1} {𝓤 : Ura M} (𝓛 : Logic 𝓤) (b o : ℕ) (s
       slides_down (from - to) (omega arith) source
       (empty-run slots to (from - to) within gap.1)
 
-  -- Suppose that all slots through which the items are moved are empty (`GapAbove` and `GapBelow`).
-  -- If `up` is true, then the new address of the items is `distance up` slots above the old
-  -- address. If `up` is false, then the new address is `distance up` slots below the old address.
-  -- `IsShifted` states exactly this.
+  -- If all slots through which the items are moved are empty, then the new address of the items is
+  -- `distance up` slots above the old address if `up` is true, and below it otherwise.
   pub shifted : (up : Bool) → GapAbove up → GapBelow up → IsShifted (R E) up (distance up)
       (block_ptr b src) (block_ptr b dst)
   shifted true above below = let le : from ≤ to = (above refl).0 in

@@ -1,16 +1,11 @@
--- These lemmas separate the memory of some slots of a block from the memory of the other slots, and
--- put the memory of all slots back together. They also convert the memory of slots into other kinds
--- of memory. The lemmas assume the laws of the separation logic (`Logic`).
+-- These lemmas separate some slots of a block from the other slots, and convert the memory of
+-- slots.
 --
--- - `slot_out` separates one slot from the other slots, and `slot_in` puts it back.
--- - `run_out` separates the slots `i..i + k` from the other slots, and `run_in` puts them back.
--- - `two_slots` says that two different slots can be separated from the other slots and put back.
--- - `to_items` converts slots that hold items into an array, and `of_items` is the inverse.
--- - `to_cells` converts slots that hold items into slice elements, and `of_cells` is the inverse.
--- - `to_room` converts empty slots into uninitialized memory for an array, and `of_room` is the
---   inverse.
--- - `to_raw` and `of_raw` do the same for an array type with all field names erased.
--- - `reach` says that the slots of a block take less than `2 ^ 63` bytes.
+-- - `slot_out` separates one slot, and `slot_in` puts it back.
+-- - `run_out` separates the slots `i..i + k`, and `run_in` puts them back.
+-- - `to_items` converts filled slots into an array, and `of_items` is the inverse.
+-- - `to_cells` converts filled slots into slice elements, and `of_cells` is the inverse.
+-- - `to_room` converts empty slots into uninitialized memory, and `of_room` is the inverse.
 use Rattle.std.proofs.Common.{◌≡◌, true, ℕ, zero, suc, None, ◌+◌, ◌*◌, ◌^◌, ◌<◌, ◌≤◌, List, [], ◌∷◌, ◌++◌, length, refl, sym, ap, ◌∙◌, arith}
 use native.Mathlib.Nat.{zero-mul, suc-mul}
 use lib.ListN.{take, drop, set, get_or, take-append-drop, length-take, length-drop, length-set}
@@ -40,8 +35,8 @@ use Rattle.thin_block.specs.Ownership.{fits_block, place, places}
 use Rattle.thin_block.specs.Slots.{full, empty, run, laid}
 use Rattle.thin_block.proofs.SizesLemmas.{fits_tells}
 
--- Suppose that a block of `c` slots is small enough to be allocated, and that `i ≤ c`. Then `i`
--- items take less than `2 ^ 63` bytes.
+-- If a block of `c` slots is small enough to be allocated, and `i ≤ c`, then `i` items take less
+-- than `2 ^ 63` bytes.
 pub reach : (Rw : RattleType) (i c : ℕ) → fits_block Rw c ≡ true → i ≤ c → i * type_size Rw < 2 ^ 63
 reach Rw i c fits le =
     let small = (fits_tells Rw c fits).room in
@@ -66,8 +61,8 @@ module _ (E : El) {M : Type 1} {𝓤 : Ura M} (𝓛 : Logic 𝓤) (b : ℕ) wher
   abbrev Row : ℕ → List (Slot E) → Fml
   Row o xs = places (R E) xs b o
 
-  -- Splits the memory of the slots `xs ++ ys` into the memory of `xs` and the memory of `ys`. The
-  -- memory of `xs` begins at the offset `o`, and the memory of `ys` begins at the offset `at`.
+  -- Splits the memory of the slots `xs ++ ys`. The memory of `xs` begins at the offset `o`, and the
+  -- memory of `ys` at the offset `at`.
   pub cut : (xs ys : List (Slot E)) (o at : ℕ) → at ≡ length xs * s + o
       → ent 𝓤 (sem 𝓛 (Row o (xs ++ ys))) (sep 𝓤 (sem 𝓛 (Row o xs)) (sem 𝓛 (Row at ys)))
   cut [] ys o at e = qed 𝓛 (‵ (Row o ys) ∷ []) ∵ rewrite ! 0 (λ (k : ℕ). ‵ (Row k ys)) {x = at}
@@ -79,9 +74,8 @@ module _ (E : El) {M : Type 1} {𝓤 : Ura M} (𝓛 : Logic 𝓤) (b : ℕ) wher
       (cut xs ys (o + s) at (omega (arith, suc-mul (length xs) s))) $ split ! $
       move ! (2 ∷ 0 ∷ []) $ fjoin ! $ done !
 
-  -- Joins the memory of the slots `xs` and the memory of the slots `ys` into the memory of the
-  -- slots `xs ++ ys`. The memory of `xs` begins at the offset `o`. The memory of `ys` must begin
-  -- directly after the memory of `xs`, at the offset `at`.
+  -- Joins the memory of the slots `xs` at the offset `o` with the memory of the slots `ys` at the
+  -- offset `at`, where the memory of `xs` ends.
   pub glue : (xs ys : List (Slot E)) (o at : ℕ) → at ≡ length xs * s + o
       → ent 𝓤 (sep 𝓤 (sem 𝓛 (Row o xs)) (sem 𝓛 (Row at ys))) (sem 𝓛 (Row o (xs ++ ys)))
   glue [] ys o at e = qed 𝓛 (‵ ftrue ∷ ‵ (Row at ys) ∷ []) ∵ skip ! $
@@ -226,20 +220,20 @@ module _ (E : El) {M : Type 1} {𝓤 : Ura M} (𝓛 : Logic 𝓤) (b : ℕ) wher
       use1 𝓛 (‵ (froom (ty_array (elτ E) k) b (o + s))) (to_room k (o + s)) $ move ! (1 ∷ []) $
       by ! (𝓛.laws.room_cons (elτ E) k b o)
 
-  -- Uninitialized memory for an array of `k` items can be converted into `k` empty slots. The lemma
-  -- is about the bare type of the array: the type with all field names erased.
+  -- Uninitialized memory for an array of `k` items can be converted into `k` empty slots, even if
+  -- all field names are erased from the array type.
   pub of_raw : (k o : ℕ) → ent 𝓤 (H.room (bare (ty_array (elτ E) k)) b o) (sem 𝓛 (Row o (empty k)))
   of_raw k o = via 𝓤 (H.room (ty_array (elτ E) k) b o)
       (𝓛.laws.raw-room (ty_array (elτ E) k) b o) (of_room k o)
 
   -- The memory of `k` empty slots can be converted into uninitialized memory for an array of `k`
-  -- items. The lemma is about the bare type of the array: the type with all field names erased.
+  -- items, even if all field names are erased from the array type.
   pub to_raw : (k o : ℕ) → ent 𝓤 (sem 𝓛 (Row o (empty k))) (H.room (bare (ty_array (elτ E) k)) b o)
   to_raw k o = via 𝓤 (H.room (ty_array (elτ E) k) b o) (to_room k o)
       (𝓛.laws.room-raw (ty_array (elτ E) k) b o)
 
-  -- If `i < j`, then `Others o xs i j` is the memory of all slots in the list `xs` except the slots
-  -- `i` and `j`. The memory of the first slot in `xs` begins at the offset `o`.
+  -- `Others o xs i j` is the memory of all slots in `xs` except the slots `i` and `j`, where
+  -- `i < j`. The memory of slot 0 begins at the offset `o`.
   abbrev Others : ℕ → List (Slot E) → ℕ → ℕ → Fml
   Others o xs i j = fsep (besides o (take j xs) i) (Row (j * s + o + s) (drop (suc j) xs))
 
@@ -278,9 +272,8 @@ module _ (E : El) {M : Type 1} {𝓤 : Ura M} (𝓛 : Logic 𝓤) (b : ℕ) wher
       (sym (drop-set-lt (suc j) xs i x (omega arith))) refl $ fjoin ! $ move ! (1 ∷ 0 ∷ []) $
       by ! (slot_in o (set xs i x) j low' y)
 
-  -- `Two o xs i j` states that the slots `i` and `j` can be separated from the other slots in the
-  -- list `xs`, and that all slots can later be put back together. In between, the contents of the
-  -- slots `i` and `j` may change. The memory of the first slot in `xs` begins at the offset `o`.
+  -- `Two o xs i j` states that the slots `i` and `j` can be separated from the other slots in `xs`
+  -- and put back later, possibly with new contents.
   pub record Two (o : ℕ) (xs : List (Slot E)) (i j : ℕ) : Type 1 where
     pub Rest : Fml
     pub out : ent 𝓤 (sem 𝓛 (Row o xs))
@@ -315,9 +308,8 @@ module _ (E : El) {M : Type 1} {𝓤 : Ura M} (𝓛 : Logic 𝓤) (b : ℕ) wher
             done !;
       }
 
-  -- If `i` and `j` are different, then the slots `i` and `j` can be separated from the other slots
-  -- in the list `xs`, and all slots can later be put back together. In between, the contents of the
-  -- slots `i` and `j` may change.
+  -- Two different slots `i` and `j` can be separated from the other slots in `xs` and put back
+  -- later, possibly with new contents.
   pub two_slots : (o : ℕ) (xs : List (Slot E)) (i j : ℕ) → (i ≡ j → ⊥) → i < length xs
       → j < length xs → Two o xs i j
   two_slots o xs i j apart low low' = ⊎_elim (λ (p : i < j). in_order o xs i j p low')

@@ -1,6 +1,5 @@
--- These lemmas are about the definitions in specs/Slots.antt. `run` selects adjacent slots, `laid`
--- replaces slots, and `moved` moves items to other slots. `IsPacked s n` states that the first `n`
--- slots of the list `s` are filled, and that all other slots of `s` are empty.
+-- These lemmas are about lists of slots. `run` selects adjacent slots, `laid` replaces slots, and
+-- `moved` moves items. `IsPacked s n` states that exactly the first `n` slots of `s` are filled.
 use Rattle.std.proofs.Common.{◌⊎◌, ◌≡◌, ℕ, zero, suc, ◌+◌, ◌-◌, ◌<◌, ◌≤◌, List, [], ◌∷◌, ◌++◌, length, Some, None, refl, sym, ap, subst, ◌∙◌, arith, append_assoc}
 use Rattle.std.proofs.lemmas.List.{take-append-drop, drop-drop, set_at, get_or-append_right, get_or-drop, length-replicate, length-map, length-append, length-take, length-drop, take_at, drop_at, drop-replicate, replicate-append-replicate}
 use mathlib.Core.Logic.{inl, inr, ⊎_elim}
@@ -20,8 +19,8 @@ same_or_not i j =
     (λ (q : i ≤ j). inl (let e : i ≡ j = omega arith in e)) (order j i)) (order i j)
 
 module _ {T : Type 0} where
-  -- If `i` and `j` are the same index, then swapping the contents of the slots `i` and `j` of the
-  -- list `s` results in the same list as overwriting slot `i` with its own contents.
+  -- If `i ≡ j`, then swapping the contents of the slots `i` and `j` of `s` is the same as
+  -- overwriting slot `i` with its own contents.
   pub set-same : (s : List (Option T)) (i j : ℕ) → i ≡ j
       → set s i (slot s i) ≡ set (set s i (slot s j)) j (slot s i)
   set-same s i j same =
@@ -39,9 +38,8 @@ module _ {T : Type 0} where
   filled-within (x ∷ s) zero is = omega arith
   filled-within (x ∷ s) (suc i) is = let low = filled-within s i is in omega arith
 
-  -- Suppose that each of the slots `i..i + k` of the list `s` is filled. Then there is a list `xs`
-  -- of items such that `run i k s`, the list of these slots, is `full xs`: the slots hold the items
-  -- `xs`, in order.
+  -- If the slots `i..i + k` of the list `s` are filled, then there is a list `xs` of items with
+  -- `run i k s ≡ full xs`: these slots hold `xs`.
   pub full-run : (s : List (Option T)) (i k : ℕ) → i + k ≤ length s
       → ((j : ℕ) → i ≤ j → j < i + k → IsSome (slot s j)) → (xs : List T) × (run i k s ≡ full xs)
   full-run [] zero zero le filled = ([], refl)
@@ -56,8 +54,8 @@ module _ {T : Type 0} where
       (λ j p q. filled (suc j) (omega arith) (omega arith)) in
       (item.0 ∷ rest.0, λ n. item.1 n ∷ rest.1 n)
 
-  -- If each of the slots `i..i + k` of the list `s` is empty, then `run i k s`, the list of these
-  -- slots, is `empty k`: a list of `k` empty slots.
+  -- If the slots `i..i + k` of the list `s` are empty, then the list of these slots, `run i k s`,
+  -- is `empty k`.
   pub empty-run : (s : List (Option T)) (i k : ℕ) → i + k ≤ length s
       → ((j : ℕ) → i ≤ j → j < i + k → slot s j ≡ None) → run i k s ≡ empty k
   empty-run [] zero zero le bare = refl
@@ -70,14 +68,13 @@ module _ {T : Type 0} where
       λ n. bare zero (omega arith) (omega arith) n ∷ empty-run s zero k (omega arith)
       (λ j p q. bare (suc j) (omega arith) (omega arith)) n
 
-  -- `run i k s` is the list of the slots `i..i + k` of the list `s`. If `i + k ≤ length s`, then
-  -- `run i k s` consists of `k` slots.
+  -- If `i + k ≤ length s`, then `run i k s`, the list of the slots `i..i + k` of `s`, consists of
+  -- `k` slots.
   pub length-run : (s : List (Option T)) (i k : ℕ) → i + k ≤ length s → length (run i k s) ≡ k
   length-run s i k le = omega (arith, length-take k (drop i s), length-drop i s)
 
-  -- Replacing slots does not change the number of slots. `laid i ys s` is the list `s` with the
-  -- slots `i..i + length ys` replaced with `ys`. If `i + length ys ≤ length s`, then `laid i ys s`
-  -- is as long as `s`.
+  -- If `i + length ys ≤ length s`, then replacing slots of `s` with `ys` (`laid i ys s`) does not
+  -- change the length of the list.
   pub length-laid : (i : ℕ) (ys s : List (Option T)) → i + length ys ≤ length s
       → length (laid i ys s) ≡ length s
   length-laid i ys s le =
@@ -89,8 +86,8 @@ module _ {T : Type 0} where
         length-drop (i + length ys) s,
       )
 
-  -- If the slots `i..i + length ws` are filled, then `over s i ws` is `laid i (full ws) s`. Both
-  -- are the list `s` in which the items in these slots have been replaced with the items `ws`.
+  -- If the slots `i..i + length ws` are filled, then `over s i ws` is `laid i (full ws) s`: both
+  -- replace the items in these slots with `ws`.
   pub over-laid : (s : List (Option T)) (i : ℕ) (ws : List T) → i + length ws ≤ length s
       → ((j : ℕ) → i ≤ j → j < i + length ws → IsSome (slot s j)) → over s i ws ≡ laid i (full ws) s
   over-laid [] zero [] le held = refl
@@ -118,9 +115,8 @@ module _ {T : Type 0} where
   laid-none i s = ap (λ (k : ℕ). take i s ++ drop k s) (let e : i + 0 ≡ i = omega arith in
       e) ∙ take-append-drop i s
 
-  -- `laid i ys s` is the list `s` with the slots `i..i + length ys` replaced with `ys`. Suppose
-  -- that `k` is `i + length ys`, and that `k < length s`. If slot `k` of `laid i ys s` is then set
-  -- to `y`, the result is `laid i (ys ++ y ∷ []) s`: the list `s` with one more slot replaced.
+  -- If `k ≡ i + length ys` and `k < length s`, then setting slot `k` of `laid i ys s` to `y`
+  -- results in `laid i (ys ++ y ∷ []) s`.
   pub laid-one : (i : ℕ) (ys s : List (Option T)) (k : ℕ) (y : Option T) → k ≡ i + length ys
       → k < length s → set (laid i ys s) k y ≡ laid i (ys ++ y ∷ []) s
   laid-one i ys s k y e within =
@@ -138,8 +134,8 @@ module _ {T : Type 0} where
       (sym (append_assoc ys (y ∷ []) (drop (suc k) s)))
       ∙ ap (λ (n : ℕ). take i s ++ ((ys ++ y ∷ []) ++ drop n s)) long))))
 
-  -- `laid i ys s` is the list `s` with the slots `i..i + length ys` replaced with `ys`. If
-  -- `i ≤ length s`, then each slot of `s` whose index `k` is at least `i + length ys` is unchanged.
+  -- If `i ≤ length s` and `i + length ys ≤ k`, then replacing the slots `i..i + length ys` with
+  -- `ys` (`laid i ys s`) does not change slot `k`.
   pub slot-laid : (i : ℕ) (ys s : List (Option T)) (k : ℕ) → i ≤ length s → i + length ys ≤ k
       → slot (laid i ys s) k ≡ slot s k
   slot-laid i ys s k low past =
@@ -150,22 +146,21 @@ module _ {T : Type 0} where
       ∙ ap (λ (n : ℕ). slot s n)
       (let e : i + length ys + (k - i - length ys) ≡ k = omega arith in e)))
 
-  -- A list of slots is the concatenation of three parts: the slots before index `i`, the slots
-  -- `i..i + k`, and the slots from index `i + k` onward.
+  -- A list of slots is the concatenation of the slots before index `i`, the slots `i..i + k`, and
+  -- the slots from index `i + k` onward.
   pub parted-run : (s : List (Option T)) (i k : ℕ) → s ≡ take i s ++ (run i k s ++ drop (i + k) s)
   parted-run s i k =
       sym (take-append-drop i s)
       ∙ ap (λ (l : List (Option T)). take i s ++ l) (sym (take-append-drop k (drop i s))
       ∙ ap (λ (l : List (Option T)). run i k s ++ l) (drop-drop k i s))
 
-  -- `run i k s` consists of the `k` slots of the list `s` from index `i` onward. A run of `a + k`
-  -- slots from index `i` onward is the run of the first `a` of these slots, followed by the run of
-  -- the other `k` slots.
+  -- The run of `a + k` slots from index `i` onward is the run of the first `a` of these slots,
+  -- followed by the run of the other `k` slots.
   pub run-split : (s : List (Option T)) (i a k : ℕ) → run i (a + k) s ≡ run i a s ++ run (i + a) k s
   run-split s i a k = take-add a k (drop i s)
       ∙ ap (λ (l : List (Option T)). run i a s ++ take k l) (drop-drop a i s)
 
-  -- If `i ≡ length pre` and `length ys ≡ length old`, then `laid i ys` replaces `old` with `ys` in
+  -- If `i ≡ length pre`, and `ys` is as long as `old`, then `laid i ys` replaces `old` with `ys` in
   -- the list `pre ++ (old ++ post)`.
   pub laid-at : (i : ℕ) (pre ys old post : List (Option T)) → i ≡ length pre
       → length ys ≡ length old → laid i ys (pre ++ (old ++ post)) ≡ pre ++ (ys ++ post)
@@ -176,26 +171,24 @@ module _ {T : Type 0} where
       ∙ drop_at (pre ++ old) post (i + length ys) (length-append pre old ∙ omega arith) in
       λ m. take_at pre (old ++ post) i (sym e) m ++ (ys ++ rest m)
 
-  -- `run i k` selects the `k` slots from index `i` onward. If `i ≡ length pre` and `k ≡ length ys`,
-  -- then `run i k` selects `ys` from the list `pre ++ (ys ++ post)`.
+  -- If `i ≡ length pre` and `k ≡ length ys`, then `run i k` selects `ys` from the list
+  -- `pre ++ (ys ++ post)`.
   pub run-at : (i k : ℕ) (pre ys post : List (Option T)) → i ≡ length pre → k ≡ length ys
       → run i k (pre ++ (ys ++ post)) ≡ ys
   run-at i k pre ys post e n = ap (λ (l : List (Option T)). take k l)
       (drop_at pre (ys ++ post) i (sym e)) ∙ take_at ys post k (sym n)
 
   module _ (from to k : ℕ) where
-    -- `moved from to k s` is the list `s` after the contents of the slots `from..from + k` have
-    -- been moved to the slots `to..to + k`. Suppose that `ys` is the list of the slots
-    -- `from..from + k` of `s`, and that `bare` is `s` with these slots emptied. If `result` is
-    -- `bare` with the slots `to..to + length ys` replaced with `ys`, then `moved from to k s` is
+    -- If `ys` are the slots `from..from + k` of `s`, `bare` is `s` with these slots emptied, and
+    -- `result` is `bare` with `ys` written from index `to` onward, then `moved from to k s` is
     -- `result`.
     moved-by : (s ys bare result : List (Option T)) → run from k s ≡ ys → emptied from k s ≡ bare
         → laid to ys bare ≡ result → moved from to k s ≡ result
     unfolding moved
     moved-by s ys bare result e f g = (λ n. laid to (e n) (f n)) ∙ g
 
-  -- Moving items does not change the number of slots. If both `from + k` and `to + k` are at most
-  -- `length s`, then `moved from to k s` is as long as `s`.
+  -- If `from + k` and `to + k` are at most `length s`, then moving items (`moved from to k s`) does
+  -- not change the length of the list.
   pub length-moved : (from to k : ℕ) (s : List (Option T)) → from + k ≤ length s → to + k ≤ length s
       → length (moved from to k s) ≡ length s
   unfolding moved
@@ -207,9 +200,8 @@ module _ {T : Type 0} where
       length-laid to (run from k s) (emptied from k s)
       (omega (arith, left, length-run s from k source)) ∙ left
 
-  -- The order of two adjacent groups of empty slots does not matter: `a` empty slots, followed by
-  -- `k` empty slots and `post`, are the same list as `k` empty slots, followed by `a` empty slots
-  -- and `post`.
+  -- `a` empty slots, `k` empty slots and `post` form the same list as `k` empty slots, `a` empty
+  -- slots and `post`.
   empty-turn : (a k : ℕ) (post : List (Option T))
       → empty a ++ (empty k ++ post) ≡ empty k ++ (empty a ++ post)
   empty-turn a k post =
@@ -317,8 +309,7 @@ module _ {T : Type 0} where
         ∙ (laid-at from front (empty k) ys post l m ∙ joined (empty k ++ post)))
         (laid-at to pre ys (empty k) (mid ++ (empty k ++ post)) t (sym m))
 
-  -- Every slot in the list `empty k` is empty: for every index `i`, slot `i` of `empty k` is
-  -- `None`.
+  -- Slot `i` of the list `empty k` is `None` for every index `i`.
   pub slot-empty : (k i : ℕ) → slot (empty {T = T} k) i ≡ None
   slot-empty zero i = refl
   slot-empty (suc k) zero = refl
@@ -332,9 +323,8 @@ module _ {T : Type 0} where
   full-filled (x ∷ xs) rest (suc i) low =
       full-filled xs rest i (let low' : suc i < suc (length xs) = low in omega arith)
 
-  -- Suppose that `c ≡ a + b`, and that a list consists of filled slots with the items `xs`,
-  -- followed by `c` empty slots. Then the list also consists of the filled slots, followed by `a`
-  -- empty slots and then by `b` empty slots.
+  -- If `c ≡ a + b`, then `full xs` followed by `c` empty slots is `full xs` followed by `a` empty
+  -- slots and `b` empty slots.
   tail-split : (xs : List T) (a b c : ℕ) → c ≡ a + b
       → full xs ++ empty c ≡ (full xs ++ empty a) ++ empty b
   tail-split xs a b c e =
@@ -343,7 +333,7 @@ module _ {T : Type 0} where
       ∙ (ap (λ (l : Row). full xs ++ l) (sym (replicate-append-replicate a b None))
       ∙ sym (append_assoc (full xs) (empty a) (empty b)))
 
--- These lemmas are about a list `s` of slots. Exactly the first `n` of these slots are filled.
+-- In this module, exactly the first `n` slots of the list `s` are filled.
 module _ {T : Type 0} (s : List (Option T)) (n : ℕ) (packed : IsPacked s n) where
   abbrev xs : List T
   xs = items_in s
@@ -372,9 +362,8 @@ module _ {T : Type 0} (s : List (Option T)) (n : ℕ) (packed : IsPacked s n) wh
       subst (λ (l : Row). IsSome (slot l i)) (sym packed.row)
       (full-filled xs (empty (length s - length xs)) i (omega arith))
 
-  -- Suppose that exactly the first `n` slots of `s` are filled, and that `xs` is the list of all
-  -- items in `s`. Then `run 0 n s`, the list of these slots, is `full xs`: the slots hold the items
-  -- `xs`, in order.
+  -- If exactly the first `n` slots of `s` are filled, and they hold the items `xs`, then the list
+  -- of these slots, `run 0 n s`, is `full xs`.
   pub packed-run : run 0 n s ≡ full xs
   packed-run = ap (λ (l : Row). take n l) parted
       ∙ take_at (full xs) (empty (length s - n)) n full-long
@@ -383,8 +372,8 @@ module _ {T : Type 0} (s : List (Option T)) (n : ℕ) (packed : IsPacked s n) wh
   packed-rest = ap (λ (l : Row). drop n l) parted
       ∙ drop_at (full xs) (empty (length s - n)) n full-long
 
-  -- Suppose that exactly the first `n` slots of `s` are filled. If these slots are emptied, then
-  -- all slots of `s` are empty.
+  -- If exactly the first `n` slots of `s` are filled, then emptying them results in a list of empty
+  -- slots.
   pub packed-emptied : emptied 0 n s ≡ empty (length s)
   packed-emptied =
       let le = packed-le in
@@ -395,9 +384,8 @@ module _ {T : Type 0} (s : List (Option T)) (n : ℕ) (packed : IsPacked s n) wh
       ∙ (replicate-append-replicate n (length s - n) None
       ∙ ap (λ (k : ℕ). empty k) (let e : n + (length s - n) ≡ length s = omega arith in e)))
 
-  -- Suppose that exactly the first `n` slots of `s` are filled, and that they hold the items `xs`.
-  -- If these items are moved to the start of a list of `c` empty slots, then this list becomes
-  -- `full xs ++ empty (c - n)`: filled slots with the items `xs`, followed by `c - n` empty slots.
+  -- Suppose that exactly the first `n` slots of `s` are filled, with the items `xs`. Moving these
+  -- items to the start of `c` empty slots results in `full xs ++ empty (c - n)`.
   pub packed-carried : (c : ℕ) → laid 0 (run 0 n s) (empty c) ≡ full xs ++ empty (c - n)
   packed-carried c =
       let long : 0 + length (full xs) ≡ n = omega (arith, full-long) in
@@ -405,9 +393,9 @@ module _ {T : Type 0} (s : List (Option T)) (n : ℕ) (packed : IsPacked s n) wh
       ∙ (ap (λ (k : ℕ). full xs ++ drop k (empty c)) long ∙ ap (λ (l : Row). full xs ++ l)
       (drop-replicate n c None))
 
-  -- Suppose that exactly the first `n` slots of `s` are filled, and that `length s ≤ c`. If the
-  -- items in these `n` slots are moved to the start of a list of `c` empty slots, then this list
-  -- becomes `s`, followed by `c - length s` empty slots.
+  -- Suppose that exactly the first `n` slots of `s` are filled, and that `length s ≤ c`. Moving
+  -- their items to the start of `c` empty slots results in `s`, followed by `c - length s` empty
+  -- slots.
   pub packed-grown : (c : ℕ) → length s ≤ c
       → laid 0 (run 0 n s) (empty c) ≡ s ++ empty (c - length s)
   packed-grown c more =
@@ -415,9 +403,8 @@ module _ {T : Type 0} (s : List (Option T)) (n : ℕ) (packed : IsPacked s n) wh
       packed-carried c ∙ (tail-split xs (length s - n) (c - length s) (c - n) (omega arith)
       ∙ ap (λ (l : Row). l ++ empty (c - length s)) (sym parted))
 
-  -- Suppose that exactly the first `n` slots of `s` are filled, and that `n ≤ c ≤ length s`. If the
-  -- items in these `n` slots are moved to the start of a list of `c` empty slots, then this list
-  -- becomes the list of the first `c` slots of `s`.
+  -- Suppose that exactly the first `n` slots of `s` are filled, and that `n ≤ c ≤ length s`. Moving
+  -- their items to the start of `c` empty slots results in the first `c` slots of `s`.
   pub packed-shrunk : (c : ℕ) → n ≤ c → c ≤ length s → laid 0 (run 0 n s) (empty c) ≡ take c s
   packed-shrunk c enough less =
       let kept : Row = full xs ++ empty (c - n) in

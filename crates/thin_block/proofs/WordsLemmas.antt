@@ -1,11 +1,6 @@
 -- These arithmetic lemmas are about words. A word is a struct of 8 or 16 bytes that consists of
--- whole items. The lemmas say which item sizes allow words, and what the size and the alignment of
--- a word are.
---
--- - `InWords` states that `m` items of `s` bytes make a word, and that the header takes as many
---   bytes as `k` words.
--- - `words_told` says that `InWords` holds for the pair that `in_words` returns, if any.
--- - `nameless` says that `InWords` also holds for a type with all field names erased.
+-- whole items. `InWords` states that `m` items make a word, and that the header takes as many bytes
+-- as `k` words.
 use Rattle.std.proofs.Common.{◌≡◌, true, false, ℕ, Some, None, ◌+◌, ◌*◌, ◌<◌, ◌≤◌, refl, sym, ap, subst, arith}
 use Rattle.std.proofs.lemmas.Bool.{eqb-true}
 use Rattle.std.specs.Prelude.{◌==◌, if◌then◌else◌, Bool, Option, max}
@@ -28,13 +23,13 @@ use Rattle.std.specs.Option.{is_some}
 abbrev pub word_align : ℕ → ℕ
 word_align a = max a (max 8 1)
 
--- `word_size s a m` is the size in bytes of a word of `m` items. Each item has the size `s` and the
--- alignment `a`.
+-- `word_size s a m` is the size in bytes of a word of `m` items with the size `s` and the alignment
+-- `a`.
 abbrev pub word_size : ℕ → ℕ → ℕ → ℕ
 word_size s a m = up (word_align a) (up 8 (up a 0 + m * s) + 0 * 8)
 
--- If a word holds `m` items, then `c` items need `div_ceil c m` words. `Counts m` collects facts
--- about this number of words.
+-- `Counts m` collects facts about `div_ceil c m`, the number of words that `c` items need if a word
+-- holds `m` items.
 pub record Counts (m : ℕ) : Type 0 where
   pub some : 0 < m
   pub covers : (c : ℕ) → c ≤ div_ceil c m * m
@@ -43,8 +38,7 @@ pub record Counts (m : ℕ) : Type 0 where
   pub least : (n : ℕ) → n ≤ n * m
   pub few : (c : ℕ) → div_ceil c m ≤ c
 
--- A word holds 1, 2, 4 or 8 items. This lemma and the next three lemmas state that `Counts` holds
--- for these four numbers of items.
+-- This lemma and the next three lemmas state that `Counts` holds for words of 1, 2, 4 and 8 items.
 counts_1 : Counts 1
 counts_1 = record {
   some = omega arith;
@@ -85,18 +79,16 @@ counts_8 = record {
   few = λ c. omega arith;
 }
 
--- `Laid s a m k` collects facts about the size and the alignment of a word of `m` items, and about
--- the size of a block of words. A word is a struct of 8 or 16 bytes that consists of whole items.
--- Each item has the size `s` and the alignment `a`, and the header takes as many bytes as `k`
+-- `Laid s a m k` collects facts about the layout of words and of blocks of words. A word consists
+-- of `m` items with the size `s` and the alignment `a`, and the header takes as many bytes as `k`
 -- words.
 abbrev Laid : ℕ → ℕ → ℕ → ℕ → Type 0
 Laid s a m k = (word_size s a m ≡ m * s) × ((word_align a ≡ block_align a)
     × (Dv 8 (word_align a) × (Dv a (word_align a)
     × ((c : ℕ) → (k + div_ceil c m) * (m * s) ≡ block_bytes s a c))))
 
--- This lemma and the next four lemmas are about items of 1, 2, 4, 8 and 16 bytes. The alignment of
--- an item is `bytes w`, which is the number of bytes of a width `w`. If this alignment divides the
--- size of the item, then `Laid` holds for words of these items.
+-- This lemma and the next four lemmas are about words of items of 1, 2, 4, 8 and 16 bytes. `Laid`
+-- holds if the alignment `bytes w` divides the item size.
 laid_1 : (w : Width) → Dv (bytes w) 1 → Laid 1 (bytes w) 8 2
 laid_1 w8 d = (refl, (refl, (tt, (tt, λ c. omega arith))))
 laid_1 w16 d = absurd d
@@ -132,8 +124,8 @@ laid_16 w32 d = (refl, (refl, (tt, (tt, λ c. omega arith))))
 laid_16 w64 d = (refl, (refl, (tt, (tt, λ c. omega arith))))
 laid_16 w128 d = (refl, (refl, (tt, (tt, λ c. omega arith))))
 
--- `InWords s a m k` holds if `m` items with the size `s` and the alignment `a` make a word, and the
--- header takes as many bytes as `k` words.
+-- `InWords s a m k` holds if `m` items with the size `s` and the alignment `a` make a word, and `k`
+-- words take as many bytes as the header.
 pub record InWords (s a m k : ℕ) : Type 0 where
   pub counts : Counts m
   pub size : word_size s a m ≡ m * s
@@ -168,27 +160,21 @@ abbrev pair : Option (ℕ × ℕ) → ℕ × ℕ
 pair None = (0, 0)
 pair (Some p) = p
 
--- `AtAny s m k` states that, for every alignment that divides the item size `s`, `m` items make a
--- word, and the header takes as many bytes as `k` words. If `AtAny` holds for the size `t` and the
--- two numbers in the pair `p`, then `AtAny` also holds for an equal size `s` and the two numbers in
--- an equal pair `q`.
+-- If `AtAny` holds for the item size `t` and the pair `p`, and if `s ≡ t` and `p ≡ q`, then `AtAny`
+-- also holds for `s` and `q`.
 at_size : (s t : ℕ) (p q : ℕ × ℕ) → s ≡ t → ◌≡◌ {A = Option (ℕ × ℕ)} (Some p) (Some q)
     → AtAny t p.0 p.1 → AtAny s q.0 q.1
 at_size s t p q es e all =
     subst (λ (x : ℕ × (ℕ × ℕ)). AtAny x.0 x.1.0 x.1.1) (λ i. (sym es i, pair (e i))) all
 
--- `tested x y z u v` is the result of `in_words` for an item size. The booleans `x`, `y`, `z`, `u`
--- and `v` say whether this size is 1, 2, 4, 8 or 16, in this order. If the result is a pair, it
--- contains two numbers: the number of items that make a word, and the number of words that take as
--- many bytes as the header.
+-- `tested x y z u v` is the result of `in_words` for an item size. The booleans say whether this
+-- size is 1, 2, 4, 8 or 16, in this order.
 abbrev tested : Bool → Bool → Bool → Bool → Bool → Option (ℕ × ℕ)
 tested x y z u v = if x then Some (8, 2) else (if y then Some (4, 2) else
     (if z then Some (2, 2) else (if u then Some (1, 2) else (if v then Some (1, 1) else None))))
 
--- The booleans `x`, `y`, `z`, `u` and `v` say whether the item size `s` is 1, 2, 4, 8 or 16, in
--- this order. Suppose that `tested x y z u v`, which is the result of `in_words` for the size `s`,
--- is the pair `q`. Then `AtAny s q.0 q.1` holds: for every alignment that divides `s`, `q.0` items
--- of size `s` make a word, and the header takes as many bytes as `q.1` words.
+-- Suppose that the booleans say whether the item size `s` is 1, 2, 4, 8 or 16, in this order. If
+-- `tested x y z u v` is the pair `q`, then `AtAny s q.0 q.1` holds.
 by_test : (x y z u v : Bool) (s : ℕ) (q : ℕ × ℕ) → (s == 1) ≡ x → (s == 2) ≡ y → (s == 4) ≡ z
     → (s == 8) ≡ u → (s == 16) ≡ v → tested x y z u v ≡ Some q → AtAny s q.0 q.1
 by_test true y z u v s q ex ey ez eu ev e =
@@ -208,9 +194,8 @@ by_test false false false false true s q ex ey ez eu ev e =
     (λ w d. in_words_by 16 (bytes w) 1 1 counts_1 (omega arith) refl (laid_16 w d))
 by_test false false false false false s q ex ey ez eu ev e = absurd (clash (ap is_some e))
 
--- A word is a struct of 8 or 16 bytes that consists of whole items. If `in_words (type_size R)` is
--- `Some (m, k)`, then `InWords` holds for the size and the alignment of the type `R`: `m` items of
--- this type make a word, and the header takes as many bytes as `k` words.
+-- If `in_words` is `Some (m, k)` for the size of the type `R`, then `m` items of this type make a
+-- word, and the header takes as many bytes as `k` words (`InWords`).
 pub words_told : (R : RattleType) (m k : ℕ) → in_words (type_size R) ≡ Some (m, k)
     → InWords (type_size R) (type_align R) m k
 words_told R m k e =
@@ -221,9 +206,7 @@ words_told R m k e =
     subst (λ (a : ℕ). InWords s a m k) (sym known)
     (at_width (align_w (layout R)) (subst (λ (a : ℕ). Dv a s) known (align_size (layout R))))
 
--- `InWords` states that `m` items of a type make a word, and that the header takes as many bytes as
--- `k` words. If `InWords` holds for the type `τ`, then it also holds for `τ` with all field names
--- erased.
+-- If `InWords` holds for the type `τ`, then it also holds for `τ` with all field names erased.
 pub nameless : (τ : Ty) (m k : ℕ) → InWords (size τ) (align τ) m k
     → InWords (size (raw τ)) (align (raw τ)) m k
 nameless τ m k h = subst (λ (p : ℕ × ℕ). InWords p.0 p.1 m k)

@@ -1,5 +1,5 @@
--- Each iteration of the loop in `add_row` adds one number of a row of `other` to the matrix. So
--- after the loop, all numbers of this row have been added.
+-- Each iteration of the loop in `add_row` adds one number of a row of `other`. So after the loop,
+-- all numbers of this row have been added.
 use Rattle.std.proofs.Common.{◌≡◌, ap, arith, length, ◌∙◌}
 use Rattle.std.specs.Prelude.{slice_index_or}
 use Rattle.thin_rows.specs.Table.{row_of}

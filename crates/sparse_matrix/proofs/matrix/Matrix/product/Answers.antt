@@ -1,5 +1,5 @@
--- `row_product` sums only over the entries of a row. This sum equals `dot`, which is the sum over
--- all columns, because the number at a column without an entry is 0.
+-- `row_product` sums over the entries of a row, and `dot` sums over all columns. Both sums are
+-- equal, because a column without an entry contributes 0.
 use Rattle.std.proofs.Common.{◌≡◌, ℕ, ◌<◌, ◌-◌, ◌^◌, ap, arith, length, min, slice_index, slice_index_or, ◌∙◌}
 use Rattle.std.proofs.lemmas.Grind.{common_steps, elements}
 use Rattle.thin_rows.specs.Table.{row_of}

@@ -1,5 +1,5 @@
--- Each iteration of the loop in `set_column` writes one number of a row of `other` to one column of
--- the matrix. So after the loop, all numbers of this row have been written.
+-- Each iteration of the loop in `set_column` writes one number of a row of `other`. So after the
+-- loop, all numbers of this row have been written.
 use Rattle.std.proofs.Common.{◌≡◌, ap, arith, length, sym, ◌∙◌}
 use Rattle.thin_rows.specs.Table.{row_of}
 use Rattle.sparse_matrix.specs.Numbers.{number_at}
