@@ -1,5 +1,5 @@
 -- This file computes the size of a block in bytes, and defines when a block is small enough to be
--- allocated. In this file, `s` and `a` are the size and the alignment of an item, in bytes.
+-- allocated. `s` and `a` are the size and the alignment of an item in bytes.
 use Rattle.std.specs.Prelude.{◌≡◌, ℕ, ◌+◌, ◌*◌, ◌-◌, ◌^◌, ◌&&◌, ◌==◌, Bool, IsTrue, Option, if◌then◌else◌, max, nat_lt}
 use Rattle.std.specs.declared.option.Option.TheVariants.{Some, None}
 use Rattle.std.specs.Int.{next_multiple_of}
@@ -13,30 +13,29 @@ use denote.RattleType.{RattleType}
 abbrev pub IsAlign : ℕ → Type 0
 IsAlign a = (w : Width) × (a ≡ bytes w)
 
--- `items_offset a` is the offset in bytes of the first item in a block whose items have the
--- alignment `a`. Two words of 8 bytes, and padding if necessary, precede the first item.
+-- `items_offset a` is the offset in bytes of the first item of a block, if the items have the
+-- alignment `a`. The header, and padding if necessary, precede this item.
 abbrev pub items_offset : ℕ → ℕ
 items_offset a = max 16 a
 
 -- `block_align a` is the alignment in bytes of a block whose items have the alignment `a`. It is at
--- least 8, because a block begins with words of 8 bytes.
+-- least 8, because the header consists of words of 8 bytes.
 abbrev pub block_align : ℕ → ℕ
 block_align a = max 8 a
 
--- `block_bytes s a c` is the size in bytes of a block for `c` items of size `s` and alignment `a`.
--- The size is rounded up to a multiple of the alignment of the block.
+-- `block_bytes s a c` is the size in bytes of a block for `c` items of size `s` and alignment `a`,
+-- rounded up to a multiple of the block's alignment.
 abbrev pub block_bytes : ℕ → ℕ → ℕ → ℕ
 block_bytes s a c = next_multiple_of (items_offset a + c * s) (block_align a)
 
--- `is_small s a c` is true if neither the capacity `c` nor the size in bytes of a block for `c`
--- items exceeds `isize::MAX`. The size and the alignment of an item are `s` and `a`. In std,
--- `Layout::from_size_align` sets the same limit on sizes.
+-- `is_small s a c` is true if neither `c` nor the size in bytes of a block for `c` items of size
+-- `s` and alignment `a` exceeds `isize::MAX`. std's `Layout::from_size_align` sets the same limit
+-- on sizes.
 abbrev pub is_small : ℕ → ℕ → ℕ → Bool
 is_small s a c = nat_lt c (2 ^ 63) && nat_lt (block_bytes s a c) (2 ^ 63)
 
 -- `fits s a c` is true if a block for `c` items of size `s` and alignment `a` is small enough to be
--- allocated. Its value is `is_small s a c`, but the prover does not unfold the definition of `fits`
--- unless a proof asks for this.
+-- allocated. The prover unfolds this definition only on request.
 unfoldable pub fits : ℕ → ℕ → ℕ → Bool
 fits s a c = is_small s a c
 
@@ -44,16 +43,14 @@ fits s a c = is_small s a c
 abbrev pub Fits : RattleType → ℕ → Type 0
 Fits R c = IsTrue (fits (type_size R) (type_align R) c)
 
--- Suppose that an item takes `s` bytes. Then `first s` is the capacity that the rule `Doubling`
--- chooses for the first block of a list, unless the list needs room for more than `first s` items.
--- In that case, the rule chooses a greater capacity. `first s` is 1 if `s` exceeds
--- `usize::MAX / 8`, and 4 otherwise, as in the Rust crate thin-vec.
+-- `first s` is the first capacity that `Doubling` chooses for a list of items of `s` bytes, unless
+-- more room is required. It is 1 if `s` exceeds `usize::MAX / 8`, and 4 otherwise, as in the Rust
+-- crate thin-vec.
 unfoldable pub first : ℕ → ℕ
 first s = if nat_lt (2 ^ 61 - 1) s then 1 else 4
 
 -- `in_words s` is `Some (m, k)` if `m` items of `s` bytes form one word, and `k` words are as large
--- as the header of 16 bytes. Items of 1, 2, 4 or 8 bytes form words of 8 bytes, and an item of 16
--- bytes is itself a word. For every other size, `in_words s` is `None`.
+-- as the header. It is `None` for all sizes except 1, 2, 4, 8 and 16.
 abbrev pub in_words : ℕ → Option (ℕ × ℕ)
 in_words s = if s == 1 then Some (8, 2) else (if s == 2 then Some (4, 2) else
     (if s == 4 then Some (2, 2) else (if s == 8 then Some (1, 2) else

@@ -1,20 +1,18 @@
--- The record `Cost` counts requests for memory, copies of items, and moves of items. These counts
--- are unbounded and exist only in proofs: the program does not store them.
+-- The record `Cost` counts requests for memory, copied items and moves of items. The counts exist
+-- only in proofs, and are unbounded.
 use Rattle.std.specs.Prelude.{ℕ, ◌+◌, refl}
 use Rattle.std.specs.Coded.{Coded, code_by, coded×, coded_ℕ}
 
--- `Cost` consists of three counts of the work that has been done on a block since the block was
--- created.
+-- `Cost` counts the work that has been done on a block since the block was created.
 pub record Cost : Type 0 where
-  -- The number of requests for memory that the allocator granted. A request allocates memory, or
-  -- changes the size of an allocation.
+  -- The number of granted requests for memory. A request allocates memory, or changes the size of
+  -- an allocation.
   pub blocks : ℕ
-  -- The number of items that reallocations have copied. At each reallocation, every item of the
-  -- block counts as copied, even if the address of the block does not change.
+  -- The number of items that reallocations have copied. Each reallocation counts every item of the
+  -- block, even if the address of the block does not change.
   pub grown : ℕ
-  -- The number of times that an item was moved into the block or within the block. Putting a clone
-  -- into the block counts as one move, and so does exchanging two items. Taking an item out of the
-  -- block does not count.
+  -- The number of times that an item was moved into the block or within the block. Inserting a
+  -- clone and exchanging two items count as one move each. Taking an item out does not count.
   pub moves : ℕ
 
 -- `cost_code` encodes a value of the type `Cost` as a tuple of its three counts. The ghost field

@@ -1,6 +1,6 @@
--- The following modules contain the definitions that contracts use, and the proofs that the growth
--- rules satisfy their law. The module `formers` contains the type former of `Block`. This type
--- former states which values of the type `T` a block of the type `Block<T, A>` contains.
+-- The definitions that contracts use, and proofs that the growth rules satisfy their law. The
+-- module `formers` contains the type former of `Block`, which states which values of `T` a
+-- `Block<T, A>` contains.
 pub mod Capacity
 pub mod Growth
 pub mod GrowthLaws

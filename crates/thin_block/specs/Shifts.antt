@@ -4,9 +4,8 @@ use Rattle.std.specs.Prelude.{◌≡◌, ℕ, Bool, true, false}
 use Rattle.core.specs.Ptr.{Ptr, ptr_add}
 use denote.RattleType.{RattleType}
 
--- Suppose that `up` is true. Then `IsShifted R up d source target` holds if the pointer `target` is
--- `d` items of the type `R` above the pointer `source`. If `up` is false, it holds if `target` is
--- `d` items below `source`.
+-- `IsShifted R up d source target` holds if the pointer `target` is `d` items of the type `R` above
+-- `source`, or, if `up` is false, `d` items below `source`.
 abbrev pub IsShifted : RattleType → Bool → ℕ → Ptr → Ptr → Type 0
 IsShifted R true d source target = target ≡ ptr_add R d source
 IsShifted R false d source target = source ≡ ptr_add R d target

@@ -4,7 +4,7 @@ use Rattle.std.specs.Prelude.{◌≡◌, ℕ, ◌+◌, ◌-◌, ◌<◌, ◌≤�
 use Rattle.std.specs.declared.option.Option.TheVariants.{Some, None}
 
 module _ {T : Type 0} where
-  -- `full xs` is a row of slots that hold the items of `xs`, in order.
+  -- `full xs` is the row of filled slots that contain the items of `xs`, in order.
   abbrev pub full : List T → List (Option T)
   full xs = map Some xs
 
@@ -17,27 +17,27 @@ module _ {T : Type 0} where
   abbrev pub slot : List (Option T) → ℕ → Option T
   slot s i = slice_index_or s i None
 
-  -- `AreFilled s i k` holds if each of the `k` slots `i..i + k` of the row `s` holds an item.
+  -- `AreFilled s i k` holds if the slots `i..i + k` of the row `s` are filled.
   abbrev pub AreFilled : List (Option T) → ℕ → ℕ → Type 0
   AreFilled s i k = (j : ℕ) → i ≤ j → j < i + k → IsSome (slot s j)
 
-  -- `AreEmpty s i k` holds if each of the `k` slots `i..i + k` of the row `s` is empty.
+  -- `AreEmpty s i k` holds if the row `s` has no item in the slots `i..i + k`.
   abbrev pub AreEmpty : List (Option T) → ℕ → ℕ → Type 0
   AreEmpty s i k = (j : ℕ) → i ≤ j → j < i + k → slot s j ≡ None
 
-  -- `items_in s` is the list of the items in the row `s` of slots, in order.
+  -- `items_in s` is the list of the items in the row `s`, in order.
   abbrev pub items_in : List (Option T) → List T
   items_in [] = []
   items_in (None ∷ s) = items_in s
   items_in (Some x ∷ s) = x ∷ items_in s
 
-  -- If `xs` has at most `c` items, `front xs c` is a row of `c` slots. The first slots hold the
-  -- items of `xs`, and the other slots are empty.
+  -- `front xs c` is a row of `c` slots. The first slots contain the items of `xs`, and the other
+  -- slots are empty. The list `xs` must have at most `c` items.
   abbrev pub front : List T → ℕ → List (Option T)
   front xs c = full xs ++ empty (c - length xs)
 
-  -- `IsPacked s n` holds if each of the first `n` slots of the row `s` holds an item, and all other
-  -- slots of `s` are empty.
+  -- `IsPacked s n` holds if the first `n` slots of the row `s` are filled, and all other slots are
+  -- empty.
   pub record IsPacked (s : List (Option T)) (n : ℕ) : Type 0 where
     pub row : s ≡ front (items_in s) (length s)
     pub len : n ≡ length (items_in s)
@@ -56,7 +56,6 @@ module _ {T : Type 0} where
   emptied i k s = laid i (empty k) s
 
   -- `moved from to k s` is the row `s` after the contents of the slots `from..from + k` have been
-  -- moved to the slots `to..to + k`. The slots of the first range that are not in the second range
-  -- are then empty.
+  -- moved to the slots `to..to + k`. Old slots that are not among the new slots are empty.
   unfoldable pub moved : ℕ → ℕ → ℕ → List (Option T) → List (Option T)
   moved from to k s = laid to (run from k s) (emptied from k s)

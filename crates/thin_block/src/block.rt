@@ -1,5 +1,5 @@
-//! Defines the type `Block`, a pointer to an allocation that holds a capacity, a length and slots
-//! for items.
+//! The type `Block`, a pointer to an allocation that contains a capacity, a length and slots for
+//! items.
 ghost use Rattle.std.specs.Prelude.{◌≡◌, ℕ, ◌^◌, ◌<◌, ◌≤◌, List, [], length, Option};
 ghost use Rattle.std.specs.declared.option.Option.TheVariants.{None};
 ghost use Rattle.std.specs.Coded.{coded_list, coded_option};
@@ -18,25 +18,26 @@ static NO_BLOCK: Header = Header {
     aligned: [],
 };
 
-// A header holds a capacity and a length. The empty array `aligned` takes no memory. It raises the
-// alignment of the header, so that items of any alignment can follow the header.
+// The capacity and the length of a block. The empty array `aligned` takes no memory, but gives the
+// header an alignment that suffices for items of any type.
 struct Header {
     cap: usize,
     len: usize,
     aligned: [u128; 0],
 }
 
-/// A pointer to an allocation that holds a capacity, a stored length, and slots. The capacity is
-/// the number of slots. Each slot is empty or holds an item. A block without an allocation has no
+/// A pointer to an allocation that contains a capacity, a stored length, and slots. The capacity is
+/// the number of slots. A slot is empty or contains an item. A block without an allocation has no
 /// slots, and its length is 0.
 ///
-/// A block is one pointer wide. It cannot be dropped: the caller must empty every slot and then
-/// call `release`, which frees the memory. Contracts mention the slots, the stored length, the
-/// allocator that the memory came from, and three counters. Of these, only the slots and the stored
-/// length exist at run time.
+/// A block cannot be dropped: the caller must empty every slot and then call `release`, which frees
+/// the memory.
+///
+/// Contracts also mention the allocator that the memory came from and three counters, which the
+/// block does not store.
 pub struct Block<T, A: Allocator> {
-    // This pointer points to the capacity. The length and then the slots follow the capacity in
-    // memory. If the block has no allocation, the pointer points to `NO_BLOCK`.
+    // A pointer to the capacity. The length and then the slots follow the capacity in memory. If
+    // the block has no allocation, this is a pointer to `NO_BLOCK`.
     pub(crate) at: *mut usize,
     pub(crate) item: PhantomData<T>,
     pub(crate) handle: PhantomData<A>,
@@ -53,20 +54,19 @@ impl<T, A: Allocator> Model for Block<T, A> {
     ghost also_shares = { λ b _ κ. block_lent T.row b.at b.len b.slots b.alloc κ };
 }
 
-// A block is the only owner of its allocation. Blocks without an allocation share the static
-// header, and no code ever writes to this header. So a block is `Send` if its items and its
-// allocator are `Send`.
+// A block is the only owner of its allocation, and no code writes to the static header that blocks
+// without an allocation share. So a block is `Send` if its items and its allocator are `Send`.
 unsafe impl<T: Send, A: Allocator + Send> Send for Block<T, A> {}
 
-// Code that uses a `&` to a block only reads the header and the items. So a block is `Sync` if its
-// items and its allocator are `Sync`.
+// A shared reference to a block is used only to read the header and the items. So a block is `Sync`
+// if its items and its allocator are `Sync`.
 unsafe impl<T: Sync, A: Allocator + Sync> Sync for Block<T, A> {}
 
 impl<T, A: Allocator> Block<T, A> {
     ghost use Rattle.thin_block.specs.Block.{seen};
 
-    /// Returns a block without an allocation. The block has no slots, its length is 0, and there is
-    /// no memory to free.
+    /// Returns a block without an allocation. It has no slots and no memory that must be freed, and
+    /// its length is 0.
     pub fn none() -> Block<T, A>
         ensures new { seen result ≡ record {
           slots = [];
@@ -115,8 +115,8 @@ impl<T, A: Allocator> Block<T, A> {
         }
     }
 
-    /// Sets the stored length to `len`. Unlike `set_len`, this function does not test whether the
-    /// block has an allocation. The block must have one.
+    /// Sets the stored length to `len`. The block must have an allocation. Unlike `set_len`, this
+    /// function does not test whether it has one.
     pub fn store_len(&mut self, len: usize)
         requires block { 0 < length self.old.slots }
         requires in_bounds { len ≤ length self.old.slots }

@@ -1,4 +1,4 @@
-//! Defines the error type `ThinVecError`, which says why a call failed.
+//! The error type `ThinVecError`, which says why a call failed.
 ghost use Rattle.std.specs.IoError.{error_kind};
 ghost use Rattle.std.specs.Prelude.{◌≡◌};
 ghost use Rattle.std.specs.declared.io.ErrorKind.TheVariants as Kind;
@@ -12,10 +12,10 @@ use thiserror::Error;
 /// The reason why a call to a method of a list failed.
 #[derive(Debug, Clone, Copy, PartialEq, Eq, Error)]
 pub enum ThinVecError {
-    /// The call needed a capacity that is too large. It did not request memory for this capacity.
+    /// The required capacity is too large. No memory was requested for it.
     #[error("capacity overflow")]
     CapacityOverflow,
-    /// The allocator failed, or cloning an item failed.
+    /// The allocator failed, or an item could not be cloned.
     #[error("out of memory")]
     OutOfMemory,
 }
@@ -29,7 +29,7 @@ impl From<AllocError> for ThinVecError {
 }
 
 impl From<ThinVecError> for AllocError {
-    // The cause of the error is lost, because `AllocError` has no field for the cause.
+    // The cause is lost, because `AllocError` has no field for it.
     fn from(_cause: ThinVecError) -> AllocError {
         AllocError
     }
@@ -38,8 +38,8 @@ impl From<ThinVecError> for AllocError {
 impl From<ThinVecError> for io::Error {
     ghost from_gives = { λ _ error. error_kind error ≡ Kind.OutOfMemory };
 
-    // Both variants of `ThinVecError` are converted into `ErrorKind::OutOfMemory`, because std has
-    // no `ErrorKind` for a capacity overflow.
+    // Both variants become `ErrorKind::OutOfMemory`, because std has no `ErrorKind` for a capacity
+    // overflow.
     fn from(_cause: ThinVecError) -> io::Error {
         io::Error::from(ErrorKind::OutOfMemory)
     }

@@ -1,8 +1,6 @@
-//! Resizes a block with the methods `grow` and `shrink` of the allocator. These methods may leave
-//! the block at its address, but they can resize only arrays. So the block is converted into an
-//! array of words before the call, and back into a block after the call. A word is a value of 8 or
-//! 16 bytes that consists of one or more items. The conversion is possible only if the items of the
-//! block form whole words.
+//! Methods that resize a block with the allocator's `grow` and `shrink`, which may leave the block
+//! at its address. The block is first converted into an array of words of 8 or 16 bytes, because
+//! these methods resize only arrays.
 ghost use Rattle.std.specs.Prelude.{◌≡◌, ◌+◌, ◌*◌, ◌/◌, ◌<◌, ◌≤◌, IfErr, IfOk, List, OnErr, OnOk, length};
 ghost use Rattle.std.specs.declared.option.Option.TheVariants.{Some};
 ghost use Rattle.std.specs.Int.{div_ceil};
@@ -21,14 +19,12 @@ use std::alloc::{AllocError, Allocator};
 use std::marker::PhantomData;
 use std::mem::{ManuallyDrop, replace};
 
-// The minimum number of words of 8 bytes that the items of a block must form so that the block is
-// resized in place. If the items form at least `LONG` words, the allocator resizes the block, and
-// may leave the items at their address. If they form fewer words, allocating a new block is
-// cheaper.
+// The least total size of the items, in words of 8 bytes, for which `grow` or `shrink` of the
+// allocator resizes a block. For fewer words, allocating a new block is cheaper.
 pub(crate) const LONG: usize = 32;
 
-// Resizes an allocation from `held` to `wanted` values of the type `T`. Calls `alloc.grow` if
-// `wanted` is greater than `held`, and `alloc.shrink` otherwise.
+// Resizes an allocation from `held` to `wanted` values of the type `T`, of which `len` are
+// initialized, with `alloc.grow` or `alloc.shrink`.
 unsafe fn resized<T, A: Allocator>(
     alloc: &A,
     start: *mut T,
@@ -54,9 +50,9 @@ impl<T, A: Allocator> Block<T, A> {
     ghost use Rattle.thin_block.specs.Block.{IsFrom, seen};
 
     // Resizes the block to `cap` slots, and may leave the items at their address. `M` items form a
-    // word, and the header is as large as `K` words. `len` is the length of the block, and must be
-    // a multiple of `M` and at least `K * M`. The call fails only if the allocator fails. In this
-    // case, the block is unchanged.
+    // word, and `K` words are as large as the header. `len` is the length of the block, a multiple
+    // of `M` and at least `K * M`. Fails only if the allocator fails, and then leaves the block
+    // unchanged.
     #[cold]
     pub(crate) fn remake_in_place<const M: usize, const K: usize>(
         &mut self,
@@ -106,14 +102,13 @@ impl<T, A: Allocator> Block<T, A> {
         grown
     }
 
-    // Returns this block with `cap` slots and the same items. `M` items form a word, and the header
-    // is as large as `K` words. The items form `count` words, and `count` is at least `K`.
+    // Returns this block with `cap` slots and the same items, or the unchanged block if the
+    // allocator fails. `M` items form a word, and `K` words are as large as the header. The items
+    // form `count` words, and `K <= count`.
     //
-    // The function converts the items into words, and stores the last `K` words in the memory of
-    // the header until the allocator returns. In this way, the memory of the block begins with an
-    // array of `count` words, which the allocator can grow or shrink. The block has room for `held`
-    // words before the call to the allocator, and for `wanted` words after this call. The function
-    // fails only if the allocator fails. In this case, it returns the block unchanged.
+    // The items are converted into words, and the last `K` words are stored in the header until the
+    // allocator returns. So the memory begins with an array of `count` words, which the allocator
+    // resizes from `held` to `wanted` words.
     fn resize_words<const M: usize, const K: usize>(
         self,
         alloc: &A,

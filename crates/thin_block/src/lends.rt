@@ -1,4 +1,4 @@
-//! Returns references to the items of a block: either to one item, or to a slice of adjacent items.
+//! Methods that return a reference to one item of a block, or to a slice of adjacent items.
 ghost use Rattle.std.specs.Prelude.{◌≡◌, ℕ, ◌<◌, ◌≤◌, IsSome, length, slice_range};
 ghost use Rattle.std.specs.declared.option.Option.TheVariants.{Some};
 ghost use types.Logic.{sem};
@@ -11,8 +11,8 @@ use std::alloc::Allocator;
 impl<T, A: Allocator> Block<T, A> {
     ghost use Rattle.thin_block.specs.Lends.{LendsItem, LendsItems};
 
-    /// Returns the items in the slots `start..end` as a slice. The range `start..end` may be empty,
-    /// even if the block has no allocation.
+    /// Returns the items in the slots `start..end` as a slice. The range may be empty, even if the
+    /// block has no allocation.
     pub fn slice(&self, start: usize, end: usize) -> &[T]
         requires start_le_end { start ≤ end }
         requires in_bounds { end ≤ length self.now.slots }
@@ -26,8 +26,7 @@ impl<T, A: Allocator> Block<T, A> {
         }
     }
 
-    /// Returns a mutable reference to the item in slot `i`. A value that the caller writes through
-    /// the reference replaces the item in the slot.
+    /// Returns a mutable reference to the item in slot `i`.
     pub fn slot_mut(&mut self, i: usize) -> &mut T
         requires filled { IsSome (slot self.old.slots i) }
         ensures* writes_back { sem 𝓛 (LendsItem T.row A.row A.Allocator self.entry i result) }
@@ -37,9 +36,8 @@ impl<T, A: Allocator> Block<T, A> {
         unsafe { &mut *(at.add(HEADER_WORDS) as *mut T).add(i) }
     }
 
-    /// Returns the items in the slots `start..end` as a mutable slice. Values that the caller
-    /// writes to the slice replace the items in the slots. The range `start..end` may be empty,
-    /// even if the block has no allocation.
+    /// Returns the items in the slots `start..end` as a mutable slice. The range may be empty, even
+    /// if the block has no allocation.
     pub fn slice_mut(&mut self, start: usize, end: usize) -> &mut [T]
         requires start_le_end { start ≤ end }
         requires in_bounds { end ≤ length self.old.slots }

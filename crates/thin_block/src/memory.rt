@@ -1,4 +1,4 @@
-//! Allocates, grows, shrinks and frees whole blocks.
+//! Methods that allocate, grow, shrink and free whole blocks.
 ghost use Rattle.std.specs.Prelude.{◌≡◌, ◌-◌, ◌++◌, ◌<◌, ◌≤◌, [], take, IfErr, IfOk, OnErr, OnOk, length};
 ghost use Rattle.std.specs.declared.option.Option.TheVariants.{Some};
 ghost use Rattle.std.specs.Mem.{type_size};
@@ -18,8 +18,7 @@ use std::mem::{ManuallyDrop, replace};
 impl<T, A: Allocator> Block<T, A> {
     ghost use Rattle.thin_block.specs.Block.{IsFrom, seen};
 
-    /// Allocates a block of `cap` empty slots with one request for memory. The stored length of the
-    /// block is 0.
+    /// Allocates a block of `cap` empty slots with one request for memory. Its stored length is 0.
     ///
     /// # Errors
     ///
@@ -50,7 +49,7 @@ impl<T, A: Allocator> Block<T, A> {
     ///
     /// # Errors
     ///
-    /// Fails with `OutOfMemory` if the allocator fails. In this case, the block is unchanged.
+    /// Fails with `OutOfMemory` if the allocator fails. The block is then unchanged.
     #[inline(always)]
     pub fn grow(&mut self, alloc: &A, cap: usize) -> Result<(), ThinVecError>
         requires from { IsFrom self.old.alloc alloc.now }
@@ -75,17 +74,16 @@ impl<T, A: Allocator> Block<T, A> {
         self.resize(alloc, cap)
     }
 
-    // Sets the ghost counters of this block to the counters of the block `from`, but adds 1 to the
-    // count of requests for memory, and `from.len()` to the count of copied items. At run time,
-    // this function does nothing.
+    // Sets the ghost counters of this block to those of the block `from`, plus one request for
+    // memory and `from.len()` copied items. At run time, this function does nothing.
     fn charge_as(&mut self, from: &Block<T, A>)
         ensures changes { seen self.new ≡ record (seen self.old) {
           cost = growing from.now.len from.now.cost;
         } }
     {}
 
-    // Allocates `cap` slots for a block that has no allocation. Nothing is copied, and nothing is
-    // freed. The call fails only if the allocator fails. In this case, the block is unchanged.
+    // Allocates `cap` slots for a block that has no allocation. Fails only if the allocator fails,
+    // and then leaves the block unchanged.
     fn begin(&mut self, alloc: &A, cap: usize) -> Result<(), ThinVecError>
         requires none { self.old.slots ≡ [] }
         requires some { 0 < cap }
@@ -110,7 +108,7 @@ impl<T, A: Allocator> Block<T, A> {
     ///
     /// # Errors
     ///
-    /// Fails with `OutOfMemory` if the allocator fails. In this case, the block is unchanged.
+    /// Fails with `OutOfMemory` if the allocator fails. The block is then unchanged.
     pub fn shrink(&mut self, alloc: &A, cap: usize) -> Result<(), ThinVecError>
         requires from { IsFrom self.old.alloc alloc.now }
         requires some { 0 < cap }
@@ -130,14 +128,14 @@ impl<T, A: Allocator> Block<T, A> {
         ensures cause { IfErr result (λ cause. cause ≡ ThinVecError.OutOfMemory) }
     {
         // This call tells the prover that a block with the current number of slots is small enough
-        // to be allocated. So a block of the smaller capacity `cap` is also small enough.
+        // to be allocated. So a block of `cap` slots is small enough, too.
         let _whole = self.cap();
         self.resize(alloc, cap)
     }
 
     // Changes the number of slots to `cap`. If there are many items and they form whole words, the
-    // allocator may leave the block at its address. Otherwise the items are moved to a new block.
-    // The call fails only if the allocator fails. In this case, the block is unchanged.
+    // block may remain at its address. Otherwise, the items are moved to a new block. Fails only if
+    // the allocator fails, and then leaves the block unchanged.
     #[inline(always)]
     fn resize(&mut self, alloc: &A, cap: usize) -> Result<(), ThinVecError>
         requires from { IsFrom self.old.alloc alloc.now }
@@ -168,8 +166,8 @@ impl<T, A: Allocator> Block<T, A> {
         }
     }
 
-    // Moves the items to a new block of `cap` slots, and frees the old block. The call fails only
-    // if the allocator fails. In this case, the block is unchanged.
+    // Moves the items to a new block of `cap` slots, and frees the old block. Fails only if the
+    // allocator fails, and then leaves the block unchanged.
     fn remake(&mut self, alloc: &A, cap: usize) -> Result<(), ThinVecError>
         requires from { IsFrom self.old.alloc alloc.now }
         requires some { 0 < cap }
@@ -222,8 +220,8 @@ impl<T, A: Allocator> Block<T, A> {
         let _none = unsafe { ManuallyDrop::new_unchecked(self) };
     }
 
-    // Allocates a block as `allocate` does. `bytes` is the size of the block in bytes, and `align`
-    // is its alignment. The call fails only if the allocator fails.
+    // Allocates a block as `allocate` does. `bytes` and `align` are the size and the alignment of
+    // the block in bytes.
     fn allocate_block(
         alloc: &A,
         cap: usize,
@@ -258,8 +256,8 @@ impl<T, A: Allocator> Block<T, A> {
         }
     }
 
-    // Frees the allocation of the block as `release` does. The block must have an allocation.
-    // `bytes` is the size of the block in bytes, and `align` is its alignment.
+    // Frees the allocation as `release` does. The block must have an allocation, and `bytes` and
+    // `align` must be its size and its alignment in bytes.
     fn free_block(self, alloc: &A, bytes: usize, align: usize)
         requires from { self.alloc ≡ Some alloc.now }
         requires empty { self.slots ≡ empty (length self.slots) }

@@ -1,18 +1,17 @@
-//! Defines the function `slide`, which moves a run of adjacent items within a block even if the old
-//! slots and the new slots overlap.
+//! The function `slide`, which moves a run of items within a block even if the old and the new
+//! slots overlap.
 //!
-//! The function does what `std::ptr::copy` does, but does not first compare the two pointers. In
-//! Rattle, such a comparison is allowed only in the first half of the address space, and an
-//! allocator may place blocks outside of this half. So the caller of `slide` says in which
-//! direction the items move.
+//! Unlike `std::ptr::copy`, it does not compare the two pointers. In Rattle, they can be compared
+//! only in the first half of the address space, and a block may be outside of it. So the caller
+//! says in which direction the items move.
 ghost use Rattle.std.specs.Prelude.{ℕ, ◌^◌, ◌<◌, List};
 ghost use Rattle.core.specs.Ptr.{array_size, memory_before_copy, memory_after_copy};
 ghost use types.Logic.{sem};
 ghost use Rattle.thin_block.specs.Shifts.{IsShifted};
 
 // Moves `count` items from `source` to `target`. `up` says whether `target` is above `source`. The
-// ghost parameter `g` is a pair. Its first component is the distance between the two pointers,
-// counted in items. Its second component is the list of the items.
+// ghost parameter `g` is the pair of the distance between the two pointers, counted in items, and
+// the list of the items.
 pub(crate) unsafe fn slide<T>(source: *const T, target: *mut T, count: usize, up: bool)
     ghost g: { ℕ × List T }
     requires shifted { IsShifted T.row up g.0 source target }

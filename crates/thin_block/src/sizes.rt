@@ -1,6 +1,5 @@
-//! Computes the size of a block in bytes, and tests whether a block of a given capacity is small
-//! enough to be allocated. The functions in this file compute with numbers and do not access any
-//! block.
+//! Functions that compute the size of a block in bytes, and test whether a block of a given
+//! capacity is small enough to be allocated. They do not access any block.
 ghost use Rattle.std.specs.Prelude.{◌≡◌, ◌↔◌, IsTrue};
 ghost use Rattle.std.specs.Mem.{type_size};
 ghost use Rattle.std.specs.Align.{type_align};
@@ -9,12 +8,11 @@ ghost use Rattle.thin_block.specs.Capacity.{IsAlign, block_align, block_bytes, F
 
 use std::mem::{align_of, size_of};
 
-// The size of the header in bytes. In Rattle, no type has an alignment above 16, so this is always
+// The size of the header in bytes. Since no type in Rattle has an alignment above 16, this is also
 // the offset of the first item in a block.
 pub(crate) const HEADER: usize = 16;
 
-// The size of the header in words of 8 bytes. The two words hold the capacity and the length, and
-// the first item follows them.
+// The size of the header in words of 8 bytes. The two words contain the capacity and the length.
 pub(crate) const HEADER_WORDS: usize = 2;
 
 // Returns the size of an item in bytes, or `usize::MAX` if the size exceeds `usize::MAX`.
@@ -47,7 +45,7 @@ pub(crate) fn bytes_of_block<T>(cap: usize) -> usize
     (HEADER + cap * item_size::<T>()).next_multiple_of(align_of_block::<T>())
 }
 
-/// Returns whether a block for `cap` items is small enough to be allocated. This is the case if
+/// Returns whether a block for `cap` items is small enough to be allocated, that is, whether
 /// neither `cap` nor the size of the block in bytes exceeds `isize::MAX`.
 pub fn fits<T>(cap: usize) -> bool
     ensures value { IsTrue result ↔ Fits T.row cap }

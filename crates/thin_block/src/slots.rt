@@ -1,4 +1,4 @@
-//! Moves items into slots and out of slots, one at a time or as an array.
+//! Methods that move items into slots and out of slots, one at a time or as an array.
 ghost use Rattle.std.specs.Prelude.{◌≡◌, ◌+◌, ◌<◌, ◌≤◌, ◌==◌, if◌then◌else◌, IsSome, length, slice_set};
 ghost use Rattle.core.specs.Mem.Slots.{IsFull, SamePlaces, slots_items, slots_len};
 ghost use Rattle.std.specs.declared.option.Option.TheVariants.{None, Some};
@@ -10,13 +10,13 @@ use crate::sizes::HEADER_WORDS;
 use core::slots::Slots;
 use std::alloc::Allocator;
 
-// The greatest number of items that the function `copied` copies one by one.
+// The greatest number of items that `copied` copies one by one.
 const FEW: usize = 16;
 
 impl<T, A: Allocator> Block<T, A> {
     ghost use Rattle.thin_block.specs.Block.{seen};
 
-    /// Moves `value` into slot `i`, which must be empty. Afterwards, the slot owns `value`.
+    /// Moves `value` into slot `i`, which must be empty.
     pub fn put(&mut self, i: usize, value: T)
         requires in_bounds { i < length self.old.slots }
         requires empty { slot self.old.slots i ≡ None }
@@ -29,8 +29,8 @@ impl<T, A: Allocator> Block<T, A> {
         unsafe { (at.add(HEADER_WORDS) as *mut T).add(i).write(value) }
     }
 
-    /// Moves `value` into slot `i`, which must be empty, and sets the stored length to `len`. Both
-    /// writes use the same pointer, so the compiled code does not have to read the pointer twice.
+    /// Moves `value` into slot `i`, which must be empty, and sets the stored length to `len`. The
+    /// compiled code does not have to read the block's pointer twice.
     pub fn put_and_store(&mut self, i: usize, value: T, len: usize)
         requires in_bounds { i < length self.old.slots }
         requires empty { slot self.old.slots i ≡ None }
@@ -48,8 +48,8 @@ impl<T, A: Allocator> Block<T, A> {
         }
     }
 
-    /// Moves the item in slot `i` to the caller. Afterwards, the slot is empty. Moving an item out
-    /// of a block is not counted as a move.
+    /// Moves the item out of slot `i`, and returns it. Taking an item out of a block is not counted
+    /// as a move.
     pub fn take(&mut self, i: usize) -> T
         requires filled { IsSome (slot self.old.slots i) }
         ensures value { slot self.old.slots i ≡ Some result }
@@ -81,9 +81,9 @@ impl<T, A: Allocator> Block<T, A> {
         }
     }
 
-    /// Takes the item out of slot `i` and returns this item. If `j` differs from `i`, the function
-    /// also moves the item in slot `j` into slot `i`, and counts this as one move. In both cases,
-    /// slot `j` is empty afterwards.
+    /// Takes the item out of slot `i`, and returns it. If `j` differs from `i`, the item in slot
+    /// `j` is also moved into slot `i`, which counts as one move. In both cases, slot `j` is then
+    /// empty.
     pub fn take_replacing(&mut self, i: usize, j: usize) -> T
         requires first { IsSome (slot self.old.slots i) }
         requires second { IsSome (slot self.old.slots j) }
@@ -116,8 +116,7 @@ impl<T, A: Allocator> Block<T, A> {
         unsafe { ((at.add(HEADER_WORDS) as *mut T).add(i) as *mut [T; N]).write(values) }
     }
 
-    /// Moves the `N` items in the slots `i..i + N` to the caller. Afterwards, these slots are
-    /// empty.
+    /// Moves the `N` items out of the slots `i..i + N`, and returns them.
     pub fn take_array<const N: usize>(&mut self, i: usize) -> [T; N]
         requires in_bounds { i + N ≤ length self.old.slots }
         requires filled { AreFilled self.old.slots i N }
@@ -153,9 +152,8 @@ impl<T: Copy, A: Allocator> Block<T, A> {
 
 // Fills `row` with copies of `items`, and returns `row`.
 //
-// If there are at most `FEW` items, they are copied one by one. For so few items, a call to
-// `Slots::copy_in` would take longer than the copies, because `Slots::copy_in` first tests whether
-// its source and its target overlap.
+// At most `FEW` items are copied one by one. For so few items, `Slots::copy_in` would take longer,
+// because it first tests whether its source and its target overlap.
 fn copied<T: Copy>(mut row: Slots<T>, items: &[T]) -> Slots<T>
     requires room { slots_len row ≡ length items.now }
     ensures cap { SamePlaces row result }

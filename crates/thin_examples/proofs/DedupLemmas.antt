@@ -1,5 +1,5 @@
--- These lemmas are about calls to `dedup_by` with a closure that first changes the later of two
--- items and then compares the two items. The lemmas say which items `dedup_by` keeps.
+-- These lemmas say which items `dedup_by` keeps if its closure first changes the later of two items
+-- and then compares them.
 use Rattle.std.proofs.Common.{◌≡◌, Bool, true, false, List, [], ◌∷◌, ap, map, slice_index_or, slice_set, subst, ◌∙◌}
 use Rattle.std.specs.List.{dedup, dedup_from}
 use Rattle.std.specs.List.Retain.{DedupsFrom, DedupsAll}
@@ -8,27 +8,22 @@ use Rattle.thin_vec.proofs.EditLemmas.{deduped_deduped}
 use Rattle.thin_vec.specs.Edits.Dedup.{IsDedupedBy}
 use Rattle.thin_vec.specs.ThinVec.{Thin}
 
--- The relation `R` describes the calls of the closure. This module assumes that each call is about
--- a later item `x` and a kept item `k`. The call replaces `x` with `f x`, does not change `k`, and
--- returns `same (f x) k`.
+-- The relation `R` describes the calls of the closure. For a later item `x` and a kept item `k`, a
+-- call replaces `x` with `f x`, does not change `k`, and returns `same (f x) k`.
 module _ {S T : Type 0} (R : S → T → T → Bool → S → T → T → Type 0) (f : T → T)
     (same : T → T → Bool)
     (says : (s : S) (x k : T) (b : Bool) (t : S) (x' k' : T) → R s x k b t x' k'
     → (b ≡ same (f x) k) × (x' ≡ f x) × (k' ≡ k)) where
   -- `Kept k xs zs` holds if `zs` is the list `k ∷ map f xs` without repeated items. An item is
-  -- repeated if `same` returns true for this item and the last item that was kept before it.
+  -- repeated if `same` returns true for this item and the last kept item before it.
   abbrev Kept : T → List T → List T → Type 0
   Kept k xs zs = zs ≡ dedup_from same k (map f xs)
 
-  -- This lemma is one step in the proof that `Kept` describes the result of `dedup_by`. Suppose
-  -- that the closure has changed the item `x` into `x'` and the last kept item `k` into `k'`, and
-  -- has returned `b`. Suppose also that one of these statements is true:
+  -- This lemma is one step in the proof of `kept_from`. The closure has turned `x` into `x'` and
+  -- the last kept item `k` into `k'`. Then `Kept k (x ∷ xs) zs` holds in both cases:
   --
-  -- - `b` is true, so `x'` is removed, and `Kept k' xs zs` holds.
-  -- - `b` is false, so `x'` is the new last kept item. The list `zs` is `k' ∷ ys`, and
-  --   `Kept x' xs ys` holds.
-  --
-  -- Then `Kept k (x ∷ xs) zs` holds.
+  -- - The closure has returned true, and `Kept k' xs zs` holds.
+  -- - The closure has returned false, `zs` is `k' ∷ ys`, and `Kept x' xs ys` holds.
   one : (b : Bool) (x k x' k' : T) (xs zs : List T) → b ≡ same (f x) k → x' ≡ f x → k' ≡ k
       → MatchBool b (Kept k' xs zs) ((ys : List T) × Kept x' xs ys × (zs ≡ k' ∷ ys))
       → Kept k (x ∷ xs) zs
@@ -41,9 +36,8 @@ module _ {S T : Type 0} (R : S → T → T → Bool → S → T → T → Type 0
       ∙ ap (λ c. cond c (dedup_from same k (map f xs)) (k ∷ dedup_from same (f x) (map f xs)))
       b-is)
 
-  -- Suppose that `k` is the last item that `dedup_by` has kept, that `xs` are the items after `k`,
-  -- and that `dedup_by` turns the list `k ∷ xs` into the list `zs`. Then `Kept k xs zs` holds: `zs`
-  -- is the list `k ∷ map f xs` without repeated items.
+  -- If `k` is the last kept item, and `dedup_by` turns the list `k ∷ xs` into `zs`, then `zs` is
+  -- `k ∷ map f xs` without repeated items.
   kept_from : (xs : List T) (s : S) (k : T) (zs : List T) → DedupsFrom R s k xs zs → Kept k xs zs
   kept_from [] s k zs h = h
   kept_from (x ∷ xs) s k zs h =
@@ -57,10 +51,9 @@ module _ {S T : Type 0} (R : S → T → T → Bool → S → T → T → Type 0
         | false ↦ λ m. (m.0, kept_from xs h.1 h.2 m.0 m.1, m.2)
       ]) h.5)
 
-  -- If the list `xs` is not empty, let `x` be its first item. Suppose that the items of `v` are
-  -- `xs`, except that the first item is `f x` and not `x`. If `dedup_by` turns `v` into the list
-  -- `w`, then the items of `w` are `dedup same (map f xs)`. So the result is the same as if `f` had
-  -- been applied to every item before the call.
+  -- If the items of `v` are `xs`, except that the first item `x`, if there is one, has been
+  -- replaced with `f x`, then `dedup_by` turns `v` into a list with the items
+  -- `dedup same (map f xs)`.
   pub deduped_mapped : {A : Type 0} {s : S} {v w : Thin T A} (xs : List T) (x : T)
       → x ≡ slice_index_or xs 0 x → v.items ≡ slice_set xs 0 (f x) → IsDedupedBy R s v w
       → w.items ≡ dedup same (map f xs)

@@ -1,6 +1,6 @@
--- A keeper is a value whose type implements the trait `Keeper`. For each item of a list, a keeper
--- decides whether the list keeps the item. These lemmas say which items `retain_mut` keeps if its
--- closure returns the decisions of a keeper.
+-- These lemmas say which items `retain_mut` keeps if its closure returns the decisions of a keeper.
+-- A keeper is a value whose type implements `Keeper`: it decides for each item whether the list
+-- keeps the item.
 use Rattle.std.proofs.Common.{◌≡◌, Bool, true, List, [], ◌∷◌, sym, ap, ◌∙◌}
 use Rattle.thin_vec.specs.Edits.Retain.{Asked, IsRetained, left_at}
 use Rattle.thin_vec.specs.ThinVec.{Thin}
@@ -10,10 +10,9 @@ module _ {F J T : Type 0} (R : F → T → Bool → F → T → Type 0) (state :
     (keeps : J → T → Bool × (T × J))
     (one : (f : F) (x : T) (b : Bool) (g : F) (y : T) → R f x b g y
     → keeps (state f) x ≡ (b, (y, state g))) where
-  -- Suppose that the closure and the keeper make the same decisions, and write the same values to
-  -- the items. Suppose also that `qs` lists the closure's results for the items `xs`. Each result
-  -- consists of a decision and of the value of the item after this decision. Then `qs` equals the
-  -- list of the keeper's results for `xs`.
+  -- If the closure and the keeper make the same decisions and write the same values, then `qs`, the
+  -- closure's results for the items `xs`, equals the list of the keeper's results. A result is a
+  -- decision and the new value of the item.
   answers-are : (f : F) (xs : List T) (qs : List (Bool × T)) (t : F) → Asked R f xs qs t
       → qs ≡ asked_by keeps (state f) xs
   answers-are f [] qs t a = a.0
@@ -24,9 +23,8 @@ module _ {F J T : Type 0} (R : F → T → Bool → F → T → Type 0) (state :
       ∙ ap (λ (l : List (Bool × T)). here ∷ l) (answers-are a.2 xs a.3 t a.5
       ∙ ap (λ (p : Bool × (T × J)). asked_by keeps p.1.1 xs) (sym e)))
 
-  -- Suppose that the closure and the keeper make the same decisions, and write the same values to
-  -- the items. Then the items of the list after `retain_mut` are exactly the items that the keeper
-  -- keeps.
+  -- If the closure and the keeper make the same decisions and write the same values, then the list
+  -- after `retain_mut` contains exactly the items that the keeper keeps.
   pub retained-by : {A : Type 0} (f : F) (v w : Thin T A) → IsRetained R f v w
       → w.items ≡ left_at true (asked_by keeps (state f) v.items)
   retained-by f v w r = r.1.items

@@ -1,15 +1,12 @@
 -- After a splice, a list consists of its front, the items of an iterator, and its tail. This file
--- proves that this statement remains true if the front, the iterator and the tail are replaced with
--- equal ones.
+-- proves that the three parts can be replaced with equal ones in this statement.
 use Rattle.std.proofs.Common.{Option, subst, ◌≡◌, List, ◌++◌}
 use Rattle.std.specs.Iterator.Runs.{WholeRun}
 use Rattle.std.specs.Prelude.{OnOk}
 use Rattle.std.specs.declared.result.Result.{Result}
 
--- Consider this statement: if the result `r` is `Ok`, then the list `items` consists of `front`,
--- all items that the iterator `s` yields, and `tail`, in this order. Suppose that the statement is
--- true, and that `s`, `front` and `tail` equal `s'`, `front'` and `tail'`, respectively. Then the
--- statement is also true for `s'`, `front'` and `tail'`.
+-- The statement "if `r` is `Ok`, then `items` consists of `front`, all items that `s` yields, and
+-- `tail`, in this order" remains true if `s`, `front` and `tail` are replaced with equal values.
 pub run_between : {S T X E : Type 0} (steps : S → Option T → S → Type 0) (r : Result X E)
     (items : List T) {s s' : S} {front front' tail tail' : List T} → s ≡ s' → front ≡ front'
     → tail ≡ tail' → OnOk r (WholeRun steps s (λ p. items ≡ (front ++ p.items) ++ tail))

@@ -1,4 +1,4 @@
-//! Defines the default growth rule `Doubling`, which doubles the capacity.
+//! The default growth rule `Doubling`, which doubles the capacity.
 ghost use Rattle.std.specs.Prelude.{◌≡◌};
 ghost use Rattle.std.specs.Mem.{type_size};
 ghost use Rattle.thin_block.specs.Capacity.{first};
@@ -7,9 +7,9 @@ ghost use Rattle.thin_block.specs.Growth.{doubling, ruled_capacity};
 use crate::growth::{Growth, fitting};
 use crate::sizes::item_size;
 
-/// A growth rule that doubles the capacity. If the old capacity is 0, the rule uses the result of
-/// `first_capacity` in place of twice the old capacity. If the required capacity is greater than
-/// this number, the rule chooses the required capacity. The Rust crate thin-vec uses the same rule.
+/// A growth rule that doubles the capacity. If the old capacity is 0, it uses `first_capacity`
+/// instead of twice the old capacity. If this is not enough, it chooses the required capacity. The
+/// Rust crate thin-vec uses the same rule.
 pub struct Doubling {}
 
 impl Growth for Doubling {
@@ -30,9 +30,9 @@ impl Growth for Doubling {
     ghost law = { doubling_law };
 }
 
-/// Returns the capacity that `Doubling` chooses for the first block of a list. This capacity is 1
-/// for items of more than `usize::MAX / 8` bytes, and 4 for all other items. If the list needs room
-/// for more items, `Doubling` chooses the required capacity instead.
+/// Returns the capacity that `Doubling` chooses for the first block of a list: 1 for items of more
+/// than `usize::MAX / 8` bytes, and 4 for other items. If more room is required, `Doubling` chooses
+/// the required capacity instead.
 pub fn first_capacity<T>() -> usize
     ensures value { result ≡ first (type_size T.row) }
 {
@@ -43,9 +43,9 @@ pub fn first_capacity<T>() -> usize
     }
 }
 
-/// Returns the capacity of a list with the growth rule `Doubling` after the list has reserved room
-/// for `want` items. The old capacity of the list is `cap`. If `cap` is at least `want`, the result
-/// is `cap`. If the new capacity is too large, the result is `None`.
+/// Returns the capacity of a list of capacity `cap` after it has reserved room for `want` items
+/// under `Doubling`. The result is `cap` if `want <= cap`, and `None` if the new capacity is too
+/// large.
 pub fn next_capacity<T>(cap: usize, want: usize) -> Option<usize>
     ensures value { result ≡ ruled_capacity doubling T.row cap want }
 {

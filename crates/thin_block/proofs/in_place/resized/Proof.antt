@@ -1,6 +1,5 @@
--- This file proves the contract of `resized`, which returns the result of the allocator's method
--- `grow` or `shrink`. The proof assumes the laws of separation logic, which the type `Logic`
--- states.
+-- This file proves the contract of `resized`, which calls the method `grow` or `shrink` of the
+-- allocator.
 use mathlib.Core.Path.{◌≡◌, refl, sym, subst}
 use mathlib.Core.Bool.{Bool}
 use mathlib.Core.List.{List, [], ◌∷◌}
@@ -52,9 +51,8 @@ use Rattle.thin_block.specs.contracts.in_place.resized.Key as key
 use Rattle.thin_block.proofs.in_place.resized.Statement as stated
 use Rattle.thin_block.proofs.in_place.resized.Code as code
 
--- `gives k` is the code that returns the value of the local variable with the index `k`. The code
--- assigns this value to the variable with the index 0, which holds the result of the function, and
--- then returns.
+-- `gives k` is the code that assigns the local variable with the index `k` to the variable with the
+-- index 0, which contains the result, and then returns.
 abbrev gives : ℕ → Body
 gives k = seq (assign (place 0 []) (rv_opd (copy (place k [])))) return
 
@@ -122,11 +120,9 @@ module _ (E : El) (Y : Al) {M : Type 1} {𝓤 : Ura M} (𝓛 : Logic 𝓤) (at_m
   abbrev left : Ptr → Bool → ℕ → ℕ → Fml
   left x y b o = resized_if_ok (token Y r.now) (R E) x len held wanted xs (result_of y b o)
 
-  -- This lemma is the last step in the proof of `resized`. Suppose that the proof context contains,
-  -- in this order: [the resources that the call to `grow` or `shrink` has returned; the lifetime
-  -- tokens of the shared reference to the allocator, of `T` and of `A`]. Then the postcondition of
-  -- `resized` holds. The pointer `x` is the address of the old block. The Boolean `y` is true if
-  -- the call has succeeded. In this case, the new block is at the offset `o` of the allocation `b`.
+  -- The postcondition of `resized` holds after the call to `grow` or `shrink`. `x` is the address
+  -- of the old block, and `y` says whether the call has succeeded. If so, the new block is at the
+  -- offset `o` of the allocation `b`.
   exits : (x : Ptr) (y : Bool) (b o : ℕ)
       → ent 𝓤 (⋆ 𝓛 (‵ (left x y b o) ∷ ‵ (flft κ q) ∷ ‵ (flft κT qT) ∷ (‵ (flft κA qA) ⊛ ‵ ftrue)
       ∷ [])) (Post x (answer_val y b o))
@@ -139,10 +135,9 @@ module _ (E : El) (Y : Al) {M : Type 1} {𝓤 : Ura M} (𝓛 : Logic 𝓤) (at_m
       fjoin ! $ nothing ! $ fjoin ! $ join ! $ move ! (3 ∷ 4 ∷ []) $ join ! $
       move ! (3 ∷ 0 ∷ []) $ join ! $ join ! $ done !
 
-  -- `from Ev x k` is the condition that must hold at the end of each branch of the `if` statement
-  -- in `resized`. It states that the postcondition will hold after the rest of the function body
-  -- has run. This rest consists of all statements of the body except the first `k` statements. `Ev`
-  -- is the environment of the local variables, and `x` is the address of the old block.
+  -- `from Ev x k` says that the postcondition holds after all but the first `k` statements of the
+  -- function body have run. `Ev` is the environment of the local variables, and `x` is the address
+  -- of the old block.
   abbrev from : Env 𝓤 H → Ptr → ℕ → After 𝓤 H
   from Ev x k = then_runs 𝓛 C Λ Ev (after k (here E Y).body) (at_ret Ev (Post x))
 
@@ -150,9 +145,8 @@ module _ (E : El) (Y : Al) {M : Type 1} {𝓤 : Ura M} (𝓛 : Logic 𝓤) (at_m
   entry x = (‵ (flft κ q) ⊛ ‵ (flft κT qT) ⊛ ‵ (flft κA qA) ⊛ ‵ ftrue) ⊛ ‵
       (owns (types_at (ended E Y).signature.params (bound x).0.0) (bound x).0.3 (bound x).0.4)
 
-  -- `Given x v` is an entry of the proof context. It consists of the resources that the call to
-  -- `grow` or `shrink` has returned. The pointer `x` is the address of the block before this call,
-  -- and `v` is the machine value of the result of this call.
+  -- `Given x v` consists of the resources that the call to `grow` or `shrink` has returned. `x` is
+  -- the address of the old block, and `v` is the machine value of the result.
   abbrev Given : Ptr → Val → Item 𝓤
   Given x v = exists (λ (c : Bool × (ℕ × ℕ)). given (v ≡ answer_val c.0 c.1.0 c.1.1)
       (‵ (left x c.0 c.1.0 c.1.1)))
@@ -176,9 +170,8 @@ module _ (E : El) (Y : Al) {M : Type 1} {𝓤 : Ura M} (𝓛 : Logic 𝓤) (at_m
       let live : κ ⊑ Y.row.lives = ⊑_trans κ κA Y.row.lives out leA in
       move ! (1 ∷ []) $ split ! $ split3 ! $ move ! (3 ∷ []) $ fsplit ! $ fsplit ! $
       keep ! (6 ∷ 1 ∷ 3 ∷ 4 ∷ 5 ∷ []) $
-      -- From here on, the `requires` clauses are available as facts. The proof context now
-      -- contains, in this order: [the block; the shared reference to the allocator; the lifetime
-      -- tokens of this reference, of `T` and of `A`].
+      -- The `requires` clauses are now available as facts. Proof context, in order: the block; the
+      -- reference to the allocator; the lifetime tokens of this reference, of `T` and of `A`.
       enter ! C Λ (here E Y) (vs x) _ $ alloc_all ! (λ l. pass_all ! refl (
         (tt, tt),
         (

@@ -1,8 +1,5 @@
--- This file proves the contract of `slide`. The function moves items one by one. If the items are
--- moved up, it begins with the last item. Otherwise, it begins with the first item. The proof is
--- like core's proof for `ptr::copy`. The only difference is that `ptr::copy` first compares the two
--- pointers, and `slide` does not. The proof assumes the laws of separation logic, which the type
--- `Logic` states.
+-- This file proves the contract of `slide`, which moves items one by one. The proof is like core's
+-- proof for `ptr::copy`, but `slide` does not compare the two pointers first.
 use mathlib.Core.Path.{◌≡◌, refl, sym, subst}
 use mathlib.Core.Bool.{Bool, true, false}
 use mathlib.Core.List.{List, [], ◌∷◌}

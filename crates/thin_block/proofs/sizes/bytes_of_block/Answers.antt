@@ -1,5 +1,5 @@
--- Suppose that a block of the given capacity is small enough to be allocated. Then no sum or
--- product that `bytes_of_block` computes exceeds `usize::MAX`.
+-- If a block of the given capacity is small enough to be allocated, then no sum or product that
+-- `bytes_of_block` computes exceeds `usize::MAX`.
 use Rattle.std.proofs.Common.{◌≡◌, ℕ, ◌+◌, ◌*◌, ap, ◌∙◌, arith}
 use Rattle.std.specs.Mem.{type_size}
 use Rattle.std.specs.Align.{type_align}
@@ -11,10 +11,8 @@ use denote.Param.{param}
 use denote.RattleType.{RattleType}
 use Rattle.thin_block.proofs.sizes.bytes_of_block.Goals as goal
 
--- Suppose that a block for `c` items of the type `R` is small enough to be allocated, and that
--- `size` is the size of an item, capped at `usize::MAX`. Then the sum `16 + c * size`, which the
--- code computes, equals the offset of the first item plus the total size of `c` items. If there are
--- items, this is the offset at which the last item ends.
+-- If a block for `c` items of the type `R` is small enough to be allocated, and `size` is the
+-- capped size of an item, then `16 + c * size` is the total size of the header and `c` items.
 summed : (R : RattleType) (c size : ℕ) → Fits R c → size ≡ capped (type_size R)
     → 16 + c * size ≡ items_offset (type_align R) + c * type_size R
 summed R c size fits is =

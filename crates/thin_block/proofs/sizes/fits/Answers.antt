@@ -1,7 +1,5 @@
--- This file proves that the function `fits` returns true if and only if the predicate `Fits` holds.
--- The predicate compares the size of a block with a limit. The function instead compares the
--- capacity with a quotient. The quotient is the greatest capacity for which the size of a block is
--- within the limit.
+-- This file proves that `fits` returns true if and only if `Fits` holds. `Fits` limits the size of
+-- a block, and the function compares the capacity with the greatest capacity within this limit.
 use Rattle.std.proofs.Common.{◌≡◌, ℕ, ◌-◌, ◌*◌, ◌/◌, ◌^◌, ◌<◌, true, refl, sym, ap, ◌∙◌, arith, leb}
 use Rattle.std.specs.Mem.{type_size}
 use Rattle.std.specs.Align.{type_align}
@@ -14,8 +12,8 @@ use denote.RattleType.{RattleType}
 use native.Mathlib.Nat.{mul-zero}
 use Rattle.thin_block.proofs.sizes.fits.Goals as goal
 
--- Let `size` be the size of an item of the type `R`, capped at `usize::MAX`. If `size` is 0, then
--- `c` items of the type `R` take no bytes.
+-- If the capped size `size` of an item of the type `R` is 0, then `c` items of this type take no
+-- bytes.
 nothing : (R : RattleType) (c size : ℕ) → size ≡ capped (type_size R)
     → size ≡ 0 → c * type_size R ≡ 0
 nothing R c size is none =
@@ -54,11 +52,9 @@ pub overflow_sub-result-2 : goal.overflow_sub-result-2
 overflow_sub-result-2 g c = let about = rounded (param 0 g.row.T) 0 in
     let is = c.align_of_block.ensures.value in omega arith
 
--- Suppose that `align` equals `block_align (type_align R)`, which is the alignment of a block for
--- items of the type `R`. The code tests whether the capacity `c` is at most the quotient
--- `(2 ^ 63 - align - 16) / size`. The test has the same result if `block_align (type_align R)`
--- replaces `align` in this quotient. The lemmas `divided` and `dividing` of `SizesLemmas` are about
--- the quotient after this replacement.
+-- If `align` equals `block_align (type_align R)`, then `align` can be replaced with it in the
+-- comparison that the code makes. The lemmas `divided` and `dividing` are about the comparison
+-- after this replacement.
 same_limit : (R : RattleType) (c size align : ℕ) → align ≡ block_align (type_align R)
     → leb c ((2 ^ 63 - align - 16) / size) ≡ leb c
     ((2 ^ 63 - block_align (type_align R) - 16) / size)

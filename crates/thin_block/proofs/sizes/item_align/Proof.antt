@@ -1,6 +1,4 @@
--- This file proves the contract of `item_align` for every item type. The function returns the
--- alignment of an item. The proof assumes the laws of separation logic, which the type `Logic`
--- states.
+-- This file proves the contract of `item_align`, which returns the alignment of an item.
 use mathlib.Core.Path.{◌≡◌, refl, sym, subst, ◌∙◌}
 use native.Mathlib.Omega.{arith}
 use mathlib.Core.List.{List, [], ◌∷◌}
@@ -37,8 +35,8 @@ use Rattle.thin_block.specs.contracts.sizes.item_align.Key.{name as #self}
 use Rattle.thin_block.proofs.sizes.item_align.Statement as stated
 use Rattle.thin_block.proofs.sizes.item_align.Code as code
 
--- The step `says_both` in this module proves two `ensures` clauses at once. Its last two arguments
--- are the proofs of the two facts that the clauses state.
+-- In this module, the step `says_both` proves two `ensures` clauses at once. Its last two arguments
+-- prove the facts that the clauses state.
 module _ {M : Type 1} {𝓤 : Ura M} {𝓛 : Logic 𝓤} {K : Type 0} {Γ : List (Item 𝓤)} where
   says_both : K → {φ ψ : Type 0} {P : SProp 𝓤} → φ → ψ
       → Step K 𝓛 Γ (prop P) Γ (prop (sep 𝓤 P (sep 𝓤 (fact 𝓤 φ) (fact 𝓤 ψ))))
@@ -48,8 +46,8 @@ module _ {M : Type 1} {𝓤 : Ura M} {𝓛 : Logic 𝓤} {K : Type 0} {Γ : List
         use0 𝓛 (raw (fact 𝓤 φ)) (fact_i 𝓤 φ (emp 𝓤) x) $ done !));
   })
 
--- An integer of the width `w` takes 1, 2, 4, 8 or 16 bytes, so it takes fewer than `2 ^ 64` bytes.
--- The same is true of alignments: every alignment equals the number of bytes of some integer width.
+-- An integer of the width `w` takes fewer than `2 ^ 64` bytes. The same bound applies to
+-- alignments, because every alignment is the size of some integer type.
 below : (w : Width) → bytes w < 2 ^ 64
 below w8 = omega arith
 below w16 = omega arith

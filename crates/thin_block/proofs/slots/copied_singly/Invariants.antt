@@ -1,7 +1,6 @@
--- This file contains the loop invariant of `copied_singly`, which copies the items of the slice
--- `items` into `row`. The variable `row` refers to adjacent places in memory. After `i` iterations,
--- the first `i` of these places contain copies of the first `i` items of the slice. Moreover, `row`
--- still refers to the same places as before the loop.
+-- This file contains the loop invariant of `copied_singly`: after `i` iterations, the first `i`
+-- places of `row` contain copies of the first `i` items, and `row` refers to the same memory as
+-- before the loop.
 use Rattle.std.proofs.Common.{◌≡◌, take}
 use Rattle.core.specs.Mem.Slots.{SamePlaces, slots_filled, slots_items}
 use Rattle.core.specs.Mem.Slots.Ownership.{Filled}

@@ -1,7 +1,5 @@
--- This file proves the contract of `make_words`. A word is a value of the struct `Words`, which
--- holds one or more items. For each word, `make_words` reads the items of the word, and writes them
--- back as one word at the same address. It begins with the first word. The proof assumes the laws
--- of separation logic, which the type `Logic` states.
+-- This file proves the contract of `make_words`. For each word, the function reads the items of the
+-- word, and writes them back as one word at the same address.
 use mathlib.Core.Path.{◌≡◌, refl, sym, ap, ◌∙◌}
 use mathlib.Core.List.{List, [], ◌∷◌, map}
 use mathlib.Core.WellFounded.InvImage
@@ -86,8 +84,7 @@ module _ (E : El) (m : ℕ) where
     (stay_dropped (plain (λ _. usize)) yes, tt),
   )
 
-  -- A value of the type `Runs` lists the items of several words. Each inner list contains the items
-  -- of one word.
+  -- A value of the type `Runs` contains one list of items for each word.
   abbrev Runs : Type 0
   Runs = List (List (el_x E))
 
@@ -111,9 +108,8 @@ module _ (E : El) (m : ℕ) where
   word_fits : (v : Val) → Fits (ty_array (layout E.row) m) v → Fits (layout Wr) (word_val v)
   word_fits v fits = (both (has_ty (ty_array (layout E.row) m) v) _ fits.0 tt, (fits.1, (tt, tt)))
 
-  -- Suppose that `v` is the machine value of an array of the items `xs`. Then the resources that
-  -- this array owns can be converted into the resources of one word. This word consists of the
-  -- items `xs`, and its machine value is `word_val v`.
+  -- If `v` is the machine value of an array of the items `xs`, then the resources of this array can
+  -- be converted into the resources of the word with the items `xs`.
   word_made : {M : Type 1} {𝓤 : Ura M} (𝓛 : Logic 𝓤) (xs : List (el_x E)) (v : Val)
       → ent 𝓤 (sem 𝓛 (Arr.own_val xs (v ∷ [])))
       (sem 𝓛 (Wr.own_val (word (R E) N xs) (word_val v ∷ [])))
@@ -171,9 +167,8 @@ module _ (E : El) (m : ℕ) {M : Type 1} {𝓤 : Ura M} (𝓛 : Logic 𝓤) (at_
     abbrev To : Fml
     To = Made g o
 
-    -- Suppose that some words begin at the offset `at`, and that `xss` lists the items of each of
-    -- these words. Then the formula `Then xss at` is the right to join these words with the words
-    -- before them. The result is the memory of all words.
+    -- `Then xss at` is the right to join the words from the offset `at` onward with the words
+    -- before them. The list `xss` contains the items of each of these words.
     abbrev Then : Runs E m → ℕ → SProp 𝓤
     Then xss at = wand 𝓤 (sem 𝓛 (Made xss at)) (sem 𝓛 To)
 
@@ -187,10 +182,8 @@ module _ (E : El) (m : ℕ) {M : Type 1} {𝓤 : Ura M} (𝓛 : Logic 𝓤) (at_
         feq_i ! (List Val) (vunit ∷ []) (vunit ∷ []) refl $ nothing ! $ nothing ! $ fjoin ! $
         nothing ! $ fjoin ! $ join ! $ move ! (2 ∷ 0 ∷ []) $ join ! $ join ! $ done !
 
-    -- A value of the type `Left` is a state of the loop. It consists of a number `i`, a list `xss`,
-    -- and a proof that `i` plus the length of `xss` equals `n`. The loop has already made `i`
-    -- words. The list `xss` contains the items of each word that the loop has not made yet, and `n`
-    -- is the total number of words.
+    -- A state of the loop: the number `i` of the words that have been made, the items `xss` of the
+    -- other words, and a proof that `i + length xss` equals `n`.
     abbrev Left : Type 0
     Left = (i : ℕ) × ((xss : Runs E m) × (i + length xss ≡ n))
 
@@ -255,10 +248,9 @@ module _ (E : El) (m : ℕ) {M : Type 1} {𝓤 : Ura M} (𝓛 : Logic 𝓤) (at_
           sets ! (bin ! (get ! refl) (size_lit ! (record { fits = fs })) (record { fits = fm }))
           refl (tt, record { fits = fm }) $
           sets ! (bin ! (get ! refl) (get ! refl) tt) refl (tt, tt) $ fsplit ! $ fsplit ! $
-          -- The proof has separated the items of the next word from the items after them. The proof
-          -- context now contains, in this order: [the items of the next word; the right to convert
-          -- the memory of these items into memory for the word; the items of the later words; the
-          -- right to join the later words with the words before them; the lifetime tokens].
+          -- The next word's items have been separated. Proof context, in order: these items; the
+          -- right to convert their memory into memory for the word; the items of the later words;
+          -- the right to join the later words with the preceding words; the lifetime tokens.
           use1 𝓛 (exists (λ (v : Val). ‵ (fat full_share σ b at v) ⊛ ‵
           ((Arr E m).own_val xs (v ∷ [])))) (part_out 𝓛 (Arr E m) refl full_share xs b at) $
           pick ! (λ v. split ! $ move ! (1 ∷ []) $

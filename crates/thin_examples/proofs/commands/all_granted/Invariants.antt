@@ -1,5 +1,4 @@
--- The loop invariant of `all_granted` says that none of the replies before the current one reports
--- a failed call.
+-- In the loop of `all_granted`, none of the replies before the current one reports a failed call.
 use Rattle.std.specs.List.{AllWithin}
 use Rattle.thin_runner.specs.Replies.{IsGranted}
 use Rattle.thin_examples.proofs.commands.all_granted.Given as goal

@@ -1,6 +1,5 @@
--- If `carry_out` succeeds, then no reply reports a failed call. In this case, the items of the list
--- after the call are the result of a fold over the commands. This follows from the main theorem of
--- the crate `thin_runner`.
+-- If `carry_out` succeeds, then no reply reports a failed call. By the main theorem of
+-- `thin_runner`, the items after the call are then the result of a fold over the commands.
 use Rattle.std.proofs.Common.{◌≡◌, Result, Ok, Err, List, [], All, OnOk, subst, ◌∙◌, ap, ◌++◌, fold}
 use Rattle.thin_vec.specs.List.Clones.{ClonesEqual}
 use Rattle.thin_vec.specs.ThinVec.{Thin}
@@ -12,11 +11,9 @@ use Rattle.thin_runner.specs.declared.command.Command.{Command}
 use Rattle.thin_runner.specs.declared.command.Reply.{Reply}
 use Rattle.thin_examples.proofs.commands.carry_out.Goals as goal
 
--- Suppose that the commands turn the list `old` into the list `new`, that every clone equals its
--- original, and that `seen` lists the replies to the commands. Suppose also that if `result` is
--- `Ok`, no reply in `seen` reports a failed call. Under these assumptions, if `result` is `Ok`,
--- then the items of `new` are `fold (items_after here) old.items commands`. This fold starts with
--- the items of `old`, and applies the function `items_after here` once for each command, in order.
+-- If the commands turn `old` into `new`, every clone equals its original, `result` is `Ok`, and no
+-- reply in the list `seen` reports a failed call, then the items of `new` are
+-- `fold (items_after here) old.items commands`.
 carried : {T A G J E : Type 0} (here : Setting T A J) (old new : Thin T A)
     (commands : List (Command T A G)) (before after seen : List (Reply T A G))
     (result : Result (Unit {0}) E) → ClonesEqual here.clones → before ≡ [] → seen ≡ after

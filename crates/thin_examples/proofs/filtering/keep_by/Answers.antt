@@ -1,6 +1,5 @@
--- For each item of a list, a keeper decides whether the list keeps the item. The closure that
--- `keep_by` passes to `retain_mut` returns this decision. So the list keeps exactly the items that
--- the keeper keeps.
+-- The closure that `keep_by` passes to `retain_mut` returns the decisions of the keeper. So the
+-- list keeps exactly the items that the keeper keeps.
 use Rattle.std.proofs.Common.{rules}
 use Rattle.thin_examples.proofs.KeeperLemmas.{retained-by}
 use Rattle.thin_examples.proofs.filtering.keep_by.Goals as goal

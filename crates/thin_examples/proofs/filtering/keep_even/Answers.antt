@@ -1,5 +1,5 @@
 -- The closure that `keep_even` passes to `retain` returns true exactly for the even numbers. So the
--- numbers that remain in the list are the even numbers.
+-- list keeps exactly the even numbers.
 use Rattle.std.proofs.Common.{rules}
 use Rattle.thin_vec.proofs.RetainLemmas.{retained_filter}
 use Rattle.thin_examples.proofs.filtering.keep_even.Goals as goal

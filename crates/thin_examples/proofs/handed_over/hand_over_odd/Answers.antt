@@ -1,6 +1,5 @@
--- In `hand_over_odd`, the calls to `next` extract the odd numbers from `list` one by one, and each
--- extracted number is pushed to `other`. When `next` returns `None`, all odd numbers have been
--- pushed, and `list` contains the even numbers.
+-- `hand_over_odd` extracts the odd numbers from `list` one by one, and pushes each of them to
+-- `other`. When `next` returns `None`, `list` contains only the even numbers.
 use Rattle.std.proofs.Common.{◌≡◌, ℕ, ◌-◌, ◌%◌, ◌==◌, ◌++◌, Bool, List, ap, arith, length, rules, take, ◌∙◌}
 use Rattle.std.proofs.Math.Seq.{take-length}
 use Rattle.std.proofs.lemmas.List.{append-nil, drop_all}
@@ -9,11 +8,12 @@ use Rattle.std.specs.Prelude.{filter, slice_range}
 use Rattle.thin_vec.proofs.EditLemmas.{extract_end, extract_start, extract_step, others}
 use Rattle.thin_examples.proofs.handed_over.hand_over_odd.Goals as goal
 
--- `odd number` is true if `number` is odd. The closure in `hand_over_odd` makes the same test.
+-- `odd number` is true if `number` is odd. The closure in `hand_over_odd` computes the same
+-- condition.
 abbrev odd : ℕ → Bool
 odd number = number % 2 == 1
 
--- `slice_range xs 0 n` is `xs` if `n` is the length of `xs`.
+-- If `n` is the length of `xs`, then `slice_range xs 0 n` is `xs`.
 whole : (xs : List ℕ) (n : ℕ) → n ≡ length xs → slice_range xs 0 n ≡ xs
 whole xs n e = let same : n - 0 ≡ length xs = omega (arith, e) in
     ap (λ m. take m xs) same ∙ take-length xs

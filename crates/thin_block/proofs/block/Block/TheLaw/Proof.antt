@@ -1,6 +1,5 @@
--- This file proves that a `&` to a block lends the capacity, the length and the items in the slots,
--- as if there were a separate `&` to each of them. The proof assumes the laws of separation logic,
--- which the type `Logic` states.
+-- This file proves that a shared reference to a block lends what separate references to the
+-- capacity, to the length and to each item would lend.
 use mathlib.Core.List.{List, [], ◌∷◌, ◌++◌, not-mem-nil}
 use Prim.Native.Nat.{ℕ, ◌+◌}
 use mathlib.Core.Bool.{Bool, true}
@@ -72,10 +71,8 @@ module _ (R : RattleType) (L : RowLaws R) where
 module _ {M : Type 1} {𝓤 : Ura M} (𝓛 : Logic 𝓤) where
   open 𝓛 use {H, A}
 
-  -- Suppose that `t` satisfies the laws of shared references (`ShrLaws`), and that `t κ` is what a
-  -- shared reference lends for the lifetime `κ`. The lifetime `[]` is `'static`. Then a borrow of
-  -- `t []` for a lifetime `κ` can be converted into `t κ`, if lifetime tokens show that `κ` and `l`
-  -- have not ended.
+  -- If `t` satisfies the laws of shared references, then a borrow of `t []` for a lifetime `κ` can
+  -- be converted into `t κ`, given lifetime tokens of `κ` and `l`. The lifetime `[]` is `'static`.
   Lends-kept : (t : Lft → Fml) → ShrLaws t → (l : Lft) → Lends 𝓛 (t []) t l
   Lends-kept t L l κ ts inc sp =
       let P : Fml = t [] in

@@ -1,7 +1,5 @@
--- This file proves the contract of `free_block`, which returns the memory of the block to the
--- allocator. From the parts of the block, the proof obtains the memory of the whole block and the
--- right to free this memory. The proof assumes the laws of separation logic, which the type `Logic`
--- states.
+-- This file proves the contract of `free_block`. The proof joins the parts of the block into one
+-- piece of memory, which the function returns to the allocator.
 use Rattle.std.proofs.Common.{◌≡◌, ℕ, ◌+◌, List, [], ◌∷◌, ◌++◌, length, refl, sym, ap, ◌∙◌, arith, w64, Some, Option}
 use mir.Syntax.{Ty, place}
 use mir.Val.{Val, vint, vptr, vunit}
@@ -76,9 +74,9 @@ free_block_spec 𝓤 𝓛 𝓜 𝓡 wired T A LT LA g d dd met md =
     let bytes_are : bytes ≡ size_of_block = said.1.1.1.1.0 in
     let align_is : al ≡ align_of_block = said.1.1.1.1.1 in
     move ! (0 ∷ 3 ∷ []) $ block_had E Y ! x z.0.4.0 (λ b o at told fits.
-    -- The proof has split the block into its header and its slots. The proof context now contains,
-    -- in this order: [the header; the slots; the resources of the other arguments; the lifetime
-    -- token of the shared reference to the allocator; the other lifetime tokens].
+    -- The block has been split. Proof context, in order: the header; the slots; the resources of
+    -- the other arguments; the lifetime token of the reference to the allocator; the other lifetime
+    -- tokens.
     rewrite ! 0 (λ (u : Option A.Denot). ‵ (header (t E Y) Rt x.len cap u b o))
     from refl $ move ! (1 ∷ []) $
     rewrite ! 0 (λ (ys : List (Option T.Denot)). ‵ (places Rt ys b (o + 16))) bare refl $
@@ -87,9 +85,9 @@ free_block_spec 𝓤 𝓛 𝓜 𝓡 wired T A LT LA g d dd met md =
     use2 𝓛 (‵ (froom τ b o) ⊛ ‵ (token Y h τ (block_ptr b o)))
     (gather 𝓛 E b cap o (token Y h) x.len) $ split ! $ move ! (2 ∷ []) $ fsplit ! $ fsplit ! $
     drop ! $ keep ! (2 ∷ 3 ∷ 0 ∷ 4 ∷ 5 ∷ []) $
-    -- The proof has joined the parts of the block. The proof context now contains, in this order:
-    -- [the memory of the whole block; the right to free this memory; the shared reference to the
-    -- allocator; the lifetime token of this reference; the other lifetime tokens].
+    -- The parts of the block have been joined. Proof context, in order: the memory of the whole
+    -- block; the right to free it; the reference to the allocator; the lifetime token of this
+    -- reference; the other lifetime tokens.
     let short = (fits_tells Rt cap fits).short in
     let sixteen = (rounded Rt 0).most in
     let sized : capped (size τ) ≡ bytes = ap capped (asked_size Rt cap)

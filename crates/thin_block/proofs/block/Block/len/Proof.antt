@@ -1,6 +1,5 @@
 -- This file proves the contract of `len`, which reads the length through a shared reference to the
--- block. The length is the second word of the header. The proof assumes the laws of separation
--- logic, which the type `Logic` states.
+-- block.
 use Rattle.std.proofs.Common.{ℕ, ◌+◌, ◌^◌, List, ◌∷◌, [], ◌++◌, length, refl, w64}
 use mir.Val.{Val, vint, vptr}
 use mir.MapTy.{inst_fn}
@@ -33,10 +32,9 @@ len_spec 𝓤 𝓛 𝓜 𝓡 wired T A LT LA g d dd met md =
     let rb : ℕ = z.0.3.0.ref_ptr.0 in let ro : ℕ = z.0.3.0.ref_ptr.1 in
     seen E Y 𝓛 (others ps) z.0 ((c z.0.0 z.0.3).requires z.1) (
     block_seen E Y ! x rb ro (λ b o at small. keep ! (0 ∷ 4 ∷ 2 ∷ 5 ∷ []) $
-    -- The proof has split the shared reference to the block into shared references to the parts of
-    -- the block. The proof context now contains, in this order: [the reference to the block's
-    -- pointer; the lifetime token of the reference to the block; the reference to the length; the
-    -- other lifetime tokens].
+    -- The reference to the block has been split. Proof context, in order: the reference to the
+    -- block's pointer; the lifetime token of the reference to the block; the reference to the
+    -- length; the other lifetime tokens.
     enters ! fn (vptr rb ro ∷ []) (λ k. are.0.0 k ++ []) $
     alloc_all ! (λ l. pass_all ! refl ((tt, tt), tt) $
     pointer_in ! tt x.at b o at rb (ro + 0) (λ q₀.

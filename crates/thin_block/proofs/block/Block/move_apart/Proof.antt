@@ -1,7 +1,6 @@
--- This file proves the contract of `move_apart`, which moves items within a block. The new slots of
--- the items do not overlap with their old slots. The proof separates the old slots and the new
--- slots of the items from all other slots, and joins all slots again at the end. The proof assumes
--- the laws of separation logic, which the type `Logic` states.
+-- This file proves the contract of `move_apart`, which moves items to slots that do not overlap
+-- with their old slots. The proof separates the affected slots from the other slots, and joins all
+-- slots at the end.
 use Rattle.std.proofs.Common.{◌≡◌, ℕ, Some, ◌+◌, ◌*◌, ◌^◌, ◌<◌, ◌≤◌, List, ◌∷◌, [], ◌++◌, length, refl, sym, ap, subst, ◌∙◌, arith, w64}
 use lib.ListN.{length-map}
 use lib.Dec.{T as Holds}
@@ -81,11 +80,9 @@ move_apart_spec 𝓤 𝓛 𝓜 𝓡 wired T A LT LA g d dd met md =
     let Before : Fml = Was E 𝓛 b (o + 16) x.slots from to k xs items.1 long in
     move ! (1 ∷ []) $ use1 𝓛 (‵ Before ⊛ ‵ p.Rest) p.out $ split ! $ fsplit ! $ move ! (8 ∷ []) $
     token_out ! 1 z.0.0.1 z.0.1.1 $ move ! (2 ∷ 3 ∷ 0 ∷ []) $
-    -- The proof has separated the old slots and the new slots of the items from all other slots.
-    -- The proof context now contains, in this order: [the items in their old slots; the empty new
-    -- slots; the lifetime tokens of `T` and `A`; the other slots; the header; the memory that
-    -- stores the block's pointer; the right to close the borrow of the block; two ghost resources
-    -- that record the value of the block].
+    -- The affected slots have been separated. Proof context, in order: the items; their empty new
+    -- slots; the lifetime tokens of `T` and `A`; the other slots; the header; the block's pointer;
+    -- the right to close the borrow; two ghost resources.
     let G = Copies T 𝓛 𝓜.mem 𝓡.returns in
     let y₀ : G.Ghost = at_copies T 𝓛 𝓜.mem 𝓡.returns κ₁ q₁ b src b dst k xs in
     use3 𝓛 (raw (G.pre y₀)) (Copies-goes T 𝓛 𝓜.mem 𝓡.returns κ₁ q₁ b src b dst k xs lives fk light)

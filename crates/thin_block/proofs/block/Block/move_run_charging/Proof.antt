@@ -1,7 +1,6 @@
--- This file proves the contract of `move_run_charging`, which moves items from `self` to empty
--- slots of `to_block`. The proof separates the affected slots from the other slots of the two
--- blocks, and joins the slots of each block again at the end. The proof assumes the laws of
--- separation logic, which the type `Logic` states.
+-- This file proves the contract of `move_run_charging`, which moves items to another block. The
+-- proof separates the affected slots of both blocks from their other slots, and joins the slots of
+-- each block at the end.
 use Rattle.std.proofs.Common.{◌≡◌, ℕ, Some, None, ◌+◌, ◌*◌, ◌^◌, ◌<◌, ◌≤◌, List, ◌∷◌, [], ◌++◌, length, refl, sym, ap, subst, ◌∙◌, arith, w64}
 use lib.Dec.{T as Holds}
 use lib.ListN.{length-map, length-replicate}
@@ -144,10 +143,9 @@ move_run_charging_spec 𝓤 𝓛 𝓜 𝓡 wired T A LT LA g d dd met md =
     let En : Env 𝓤 H = env fn.locals l in
     block_opens E Y ! tt x rb ro (λ b o at fits. move ! (6 ∷ 7 ∷ 8 ∷ []) $
     block_opens E Y ! tt y sb so (λ b' o' at' fits'.
-    -- The proof has split both blocks into their parts. The proof context now contains, in this
-    -- order: [the header, the slots, the memory that stores the pointer, the right to close the
-    -- borrow, and two ghost resources of `to_block`; the same six entries for `self`; the lifetime
-    -- tokens of `T` and `A`].
+    -- Both blocks have been split. Proof context, in order: the header, the slots, the pointer, the
+    -- right to close the borrow, and two ghost resources of `to_block`; the same six entries for
+    -- `self`; the lifetime tokens of `T` and `A`.
     let src : ℕ = from * s + (o + 16) in
     let dst : ℕ = to * s + (o' + 16) in
     let light : k * s < 2 ^ 63 = reach (R E) k (length x.slots) fits (omega arith) in
@@ -168,11 +166,9 @@ move_run_charging_spec 𝓤 𝓛 𝓜 𝓡 wired T A LT LA g d dd met md =
     (run_out E 𝓛 b (o + 16) x.slots from k source (full xs) items.1) $ split ! $
     use1 𝓛 (‵ (part_at (Array (R E) k) full_share xs b src)) (to_items E 𝓛 b k xs src long) $
     move ! (0 ∷ 2 ∷ []) $ move ! (14 ∷ []) $ split ! $ move ! (2 ∷ 3 ∷ 0 ∷ []) $
-    -- The proof has separated the items in `self` and their new slots in `to_block` from all other
-    -- slots. The proof context now contains, in this order: [the items; the empty new slots; the
-    -- lifetime tokens of `T` and `A`; the other slots of `self`; the other slots of `to_block`; the
-    -- header, the memory that stores the pointer, the right to close the borrow, and two ghost
-    -- resources of `to_block`; the same five entries for `self`].
+    -- The affected slots have been separated. Proof context, in order: the items; their empty new
+    -- slots; the lifetime tokens of `T` and `A`; the other slots of `self`; those of `to_block`;
+    -- five entries for the header and the borrow of `to_block`; five entries for those of `self`.
     let G = Copies T 𝓛 𝓜.mem 𝓡.returns in
     let y₀ : G.Ghost = at_copies T 𝓛 𝓜.mem 𝓡.returns κ₂ q₂ b src b' dst k xs in
     use3 𝓛 (raw (G.pre y₀)) (Copies-goes T 𝓛 𝓜.mem 𝓡.returns κ₂ q₂ b src b' dst k xs lives fk light)
@@ -188,11 +184,10 @@ move_run_charging_spec 𝓤 𝓛 𝓜 𝓡 wired T A LT LA g d dd met md =
     lands_last ! refl (subst (λ (u : Val). Holds (has_ty ty_unit u) × WT u) (sym e) (tt, tt)) $
     exec ! 𝓣.C 𝓣.Λ En (after 3 fn.body) (at_ret En Post) $
     sets ! (of_opd ! (unit_lit !)) refl (tt, tt) $
-    -- The function has copied the items to their new address. The proof context now contains, in
-    -- this order: [the items at their new address; the memory at their old address; the lifetime
-    -- tokens of `T` and `A`; the other slots of `self`; the other slots of `to_block`; the header,
-    -- the memory that stores the pointer, the right to close the borrow, and two ghost resources of
-    -- `to_block`; the same five entries for `self`].
+    -- The items have been copied. Proof context, in order: the items at the new address; the memory
+    -- at the old address; the lifetime tokens of `T` and `A`; the other slots of `self`; those of
+    -- `to_block`; five entries for the header and the borrow of `to_block`; five entries for those
+    -- of `self`.
     let laid_to : List (Option T.Denot) = laid to (full xs) y.slots in
     let long_full : length (full xs) ≡ k = length-map xs Some ∙ long in
     let long_to : length laid_to ≡ length y.slots =
@@ -204,11 +199,10 @@ move_run_charging_spec 𝓤 𝓛 𝓜 𝓡 wired T A LT LA g d dd met md =
     move ! (5 ∷ 0 ∷ 6 ∷ 7 ∷ 8 ∷ 9 ∷ []) $
     rewrite ! 0 (λ (n : ℕ). ‵ (header (t E Y) (R E) y.len n y.alloc b' o')) (sym long_to) refl $
     block_closes E Y ! tt y' b' o' sb so at' $
-    -- The proof has closed the borrow of `to_block`. The proof context now contains, in this order:
-    -- [a ghost resource that records the current value of `to_block`; the borrow of `to_block`; the
-    -- lifetime token of this borrow; the memory at the old address of the items; the lifetime
-    -- tokens of `T` and `A`; the other slots of `self`; the header, the memory that stores the
-    -- pointer, the right to close the borrow, and two ghost resources of `self`].
+    -- The borrow of `to_block` has been closed. Proof context, in order: a ghost resource for its
+    -- value; the borrow; its lifetime token; the memory at the items' old address; the lifetime
+    -- tokens of `T` and `A`; the other slots of `self`; five entries for the header and the borrow
+    -- of `self`.
     let left : List (Option T.Denot) = emptied from k x.slots in
     let long_empty : length (empty {T = T.Denot} k) ≡ k = length-replicate k None in
     let long_left : length left ≡ length x.slots =
@@ -220,10 +214,9 @@ move_run_charging_spec 𝓤 𝓛 𝓜 𝓡 wired T A LT LA g d dd met md =
     move ! (6 ∷ 0 ∷ 7 ∷ 8 ∷ 9 ∷ 10 ∷ []) $
     rewrite ! 0 (λ (n : ℕ). ‵ (header (t E Y) (R E) x.len n x.alloc b o)) (sym long_left) refl $
     block_closes E Y ! tt x' b o rb ro at $
-    -- The proof has also closed the borrow of `self`. The proof context now contains, in this
-    -- order: [a ghost resource that records the current value of `self`; the borrow of `self`; the
-    -- lifetime token of this borrow; the same three entries for `to_block`; the lifetime tokens of
-    -- `T` and `A`].
+    -- The borrow of `self` has been closed, too. Proof context, in order: a ghost resource for the
+    -- value of `self`; the borrow of `self`; its lifetime token; the same three entries for
+    -- `to_block`; the lifetime tokens of `T` and `A`.
     returns ! (look_at ! 0 refl) $ free_all ! refl $
     feq_i ! (List Val) vss.0 (vptr rb ro ∷ []) are.0.0 $ fjoin3 ! $ move ! (2 ∷ 3 ∷ []) $
     feq_i ! (List Val) vss.1.1.0 (vptr sb so ∷ []) are.1.1.0.0 $ fjoin3 ! $

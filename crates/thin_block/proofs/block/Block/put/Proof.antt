@@ -1,6 +1,5 @@
--- This file proves the contract of `put`, which writes an item to an empty slot. The proof
--- separates this slot from the other slots, and joins all slots again at the end. The proof assumes
--- the laws of separation logic, which the type `Logic` states.
+-- This file proves the contract of `put`, which moves an item into an empty slot. The proof
+-- separates this slot from the other slots, and joins all slots at the end.
 use Rattle.std.proofs.Common.{◌≡◌, ℕ, Some, None, ◌+◌, ◌*◌, ◌<◌, List, ◌∷◌, [], ◌++◌, length, refl, arith, w64}
 use lib.ListN.{set, length-set, get_or}
 use mir.Val.{Val, vint, vunit}
@@ -52,11 +51,9 @@ put_spec 𝓤 𝓛 𝓜 𝓡 wired T A LT LA g d dd met md =
     let here : ℕ = i * sz E + (o + 16) in
     takes_slot E ! b (o + 16) x.slots i within empty $
     use1 𝓛 (‵ (froom (layout T) b here)) (𝓛.laws.raw-room (layout T) b here) $
-    -- The proof has separated the empty slot from the other slots. The proof context now contains,
-    -- in this order: [memory for the item; the other slots; the header; the memory that stores the
-    -- block's pointer; the right to close the borrow of the block, together with the lifetime token
-    -- of this borrow; two ghost resources that record the value of the block; the other lifetime
-    -- tokens; the resources that the item owns].
+    -- The empty slot has been separated. Proof context, in order: memory for the item; the other
+    -- slots; the header; the block's pointer; the right to close the borrow, with its token; two
+    -- ghost resources; the other lifetime tokens; the resources of the item.
     sets ! (of_opd ! (get ! refl)) refl good $
     assigns_last ! (of_opd ! (get ! refl)) (through ! refl (stop !)) (init ! 0 refl good) $
     continues ! 𝓜 𝓡 fn l 2 ((walk_of 𝓛 En₀ hs c).post z) $

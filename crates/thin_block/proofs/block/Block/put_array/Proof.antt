@@ -1,6 +1,6 @@
--- This file proves the contract of `put_array`, which writes an array of items to adjacent empty
--- slots. The proof separates these slots from the other slots, and joins all slots again at the
--- end. The proof assumes the laws of separation logic, which the type `Logic` states.
+-- This file proves the contract of `put_array`, which moves the items of an array into adjacent
+-- empty slots. The proof separates these slots from the other slots, and joins all slots at the
+-- end.
 use Rattle.std.proofs.Common.{◌≡◌, ℕ, Some, ◌+◌, ◌*◌, ◌≤◌, List, ◌∷◌, [], ◌++◌, length, refl, ◌∙◌, arith, w64}
 use lib.ListN.{length-map}
 use mir.Syntax.{ty_array}
@@ -83,11 +83,9 @@ put_array_spec 𝓤 𝓛 𝓜 𝓡 wired T A N LT LA fits_N g d dd met md =
     (run_out E 𝓛 b (o + 16) x.slots i N within (empty N) (empty-run x.slots i N within bare)) $
     split ! $
     use1 𝓛 (‵ (froom (ty_array (layout T) N) b here)) (to_room E 𝓛 b N here) $
-    -- The proof has separated the empty slots for the array from the other slots. The proof context
-    -- now contains, in this order: [memory for the array; the other slots; the header; the memory
-    -- that stores the block's pointer; the right to close the borrow of the block, together with
-    -- the lifetime token of this borrow; two ghost resources that record the value of the block;
-    -- the other lifetime tokens; the resources that the array owns].
+    -- The empty slots have been separated. Proof context, in order: memory for the array; the other
+    -- slots; the header; the block's pointer; the right to close the borrow, with its token; two
+    -- ghost resources; the other lifetime tokens; the resources of the array.
     sets ! (of_opd ! (get ! refl)) refl good $
     assigns_last ! (of_opd ! (get ! refl)) (through ! refl (stop !)) (init ! 0 refl good) $
     continues ! 𝓜 𝓡 fn l 2 ((walk_of 𝓛 En₀ hs c).post z) $

@@ -1,7 +1,6 @@
 -- This file proves the contract of `slice_mut`, which returns the items in adjacent slots as a
--- mutable slice. The slice may be empty. The proof separates these slots from the other slots. It
--- also shows that all slots can be joined again after the borrow of the slice has ended. The proof
--- assumes the laws of separation logic, which the type `Logic` states.
+-- mutable slice. The proof also shows that all slots can be joined again after the borrow of the
+-- slice has ended.
 use Rattle.std.proofs.Common.{◌≡◌, ℕ, Some, ◌+◌, ◌-◌, ◌*◌, ◌^◌, ◌<◌, ◌≤◌, List, ◌∷◌, [], ◌++◌, length, refl, sym, ap, subst, ◌∙◌, arith, w64}
 use lib.ListN.{length-map}
 use mir.Syntax.{named}
@@ -84,11 +83,9 @@ slice_mut_spec 𝓤 𝓛 𝓜 𝓡 wired T A LT LA g d dd met md =
     (‵ (places (R E) (full xs) b here) ⊛ ‵ (around E 𝓛 b (o + 16) x.slots i k))
     (run_out E 𝓛 b (o + 16) x.slots i k (omega arith) (full xs) items.1) $ split ! $
     use1 𝓛 (‵ (cells (mem (R E)) xs b here)) (to_cells E 𝓛 b xs here) $
-    -- The proof has separated the items of the slice from the other slots. The proof context now
-    -- contains, in this order: [the items; the other slots; the header; the memory that stores the
-    -- block's pointer; the right to close the borrow of the block, together with the lifetime token
-    -- of this borrow; two ghost resources that record the value of the block; the other lifetime
-    -- tokens].
+    -- The items of the slice have been separated. Proof context, in order: these items; the other
+    -- slots; the header; the block's pointer; the right to close the borrow, with its token; two
+    -- ghost resources; the other lifetime tokens.
     let Rest : Fml = fsep (around E 𝓛 b (o + 16) x.slots i k)
     (Waiting E Y 𝓛 x b o r.ref_ptr.0 r.ref_ptr.1 at) in
     let Back : List T.Denot → Type 1 =
@@ -109,10 +106,9 @@ slice_mut_spec 𝓤 𝓛 𝓜 𝓡 wired T A LT LA g d dd met md =
     b here γ xs small (sem 𝓛 Rest)
     back ((Br E Y).coded.code x) ((Br E Y).coded.code x)) $
     await ! tt $ pick ! (λ γ'. split3 ! $ returns ! (look_at ! 0 refl) $ free_all ! refl $
-    -- The function has lent the items, and is about to return. The proof context now contains, in
-    -- this order: [the `&mut` to the items; the lifetime token of this `&mut`; a resource which
-    -- states that, when the borrow ends, the block will contain the items that the slice has at
-    -- that time; the other lifetime tokens].
+    -- The function has lent the items. Proof context, in order: the mutable reference to the items;
+    -- its lifetime token; a resource which states that the block will contain the final items of
+    -- the slice; the other lifetime tokens.
     rewrite ! 0 (λ (n : ℕ). ‵
     ((MutSlice (named 0) κ (R E)).own_val
     (record { ref_ptr = (b, here); ghost_name = γ'; now = xs }) (slice_val (b, here) n ∷ [])))

@@ -1,9 +1,5 @@
--- This file proves the contract of `slide_run`, which calls `slide` to move adjacent items up or
--- down within a block. If the items are moved up by `d` slots, then the `d` slots directly above
--- the items are empty before the call. If the items are moved down by `d` slots, then the `d` slots
--- directly below the items are empty before the call. The proof separates the items and these empty
--- slots from the other slots, and joins all slots again at the end. The proof assumes the laws of
--- separation logic, which the type `Logic` states.
+-- This file proves the contract of `slide_run`, which moves items up or down by `d` slots. The
+-- proof separates the items and the `d` empty slots next to them, and joins all slots at the end.
 use Rattle.std.proofs.Common.{◌≡◌, ℕ, Some, ◌+◌, ◌*◌, ◌^◌, ◌<◌, ◌≤◌, List, ◌∷◌, [], ◌++◌, length, refl, sym, ap, subst, ◌∙◌, arith, w64}
 use lib.ListN.{length-map}
 use lib.Dec.{T as Holds}
@@ -125,11 +121,9 @@ slide_run_spec 𝓤 𝓛 𝓜 𝓡 wired T A LT LA g d dd met md =
     let fits_k : Fits = omega arith in
     move ! (1 ∷ []) $ use1 𝓛 (‵ Before ⊛ ‵ p.Rest) p.out $ split ! $ move ! (7 ∷ []) $
     token_out ! 1 z.0.0.1 z.0.1.1 $ move ! (2 ∷ 0 ∷ []) $
-    -- The proof has separated the items and the empty slots next to the items from the other slots.
-    -- The proof context now contains, in this order: [the items and the empty slots; the lifetime
-    -- tokens of `T` and `A`; the other slots; the header; the memory that stores the block's
-    -- pointer; the right to close the borrow of the block; two ghost resources that record the
-    -- value of the block].
+    -- The items and the empty slots next to them have been separated. Proof context, in order:
+    -- these slots; the lifetime tokens of `T` and `A`; the other slots; the header; the block's
+    -- pointer; the right to close the borrow; two ghost resources.
     let G = triple_of 𝓛 (slide.signature T) (slide.spec T 𝓛 𝓜.mem 𝓡.returns) in
     let y₀ : G.Ghost = (
       (
@@ -160,8 +154,8 @@ slide_run_spec 𝓤 𝓛 𝓜 𝓡 wired T A LT LA g d dd met md =
     feq_l ! (λ e. move ! (1 ∷ []) $
     pick ! (λ ws. split ! $ drop ! $ move ! (1 ∷ []) $ split ! $ move ! (1 ∷ []) $
     drop ! $ move ! (1 ∷ 0 ∷ []) $
-    -- The call to `slide` has moved the items. The proof context now begins with these entries:
-    -- [the moved items and the slots that are now empty; the lifetime tokens of `T` and `A`].
+    -- The call to `slide` has moved the items. The proof context now begins with the moved items
+    -- and the slots that are now empty, followed by the lifetime tokens of `T` and `A`.
     lands_last ! refl (subst (λ (u : Val). Holds (has_ty ty_unit u) × WT u)
     (sym (ap only e)) (tt, tt)) $
     continues ! 𝓜 𝓡 fn l 2 ((walk_of 𝓛 En₀ hs c).post z) $

@@ -1,6 +1,5 @@
--- This file proves the contract of `take_array`, which moves the items out of adjacent slots as one
--- array. The proof separates these slots from the other slots, and joins all slots again at the
--- end. The proof assumes the laws of separation logic, which the type `Logic` states.
+-- This file proves the contract of `take_array`, which moves the items out of adjacent slots as an
+-- array. The proof separates these slots from the other slots, and joins all slots at the end.
 use Rattle.std.proofs.Common.{◌≡◌, ℕ, Some, None, ◌+◌, ◌*◌, ◌≤◌, List, ◌∷◌, [], ◌++◌, length, refl, sym, ap, ◌∙◌, arith, w64}
 use lib.ListN.{length-map, length-replicate}
 use mir.Syntax.{ty_array}
@@ -73,11 +72,9 @@ take_array_spec 𝓤 𝓛 𝓜 𝓡 wired T A N LT LA fits_N g d dd met md =
     let good = (((array_at_laws 2 (R E) (param_laws 0 T LT) N).lawful 𝓛).typed xs (v ∷ [])
     is_v).0 in
     move ! (1 ∷ []) $
-    -- The proof has separated the items from the other slots, and has joined them into one array.
-    -- The proof context now contains, in this order: [the bytes of the array; the resources that
-    -- the array owns; the other slots; the header; the memory that stores the block's pointer; the
-    -- right to close the borrow of the block, together with the lifetime token of this borrow; two
-    -- ghost resources that record the value of the block; the other lifetime tokens].
+    -- The items have been joined into an array. Proof context, in order: the bytes and the
+    -- resources of this array; the other slots; the header; the block's pointer; the right to close
+    -- the borrow, with its token; two ghost resources; the other lifetime tokens.
     sets_last ! (of_opd ! (load ! (through ! refl (stop !)) (look ! 0 refl))) refl good $
     continues ! 𝓜 𝓡 fn l 2 ((walk_of 𝓛 En₀ hs c).post z) $
     sets ! (of_opd ! (get ! refl)) refl good $

@@ -1,7 +1,5 @@
--- This file proves the contract of `first_capacity`. The function returns 1 if the size of an item
--- exceeds the bound `usize::MAX / 8`, and 4 otherwise. The code caps the size at `usize::MAX`
--- before it compares the size with this bound. The capped size exceeds the bound if and only if the
--- real size exceeds the bound.
+-- This file proves the contract of `first_capacity`. The code caps the size of an item at
+-- `usize::MAX`, which does not change whether the size exceeds `usize::MAX / 8`.
 use Rattle.std.proofs.Common.{arith}
 use Rattle.std.specs.Mem.{type_size}
 use Rattle.thin_block.proofs.SizesLemmas.{first_one, first_many}

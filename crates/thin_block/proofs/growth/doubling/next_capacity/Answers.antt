@@ -1,4 +1,4 @@
--- If the old capacity suffices, `next_capacity` returns the old capacity. Otherwise, it returns the
+-- This file proves that `next_capacity` returns the old capacity if it suffices, and otherwise the
 -- capacity that the rule `doubling` chooses.
 use Rattle.std.proofs.Common.{sym, ◌∙◌, arith}
 use Rattle.thin_block.specs.Growth.{doubling}

@@ -1,5 +1,5 @@
--- Suppose that the header and `items` items of `size` bytes each take at most `2 ^ 63` bytes in
--- total. Then `power_for` returns the least power of two that is at least this total.
+-- If the header and `items` items of `size` bytes each take at most `2 ^ 63` bytes in total, then
+-- `power_for` returns the least power of two that is at least this total.
 use Rattle.std.proofs.Common.{◌≡◌, ◌+◌, ◌*◌, ◌∙◌, ap, arith}
 use Rattle.thin_block.specs.Growth.{least_power}
 use Rattle.thin_block.specs.PowerLaws.{least_power_is, one_least_power}

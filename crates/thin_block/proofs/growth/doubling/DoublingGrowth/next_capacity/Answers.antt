@@ -1,8 +1,5 @@
--- This file proves that `next_capacity` returns the result of the rule `doubling`. The rule doubles
--- the old capacity, even if the result exceeds `usize::MAX`. The code limits the doubled capacity
--- to `usize::MAX`. If the code and the rule compute different capacities for this reason, then
--- blocks of both capacities are too large to be allocated. In this case, both the code and the rule
--- return `None`.
+-- This file proves that `next_capacity` computes the rule `doubling`. Unlike the rule, the code
+-- limits capacities to `usize::MAX`. Both return `None` for a capacity above this limit.
 use Rattle.std.proofs.Common.{◌≡◌, ℕ, ◌*◌, ◌-◌, ◌^◌, ◌∙◌, ap, min}
 use Rattle.std.specs.Mem.{type_size}
 use Rattle.std.specs.Align.{type_align}
