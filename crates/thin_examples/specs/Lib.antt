@@ -1,6 +1,8 @@
--- The contracts of this crate use the definitions in these modules. `SyntaxTree` is about the nodes
--- of a syntax tree. `LastDigits` is about the last decimal digit of a number. `Keepers` is about
--- keepers. A keeper is a value that decides for each item of a list whether to keep it.
+-- Definitions that the contracts of this crate use:
+--
+-- - `SyntaxTree`: the nodes of a syntax tree
+-- - `LastDigits`: the last decimal digit of a number
+-- - `Keepers`: values that decide which items of a list to keep
 pub mod SyntaxTree
 pub mod LastDigits
 pub mod Keepers

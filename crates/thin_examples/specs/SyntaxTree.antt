@@ -15,14 +15,11 @@ kind_of node = (out-Node node).kind
 abbrev pub children_of : Node → Thin Node Global
 children_of node = (out-Node node).children
 
--- A value of the type `Node-F ℕ` is a node in which each child is replaced with a number. Suppose
--- that this number is the number of nodes of the tree whose root is the child. Then
--- `count_step node` is the number of nodes of the tree whose root is `node`: the sum of the
--- numbers, plus 1 for the root.
+-- If each child of `node` has been replaced with its node count, then `count_step node` is the node
+-- count of `node` itself: the sum of these counts, plus 1.
 abbrev pub count_step : Node-F ℕ → ℕ
 count_step node = 1 + sum node.children.items
 
--- `node_count node` is the number of nodes in the tree whose root is `node`. This number includes
--- the root itself.
+-- `node_count node` is the number of nodes in the tree whose root is `node`, including the root.
 abbrev pub node_count : Node → ℕ
 node_count = fold-Node ℕ count_step

@@ -1,10 +1,9 @@
-//! Defines `Checks`, which counts the comparisons in a worked example. A worked example is a
-//! function that compares the results of calls with values that were computed by hand.
+//! The type `Checks`, which counts comparisons of results with expected values.
 use std::alloc::Allocator;
 use thin_vec::{Growth, ThinVec};
 
-/// A counter of the comparisons in a worked example. It contains the number of all comparisons, and
-/// the number of comparisons in which a result differed from the expected value.
+/// A counter of the comparisons in a worked example, and of those in which a result differed from
+/// the expected value.
 #[derive(Clone, Copy)]
 pub struct Checks {
     compared: u32,
@@ -12,7 +11,7 @@ pub struct Checks {
 }
 
 impl Checks {
-    /// Makes a counter that has not counted any comparisons yet.
+    /// Makes a counter that has counted no comparisons.
     pub fn new() -> Checks {
         Checks {
             compared: 0,
@@ -43,9 +42,8 @@ impl Checks {
         self.is(found == wanted);
     }
 
-    /// Compares each item of `found` with the item of `wanted` at the same index. If one slice is
-    /// longer, the additional items are not compared. Then compares the lengths of the two slices.
-    /// Each of these comparisons is counted.
+    /// Compares the items of `found` and `wanted` at each index that both slices have, and then the
+    /// lengths of the slices. Counts each of these comparisons.
     pub fn items<T: PartialEq>(&mut self, found: &[T], wanted: &[T]) {
         for (found, wanted) in found.iter().zip(wanted) {
             self.is(*found == *wanted);
@@ -53,8 +51,8 @@ impl Checks {
         self.is(found.len() == wanted.len());
     }
 
-    /// Compares the items of `list` with `items`, the length of `list` with the length of `items`,
-    /// and the capacity of `list` with `capacity`. Each of these comparisons is counted.
+    /// Compares the items and the length of `list` with those of `items`, and the capacity of
+    /// `list` with `capacity`. Counts each of these comparisons.
     pub fn holds<T: PartialEq, A: Allocator, G: Growth>(
         &mut self,
         list: &ThinVec<T, A, G>,

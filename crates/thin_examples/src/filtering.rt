@@ -29,7 +29,7 @@ pub fn keep_distinct<A: Allocator, G: Growth>(list: &mut ThinVec<u32, A, G>)
 }
 
 /// If adjacent numbers have the same value of `number / 10`, keeps only the first of them. For
-/// example, the list 12, 17, 23 becomes the list 12, 23.
+/// example, 12, 17, 23 becomes 12, 23.
 pub fn keep_tens<A: Allocator, G: Growth>(list: &mut ThinVec<u32, A, G>)
     ensures items { list.new.items ≡ dedup (λ later kept. later / 10 == kept / 10) list.old.items }
     ensures capacity { list.new.capacity ≡ list.old.capacity }
@@ -46,8 +46,7 @@ pub fn keep_last_digits<A: Allocator, G: Growth>(list: &mut ThinVec<u32, A, G>)
 }
 
 /// Halves each number, rounding down. If adjacent results are equal, keeps only the first of them.
-/// The closure of `dedup_by` never halves the first number of the list, so this number is halved
-/// before the call to `dedup_by`.
+/// The first number is halved separately, because the closure of `dedup_by` does not halve it.
 pub fn halve_each<A: Allocator, G: Growth>(list: &mut ThinVec<u32, A, G>)
     ensures items { list.new.items
         ≡ dedup (λ later kept. later == kept) (map (λ number. number / 2) list.old.items) }
@@ -76,7 +75,7 @@ pub trait Keeper<T>: Copy {
 }
 
 /// Calls `keep` on a copy of `keeper` for each item, and removes the items for which `keep` returns
-/// false. The calls may write to the items. They change only the copy, and not `keeper` itself.
+/// false. The calls may write to the items.
 pub fn keep_by<T: Copy, A: Allocator, G: Growth, J: Keeper<T>>(
     list: &mut ThinVec<T, A, G>,
     keeper: &J,

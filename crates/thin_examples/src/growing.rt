@@ -1,14 +1,13 @@
-//! Example functions that make a list, add items to a list, or change an item. The prover proves
-//! the contracts of these functions by itself, except the contract of `room_for_eight`, which has a
-//! handwritten proof.
+//! Example functions that make a list, add items, or change an item. The prover proves their
+//! contracts by itself. Only `room_for_eight` has a handwritten proof.
 ghost use Rattle.std.specs.Prelude.{◌≡◌, ◌+◌, ◌/◌, ◌≤◌, ◌++◌, [], IfErr, IfOk, IfSome, IsErrOf, IsOk, IsSome, IsTrue, None, filter, length, map, nat_lt, OnErr, OnOk, ◌-◌, ◌<◌, replicate, slice_index, slice_set, take};
 ghost use Rattle.thin_vec.specs.ThinVec.{HasRoomFor, IsCause, capacity_for};
 
 use std::alloc::{AllocError, Allocator};
 use thin_vec::{Growth, ThinVec, ThinVecError};
 
-/// Halves each number, rounding down, and returns a list of the results in the same order. Returns
-/// `None` if there is not enough memory for the list.
+/// Returns a list of the halves of `numbers`, rounded down, or `None` if there is not enough memory
+/// for the list.
 pub fn halves<A: Allocator>(alloc: A, numbers: &[u32]) -> Option<ThinVec<u32, A>>
     ensures succeeds_empty { length numbers.now ≡ 0 → IsSome result }
     ensures items { IfSome result (λ list. list.items ≡ map (λ number. number / 2) numbers.now) }
@@ -19,8 +18,8 @@ pub fn halves<A: Allocator>(alloc: A, numbers: &[u32]) -> Option<ThinVec<u32, A>
     }
 }
 
-/// Appends the items of `numbers` that are less than `limit`, in order. Returns whether all of
-/// these items were appended. The list keeps its old items in every case.
+/// Appends the items of `numbers` that are less than `limit`, in order. Returns whether there was
+/// room for all of them. The old items are kept in every case.
 pub fn extend_below<A: Allocator, G: Growth>(
     list: &mut ThinVec<u32, A, G>,
     numbers: &[u32],
@@ -43,8 +42,8 @@ pub fn extend_below<A: Allocator, G: Growth>(
 ///
 /// # Errors
 ///
-/// Fails only if the allocator fails. The lemma `few_items` shows that a capacity of eight numbers
-/// cannot overflow.
+/// Fails only if the allocator fails. A capacity of eight numbers cannot overflow, as the lemma
+/// `few_items` shows.
 pub fn room_for_eight<A: Allocator>(alloc: A) -> Result<ThinVec<u64, A>, ThinVecError>
     ensures capacity { IfOk result (λ list. list.capacity ≡ 8) }
     ensures cause { IfErr result (λ cause. cause ≡ ThinVecError.OutOfMemory) }
@@ -56,8 +55,8 @@ pub fn room_for_eight<A: Allocator>(alloc: A) -> Result<ThinVec<u64, A>, ThinVec
 ///
 /// # Errors
 ///
-/// Fails only if the allocator fails. On failure, the list is unchanged. The lemma `few_more` shows
-/// that the capacity of such a short list cannot overflow.
+/// Fails only if the allocator fails, because the capacity of such a short list cannot overflow. On
+/// failure, the list is unchanged.
 #[tactic(auto, using(thin_vec::proofs::FewLemmas::few_more))]
 pub fn reserve_eight<A: Allocator>(list: &mut ThinVec<u64, A>) -> Result<(), ThinVecError>
     requires few { length list.old.items < 1000 }
@@ -105,8 +104,8 @@ pub fn continued<A: Allocator, G: Growth>(
     Ok(copy)
 }
 
-/// Appends the items of `numbers` in order, until there is no room for the next item. Returns the
-/// number of appended items. The list keeps its old items in every case.
+/// Appends the items of `numbers` in order, until there is no room for the next item. Returns how
+/// many items were appended. The list keeps its old items in every case.
 pub fn extend_by_number<A: Allocator, G: Growth>(
     list: &mut ThinVec<u32, A, G>,
     numbers: &[u32],
@@ -165,9 +164,8 @@ pub fn append_line<A: Allocator, G: Growth>(
 ///
 /// # Errors
 ///
-/// Fails with `CapacityOverflow` if the items of both lists would need a greater capacity than the
-/// growth rule of `list` allows, and with `OutOfMemory` if the allocator fails. On failure, both
-/// lists are unchanged.
+/// Fails with `CapacityOverflow` if the growth rule of `list` allows no capacity for the items of
+/// both lists, and with `OutOfMemory` if the allocator fails. On failure, both lists are unchanged.
 pub fn take_all<T, A: Allocator, G: Growth>(
     list: &mut ThinVec<T, A, G>,
     other: &mut ThinVec<T, A, G>,
@@ -180,9 +178,8 @@ pub fn take_all<T, A: Allocator, G: Growth>(
     ensures succeeds { HasRoomFor list.old (length other.old.items) → IsOk result }
     ensures succeeds_empty { other.old.items ≡ [] → IsOk result }
 
-    // The following clauses describe a failed call. The error is `CapacityOverflow` if and only if
-    // the items of both lists would need a greater capacity than the growth rule of `list` allows.
-    // Both lists are unchanged.
+    // On failure, both lists are unchanged. The error is `CapacityOverflow` if and only if the
+    // growth rule of `list` allows no capacity for the items of both lists.
     ensures overflow { capacity_for G.rule T.row list.old (length other.old.items) ≡ None
         → IsErrOf result ThinVecError.CapacityOverflow }
     ensures cause { IfErr result

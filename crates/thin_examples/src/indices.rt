@@ -7,10 +7,8 @@ ghost use Rattle.thin_vec.specs.ThinVec.{IsWithin};
 use std::alloc::Allocator;
 use thin_vec::{Growth, Rejected, ThinVec};
 
-/// Returns `start + count`, which is the index directly after the `count` items that begin at the
-/// index `start`. The sum is at most the length of the list. It cannot overflow, because the
-/// precondition `within` says that this length is at most `isize::MAX`. The contracts of the
-/// methods of `ThinVec` ensure this limit for every list.
+/// Returns the index directly after the `count` items that begin at `start`. The sum cannot
+/// overflow, because the length of a list is at most `isize::MAX` (precondition `within`).
 pub fn run_end<T, A: Allocator, G: Growth>(
     list: &ThinVec<T, A, G>,
     start: usize,
@@ -24,7 +22,7 @@ pub fn run_end<T, A: Allocator, G: Growth>(
 }
 
 /// Returns the item at `index` and the item after it. The sum `index + 1` cannot overflow, because
-/// the contract of `list[index]` ensures that the length of the list is at most `isize::MAX`.
+/// the length of a list is at most `isize::MAX`.
 pub fn neighbours<A: Allocator, G: Growth>(list: &ThinVec<u32, A, G>, index: usize) -> (u32, u32)
     requires in_bounds { index + 1 < length list.now.items }
     ensures first { result.0 ≡ slice_index list.now.items index }
@@ -57,8 +55,8 @@ pub fn set_to_zero<A: Allocator, G: Growth>(list: &mut ThinVec<u32, A, G>)
     list.as_mut_slice().fill(0);
 }
 
-/// Inserts `value` at `index`, removes it from the list again, and returns it. The lemma `undone`
-/// shows that the list then has the same items as before the call.
+/// Inserts `value` at `index`, removes it again, and returns it. The items of the list are then the
+/// same as before the call.
 ///
 /// # Errors
 ///

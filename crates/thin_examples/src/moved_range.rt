@@ -8,10 +8,8 @@ use thin_vec::{Growth, ThinVec};
 
 /// Moves the numbers of `list` at the indices `start..end` to the end of `other`.
 ///
-/// The function makes a `Drain` of this range, and appends copies of its numbers to `other`. When
-/// the `Drain` is dropped, it removes the numbers from `list`. The function does not pass the
-/// `Drain` itself to a method of `other`, because then no contract would say which items are left
-/// in `list`.
+/// The numbers are copied from a `Drain`. If the `Drain` itself were passed to a method of `other`,
+/// no contract would say which items are left in `list`.
 ///
 /// # Errors
 ///

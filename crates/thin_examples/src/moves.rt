@@ -5,8 +5,7 @@ use std::alloc::{AllocError, Allocator};
 use std::iter::once;
 use thin_vec::{Growth, ThinVec, thin_vec};
 
-/// Inserts `value` after the first of three items. This moves three items: `value`, and the two
-/// items after it.
+/// Inserts `value` after the first of three items. This moves `value` and the two items after it.
 ///
 /// # Errors
 ///
@@ -32,9 +31,8 @@ pub fn removed_first<T, A: Allocator, G: Growth>(list: &mut ThinVec<T, A, G>) ->
     list.remove(0)
 }
 
-/// Drains the four middle items of a list of six items. A call to `next` and a call to `next_back`
-/// yield two of the four items. The other two are dropped with the `Drain`. Only the last item of
-/// the list is moved.
+/// Drains the four middle items of a list of six items. Two of them are yielded, and the other two
+/// are dropped with the `Drain`. Only the last item of the list is moved.
 pub fn drained_middle<T: Drop, A: Allocator, G: Growth>(list: &mut ThinVec<T, A, G>)
     requires six { length list.old.items ≡ 6 }
     ensures one_move { list.new.cost.moves ≡ list.old.cost.moves + 1 }
@@ -64,9 +62,8 @@ pub fn kept_all<T: Drop, A: Allocator, G: Growth>(list: &mut ThinVec<T, A, G>)
     list.retain(|_item: &T| true);
 }
 
-/// Extracts the first even number among the numbers at the indices `1..5`, and does not test the
-/// numbers after it. The precondition says that the list contains the numbers 1, 2, 3, 4, 5, 6. So
-/// the call extracts the number 2, and moves the four numbers after it.
+/// Extracts 2, the first even number at the indices `1..5`, from the list 1, 2, 3, 4, 5, 6. This
+/// moves the four numbers after it.
 pub fn extracted_first<A: Allocator, G: Growth>(list: &mut ThinVec<u32, A, G>) -> Option<u32>
     requires to_six { list.old.items ≡ 1 ∷ 2 ∷ 3 ∷ 4 ∷ 5 ∷ 6 ∷ [] }
     ensures value { result ≡ Some 2 }
@@ -78,8 +75,8 @@ pub fn extracted_first<A: Allocator, G: Growth>(list: &mut ThinVec<u32, A, G>) -
         .next()
 }
 
-/// Replaces the third and the fourth of five items with three new items. Each new item is moved
-/// once, and the fifth item is moved at most twice. So there are at most five moves.
+/// Replaces the third and the fourth of five items with three new items. There are at most five
+/// moves: one for each new item, and two for the fifth item.
 ///
 /// # Errors
 ///
@@ -99,7 +96,7 @@ pub fn spliced_middle<A: Allocator + Copy, G: Growth>(
 }
 
 /// Makes a list, appends six items, replaces two of them with one item, extracts two items, and
-/// pops one item. Two items remain. In total, items are moved at most 14 times.
+/// pops one item. There are at most 14 moves.
 ///
 /// # Errors
 ///
@@ -117,9 +114,8 @@ pub fn edited<A: Allocator + Copy>(alloc: A) -> Result<ThinVec<u32, A>, AllocErr
     Ok(list)
 }
 
-// Replaces the items 2 and 3 of the list 1, 2, 3, 4, 5, 6 with the single item 9. The item 9 is
-// moved once, and each of the items 4, 5 and 6 is moved at most twice. So there are at most seven
-// moves.
+// Replaces the items 2 and 3 of the list 1, 2, 3, 4, 5, 6 with the item 9. There are at most seven
+// moves: one for 9, and two for each of 4, 5 and 6.
 fn nine_for_two<A: Allocator>(list: &mut ThinVec<u32, A>, alloc: A) -> Result<(), AllocError>
     requires to_six { list.old.items ≡ 1 ∷ 2 ∷ 3 ∷ 4 ∷ 5 ∷ 6 ∷ [] }
     ensures items { OnOk result (list.new.items ≡ 1 ∷ 9 ∷ 4 ∷ 5 ∷ 6 ∷ []) }
@@ -129,8 +125,8 @@ fn nine_for_two<A: Allocator>(list: &mut ThinVec<u32, A>, alloc: A) -> Result<()
     Ok(())
 }
 
-// Extracts the even numbers 4 and 6 from the list 1, 9, 4, 5, 6. The list is then 1, 9, 5, and only
-// the number 5 has been moved.
+// Extracts the even numbers from the list 1, 9, 4, 5, 6. The list is then 1, 9, 5, and only the
+// number 5 has been moved.
 fn even_out<A: Allocator>(list: &mut ThinVec<u32, A>)
     requires five { list.old.items ≡ 1 ∷ 9 ∷ 4 ∷ 5 ∷ 6 ∷ [] }
     ensures items { list.new.items ≡ 1 ∷ 9 ∷ 5 ∷ [] }

@@ -28,8 +28,8 @@ pub fn replace_word<A: Allocator, G: Growth>(
     text.replace_range_from_copies(start, end, word)
 }
 
-/// Replaces the bytes at the indices `start..end` with `word`. The call cannot fail, because the
-/// precondition `shorter` says that `word` is not longer than this range.
+/// Replaces the bytes at the indices `start..end` with `word`. The call cannot fail, because `word`
+/// is not longer than this range.
 pub fn shorten_to<A: Allocator, G: Growth>(
     text: &mut ThinVec<u8, A, G>,
     start: usize,
@@ -45,8 +45,8 @@ pub fn shorten_to<A: Allocator, G: Growth>(
     text.replace_range_from_copies(start, end, word).unwrap()
 }
 
-/// Replaces the lines at the indices `start..end` with the lines of `newer`. The replaced lines are
-/// dropped, and `newer` is empty afterwards.
+/// Replaces the lines at the indices `start..end` with the lines of `newer`, and drops the replaced
+/// lines. Afterwards, `newer` is empty.
 ///
 /// # Errors
 ///
@@ -68,8 +68,7 @@ pub fn replace_lines<T: Drop, A: Allocator, G: Growth>(
     lines.replace_range_from_list(start, end, newer)
 }
 
-/// Inserts clones of `names` at the index `at`. If `at` is the length of the list, the clones are
-/// appended.
+/// Inserts clones of `names` at the index `at`.
 ///
 /// # Errors
 ///

@@ -6,14 +6,13 @@ ghost use Rattle.thin_vec.specs.ThinVec.{HasRoomFor, IsCause, capacity_for};
 use std::alloc::Allocator;
 use thin_vec::{Growth, ThinVec, ThinVecError};
 
-/// Appends both `first` and `second`, or neither of them. Requests memory at most once, because a
-/// push into reserved room requests no memory.
+/// Appends both `first` and `second`, or neither of them. Requests memory at most once.
 ///
 /// # Errors
 ///
-/// Fails with `CapacityOverflow` if two more items would need a greater capacity than the growth
-/// rule of the list allows, and with `OutOfMemory` if the allocator fails. On failure, the list is
-/// unchanged, and both items are dropped.
+/// Fails with `CapacityOverflow` if the growth rule of the list allows no capacity for two more
+/// items, and with `OutOfMemory` if the allocator fails. On failure, the list is unchanged, and
+/// both items are dropped.
 pub fn push_both<T: Drop, A: Allocator, G: Growth>(
     list: &mut ThinVec<T, A, G>,
     first: T,

@@ -1,5 +1,4 @@
-//! Example functions that use traits and errors of std. They call `collect`, or use `?` to return
-//! an `AllocError` or an `io::Error`.
+//! Example functions that call `collect`, or use `?` to return an `AllocError` or an `io::Error`.
 ghost use Rattle.std.specs.Prelude.{◌≡◌, ◌+◌, ◌*◌, ◌++◌, [], ◌∷◌, IfErr, IfOk, IsOk, OnOk, length, map, take};
 ghost use Rattle.std.specs.IoError.{error_kind};
 ghost use Rattle.thin_vec.specs.ThinVec.{HasRoomFor};

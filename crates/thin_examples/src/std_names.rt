@@ -6,7 +6,7 @@ ghost use Rattle.thin_vec.specs.ThinVec.{HasRoomFor};
 use std::alloc::Allocator;
 use thin_vec::{Growth, ThinVec, ThinVecError};
 
-/// Shrinks the capacity to `most`, or to the length of the list if the length is greater. If the
+/// Shrinks the capacity to `most` or to the length of the list, whichever is greater. If the
 /// capacity is at most `most`, nothing changes.
 ///
 /// # Errors
@@ -51,8 +51,7 @@ pub fn set_length<A: Allocator, G: Growth>(
     list.resize_with(len, || 0)
 }
 
-/// Copies the numbers at the indices `start..end` of the list, and appends the copies to the same
-/// list.
+/// Appends copies of the numbers at the indices `start..end` to the same list.
 ///
 /// # Errors
 ///

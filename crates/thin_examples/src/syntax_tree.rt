@@ -1,5 +1,5 @@
-//! An example of a syntax tree. Each node has a list of its children. A leaf has no children, so
-//! its list is empty and has no allocation.
+//! A syntax tree in which each node has a list of its children. The list of a leaf is empty and has
+//! no allocation.
 ghost use Rattle.std.specs.Prelude.{◌≡◌, ◌+◌, ◌-◌, ◌^◌, [], ◌∷◌, ◌++◌, IfErr, IsOk, OnErr, OnOk, min};
 ghost use Rattle.thin_vec.specs.ThinVec.{HasRoomFor, IsNew};
 ghost use Rattle.thin_examples.specs.SyntaxTree.{children_of, kind_of, node_count};
@@ -29,12 +29,12 @@ impl Node {
         }
     }
 
-    /// Appends `child` to the children of this node. The node then owns `child`.
+    /// Appends `child` to the children of this node.
     ///
     /// # Errors
     ///
     /// Fails if there is no room for one more child. On failure, this node is unchanged, and the
-    /// error contains `child` with all nodes below it.
+    /// error contains `child`.
     pub fn add_child(&mut self, child: Node) -> Result<(), Rejected<Node>>
         ensures succeeds { HasRoomFor (children_of self.old) 1 → IsOk result }
         ensures kind { kind_of self.new ≡ kind_of self.old }

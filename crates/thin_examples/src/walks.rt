@@ -1,5 +1,5 @@
-//! Example functions that consume a list. They count its items, compute a minimum, or move the
-//! items into a `Vec`. Some of them use a loop, and others use `collect`.
+//! Example functions that consume a list, with a loop or with `collect`. They count its items,
+//! compute a minimum, or move the items into a `Vec`.
 ghost use Rattle.std.specs.Prelude.{◌≡◌, [], IfOk, IsOk, length, min, reverse};
 ghost use Rattle.std.specs.List.{fold};
 
@@ -50,8 +50,7 @@ pub fn reversed(list: ThinVec<u32, Global>, alloc: Global) -> Result<Vec<u32>, A
     list.into_iter().rev().collect(alloc)
 }
 
-/// Moves the items of `list` into a `Vec` one by one, in reverse order. The list may have any
-/// allocator and any growth rule.
+/// Moves the items of `list` into a `Vec` one by one, in reverse order.
 ///
 /// # Errors
 ///

@@ -1,7 +1,6 @@
--- A run carries out a list of commands, and produces one reply for each command. The following
--- lemmas are about a run with a single command. They state that such a run produces exactly one
--- reply. The main theorem of `thin_runner` (`Headline`) describes the effects of a run. The lemmas
--- also state that this theorem holds for the single command and its reply.
+-- A run carries out a list of commands. These lemmas say that a run with a single command produces
+-- exactly one reply, and that the main theorem of `thin_runner` (`Headline`) holds for this command
+-- and reply.
 use Rattle.std.proofs.Common.{◌≡◌, List, [], ◌∷◌, ◌++◌, Option, Some, ap, arith, length, length-append, refl, subst, sym, ◌∙◌}
 use Rattle.std.specs.Option.{option_to_list}
 use Rattle.thin_vec.specs.ThinVec.{Thin}
@@ -17,34 +16,30 @@ alone : {X : Type 0} (front : List X) (x : X) → length (front ++ x ∷ []) ≡
 alone [] x one = refl
 alone (y ∷ front) x one = absurd (omega (arith, length-append front (x ∷ [])))
 
--- The lemmas of this module are about a run of a single command. The list `commands` contains only
--- `command`, and the run turns the list `old` into `new`. The setting `here` contains values that
--- are the same for all commands, such as the allocator. The list `before` contains the replies
--- before the run, and is empty. The list `after` contains the replies after the run. The module
--- assumes that the main theorem (`Headline`) holds for this run.
+-- In this module, a run with the single command `command` turns the list `old` into `new`, and the
+-- main theorem (`Headline`) holds for this run. The list `before` of earlier replies is empty, and
+-- `after` contains the reply of the run.
 module _ {T A G J : Type 0} (here : Setting T A J) (old new : Thin T A)
     (command : Command T A G) (commands : List (Command T A G)) (before after : List (Reply T A G))
     (one : commands ≡ command ∷ []) (none : before ≡ [])
     (headline : Headline here old commands before after new) where
-  -- Suppose that a run of the single command `command` turns the list `old` into `new`, and
-  -- produces the list `replies` of replies. Then `replies` contains exactly one reply.
+  -- If a run with the single command `command` turns the list `old` into `new` and produces the
+  -- replies `replies`, then there is exactly one reply.
   has_one : (replies : List (Reply T A G)) → Runs here old (command ∷ []) replies new
       → length replies ≡ 1
   has_one [] run = absurd run
   has_one (reply ∷ []) run = refl
   has_one (reply ∷ more ∷ replies) run = absurd run.1.1
 
-  -- The list `after` contains all replies after the run of the single command. It contains exactly
-  -- one reply.
+  -- After the run with a single command, the list `after` contains exactly one reply.
   pub one_reply : length after ≡ 1
   one_reply =
       ap length (headline.appended ∙ ap (λ (l : List (Reply T A G)). l ++ headline.replies) none)
       ∙ has_one headline.replies
       (subst (λ cs. Runs here old cs headline.replies new) one headline.allowed)
 
-  -- Suppose that `pop` is called on the list `after` of replies. The call leaves the list `left`,
-  -- and its result `popped` is `Some reply`. Then the main theorem (`Headline`) holds for a run
-  -- that carries out only `command`, produces only `reply`, and turns the list `old` into `new`.
+  -- If `pop` is called on the list `after` of replies and returns `Some reply`, then the main
+  -- theorem (`Headline`) holds for a run that carries out only `command` and produces only `reply`.
   pub headline-one : (left : List (Reply T A G)) (popped : Option (Reply T A G))
       (reply : Reply T A G) → after ≡ left ++ option_to_list popped → popped ≡ Some reply
       → Headline here old (command ∷ []) [] (reply ∷ []) new

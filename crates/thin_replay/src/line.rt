@@ -21,8 +21,8 @@ impl Line {
     ghost use Rattle.thin_replay.specs.Lines.{HasWords, IsLine};
     ghost use Rattle.thin_replay.specs.Words.{Words};
 
-    /// Parses a line. Fails if the line has none of the forms that `help` prints, if one of its
-    /// words cannot be parsed, or if there is not enough memory for the result.
+    /// Parses a line. Fails if the line has none of the forms that `help` prints, if a word cannot
+    /// be parsed, or if there is not enough memory.
     pub fn parse(alloc: Global, text: &str) -> Result<Line, LineError>
         ensures says { IfOk result (λ line. (words : Words) × HasWords text.now words
             × IsLine words line) }
@@ -46,8 +46,8 @@ impl Line {
     }
 }
 
-// Returns the error for a line that has none of the forms that `help` prints. The error says either
-// that the name of the command is unknown, or that the number of words is wrong.
+// Returns the error for a line that has none of the forms that `help` prints: the name of the
+// command is unknown, or the number of words is wrong.
 fn wrong_form(words: &[&str]) -> LineError {
     let Some(name) = words.first() else {
         return LineError::UnknownCommand;

@@ -20,8 +20,8 @@ pub enum ReplayError {
     /// for the lines of the input.
     #[error("{0}")]
     Io(#[from] io::Error),
-    /// There was not enough memory to carry out a command. The function `run` needs a `Vec` for
-    /// commands and a `Vec` for replies, and one of them could not be allocated.
+    /// There was not enough memory to carry out a command: the `Vec` of commands or the `Vec` of
+    /// replies could not be allocated.
     #[error("{0}")]
     Memory(#[from] ThinVecError),
 }

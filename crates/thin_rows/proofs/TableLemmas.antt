@@ -51,9 +51,8 @@ module _ {V : Type 0} where
   pub outside : (t : Table V) (i j : ℕ) → length t ≤ i → value_at t i j ≡ None
   outside t i j past = ap (λ r. map.get r j) (get_or_past t i map.empty past) ∙ get-empty nat_cmp j
 
-  -- Suppose that row `i` of the table `t` is replaced with `row`. If the old row and `row` have the
-  -- same value at column `l`, then the value at column `l` of every row `k` of the table is the
-  -- same before and after the replacement.
+  -- If row `i` of the table `t` is replaced with a row that has the same value at column `l`, then
+  -- no value at column `l` of the table changes.
   other_columns : (t : Table V) (i k l : ℕ) (row : Columns V)
       → map.get row l ≡ value_at t i l → value_at (set t i row) k l ≡ value_at t k l
   other_columns t i k l row same = elim (cases_eq k i) [
@@ -67,8 +66,8 @@ module _ {V : Type 0} where
     | inr other ↦ ap (λ r. map.get r l) (get_or-set_other t i k row map.empty other)
   ]
 
-  -- Suppose that row `i` of the table `t` is replaced with `row`. If `row` has no value at column
-  -- `l`, then the new table has no value at row `i` and column `l`.
+  -- If row `i` of the table `t` is replaced with `row`, and `row` has no value at column `l`, then
+  -- the new table has no value at row `i` and column `l`.
   no_value : (t : Table V) (i l : ℕ) (row : Columns V) → map.get row l ≡ None
       → value_at (set t i row) i l ≡ None
   no_value t i l row none = elim (cases_lt i (length t)) [
@@ -76,8 +75,8 @@ module _ {V : Type 0} where
     | inr past ↦ outside (set t i row) i l (omega (arith, past, length-set t i row))
   ]
 
-  -- Suppose that the table `t` has a row `i`. If the value `v` is written at row `i` and column
-  -- `j`, then the new table has the value `v` at this row and column.
+  -- If the table `t` has a row `i`, and the value `v` is written at row `i` and column `j`, then
+  -- the new table has the value `v` there.
   pub written : (t : Table V) (i j : ℕ) (v : V) → i < length t
       → value_at (with_value t i j v) i j ≡ Some v
   written t i j v inside =
@@ -85,16 +84,16 @@ module _ {V : Type 0} where
       ∙ (get-insert nat_cmp_total (row_of t i) j v j
       ∙ ap (λ b. cond b (Some v) (map.get (row_of t i) j)) (same_column j))
 
-  -- If the value `v` is written at row `i` and column `j`, then the value at any row `k` and any
-  -- other column `l` does not change.
+  -- Writing the value `v` at row `i` and column `j` does not change the value at any row `k` and
+  -- any other column `l`.
   pub columns_unchanged : (t : Table V) (i j k l : ℕ) (v : V) → l ≢ j
       → value_at (with_value t i j v) k l ≡ value_at t k l
   columns_unchanged t i j k l v other = other_columns t i k l (map.insert (row_of t i) j v)
       (get-insert nat_cmp_total (row_of t i) j v l
       ∙ ap (λ b. cond b (Some v) (map.get (row_of t i) l)) (other_column j l other))
 
-  -- If the value `v` is written at row `i` and column `j`, then the value at any other row `k` and
-  -- any column `l` does not change.
+  -- Writing the value `v` at row `i` and column `j` does not change the value at any other row `k`
+  -- and any column `l`.
   pub rows_unchanged : (t : Table V) (i j k l : ℕ) (v : V) → k ≢ i
       → value_at (with_value t i j v) k l ≡ value_at t k l
   rows_unchanged t i j k l v other = ap (λ r. map.get r l)
@@ -107,16 +106,16 @@ module _ {V : Type 0} where
       (get-remove nat_cmp_total (row_of t i) j j
       ∙ ap (λ b. cond b None (map.get (row_of t i) j)) (same_column j))
 
-  -- If the entry at row `i` and column `j` is removed, then the value at any row `k` and any other
-  -- column `l` does not change.
+  -- Removing the entry at row `i` and column `j` does not change the value at any row `k` and any
+  -- other column `l`.
   pub columns_left : (t : Table V) (i j k l : ℕ) → l ≢ j
       → value_at (without_value t i j) k l ≡ value_at t k l
   columns_left t i j k l other = other_columns t i k l (map.remove (row_of t i) j)
       (get-remove nat_cmp_total (row_of t i) j l
       ∙ ap (λ b. cond b None (map.get (row_of t i) l)) (other_column j l other))
 
-  -- If the entry at row `i` and column `j` is removed, then the value at any other row `k` and any
-  -- column `l` does not change.
+  -- Removing the entry at row `i` and column `j` does not change the value at any other row `k` and
+  -- any column `l`.
   pub rows_left : (t : Table V) (i j k l : ℕ) → k ≢ i
       → value_at (without_value t i j) k l ≡ value_at t k l
   rows_left t i j k l other = ap (λ r. map.get r l)
@@ -126,8 +125,8 @@ module _ {V : Type 0} where
   pub cleared : (t : Table V) (i j : ℕ) → value_at (with_empty_row t i) i j ≡ None
   cleared t i j = no_value t i j map.empty (get-empty nat_cmp j)
 
-  -- If all entries of row `i` are removed, then the value at any other row `k` and any column `l`
-  -- does not change.
+  -- Removing all entries of row `i` does not change the value at any other row `k` and any column
+  -- `l`.
   pub rows_kept : (t : Table V) (i k l : ℕ) → k ≢ i
       → value_at (with_empty_row t i) k l ≡ value_at t k l
   rows_kept t i k l other = ap (λ r. map.get r l)
@@ -142,9 +141,8 @@ module _ {V : Type 0} where
         (omega (arith, past, length-replicate n (map.empty {X = V} {R = nat_cmp})))
   ]
 
-  -- Consider the entry at index `k` of the list of all entries of `row`. This entry consists of a
-  -- column and a value, and the map `row` has this value at this column. The default entry `d` is
-  -- never used, because the index `k` is in bounds.
+  -- The entry at index `k` of `row` consists of a column and the value that `row` has at this
+  -- column. The default `d` is never used.
   pub listed : (row : Columns V) (k : ℕ) (d : ℕ × V) → k < length (map.entries row)
       → map.get row (slice_index_or (map.entries row) k d).0
       ≡ Some (slice_index_or (map.entries row) k d).1
@@ -162,17 +160,15 @@ module _ {V : Type 0} where
       → IsAmong (map.entries row) (j, v)
   is_listed row j v there = found_at j v (map.entries row) (sym (get-entries row j) ∙ there)
 
-  -- The columns of the entries of `row` are strictly increasing: if `k < m`, then the column of the
-  -- entry at index `k` is less than the column of the entry at index `m`. The default entry `d` is
-  -- never used, because both indices are in bounds.
+  -- The columns of the entries of `row` are strictly increasing: if `k < m`, then the column at
+  -- index `k` is less than the column at index `m`. The default `d` is never used.
   pub in_order : (row : Columns V) (k m : ℕ) (d : ℕ × V) → k < m → m < length (map.entries row)
       → (slice_index_or (map.entries row) k d).0 < (slice_index_or (map.entries row) m d).0
   in_order row k m d before inside =
       columns_rise (map.entries row) (entries_sorted row) k m d before inside
 
--- A rule set is a group of lemmas that other proofs can use under one name. The rule set `values`
--- contains the lemmas about the values of a table after a call, and the lemmas about the entries of
--- a row.
+-- A rule set is a group of lemmas with one name. The rule set `values` contains the lemmas about
+-- the values of a table after a call, and about the entries of a row.
 pub ruleset values = (
   written,
   columns_unchanged,

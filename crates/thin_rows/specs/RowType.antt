@@ -1,5 +1,4 @@
--- This file defines the type of a row. The number of rows that fit into the block of a table
--- depends on the size and the alignment of this type.
+-- The type of a row. Its size and alignment determine how many rows fit into the block of a table.
 use Rattle.std.specs.Borrow.{RattleType}
 use Rattle.std.specs.declared.alloc.Allocator.{Ghosts as AllocatorGhosts}
 use Rattle.thin_rows.specs.contracts.row.Row.{the_row}

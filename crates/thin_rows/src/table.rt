@@ -1,5 +1,5 @@
-//! Defines the type `Rows`, a sparse table, and its methods. In contracts, the value of a table is
-//! the list of its rows. This module also defines this value.
+//! The type `Rows`, a sparse table, and its methods. The view of a table that contracts use is the
+//! list of its rows.
 ghost use Rattle.std.specs.Prelude.{◌≡◌, ◌↔◌, ◌+◌, ◌-◌, ◌^◌, ◌<◌, IfErr, IfOk, IsOk, IsSome, IsTrue, OnErr, OnOk, length, map, min, replicate, sum};
 ghost use Rattle.std.specs.FinMap as columns;
 ghost use Rattle.std.specs.List.Sorted.{IsStrictlyIncreasing};
@@ -15,10 +15,10 @@ use thin_vec::{Rejected, ThinVec, ThinVecError};
 /// A sparse table, which maps a row and a column to a value. The number of rows is fixed.
 ///
 /// A row keeps its entries in one block, in increasing order of their columns. A row without
-/// entries owns no block, and takes up only the space of a pointer and of its allocator.
+/// entries owns no block.
 ///
-/// Each row number that is passed to a method must be less than the number of rows. This is a
-/// precondition, which the methods do not test at run time.
+/// Each row number that is passed to a method must be less than the number of rows. The methods do
+/// not test this precondition.
 #[derive(Drop)]
 pub struct Rows<V, A: Allocator = Global> {
     rows: ThinVec<Row<V, A>, A>,
@@ -40,8 +40,8 @@ impl<V, A: Allocator + Copy> Rows<V, A> {
     ghost use Rattle.thin_vec.specs.List.Capacity.{TellsOverflowOf};
     ghost use Rattle.thin_rows.specs.RowType.{row_type};
 
-    /// Returns a table with `rows` rows and no entries. The call allocates one block, or none if
-    /// `rows` is 0. The table and each row keep a copy of `alloc`.
+    /// Returns a table with `rows` rows and no entries. Allocates one block, or none if `rows` is
+    /// 0. The table and each row keep a copy of `alloc`.
     ///
     /// # Errors
     ///
@@ -80,9 +80,7 @@ impl<V, A: Allocator> Rows<V, A> {
         self.rows.len()
     }
 
-    /// Returns the number of entries in all rows. If there were more than `usize::MAX` entries, the
-    /// result would be `usize::MAX`, but no machine has enough memory for this. The call visits
-    /// each row.
+    /// Returns the number of entries in all rows, but at most `usize::MAX`. Visits each row.
     pub fn len(&self) -> usize
         ensures value { result ≡ min (sum (map (λ row. columns.len row) self.now)) (2 ^ 64 - 1) }
     {
@@ -102,8 +100,7 @@ impl<V, A: Allocator> Rows<V, A> {
     }
 
     /// Returns a mutable reference to the value at the given row and column, or `None` if there is
-    /// no entry. If the caller writes a new value through the reference, this value replaces the
-    /// old value in the table.
+    /// no entry.
     pub fn get_mut(&mut self, row: usize, column: usize) -> Option<&mut V>
         requires in_bounds { row < length self.old }
         ensures* writes_back { sem 𝓛
@@ -114,14 +111,12 @@ impl<V, A: Allocator> Rows<V, A> {
     }
 
     /// Writes `value` at the given row and column, and returns the old value, if there was one.
-    /// Afterwards, the table owns `value`, and the caller owns the returned value.
     ///
     /// # Errors
     ///
-    /// Fails only if there is no entry at this row and column, and no room for a new entry. The
-    /// cause is `OutOfMemory` if the allocator fails, and `CapacityOverflow` if the new capacity of
-    /// the row would be too large. The error contains `value`. On failure, the table is unchanged.
-    /// In particular, a row that owned no block before the call owns no block after it.
+    /// Fails only if there is no entry at this row and column, and no room for one. The cause is
+    /// `OutOfMemory` if the allocator fails, and `CapacityOverflow` if the new capacity of the row
+    /// would be too large. On failure, the table is unchanged, and the error contains `value`.
     pub fn set(&mut self, row: usize, column: usize, value: V) -> Result<Option<V>, Rejected<V>>
         requires in_bounds { row < length self.old }
 
@@ -132,9 +127,8 @@ impl<V, A: Allocator> Rows<V, A> {
         // When it must succeed.
         ensures succeeds { IsSome (value_at self.old row column) → IsOk result }
 
-        // The following clauses describe a failed call. The cause is `CapacityOverflow` if and only
-        // if the new capacity of the row would be too large. The table is unchanged, and the error
-        // contains the cause and `value`.
+        // On failure, the table is unchanged. The error contains `value`, and its cause is
+        // `CapacityOverflow` if and only if the new capacity of the row would be too large.
         ensures overflow { OnErr result (TellsOverflow (ruled_capacity doubling (entry_type V.row)
             (columns.len (row_of self.old row)) (columns.len (row_of self.old row) + 1))
             (causes result)) }
@@ -144,8 +138,8 @@ impl<V, A: Allocator> Rows<V, A> {
         self.rows[row].set(column, value)
     }
 
-    /// Removes the entry at the given row and column, if there is one, and returns its value. The
-    /// call requests no memory. If the row then has no entries, its block is freed.
+    /// Removes the entry at the given row and column, if there is one, and returns its value. If
+    /// the row then has no entries, frees its block. Requests no memory.
     pub fn remove(&mut self, row: usize, column: usize) -> Option<V>
         requires in_bounds { row < length self.old }
         ensures value { result ≡ value_at self.old row column }
@@ -165,8 +159,7 @@ impl<V, A: Allocator> Rows<V, A> {
         self.rows[row].entries()
     }
 
-    /// Returns whether a row owns a block of memory. This is the case if and only if the row has an
-    /// entry.
+    /// Returns whether a row owns a block. This is the case if and only if the row has an entry.
     pub fn owns_block(&self, row: usize) -> bool
         requires in_bounds { row < length self.now }
         ensures value { IsTrue result ↔ (0 < columns.len (row_of self.now row)) }
@@ -176,8 +169,8 @@ impl<V, A: Allocator> Rows<V, A> {
 }
 
 impl<V: Drop, A: Allocator> Rows<V, A> {
-    /// Removes all entries of a row and drops their values. The call requests no memory, and frees
-    /// the block of the row.
+    /// Removes all entries of a row, drops their values, and frees the block of the row. Requests
+    /// no memory.
     pub fn clear_row(&mut self, row: usize)
         requires in_bounds { row < length self.old }
         ensures table { self.new ≡ with_empty_row self.old row }

@@ -1,7 +1,5 @@
--- When a list grows, its items may be copied to a new allocation. These lemmas prove an upper bound
--- on the number of copied items. Suppose that a new list is changed only by pushes and pops, and
--- that `m` of the pushes succeed, where `m` is at least 1. Then growing the list copies fewer than
--- `2 * m` items in total.
+-- When a list grows, its items may be copied. If a new list is changed only by pushes and pops, and
+-- `m ≥ 1` pushes succeed, then growing it copies fewer than `2 * m` items in total.
 use Rattle.std.proofs.Common.{◌≡◌, ℕ, zero, suc, ◌+◌, ◌*◌, ◌<◌, ◌≤◌, List, [], ◌∷◌, length, arith, ap, ◌∙◌, refl, subst, inl, inr}
 use Rattle.std.proofs.lemmas.Bool.{cases_lt}
 use Rattle.std.proofs.lemmas.List.{length-append, length_push}
@@ -22,13 +20,8 @@ use Rattle.thin_runner.specs.declared.command.Reply.{Reply}
 use Rattle.thin_runner.specs.declared.command.Reply.TheVariants.{Done, Item, Returned, OutOfRange}
 use Rattle.thin_runner.proofs.PaidLemmas.{step-paid}
 
--- `IsAmortised m v` holds if the list `v` meets four conditions:
---
--- - The number of items that were copied when the list grew, and the number of its allocations, are
---   small compared with its capacity (`IsCheap`).
--- - The length of the list is at most its capacity.
--- - The length of the list is at most `m`.
--- - Growing the list has copied fewer than `2 * m` items, or no items at all.
+-- `IsAmortised m v` holds if the list `v` is cheap (`IsCheap`), its length is at most `m` and at
+-- most its capacity, and growing it has copied fewer than `2 * m` items or none.
 pub record IsAmortised {T A : Type 0} (m : ℕ) (v : Thin T A) : Type 0 where
   pub cheap : IsCheap v
   pub room : length v.items ≤ v.capacity
@@ -36,9 +29,8 @@ pub record IsAmortised {T A : Type 0} (m : ℕ) (v : Thin T A) : Type 0 where
   pub copied : (v.cost.grown < 2 * m) ⊎ (v.cost.grown ≡ 0)
 
 module _ {T A : Type 0} where
-  -- `IsCheap v` limits the number of allocations of the list `v`, and the number of items that were
-  -- copied when it grew. Both limits depend on the capacity of `v`. If `v` is a new list, then
-  -- `IsCheap v` holds, because both numbers are 0.
+  -- A new list `v` is cheap (`IsCheap v`), because it has no allocation and growing it has copied
+  -- no items.
   new-cheap : (v : Thin T A) → IsNew v v.alloc → IsCheap v
   new-cheap v new =
       let blocks : v.cost.blocks ≡ 0 = ap (λ c. c.blocks) new.cost in
@@ -49,8 +41,8 @@ module _ {T A : Type 0} where
         blocks = λ some. absurd (omega (arith, new.capacity, some));
       }
 
-  -- If `v` is a new list, then `IsAmortised 0 v` holds. Among other facts, this predicate says that
-  -- the list contains no items, and that growing it has copied no items.
+  -- If `v` is a new list, then `IsAmortised 0 v` holds: the list has no items, and growing it has
+  -- copied none.
   pub new-amortised : (v : Thin T A) → IsNew v v.alloc → IsAmortised 0 v
   new-amortised v new = record {
     cheap = new-cheap v new;
@@ -59,10 +51,8 @@ module _ {T A : Type 0} where
     copied = inr (ap (λ c. c.grown) new.cost);
   }
 
-  -- Among other facts, `IsAmortised m w` says that growing the list `w` has copied fewer than
-  -- `2 * m` items, or no items at all. If `IsAmortised m w` holds, and `m` is not 0, then the
-  -- number of copied items is less than `2 * m` in both cases. The field `amortised` of the main
-  -- theorem states this bound.
+  -- If `IsAmortised m w` holds and `m` is not 0, then growing the list `w` has copied fewer than
+  -- `2 * m` items.
   pub copied-run : (w : Thin T A) (m : ℕ) → IsAmortised (0 + m) w → 0 < m → w.cost.grown < 2 * m
   copied-run w m a some = below a.copied
     where
@@ -73,29 +63,23 @@ module _ {T A : Type 0} where
   same-amortised : (m : ℕ) (v w : Thin T A) → IsAmortised m v → w ≡ v → IsAmortised (m + 0) w
   same-amortised m v w a same = let e : m + 0 ≡ m = omega arith in rw (same, e) a
 
--- Let `c` be the capacity of a list, and `k` its cost. The number `k.grown` counts the items that
--- were copied when the list grew. Among other facts, `IsCheapAt c k` says that `k.grown` is less
--- than `c`, or that both numbers are 0. If `IsCheapAt c k` and `c ≤ m` hold, then
--- `k.grown + c < 2 * (m + 1)`.
+-- If a list with the capacity `c` and the cost `k` is cheap (`IsCheapAt`), and `c ≤ m`, then
+-- `k.grown + c < 2 * (m + 1)`. Growing the list has copied `k.grown` items.
 copied-growing : (c m : ℕ) (k : Cost) → IsCheapAt c k → c ≤ m → k.grown + c < 2 * (m + 1)
 copied-growing zero m k h few = let z = h.none refl in omega (arith, z.1)
 copied-growing (suc c) m k h few =
     let copied : k.grown < suc c = h.grown (omega arith) in omega (arith, copied, few)
 
--- Let `g` be the number of items that growing a list has copied before a command, and `g'` this
--- number after the command. Suppose that `g` is 0 or less than `2 * m`. Suppose also that the
--- command copies no items, so that `g' ≡ g`. Then for every number `more`, `g'` is 0 or less than
--- `2 * (m + more)`.
+-- If growing a list has copied `g` items, `g` is 0 or less than `2 * m`, and a command copies no
+-- items (`g' ≡ g`), then `g'` is 0 or less than `2 * (m + more)`.
 copied-kept : (m more : ℕ) {g g' : ℕ} → (g < 2 * m) ⊎ (g ≡ 0) → g' ≡ g
     → (g' < 2 * (m + more)) ⊎ (g' ≡ 0)
 copied-kept m more (inl few) same = inl (omega (arith, few, same))
 copied-kept m more (inr none) same = inr (same ∙ none)
 
 module _ {T A G J : Type 0} (here : Setting T A J) (law : KeepsLaw here.rule) where
-  -- Among other facts, `IsAmortised m v` says that growing the list `v` has copied fewer than
-  -- `2 * m` items, or no items at all. Suppose that `IsAmortised m v` holds, and that `command` is
-  -- a push or a pop and turns `v` into the list `w`. If `command` is a push that succeeds, then
-  -- `IsAmortised (m + 1) w` holds. Otherwise, `IsAmortised m w` holds.
+  -- If `IsAmortised m v` holds, and a push or a pop turns the list `v` into `w`, then
+  -- `IsAmortised n w` holds. Here, `n` is `m + 1` for a successful push, and `m` otherwise.
   step-amortised : (m : ℕ) (v w : Thin T A) (command : Command T A G) (reply : Reply T A G)
       → IsPushOrPop command → IsAmortised m v → Steps here v command reply w
       → IsAmortised (m + accepted (command ∷ []) (reply ∷ [])) w
@@ -137,10 +121,8 @@ module _ {T A G J : Type 0} (here : Setting T A J) (law : KeepsLaw here.rule) wh
   step-amortised m v w Pop reply only a s = absurd s.1
   step-amortised m v w command reply only a s = absurd only
 
-  -- A run is a sequence of commands. `accepted commands replies` is the number of successful pushes
-  -- in a run. The function `counted` computes a number for each command of the run, and adds these
-  -- numbers. If this number is 1 for a successful push and 0 for any other command, then the sum
-  -- equals `accepted commands replies`.
+  -- If each successful push of a run counts as 1, and each other command as 0, then the sum is
+  -- `accepted commands replies`, the number of successful pushes. A run is a sequence of commands.
   accepted-counted : (commands : List (Command T A G)) (replies : List (Reply T A G))
       → counted (λ c r. accepted (c ∷ []) (r ∷ [])) commands replies ≡ accepted commands replies
   accepted-counted (Push x ∷ commands) (Done ∷ replies) =
@@ -149,10 +131,8 @@ module _ {T A G J : Type 0} (here : Setting T A J) (law : KeepsLaw here.rule) wh
       omega (arith, accepted-counted commands replies)
   accepted-counted commands replies = refl
 
-  -- Among other facts, `IsAmortised n w` says that growing the list `w` has copied fewer than
-  -- `2 * n` items, or no items at all. Suppose that a run of pushes and pops turns the list `v`
-  -- into `w`, and that `n` of the pushes succeed. If `IsAmortised 0 v` holds, then
-  -- `IsAmortised n w` holds.
+  -- If `IsAmortised 0 v` holds, and a run of pushes and pops turns the list `v` into `w`, then
+  -- `IsAmortised n w` holds, where `n` is the number of successful pushes.
   pub runs-amortised : (v w : Thin T A) (commands : List (Command T A G))
       (replies : List (Reply T A G)) → All IsPushOrPop commands → IsAmortised 0 v
       → Runs here v commands replies w → IsAmortised (0 + accepted commands replies) w

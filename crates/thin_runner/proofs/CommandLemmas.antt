@@ -1,6 +1,5 @@
--- Each command calls a method of a list. The file `specs/Steps` states how each command may change
--- the list. The following lemmas help to prove that the methods change the list in this way. The
--- proofs use the contracts of the methods.
+-- The file `specs/Steps` states how each command may change the list. These lemmas help to prove
+-- that the methods that the commands call do what this file states.
 use Rattle.std.proofs.Common.{◌≡◌, ℕ, ◌<◌, ◌⊎◌, List, [], ◌∷◌, Some, refl, length, inl, inr, arith}
 use Rattle.std.specs.Borrow.{RattleType}
 use Rattle.std.specs.Prelude.{HoldsAt}
@@ -16,15 +15,13 @@ some-items (x ∷ xs) none = omega arith
 
 module _ {T A : Type 0} where
   -- `grown v c xs m` is the list `v` after a call that sets its items to `xs` and its capacity to
-  -- `c`. The cost of a list counts its moved items and its reallocations. The call adds `m` moved
-  -- items to the cost. If the call changes the capacity, it also adds one reallocation.
+  -- `c`, and adds `m` moves to its cost. If the capacity changes, the call also adds a
+  -- reallocation.
   abbrev pub grown : Thin T A → ℕ → List T → ℕ → Thin T A
   grown v c xs m = record v { items = xs; capacity = c; cost = moving m (cost_at v c) }
 
-  -- `grown v c xs m` is the list `v` after a call that sets its items to `xs` and its capacity to
-  -- `c`, and adds `m` moved items to its cost. If the capacity changes, the cost also increases by
-  -- one reallocation. Suppose that the list `w` has the items `xs`, the cost that results from such
-  -- a call, and the allocator of `v`. Then `w` equals `grown v w.capacity xs m`.
+  -- If the list `w` differs from the list `v` only in its items `xs`, its capacity, and the cost of
+  -- this change and of `m` moves, then `w` equals `grown v w.capacity xs m`.
   pub is-grown : (v w : Thin T A) (xs : List T) (m : ℕ) → w.items ≡ xs → w.cost
       ≡ moving m (cost_at v w.capacity) → w.alloc ≡ v.alloc → w ≡ grown v w.capacity xs m
   is-grown v w xs m items cost alloc = λ i. record {
@@ -35,15 +32,9 @@ module _ {T A : Type 0} where
   }
 
   module _ (rule : Rule) where
-    -- Suppose that a call that clones the items `sources` failed, and turned the list `v` into `w`.
-    -- The items and the allocator of the list did not change. Suppose also that `w` has a capacity
-    -- and a cost that the contract of such a call allows. Then one of two cases applies:
-    --
-    -- - The list did not change at all: `w` equals `v`.
-    -- - The item of `sources` at an index `at` could not be cloned. So `infallible`, which says
-    --   that cloning an item cannot fail, does not hold for this item. The call reserved room for
-    --   `k` more items, and cloned `at` items before the failure. Each of these clones counts as
-    --   one move.
+    -- If a call that clones the items `sources` fails, then the list does not change, or the call
+    -- reserves room for `k` more items and fails to clone the item at an index `at`. Each of the
+    -- `at` clones before it counts as one move.
     pub refuses-clone : (R : RattleType) (k : ℕ) {infallible : T → Type 0} {sources : List T}
         {v w : Thin T A} → w.items ≡ v.items → w.alloc ≡ v.alloc
         → (w ≡ v) ⊎ (capacity_for rule R v k ≡ Some w.capacity)

@@ -1,5 +1,4 @@
--- The lemma of this file proves the main theorem (`Headline`). It uses the lemmas of the other
--- files.
+-- This file proves the main theorem (`Headline`) from the lemmas of the other files.
 use Rattle.std.proofs.Common.{◌≡◌, List, [], ◌++◌, ap, sym, subst, ◌∙◌}
 use Rattle.std.proofs.lemmas.List.{append-nil}
 use Rattle.thin_vec.specs.Growth.{KeepsLaw}
@@ -18,11 +17,9 @@ use Rattle.thin_runner.proofs.SlackLemmas.{runs-slack}
 
 module _ {T A G J : Type 0} (here : Setting T A J) (law : KeepsLaw here.rule) where
   module _ {old new : Thin T A} where
-    -- Suppose that a run carried out all of its commands, so that the list `left` of remaining
-    -- commands is empty. Suppose also that the list `old` before the run and the list `new` after
-    -- it satisfy `IsWithin`. This predicate says that the items of a list fit into its capacity,
-    -- and that its capacity does not exceed the size limit of a list. Then the main theorem
-    -- `Headline` holds for the run.
+    -- If a run has carried out all of its commands, so that `left` is empty, then the main theorem
+    -- (`Headline`) holds for the run. The lists before and after the run must satisfy the size
+    -- limits `IsWithin`.
     pub headline : {commands left : List (Command T A G)} {before after : List (Reply T A G)}
         → IsWithin here.R old → IsWithin here.R new → left ≡ []
         → HasRun here old commands left before after new

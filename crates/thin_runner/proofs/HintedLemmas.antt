@@ -7,23 +7,22 @@ use Rattle.thin_runner.specs.Hinted.{HintedSteps, hinted_claim, hinted_items}
 use Rattle.thin_runner.specs.declared.hinted.Hinted.{Hinted}
 
 module _ {T A : Type 0} where
-  -- Suppose that calls to `next` yield the items `xs`, and change the iterator from the state `s`
-  -- to the state `t`. Then the items left in the state `s` are `xs`, followed by the items left in
-  -- the state `t`.
+  -- If calls to `next` yield the items `xs` and change the iterator `s` into `t`, then the items
+  -- left in `s` are `xs`, followed by the items left in `t`.
   pub yields-items : (s t : Hinted T A) (xs : List T) → Yields (HintedSteps {T = T} {A = A}) s xs t
       → hinted_items s ≡ xs ++ hinted_items t
   yields-items s t [] e = ap hinted_items e
   yields-items s t (x ∷ xs) e = e.1.0 ∙ ap (λ l. x ∷ l) (yields-items e.0 t xs e.2)
 
-  -- Suppose that calls to `next` yield the items `xs`, and change the iterator from the state `s`
-  -- to the state `t`. Then the size hint of the iterator has the same lower bound in both states.
+  -- If calls to `next` change the iterator `s` into `t`, then the lower bound of the size hint is
+  -- the same in both states.
   pub yields-claim : (s t : Hinted T A) (xs : List T) → Yields (HintedSteps {T = T} {A = A}) s xs t
       → hinted_claim t ≡ hinted_claim s
   yields-claim s t [] e = ap hinted_claim (sym e)
   yields-claim s t (x ∷ xs) e = yields-claim e.0 t xs e.2 ∙ e.1.1
 
-  -- Suppose that `next` is called on the iterator `s` until it returns `None`, and that the calls
-  -- yield the items `xs`. Then `xs` contains exactly the items that were left in `s`, in order.
+  -- If calls to `next` yield the items `xs` until `next` returns `None`, then `xs` contains exactly
+  -- the items that were left in the iterator `s`, in order.
   pub drains-items : (s : Hinted T A) (xs : List T) → Drains (HintedSteps {T = T} {A = A}) s xs
       → xs ≡ hinted_items s
   drains-items s xs d = sym (yields-items s d.1.0 xs d.1.1

@@ -1,6 +1,5 @@
--- A judge is a value that decides which items are kept. These lemmas are about closures that ask a
--- judge and return its decisions. If a method such as `retain` calls such a closure, then the judge
--- determines which items remain in the list.
+-- Lemmas about closures that return the decisions of a judge. If a method such as `retain` calls
+-- such a closure, then the judge determines which items remain in the list.
 use Rattle.std.proofs.Common.{◌≡◌, ℕ, suc, ◌≤◌, ◌==◌, length, refl, arith, List, [], ◌∷◌, Bool, true, false, ap, subst, ◌∙◌}
 use denote.MutBor.{MutBor}
 use denote.Param.Members.{Mut}
@@ -15,19 +14,16 @@ use Rattle.thin_runner.specs.commands.Filters.{asked, asked_last, asked_pairs, s
 
 module _ {S T J : Type 0} (R : S → T → Bool → S → T → Type 0) (judge_of : S → J)
     (ask : J → T → Bool × T × J) where
-  -- `R` describes the calls to a closure. The state of the closure contains a judge. `AsksJudge`
-  -- holds if each call to the closure has the same effect as the method `ask` of this judge: it
-  -- returns the decision of the judge, and changes the item and the judge as `ask` does.
+  -- `R` describes the calls to a closure whose state contains a judge. `AsksJudge` holds if each of
+  -- these calls has the same effect as the method `ask` of this judge.
   abbrev pub AsksJudge : Type 0
   AsksJudge = (s : S) (x : T) (b : Bool) (u : S) (y : T) → R s x b u y
       → (b, y, judge_of u) ≡ ask (judge_of s) x
 
 module _ {S T J : Type 0} (R : S → T → Bool → S → T → Type 0) (judge_of : S → J)
     (ask : J → T → Bool × T × J) (told : AsksJudge R judge_of ask) where
-  -- Suppose that a closure returns the decisions of the judge in its state. The closure is called
-  -- for each item of `xs`, in order. These calls result in the list `verdicts`, and change the
-  -- state of the closure from `s` to `t`. Then `verdicts` contains the decisions of the judge on
-  -- the items of `xs`.
+  -- If a closure returns the decisions of the judge in its state, and is called for each item of
+  -- `xs`, then `verdicts` contains the decisions of the judge on these items.
   pub asked-by : (s t : S) (xs : List T) (verdicts : Verdicts T) → Asked R s xs verdicts t
       → verdicts ≡ asked ask (judge_of s) xs
   asked-by s t [] verdicts a = a.0
@@ -35,9 +31,8 @@ module _ {S T J : Type 0} (R : S → T → Bool → S → T → Type 0) (judge_o
       a.6 ∙ (ap (λ l. (a.0, a.1) ∷ l) (asked-by a.2 t xs a.3 a.5)
       ∙ ap (λ l. (l.0, l.1) ∷ asked ask l.2 xs) (told s x a.0 a.2 a.1 a.4))
 
-  -- Suppose that `retain` or `retain_mut` turned the list `v` into `w`, and that its closure
-  -- returned the decisions of a judge. Then `w` contains exactly the items of `v` that the judge
-  -- keeps. The function `sifted` computes `w` from `v` and the decisions.
+  -- If `retain` or `retain_mut` turns the list `v` into `w`, and its closure returns the decisions
+  -- of a judge, then `w` contains exactly the items of `v` that the judge keeps (`sifted`).
   pub retained-by : {A : Type 0} (s : S) (v w : Thin T A) → IsRetained R s v w
       → w.capacity ≡ v.capacity → w.alloc ≡ v.alloc
       → w ≡ sifted v (asked ask (judge_of s) v.items)
@@ -50,11 +45,9 @@ module _ {S T J : Type 0} (R : S → T → Bool → S → T → Type 0) (judge_o
 -- This module is about methods such as `dedup_by`, which compare each item with the last item kept
 -- before it.
 module _ {T : Type 0} where
-  -- A method such as `dedup_by` keeps the first item of a list, and decides for each later item
-  -- whether to keep it. The pair `b` consists of the first item and a list of verdicts. Each
-  -- verdict consists of a later item and a flag, which says whether the item is kept.
-  -- `Leaves flags ys b` holds if `flags` contains the flags of these verdicts, and `ys` contains
-  -- the first item and the kept later items.
+  -- A method such as `dedup_by` keeps the first item of a list. The pair `b` contains this item and
+  -- the verdicts on the later items. `Leaves flags ys b` says that `flags` are the flags of these
+  -- verdicts, and `ys` the kept items.
   abbrev pub Leaves : List Bool → List T → T × Verdicts T → Type 0
   Leaves flags ys b = (flags ≡ flags_of b.1) × (ys ≡ b.0 ∷ left_at true b.1)
 
@@ -63,10 +56,8 @@ module _ {S T J : Type 0} (R : S → T → T → Bool → S → T → T → Type
     (same : J → T → T → Bool × T × T × J)
     (told : (s : S) (x k : T) (b : Bool) (u : S) (x' k' : T) → R s x k b u x' k'
     → (b, x', k', judge_of u) ≡ same (judge_of s) x k) where
-  -- Suppose that a closure returns the decisions of a judge. The closure compares each item of `xs`
-  -- with the last item kept before it. It compares the first item of `xs` with the item `k`. The
-  -- list `flags` says for each item of `xs` whether it is kept, and the list `ys` contains `k` and
-  -- the kept items, as they are after the comparisons. Then `flags` and `ys` agree with the
+  -- If a closure returns the decisions of a judge, and compares each item of `xs` with the last
+  -- item kept before it, beginning with `k`, then `flags` and the kept items `ys` agree with the
   -- decisions of the judge.
   pub asked-last-by : (s t : S) (k : T) (xs : List T) (flags : List Bool) (ys : List T)
       → AskedLast R s k xs flags ys t → Leaves flags ys (asked_last same (judge_of s) k xs)
@@ -87,10 +78,9 @@ module _ {S T J : Type 0} (R : S → T → T → Bool → S → T → T → Type
       answered by false m e = let h =
           by a.1 m.0 m.1 in (e ∙ ap (λ l. true ∷ l) h.0, m.2 ∙ ap (λ l. a.2 ∷ l) h.1)
 
-  -- Suppose that a closure returns the decisions of a judge. The first item of `xs` is kept, and
-  -- the closure compares each later item with the last item kept before it. The list `flags` says
-  -- which of the later items are kept, and `ys` contains all kept items. Then `ys` contains exactly
-  -- the items that the judge keeps. The decisions of the judge cause as many moves as `flags`.
+  -- If the closure of a method such as `dedup_by` returns the decisions of a judge, then `ys`
+  -- contains exactly the items of `xs` that the judge keeps. `flags` and the decisions cause the
+  -- same number of moves.
   pub asked-pairs-by : (s t : S) (xs : List T) (flags : List Bool) (ys : List T)
       → AskedPairs R s xs flags ys t
       → (moved_down flags ≡ moved_down (flags_of (asked_pairs same (judge_of s) xs)))
@@ -99,9 +89,8 @@ module _ {S T J : Type 0} (R : S → T → T → Bool → S → T → T → Type
   asked-pairs-by s t (x ∷ xs) flags ys a = let h = asked-last-by s t x xs flags ys a
       in (ap moved_down h.0, h.1)
 
-  -- Suppose that `dedup_by` turned the list `v` into `w`, and that its closure returned the
-  -- decisions of a judge. Then `w` contains exactly the items of `v` that the judge keeps. The
-  -- function `sifted` computes `w` from `v` and the decisions.
+  -- If `dedup_by` turns the list `v` into `w`, and its closure returns the decisions of a judge,
+  -- then `w` contains exactly the items of `v` that the judge keeps (`sifted`).
   pub deduped-by : {A : Type 0} (s : S) (v w : Thin T A) → IsDedupedBy R s v w
       → w.capacity ≡ v.capacity → w.alloc ≡ v.alloc
       → w ≡ sifted v (asked_pairs same (judge_of s) v.items)
@@ -115,11 +104,9 @@ module _ {F T A J : Type 0} (g : Mut F (MutBor T × Unit {0}) (ℕ × (MutBor T 
     (judge_of : F → J) (key : J → T → ℕ × T × J)
     (told : (f : F) (x : T) (k : ℕ) (f' : F) (x' : T) → CalledAtMut g f x k f' x'
     → (k, x', judge_of f') ≡ key (judge_of f) x) where
-  -- Suppose that `dedup_by_key` turned the list `v` into `w`, and that its closure returned keys
-  -- that a judge computed. The method compares each item with the last item kept before it. The
-  -- judge first computes the key of the later item, and then the key of the kept item. If the keys
-  -- are equal, the later item is removed. Then `w` contains exactly the items that are not removed.
-  -- The function `sifted` computes `w` from `v` and these decisions.
+  -- If the closure of `dedup_by_key` returns keys that a judge computes, then the new list `w`
+  -- contains exactly the items of `v` that the judge keeps (`sifted`). The judge computes the key
+  -- of the later item first.
   pub deduped-by-keys : (f : F) (v w : Thin T A)
       → IsDedupedBy (ComparesKeys g (λ a b. a == b)) f v w → w.capacity ≡ v.capacity
       → w.alloc ≡ v.alloc → w ≡ sifted v (asked_pairs (same_key key) (judge_of f) v.items)
@@ -136,21 +123,18 @@ module _ {F T A J : Type 0} (g : Mut F (MutBor T × Unit {0}) (ℕ × (MutBor T 
 -- In this module, `look` is a method of a judge. It makes a decision about an item, and cannot
 -- write to the item.
 module _ {T J : Type 0} (look : J → T → Bool × J) where
-  -- `looks j x` describes a call to `look` for the item `x`, if the judge is in the state `j`
-  -- before the call. It is a triple of the decision, the item `x`, which does not change, and the
-  -- state of the judge after the call.
+  -- `looks j x` is the effect of a call to `look` in the state `j`: the decision on the item `x`,
+  -- the unchanged item `x`, and the new state of the judge.
   abbrev pub looks : J → T → Bool × T × J
   looks j x = let a = look j x in (a.0, x, a.1)
 
-  -- `looks j x` is a triple of the decision of `look` on the item `x`, the item itself, and the
-  -- state of the judge after the decision. Suppose that `look` returned the decision `b` on `x`,
-  -- and changed the state of the judge from `j` to `u`. If the item is `y` after the call, and `y`
-  -- equals `x`, then `looks j x` is the triple `(b, y, u)`.
+  -- If `look` returns the decision `b` on the item `x`, changes the state from `j` to `u`, and
+  -- leaves the item unchanged (`y ≡ x`), then `looks j x` is the triple `(b, y, u)`.
   pub looked : (j u : J) (x y : T) (b : Bool) → (b, u) ≡ look j x → y ≡ x → (b, y, u) ≡ looks j x
   looked j u x y b told same = ap (λ z. (b, z, u)) same ∙ ap (λ a. (a.0, x, a.1)) told
 
--- Some commands test the items of a list, and remove some of them. The lemmas of this module help
--- to show that such a command does not increase the number of items.
+-- The lemmas of this module help to show that commands such as `Retain` do not increase the number
+-- of items.
 module _ {T : Type 0} where
   -- A verdict says whether an item is kept. The number of kept items is at most the number of
   -- verdicts.
@@ -159,25 +143,21 @@ module _ {T : Type 0} where
   few-left ((true, x) ∷ verdicts) = omega (arith, few-left verdicts)
   few-left ((false, x) ∷ verdicts) = omega (arith, few-left verdicts)
 
-  -- Suppose that the item `x` is compared with `k`, the last item kept before it, and that `b` says
-  -- whether `x` is removed. The pair `a` describes the comparisons of the items after `x`. It
-  -- consists of the last item kept before these items, and the verdicts on them. Then
-  -- `next b x k a` describes the comparisons of `x` and the items after it. It is a pair, too: it
-  -- consists of the item `k`, and a list of verdicts. This list contains the verdict on `x`, and
-  -- then the verdicts on the items after `x`.
+  -- `next b x k a` adds the verdict on the item `x` to the pair `a`, which describes the
+  -- comparisons of the items after `x`. If `b` is true, `x` is removed. Otherwise, `x` is kept
+  -- after `k`, the last kept item.
   abbrev next : Bool → T → T → T × Verdicts T → T × Verdicts T
   next b x k a = if b then (a.0, (false, x) ∷ a.1) else (k, (true, a.0) ∷ a.1)
 
-  -- The function `next` adds the verdict on the item `x` to the verdicts in the pair `a`. So its
-  -- result contains exactly one verdict more than `a`.
+  -- The function `next` adds exactly one verdict to the pair `a`: the verdict on the item `x`.
   one-answer : (b : Bool) (x k : T) (a : T × Verdicts T)
       → length (next b x k a).1 ≡ suc (length a.1)
   one-answer true x k a = refl
   one-answer false x k a = refl
 
 module _ {T J : Type 0} where
-  -- If a judge in the state `j` tests each item of `xs`, then there is one verdict for each item.
-  -- So the number of verdicts is `length xs`.
+  -- If a judge in the state `j` tests each item of `xs`, then there are exactly `length xs`
+  -- verdicts.
   pub asked-length : (ask : J → T → Bool × T × J) (j : J) (xs : List T) → length (asked ask j xs)
       ≡ length xs
   asked-length ask j [] = refl
@@ -188,9 +168,9 @@ module _ {T J : Type 0} where
       → length (left_at true (asked ask j xs)) ≤ length xs
   few-asked ask j xs = omega (arith, few-left (asked ask j xs), asked-length ask j xs)
 
-  -- Suppose that the item `k` is kept, and that each item of `xs` is then compared with the last
-  -- item kept before it. Then there is exactly one verdict for each item of `xs`. The next lemma,
-  -- `pairs-length`, states the same for a list whose first item is kept without a comparison.
+  -- If each item of `xs` is compared with the last item kept before it, beginning with `k`, then
+  -- there are `length xs` verdicts. The lemma `pairs-length` is about a list whose first item is
+  -- kept without a comparison.
   last-length : (same : J → T → T → Bool × T × T × J) (j : J) (k : T) (xs : List T)
       → length (asked_last same j k xs).1 ≡ length xs
   last-length same j k [] = refl
@@ -204,25 +184,23 @@ module _ {T J : Type 0} where
   pairs-length same j [] = refl
   pairs-length same j (x ∷ xs) = ap suc (last-length same j x xs)
 
-  -- Suppose that the first item of `xs` is kept, and that each later item is compared with the last
-  -- item kept before it. Then at most `length xs` items are kept.
+  -- If the first item of `xs` is kept, and each later item is compared with the last item kept
+  -- before it, then at most `length xs` items are kept.
   pub few-pairs : (same : J → T → T → Bool × T × T × J) (j : J) (xs : List T)
       → length (left_at true (asked_pairs same j xs)) ≤ length xs
   few-pairs same j xs = omega (arith, few-left (asked_pairs same j xs), pairs-length same j xs)
 
--- The following lemmas compare `dedup` and `dedup_by`. The method `dedup` uses the equality test
--- `E`, and the closure of `dedup_by` calls a judge. If the judge returns the same results as `E`,
--- then both methods keep the same items.
+-- The lemmas of this module show that `dedup` with the equality test `E` keeps the same items as
+-- `dedup_by` with a judge that returns the results of `E`.
 module _ {T J : Type 0} (E : T → T → Bool) (j : J) where
-  -- `tells` is the method of a judge that compares two items with the equality test `E`. It returns
-  -- the result of `E`, and changes neither the items nor the state `j` of the judge.
+  -- `tells` is a method of a judge that compares two items with the equality test `E`, and changes
+  -- neither the items nor the state `j`.
   abbrev pub tells : J → T → T → Bool × T × T × J
   tells j later kept = (E later kept, later, kept, j)
 
-  -- Suppose that `k` is the last item kept before the items `xs`, and that a judge compares items
-  -- with the equality test `E`. Then `dedup` keeps the same items as this judge. The list
-  -- `dedup_from E k xs` consists of `k` and the items of `xs` that the judge keeps. The flags
-  -- `unlike_from E k xs` say for each item of `xs` whether the judge keeps it.
+  -- If `k` is the last item kept before `xs`, then `dedup` with the equality test `E` keeps the
+  -- same items of `xs` as a judge that compares items with `E`. The flags `unlike_from E k xs` say
+  -- which items are kept.
   dedup-last : (k : T) (xs : List T) → Leaves (unlike_from E k xs) (dedup_from E k xs)
       (asked_last tells j k xs)
   dedup-last k [] = (refl, refl)
@@ -237,18 +215,16 @@ module _ {T J : Type 0} (E : T → T → Bool) (j : J) where
       told by true = let h = by k in (ap (λ l. false ∷ l) h.0, h.1)
       told by false = let h = by x in (ap (λ l. true ∷ l) h.0, ap (λ l. k ∷ l) h.1)
 
-  -- Suppose that a judge compares items with the equality test `E`. Then the list `dedup E xs`
-  -- contains exactly the items of `xs` that this judge keeps. The flags `unlike E xs` say which
-  -- items `dedup` keeps. The decisions of the judge cause as many moves as these flags.
+  -- With the equality test `E`, `dedup` keeps the same items of `xs` as a judge that compares items
+  -- with `E`. Both cause the same number of moves.
   pub dedup-pairs : (xs : List T)
       → (moved_down (unlike E xs) ≡ moved_down (flags_of (asked_pairs tells j xs)))
       × (dedup E xs ≡ left_at true (asked_pairs tells j xs))
   dedup-pairs [] = (refl, refl)
   dedup-pairs (x ∷ xs) = let h = dedup-last x xs in (ap moved_down h.0, h.1)
 
-  -- Suppose that `dedup` compared items with the equality test `E`, and turned the list `v` into
-  -- `w`. Then `w` contains exactly the items of `v` that a judge keeps if it compares items with
-  -- `E`. The function `sifted` computes `w` from `v` and the decisions of this judge.
+  -- If `dedup` with the equality test `E` turns the list `v` into `w`, then `w` contains exactly
+  -- the items of `v` that are kept by a judge that compares items with `E` (`sifted`).
   pub deduped-alike : {A : Type 0} (v w : Thin T A) → w.items ≡ dedup E v.items → w.cost
       ≡ moving (moved_down (unlike E v.items)) v.cost
       → w.capacity ≡ v.capacity → w.alloc ≡ v.alloc → w ≡ sifted v (asked_pairs tells j v.items)

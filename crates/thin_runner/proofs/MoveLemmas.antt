@@ -1,6 +1,5 @@
--- The cost of a list counts its moves: each item that is put into the list or moved within it
--- counts as one move. The following lemmas prove that a command adds at most `may_move` moves to
--- the cost. They also prove that a run, which is a sequence of commands, adds at most
+-- Each item that is put into a list or moved within it counts as one move. These lemmas prove that
+-- a command adds at most `may_move` moves to the cost of a list, and a run of commands at most
 -- `run_may_move` moves.
 use Rattle.std.proofs.Common.{Bool, true, false, ◌≡◌, ℕ, ◌+◌, ◌-◌, ◌==◌, ◌<◌, ◌≤◌, List, [], ◌∷◌, ◌++◌, Option, Some, None, length, arith, ap, refl, inl, inr}
 use Rattle.std.proofs.lemmas.List.{length-append, length-replicate}
@@ -31,31 +30,27 @@ few-repeats : {T : Type 0} (k : ℕ) (x : T) → length (replicate (k - 1) x) �
 few-repeats k x = omega (arith, length-replicate (k - 1) x)
 
 module _ {T A : Type 0} (v w : Thin T A) where
-  -- Suppose that the lists `w` and `u` are equal, and that the costs of `u` and `v` count the same
-  -- number of moves. Then the costs of `w` and `v` also count the same number of moves. So for
-  -- every number `k`, the moves of `w` are at most the moves of `v` plus `k`.
+  -- If `w` equals `u`, and the costs of `u` and `v` count the same number of moves, then the cost
+  -- of `w` counts at most `k` more moves than the cost of `v`.
   same-moves : (u : Thin T A) (k : ℕ) → w ≡ u → u.cost.moves ≡ v.cost.moves
       → w.cost.moves ≤ v.cost.moves + k
   same-moves u k e same = omega (arith, ap (λ z. z.cost.moves) e, same)
 
-  -- `edited v xs m` is the list `v` after a call that set its items to `xs` and added `m` moves to
-  -- its cost. If `w` is this list, then the cost of `w` counts at most `m` more moves than the cost
-  -- of `v`.
+  -- If `w` is the list `v` after a call that made `m` moves (`edited`), then the cost of `w` counts
+  -- at most `m` more moves than the cost of `v`.
   edited-moves : (xs : List T) (m : ℕ) → w ≡ edited v xs m → w.cost.moves ≤ v.cost.moves + m
   edited-moves xs m e = omega (arith, ap (λ z. z.cost.moves) e)
 
-  -- `grown v c xs m` is the list `v` after a call that set its items to `xs` and its capacity to
-  -- `c`, and added `m` moves to its cost. If `w` is such a list, then the cost of `w` counts at
-  -- most `m` more moves than the cost of `v`. A change of the capacity does not count as a move.
+  -- If `w` is the list `v` after a call that made `m` moves and may have changed the capacity
+  -- (`grown`), then the cost of `w` counts at most `m` more moves. A reallocation is not a move.
   grown-moves : (xs : List T) (m : ℕ) → w ≡ grown v w.capacity xs m
       → w.cost.moves ≤ v.cost.moves + m
   grown-moves xs m e = omega (arith, ap (λ z. z.cost.moves) e, cost_at-moves v w.capacity)
 
   module _ (rule : Rule) (R : RattleType) (a b : ℕ) where
-    -- Suppose that a splice replaced the items `a..b` of the list `v` with the items `placed` of an
-    -- iterator, and that `placed` contains at most `k` items. Then the splice added at most `k`
-    -- moves to the cost of the list, plus at most two moves for each item after the range. The
-    -- number `most` is an upper bound on the number of items that the iterator could yield.
+    -- If a splice replaces the items `a..b` of the list `v` with at most `k` items, `placed`, then
+    -- it adds at most `k` moves, plus two for each item after the range. The iterator could yield
+    -- at most `most` items.
     spliced-moves : (placed : List T) (most k : ℕ) → Replaces rule R v a b placed most w
         → length placed ≤ k → w.cost.moves ≤ v.cost.moves + (2 * (length v.items - b) + k)
     spliced-moves placed most k f few =
@@ -69,9 +64,8 @@ module _ {T A : Type 0} (v w : Thin T A) where
           few,
         )
 
-    -- Suppose that a splice of the range `a..b` failed partway, and that its iterator contained the
-    -- items `xs` before the splice. Then the splice added at most one move for each item of `xs` to
-    -- the cost of the list, plus at most two moves for each item after the range.
+    -- If a splice of the range `a..b` fails partway, and its iterator contained the items `xs`,
+    -- then it adds at most one move for each item of `xs`, plus two for each item after the range.
     stopped-moves : (xs held : List T) (lower : ℕ) (cause : ThinVecError) (in_hand : Option T)
         (rest : Hinted T A) → StopsBetween rule R v a b xs held lower cause in_hand rest w
         → w.cost.moves ≤ v.cost.moves + (2 * (length v.items - b) + length xs)
@@ -80,8 +74,8 @@ module _ {T A : Type 0} (v w : Thin T A) where
         spliced-moves s.placed (lower + length xs) (length xs) s.filled
         (omega (arith, ap length s.all, length-append s.placed others))
 
--- A call to `shrink_to_fit` does not increase the number of moves in the cost of the list. If the
--- call frees the allocation of an empty list, it sets this number to 0.
+-- A call to `shrink_to_fit` does not increase the number of moves. If the call frees the allocation
+-- of an empty list, this number becomes 0.
 shrunk-moves : {T A : Type 0} (v : Thin T A) → (cost_shrunk v).moves ≤ v.cost.moves
 shrunk-moves v = go (length v.items == v.capacity) (length v.items == 0)
   where
@@ -92,8 +86,8 @@ shrunk-moves v = go (length v.items == v.capacity) (length v.items == 0)
     go false false = omega arith
 
 module _ {T A J : Type 0} (here : Setting T A J) (v w : Thin T A) where
-  -- Suppose that a call that clones the items `sources` fails, and that `sources` contains at most
-  -- `k` items. Then the call adds at most `k` moves to the cost of the list.
+  -- If a call that clones the items `sources` fails, and `length sources ≤ k`, then the call adds
+  -- at most `k` moves to the cost of the list.
   refused-moves : (k : ℕ) (sources : List T) (cause : ThinVecError) → length sources ≤ k
       → RefusesClone here v k sources cause w → w.cost.moves ≤ v.cost.moves + k
   refused-moves k sources cause few r = stopped r.2
@@ -105,9 +99,9 @@ module _ {T A J : Type 0} (here : Setting T A J) (v w : Thin T A) where
       stopped (inr s) = omega (arith, few, s.1, grown-moves v w v.items s.0 s.3.1)
 
 module _ {T A G J : Type 0} (here : Setting T A J) where
-  -- Suppose that `command` turns the list `v` into `w`, and gets the reply `reply`. Then the
-  -- command adds at most `may_move` moves to the cost of the list. This bound depends on the items
-  -- of `v`, the command and the reply.
+  -- If `command` turns the list `v` into `w` and gets the reply `reply`, then it adds at most
+  -- `may_move` moves to the cost. This bound depends on the items of `v`, the command and the
+  -- reply.
   pub step-moves : (v w : Thin T A) (command : Command T A G) (reply : Reply T A G)
       → Steps here v command reply w
       → w.cost.moves ≤ v.cost.moves + may_move here v.items command reply
@@ -169,9 +163,8 @@ module _ {T A G J : Type 0} (here : Setting T A J) where
   step-moves v w (Splice a b steps xs lower) (Refused cause) s = same-moves v w v 0 s.1.2 refl
   step-moves v w command reply s = absurd s.1
 
-  -- Suppose that a run of the list `commands` turns the list `v` into `w`. Then the run adds at
-  -- most `run_may_move` moves to the cost of the list. This bound is the sum of the bounds for the
-  -- individual commands.
+  -- If a run of the commands turns the list `v` into `w`, then it adds at most `run_may_move` moves
+  -- to the cost: the sum of the bounds for the individual commands.
   pub runs-moves : (v w : Thin T A) (commands : List (Command T A G))
       (replies : List (Reply T A G)) (run : Runs here v commands replies w)
       → w.cost.moves ≤ v.cost.moves + run_may_move here v w commands replies run

@@ -1,5 +1,4 @@
-//! Worked examples of `drain`, `extract_if`, `bounds`, and formatting with `{:?}`. A worked example
-//! compares the results of calls with values that were worked out by hand.
+//! Worked examples that check `drain`, `extract_if`, `bounds`, and formatting with `{:?}`.
 use crate::checks::Checks;
 use crate::rows::{Outcome, listed};
 use std::alloc::Allocator;
@@ -23,8 +22,8 @@ fn is_even(item: i32) -> bool {
     item.wrapping_rem(2) == 0
 }
 
-/// Checks an `ExtractIf` that yields one item of a range and is then dropped. The drop must not
-/// remove any other item from the list.
+/// Checks that an `ExtractIf` that yields one item and is then dropped removes no other item from
+/// the list.
 pub fn row_8<A: Allocator + Copy>(alloc: A) -> Outcome {
     let mut checks = Checks::new();
     let mut list = listed(alloc, [1, 2, 3, 4, 5, 6])?;
@@ -53,9 +52,8 @@ pub fn row_9<A: Allocator + Copy>(alloc: A) -> Outcome {
     Ok(checks)
 }
 
-/// Checks the function `bounds` for a list of five items. The arguments of this function are two
-/// values of the type `Bound`, which describe a range of the list. The function must return the
-/// start and the end of this range, or `None` if the list has no such range.
+/// Checks that `bounds` returns the start and the end of a range of a list, or `None` if the list
+/// has no such range.
 pub fn row_18<A: Allocator + Copy>(_alloc: A) -> Outcome {
     let mut checks = Checks::new();
     for (start, end, wanted) in [

@@ -1,15 +1,13 @@
-//! The judge that a worked example passes to the function `run`, which carries out commands on a
-//! list. A judge is a value that makes decisions in place of a closure: for example, it decides
-//! which items `retain` keeps.
+//! The judge that a worked example passes to the function `run`. A judge makes decisions in place
+//! of a closure: for example, it decides which items `retain` keeps.
 ghost use Rattle.std.specs.Ordering.{int_eq};
 ghost use Rattle.std.specs.Prelude.{int_rem, pos};
 
 use thin_runner::judge::Judge;
 
-/// A judge makes decisions in place of a closure. With this judge, `retain` and `retain_mut` keep
-/// the even numbers, and `extract_if` removes the even numbers. For `dedup_by`, two numbers are
-/// duplicates if they are equal. For `dedup_by_key`, all numbers are duplicates, because they all
-/// have the key 0. The judge does not change the numbers.
+/// A judge with which `retain` and `retain_mut` keep the even numbers, and `extract_if` removes
+/// them. For `dedup_by`, equal numbers are duplicates. For `dedup_by_key`, all numbers are
+/// duplicates, because all keys are 0.
 #[derive(Clone, Copy)]
 pub struct Evens;
 

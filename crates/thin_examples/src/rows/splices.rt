@@ -1,5 +1,4 @@
-//! Worked examples of `splice`, and a worked example of calls on an empty list. A worked example
-//! compares the results of calls with values that were worked out by hand.
+//! Worked examples that check `splice`, and calls on an empty list.
 use crate::checks::Checks;
 use crate::rows::bulk::claiming;
 use crate::rows::{Outcome, listed};
@@ -8,9 +7,8 @@ use std::iter::{empty, once};
 use thin_runner::hinted::Hinted;
 use thin_vec::{SpliceRefused, ThinVec, ThinVecError};
 
-// Replaces two of five items with the three items of an iterator. The lower bound of the iterator's
-// size hint is `claim`. Checks the items of the list afterwards, and checks that its capacity is
-// `capacity`.
+// Replaces two of five items with three items of an iterator whose size hint has the lower bound
+// `claim`. Checks that the list then has the expected items and the capacity `capacity`.
 fn check_claimed<A: Allocator + Copy>(
     checks: &mut Checks,
     alloc: A,
@@ -33,10 +31,9 @@ pub fn row_10<A: Allocator + Copy>(alloc: A) -> Outcome {
     Ok(checks)
 }
 
-// Checks `refused`, the error of a failed call to `finish`. This method completes a splice. The
-// field `cause` of the error must be `CapacityOverflow`. The call inserted every item that it took
-// from the iterator. So the field `held` must be empty, and the field `in_hand` must be `None`. The
-// iterator in the field `rest` must still yield its last item.
+// Checks the error of a failed call to `finish`. The cause must be `CapacityOverflow`, every item
+// that was taken from the iterator must have been inserted, and one item must remain in the
+// iterator.
 fn check_refused<A: Allocator>(
     checks: &mut Checks,
     refused: SpliceRefused<i32, Hinted<i32, A>, A>,
@@ -53,10 +50,8 @@ fn check_refused<A: Allocator>(
     checks.items(&[rest.next(), rest.next()], &[Some(12), None]);
 }
 
-/// Checks that a splice fails if the size hint of its iterator is too large for any capacity. The
-/// method `finish`, which completes the splice, returns the error. Before the failure, `finish`
-/// replaces the two items of the range with the first two items of the iterator. It does not insert
-/// the third item of the iterator.
+/// Checks that `finish` fails if the size hint of the iterator is too large for any capacity.
+/// Before it fails, it replaces the two items of the range with the first two of three new items.
 pub fn row_11<A: Allocator + Copy>(alloc: A) -> Outcome {
     let mut checks = Checks::new();
     let mut list = listed(alloc, [1, 2, 3, 4, 5])?;
@@ -69,8 +64,8 @@ pub fn row_11<A: Allocator + Copy>(alloc: A) -> Outcome {
     Ok(checks)
 }
 
-// Checks that a `drain` of an empty list yields no item, and that the list is still empty after a
-// `splice` with an empty iterator.
+// Checks that a `drain` of an empty list yields no item, and that a `splice` with an empty iterator
+// leaves the list empty.
 fn check_edits_of_nothing<A: Allocator + Copy>(
     checks: &mut Checks,
     alloc: A,
@@ -113,8 +108,8 @@ pub fn row_22<A: Allocator + Copy>(alloc: A) -> Outcome {
     Ok(checks)
 }
 
-// Checks a `splice` of a whole list with an empty iterator. The splice yields all items, and the
-// list is empty afterwards.
+// Checks a `splice` of a whole list with an empty iterator. The splice yields all items and leaves
+// the list empty.
 fn check_emptied<A: Allocator + Copy>(checks: &mut Checks, alloc: A) -> Result<(), ThinVecError> {
     let mut list = listed(alloc, [1, 2, 3, 4, 5])?;
     let mut splice = list.splice(0, 5, empty());
@@ -140,8 +135,7 @@ fn check_spliced<A: Allocator + Copy>(
     Ok(list)
 }
 
-// Checks a second `splice` of the list that `check_spliced` returned. The second `splice` yields an
-// item that the first one inserted.
+// Checks a second `splice` of the same list, which yields an item that the first `splice` inserted.
 fn check_spliced_again<A: Allocator + Copy>(
     checks: &mut Checks,
     alloc: A,

@@ -1,5 +1,5 @@
-//! The parser for commands that call methods of a judge. A judge makes decisions in place of a
-//! closure: for example, it decides which items `retain` keeps.
+//! The parser for commands that call methods of a judge, which makes decisions in place of a
+//! closure.
 ghost use Rattle.std.specs.Prelude.{IfOk, IfSome};
 ghost use Rattle.thin_replay.specs.Lines.{IsCall, IsFilter};
 
@@ -10,7 +10,7 @@ use crate::words::count_of;
 use thin_runner::command::Command;
 
 /// Parses the words of a line as a command and a judge, which makes decisions in place of a
-/// closure. Returns `None` if the words do not have the form of a command with a judge.
+/// closure. Returns `None` if the words do not have this form.
 pub fn parse(words: &[&str]) -> Result<Option<Call>, LineError>
     ensures says { IfOk result (λ found. IfSome found (IsCall words.now)) }
 {
@@ -33,9 +33,8 @@ pub fn parse(words: &[&str]) -> Result<Option<Call>, LineError>
     }
 }
 
-// Returns the command with the name `name`, if this command is `Retain`, `RetainMut`, `DedupBy` or
-// `DedupByKey`. Otherwise, returns `None`. On a line with one of these four commands, the three
-// words after the name describe a judge, which makes decisions in place of a closure.
+// Returns the command with the name `name` if it is `Retain`, `RetainMut`, `DedupBy` or
+// `DedupByKey`, and `None` otherwise.
 fn filter(name: &str) -> Option<Command<u64>>
     ensures filter { IfSome result (IsFilter name.now) }
 {

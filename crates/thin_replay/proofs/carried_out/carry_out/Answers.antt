@@ -1,11 +1,11 @@
--- This file proves the contract of `carry_out`, which carries out a single command. The proofs use
--- the fact that a single command gets exactly one reply.
+-- This file proves the contract of `carry_out`, which carries out a single command and gets exactly
+-- one reply.
 use Rattle.std.proofs.Common.{◌≡◌, [], ◌∷◌, ap, arith, ◌++◌, ◌∙◌}
 use Rattle.thin_replay.proofs.RunLemmas.{headline-one, one_reply}
 use Rattle.thin_replay.proofs.carried_out.carry_out.Goals as goal
 
--- The run carries out a single command, so it produces exactly one reply. The list of replies is
--- not empty, and `pop` returns `Some`. So the precondition of the following call to `unwrap` holds.
+-- The run of a single command produces exactly one reply. So `pop` returns `Some`, and the
+-- precondition of `unwrap` holds.
 pub unwrap-requires : goal.unwrap-requires
 unwrap-requires g c =
     let one : c.push.new.self.items ≡ c.args.command ∷ [] =
@@ -17,9 +17,8 @@ unwrap-requires g c =
           c.in-Ok-run.ensures.ok,
     ))
 
--- The reply that `pop` returns is the only reply of the run. The main theorem (`Headline`), which
--- describes the effects of a run, holds for this run. So it holds for the single command and this
--- reply.
+-- The reply that `pop` returns is the only reply of the run. So the main theorem (`Headline`) holds
+-- for the single command and this reply.
 pub returns-in-Ok-run-clause-ok : goal.returns-in-Ok-run-clause-ok
 returns-in-Ok-run-clause-ok g c =
     let one : c.push.new.self.items ≡ c.args.command ∷ [] =

@@ -1,5 +1,5 @@
--- This file proves the contract of `steps_of`. This function parses the letters of a word as steps,
--- which are calls to `next` or `next_back`. Each iteration of its loop parses one letter.
+-- This file proves the contract of `steps_of`. Each iteration of its loop parses one letter as a
+-- step, which is a call to `next` or `next_back`.
 use Rattle.std.proofs.Common.{inr, rules}
 use Rattle.thin_replay.proofs.WordsLemmas.{zip-all, zip-next}
 use Rattle.thin_replay.specs.Words.{IsStep}
@@ -19,8 +19,8 @@ loop-letter-preserved c =
     c.loop-letter.steps.items c.in_ok-step_of.field-0 c.loop-letter-test.true
     c.loop-letter.invariant (search rules))
 
--- After the loop, all letters have been parsed. So the list of steps contains one step for each
--- letter of the word, in the same order.
+-- After the loop, all letters have been parsed. So there is one step for each letter of the word,
+-- in the same order.
 pub returns : goal.returns
 returns c = record {
   steps = inr (rw (← c.as_bytes-letters.ensures.value)

@@ -1,13 +1,12 @@
--- This file proves the contract of `place`. The function searches for a column in a list of entries
--- whose columns are strictly increasing. It uses a binary search. So it returns either the index of
--- the entry of this column, or the index at which such an entry would be inserted.
+-- This file proves the contract of `place`, a binary search for a column. The search is correct
+-- because the columns of the entries are strictly increasing.
 use Rattle.std.proofs.Common.{rules}
 use Rattle.std.proofs.lemmas.List.Sorted.{answers_always}
 use Rattle.thin_rows.proofs.EntriesLemmas.{searched}
 use Rattle.thin_rows.proofs.row.place.Goals as goal
 
--- If there is an entry of the given column, the search returns the index of this entry. Otherwise,
--- the search returns the index at which such an entry would be inserted.
+-- The search returns the index of the entry of the column or, if there is none, the index at which
+-- it would be inserted.
 pub returns : goal.returns
 returns g c =
     let told = c.binary_search_by_key.ensures in

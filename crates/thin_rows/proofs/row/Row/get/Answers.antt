@@ -1,6 +1,5 @@
--- This file proves the contract of `get`. A row stores its entries in a list, which represents a
--- map. If the list has an entry of the given column, then the map has the value of this entry at
--- the column. If the list has no such entry, then the map has no value at the column.
+-- This file proves the contract of `get`. The value that a search in the list of entries finds is
+-- the value of the map that the list represents.
 use Rattle.std.proofs.Common.{sym}
 use Rattle.thin_rows.proofs.RowLemmas.{get_at, get_gap}
 use Rattle.thin_rows.proofs.row.Row.get.Goals as goal

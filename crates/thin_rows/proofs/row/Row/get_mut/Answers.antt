@@ -1,7 +1,5 @@
--- This file proves the contract of `get_mut`. The method searches for the entry of a column in the
--- list that the row stores. This list represents a map, which has the same entries in the same
--- order. So if the search finds an entry, this entry has the same index in the list and in the map.
--- If the search finds no entry, the map has no value at the column.
+-- This file proves the contract of `get_mut`. The list that a row stores has the same entries as
+-- the map that it represents, in the same order. So an entry has the same index in both.
 use Rattle.std.proofs.Common.{nat_cmp, refl, sym}
 use Rattle.std.specs.FinMap.{entries-from_sorted}
 use Rattle.thin_rows.proofs.RowLemmas.{get_gap}

@@ -1,5 +1,5 @@
--- This file proves the contract of `len`. The method returns the number of entries in the stored
--- list. The map that this list represents has the same number of entries.
+-- This file proves the contract of `len`. The stored list and the map that it represents have the
+-- same number of entries.
 use Rattle.std.proofs.Common.{sym, ap, ◌∙◌}
 use Rattle.std.specs.FinMap.{len}
 use Rattle.thin_rows.proofs.RowLemmas.{len_is}

@@ -1,6 +1,5 @@
 -- This file proves that `owns_block` returns whether the row has an entry. By the invariant of the
--- row, the row owns a block if and only if its stored list has an entry. This is the case if and
--- only if the map that the row represents has an entry.
+-- row, its list owns a block if and only if the list has an entry.
 use Rattle.std.proofs.Common.{◌≡◌, ◌∙◌, length, sym, ap}
 use Rattle.std.specs.FinMap.{len}
 use Rattle.thin_rows.proofs.RowLemmas.{len_is}

@@ -1,7 +1,5 @@
--- This file proves the contract of `value_mut`. The method returns a mutable reference to the value
--- of an entry. The caller can change the value through this reference, but cannot change the column
--- of the entry. If the caller writes a new value, the map that the row represents has this value at
--- the same column.
+-- This file proves the contract of `value_mut`. Through the returned reference, the caller can
+-- change the value of an entry, but not its column. So the map changes only at this column.
 use Rattle.std.proofs.Common.{◌≡◌, Some, nat_cmp, length-set, refl, sym, ap, ◌∙◌}
 use Rattle.std.proofs.lemmas.Option.{get_or_from_slice_get}
 use Rattle.std.specs.FinMap.{entries-from_sorted}
@@ -16,8 +14,8 @@ index_mut-requires g c =
     ) at
     c.requires.place).in_bounds
 
--- The row still satisfies its invariant after the caller has written any value through the returned
--- reference, because the column of the borrowed entry does not change.
+-- The row satisfies its invariant after any write through the returned reference, because the
+-- column of the entry does not change.
 pub invariant_of-self-lent : goal.invariant_of-self-lent
 invariant_of-self-lent g c w =
     let row = c.self.inside.entries in

@@ -1,8 +1,5 @@
--- This file proves the contract of `with_rows`. After the loop, the list contains all rows of the
--- table. If `with_rows` fails, it returns the error of its call to `with_capacity`. The contract of
--- `with_rows` uses the item type `row_type`, and the contract of `with_capacity` uses another item
--- type of the same size and alignment. For both types, `exact_capacity` returns the same capacity.
--- So both contracts agree about the error `CapacityOverflow`.
+-- This file proves the contract of `with_rows`. This contract and that of `with_capacity` use two
+-- item types of the same size and alignment. So both agree about the error `CapacityOverflow`.
 use Rattle.std.proofs.Common.{◌≡◌, ◌∙◌, ap, arith, refl, replicate}
 use Rattle.std.specs.FinMap as map
 use Rattle.thin_rows.proofs.RowTypeLemmas.{error_tells, made_tells}
