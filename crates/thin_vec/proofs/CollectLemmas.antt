@@ -10,17 +10,15 @@ use Rattle.thin_vec.specs.List.Extend.{IsMadeOf}
 use Rattle.thin_vec.specs.ThinVec.{Thin}
 
 module _ {T A E : Type 0} where
-  -- Suppose that every list with the property `P` also has the property `Q`. If the result `r`
-  -- contains a list with the property `P`, then this list also has the property `Q`. Nothing is
-  -- claimed if `r` is an error.
+  -- `IfOk r P` states that if the result `r` is `Ok v`, then `P v` is true. If `P` implies `Q`,
+  -- then `IfOk r P` implies `IfOk r Q`.
   if_ok : {P Q : Thin T A → Type 0} (r : Result (Thin T A) E) → ((v : Thin T A) → P v → Q v)
       → IfOk r P → IfOk r Q
   if_ok (Ok v) implies p = implies v p
   if_ok (Err e) implies p = p
 
-  -- If the iterator yields exactly the items `all`, and `collect` returns a `ThinVec`, then this
-  -- `ThinVec` contains exactly the items `all`. This lemma corresponds to std's
-  -- `items_from_collect`.
+  -- If `collect` returns a `ThinVec`, then it contains exactly the items `all` that the iterator
+  -- yields. This lemma corresponds to std's `items_from_collect`.
   pub items_from_collect : {S : Type 0} {steps : S → Option T → S → Type 0} {s : S} {all : List T}
       (R : RattleType) (r : Result (Thin T A) E)
       → IfOk r (λ v. (xs : List T) × DrainsIf steps ⊤ s xs × IsMadeOf R xs v)

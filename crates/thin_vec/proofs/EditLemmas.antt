@@ -1,6 +1,5 @@
--- These lemmas are for proofs about code that calls `dedup_by`, `dedup_by_key` or `extract_if`.
--- Most of them require that the closure changes no item, and that its result depends only on the
--- items passed to it.
+-- These lemmas are for proofs about code that calls `dedup_by`, `dedup_by_key` or `extract_if`. In
+-- most of them, the closure changes no item, and its result depends only on the items.
 use Rattle.std.proofs.Common.{◌≡◌, ◌+◌, ◌≤◌, Bool, true, false, List, [], ◌∷◌, ◌++◌, Option, None, Some, ap, append_assoc, arith, length, refl, sym, ◌∙◌}
 use Rattle.std.proofs.lemmas.Fn.{dedup_same}
 use Rattle.std.proofs.lemmas.List.{append-nil, length-append}
@@ -19,14 +18,11 @@ use Rattle.thin_vec.specs.declared.edits.holder.Holds.{Ghosts as HoldsGhosts}
 
 -- The following lemmas are about `dedup_by` and `dedup_by_key`.
 
--- In this module, `R` describes the calls to a closure that compares two items. `R` has seven
--- arguments: the state of the closure before the call, the two items, the result of the call, the
--- state after the call, and the two items as the call left them.
+-- In this module, `R` describes calls to a closure that compares two items. Its arguments are the
+-- old state of the closure, both items, the result, the new state, and both items after the call.
 module _ {S T : Type 0} (R : S → T → T → Bool → S → T → T → Type 0) where
-  -- Suppose that a closure tested the items `xs` in order, each against the last item kept before
-  -- it. (For the first item of `xs`, this is the item `k`.) The flags `stays` say which items of
-  -- `xs` were kept, and `ys` is the list of `k` and the kept items. Then std's `DedupsFrom` holds:
-  -- `ys` is what remains of `k ∷ xs` after the duplicates are removed.
+  -- If `AskedLast` holds, then std's `DedupsFrom` also holds. Both state that removing the
+  -- duplicates from `k ∷ xs` leaves `ys`.
   dedups_from : (xs : List T) (s : S) (k : T) (stays : List Bool) (ys : List T) (t : S)
       → AskedLast R s k xs stays ys t → DedupsFrom R s k xs ys
   dedups_from [] s k stays ys t h = h.1
@@ -46,26 +42,22 @@ module _ {S T : Type 0} (R : S → T → T → Bool → S → T → T → Type 0
         ]) h.7,
   )
 
-  -- Suppose that a closure tested each item of the list `xs`, except the first, against the last
-  -- item kept before it. The flags `stays` say which of the tested items were kept, and `ys` is the
-  -- list of all kept items, including the first item. Then std's `DedupsAll` holds: `ys` is what
-  -- remains of `xs` after the duplicates are removed.
+  -- If `AskedPairs` holds, then std's `DedupsAll` also holds. Both state that removing the
+  -- duplicates from `xs` leaves `ys`.
   dedups_all : (xs : List T) (s : S) (stays : List Bool) (ys : List T) (t : S)
       → AskedPairs R s xs stays ys t → DedupsAll R s xs ys
   dedups_all [] s stays ys t h = h.1
   dedups_all (x ∷ xs) s stays ys t h = dedups_from xs s x stays ys t h
 
-  -- If `dedup_by` or `dedup_by_key` turned the list `v` into the list `w`, then std's `IsDeduped`
-  -- holds: `w.items` is what remains of `v.items` if the duplicates are removed. Lemmas about
-  -- `IsDeduped` are in the file `lemmas/Fn` of std's proofs.
+  -- If `dedup_by` or `dedup_by_key` turned the list `v` into `w`, then std's `IsDeduped` holds for
+  -- their items. Lemmas about `IsDeduped` are in the file `lemmas/Fn` of std's proofs.
   pub deduped_deduped : {A : Type 0} (s : S) (v w : Thin T A) → IsDedupedBy R s v w
       → IsDeduped R s v.items w.items
   deduped_deduped s v w h =
       record { told = dedups_all v.items s h.1.stays w.items h.0 h.1.asked }
 
-  -- Suppose that the closure changes neither an item nor its own state. Suppose also that its
-  -- result for an item `x` and the last kept item `y` is `same x y`. If `dedup_by` with this
-  -- closure turned the list `v` into the list `w`, then `w.items` is `dedup same v.items`.
+  -- If the closure changes neither an item nor its state, and returns `same x y` for each pair of
+  -- items, then `dedup_by` turns `v.items` into `dedup same v.items`.
   pub deduped_dedup : {A : Type 0} (same : T → T → Bool) {s : S} {v w : Thin T A}
       → ((x y : T) (b : Bool) (t : S) (x' y' : T) → R s x y b t x' y'
       → (b ≡ same x y) × (t ≡ s) × (x' ≡ x) × (y' ≡ y))
@@ -80,9 +72,8 @@ module _ {T : Type 0} (test : T → Bool) where
   abbrev pub others : List T → List T
   others xs = filter (λ x. not (test x)) xs
 
-  -- `Parts xs item kept rest` describes a call to `next` on an `ExtractIf`. The call tests the
-  -- items of the list `xs`, in order, until an item passes the test. `item` is this item, or `None`
-  -- if no item passes. The items `kept` were tested and did not pass, and the items `rest` were not
+  -- `Parts xs item kept rest` describes a search in `xs` for the first item that passes `test`.
+  -- `item` is this item, or `None`. The items `kept` did not pass, and the items `rest` were not
   -- tested.
   pub record Parts (xs : List T) (item : Option T) (kept rest : List T) : Type 0 where
     pub gone : filter test xs ≡ option_to_list item ++ filter test rest
@@ -96,8 +87,7 @@ module _ {T : Type 0} (test : T → Bool) where
   module _ {S : Type 0} (R : S → T → Bool → S → T → Type 0)
       (says : (s : S) (x : T) (b : Bool) (t : S) (y : T) → R s x b t y
       → (b ≡ test x) × (y ≡ x)) where
-    -- This is the induction step of the lemma `parts`: if the lemma holds for the list `xs`, then
-    -- it also holds for the list `x ∷ xs`.
+    -- This is the induction step of the lemma `parts`, from the list `xs` to the list `x ∷ xs`.
     part : (x : T) (xs : List T) (item : Option T) (t u : S) (y : T) (kept rest : List T)
         (b : Bool) → b ≡ test x → y ≡ x
         → ((ks : List T) → ExtractsNext R u xs item t ks rest → Parts xs item ks rest)
@@ -123,10 +113,8 @@ module _ {T : Type 0} (test : T → Bool) where
           ended = then.ended;
         }
 
-    -- Suppose that a call to `next` on an `ExtractIf` tests items of the list `xs`. If the closure
-    -- changes no item and always returns the result of `test`, then `Parts` describes this call:
-    -- `item` is the first item of `xs` that passes `test`, or `None`. The items `kept` before it do
-    -- not pass, and the items `rest` after it were not tested.
+    -- If the closure changes no item and always returns the result of `test`, then `Parts`
+    -- describes the call to `next`: `item` is the first item of `xs` that passes `test`, or `None`.
     pub parts : (s : S) (xs : List T) (item : Option T) (t : S) (kept rest : List T)
         → ExtractsNext R s xs item t kept rest → Parts xs item kept rest
     parts s [] item t kept rest e = record {
@@ -143,12 +131,9 @@ module _ {T : Type 0} (test : T → Bool) where
 -- returns. The predicate `test` says which items the `ExtractIf` extracts.
 module _ {T F A G : Type 0} {g : Ghosts G}
     {h : HoldsGhosts (Holder (Extracting T F A)) (Extracting T F A)} (test : T → Bool) where
-  -- `IsExtracting` is the invariant of a loop that appends each item yielded by an `ExtractIf` to a
-  -- list. When the loop began, the `ExtractIf` was `start` and the list was `old`. At present, the
-  -- `ExtractIf` is `now` and the list is `held`. The invariant states that `held`, followed by the
-  -- untested items of `now` that pass `test`, is `old`, followed by the untested items of `start`
-  -- that pass `test`. A similar equation holds for the items that do not pass. The items after the
-  -- range are the same in `start` and `now`, and `start` and `now` borrow the same `ThinVec`.
+  -- `IsExtracting start now old held` is the invariant of a loop that appends the items of an
+  -- `ExtractIf` to a list. At first, the `ExtractIf` is `start` and the list is `old`. At present,
+  -- they are `now` and `held`.
   pub record IsExtracting (start now : ExtractIf T F A G (Holder (Extracting T F A)) g h)
       (old held : List T) : Type 0 where
     pub gone : held ++ filter test (extract_rest now) ≡ old ++ filter test (extract_rest start)
@@ -159,8 +144,8 @@ module _ {T F A G : Type 0} {g : Ghosts G}
     pub count : length held + length (extract_rest now)
         ≤ length old + length (extract_rest start)
 
-  -- `IsExtracting` is the invariant of a loop that appends each item yielded by an `ExtractIf` to a
-  -- list. It holds at the start of the loop, before any item has been yielded.
+  -- `IsExtracting`, the invariant of a loop over an `ExtractIf`, holds at the start of the loop,
+  -- before any item has been yielded.
   pub extract_start : (e : ExtractIf T F A G (Holder (Extracting T F A)) g h) (old : List T)
       → IsExtracting e e old old
   extract_start e old =
@@ -169,9 +154,8 @@ module _ {T F A G : Type 0} {g : Ghosts G}
   module _ (R : F → T → Bool → F → T → Type 0)
       (says : (s : F) (x : T) (b : Bool) (t : F) (y : T) → R s x b t y
       → (b ≡ test x) × (y ≡ x)) where
-    -- Suppose that `IsExtracting`, the invariant of the loop, holds. Suppose also that a call to
-    -- `next` yields the item `x` and turns the `ExtractIf` from `now` into `new`. Then the
-    -- invariant still holds after `x` is appended to the list `held`.
+    -- If the loop invariant `IsExtracting` holds and `next` yields the item `x`, then the invariant
+    -- still holds after `x` is appended to the list.
     pub extract_step : {start now new : ExtractIf T F A G (Holder (Extracting T F A)) g h}
         {old held more : List T} {item : Option T} {x : T} → IsExtracting start now old held
         → ExtractSteps R now item new → item ≡ Some x → more ≡ held ++ x ∷ []
@@ -198,10 +182,9 @@ module _ {T F A G : Type 0} {g : Ghosts G}
           );
         }
 
-    -- Suppose that `IsExtracting` holds for a loop over an `ExtractIf`, and that `next` returns
-    -- `None`. Then the loop has appended exactly the items of the range that pass `test`. After the
-    -- `ExtractIf` is dropped, the `ThinVec` contains the other items of the range and the items
-    -- outside the range.
+    -- If `IsExtracting` holds and `next` returns `None`, then the loop has appended exactly the
+    -- items of the range that pass `test`. Dropping the `ExtractIf` leaves all other items in the
+    -- `ThinVec`.
     pub extract_end : {start now new : ExtractIf T F A G (Holder (Extracting T F A)) g h}
         {old held : List T} {item : Option T} → IsExtracting start now old held
         → ExtractSteps R now item new → item ≡ None

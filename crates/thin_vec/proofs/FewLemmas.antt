@@ -1,6 +1,5 @@
--- These lemmas are for proofs about lists whose item type is known. They state how many items a
--- list can hold without an overflow of its capacity, and how large a capacity the growth rule
--- `Doubling` chooses.
+-- These lemmas are for proofs about lists with a known item type. They state how many items fit
+-- without a capacity overflow, and how large a capacity the growth rule `Doubling` chooses.
 use Rattle.std.proofs.Common.{if◌then◌else◌, Bool, true, false, ◌≡◌, ℕ, zero, suc, ◌+◌, ◌-◌, ◌*◌, ◌^◌, ◌<◌, ◌≤◌, ap, arith, length, IfErr, Option, Result, Ok, Err, Some, None, inl, inr, refl, sym, ◌∙◌}
 use Rattle.std.specs.Borrow.{RattleType}
 use Rattle.std.specs.Align.{type_align}
@@ -16,8 +15,8 @@ use Rattle.thin_block.proofs.Outcomes.{some-same}
 use Rattle.thin_vec.specs.List.Capacity.{Reserves, TellsOverflowOf}
 use Rattle.thin_vec.specs.ThinVec.{IsCause, Thin}
 
--- If `n` and the size of an item in bytes are less than `2 ^ 31`, then `exact_capacity` returns the
--- capacity `n` for a new list that needs room for `n` items.
+-- If `n` and the size of an item in bytes are less than `2 ^ 31`, then the exact capacity of a new
+-- list for `n` items is `n`.
 pub exact-few : (R : RattleType) (n : ℕ) → n < 2 ^ 31 → type_size R < 2 ^ 31
     → exact_capacity R 0 n ≡ Some n
 exact-few R zero few small = exact-same R 0 0 (omega arith)
@@ -28,16 +27,15 @@ exact-few R (suc n) few small =
 none_some : {A B : Type 0} (x : A) → None ≡ Some x → B
 none_some x e = cc
 
--- Suppose that `named` is the capacity that a call needs, or `None` if this capacity is too large.
--- The premise `IsCause` says that the error `cause` of the call is `CapacityOverflow` only if
--- `named` is `None`. So if `named` is `Some n`, then `cause` is `OutOfMemory`.
+-- `named` is the capacity that a failed call needed, or `None` if it was too large. If `named` is
+-- `Some n`, then the error `cause` of the call is `OutOfMemory`.
 cause-named : (named : Option ℕ) (n : ℕ) (cause : ThinVecError) → named ≡ Some n
     → IsCause named cause → cause ≡ OutOfMemory
 cause-named named n OutOfMemory here told = refl
 cause-named named n CapacityOverflow here told = none_some n (sym (told refl) ∙ here)
 
--- Suppose that a call creates a list with room for exactly `n` items. If `n` and the size of an
--- item in bytes are less than `2 ^ 31`, then the call can fail only with `OutOfMemory`.
+-- If `n` and the size of an item in bytes are less than `2 ^ 31`, then creating a list with room
+-- for exactly `n` items can fail only with `OutOfMemory`.
 pub few_items : {X : Type 0} (R : RattleType) (n : ℕ) (result : Result X ThinVecError)
     → n < 2 ^ 31 → type_size R < 2 ^ 31 → TellsOverflowOf R n result
     → IfErr result (λ cause. cause ≡ OutOfMemory)
@@ -46,21 +44,19 @@ few_items R n (Err cause) few small told =
     cause-named (exact_capacity R 0 n) n cause (exact-few R n few small)
     (λ over. told.overflow.0 (ap Err over))
 
--- If `m` and `n` are less than `2 ^ 31`, then the number `if b then m else n` is also less than
--- `2 ^ 31`.
+-- If `m` and `n` are less than `2 ^ 31`, then `if b then m else n` is also less than `2 ^ 31`.
 either_few : (b : Bool) (m n : ℕ) → m < 2 ^ 31 → n < 2 ^ 31 → (if b then m else n) < 2 ^ 31
 either_few true m n few less = few
 either_few false m n few less = less
 
--- If a list of capacity 0 grows under the growth rule `doubling`, then its new capacity is at least
--- `first s`, where `s` is the size of an item in bytes. The number `first s` is less than `2 ^ 31`.
+-- If an item takes `s` bytes and a list of capacity 0 grows under `doubling`, then its new capacity
+-- is at least `first s`, which is less than `2 ^ 31`.
 first_few : (s : ℕ) → first s < 2 ^ 31
 unfolding first
 first_few s = either_few (nat_lt (2 ^ 61 - 1) s) 1 4 (omega arith) (omega arith)
 
--- Suppose that a list of capacity `c` needs room for `w` items. If `w` is less than `2 ^ 30`, and
--- the size of an item in bytes is less than `2 ^ 31`, then the growth rule `doubling` chooses a
--- capacity. So there is no overflow.
+-- If a list needs room for fewer than `2 ^ 30` items, and an item takes less than `2 ^ 31` bytes,
+-- then the growth rule `doubling` chooses a capacity.
 pub doubling-few : (R : RattleType) (c w : ℕ) → w < 2 ^ 30 → type_size R < 2 ^ 31
     → (n : ℕ) × (ruled_capacity doubling R c w ≡ Some n)
 unfolding doubling fitting
@@ -75,9 +71,8 @@ doubling-few R c w few small = elim (cases_lt c w) [
   | inr enough ↦ (c, ruled-same doubling R c w enough)
 ]
 
--- Suppose that a call reserves room for `k` more items under the growth rule `doubling`. If the
--- list then needs room for fewer than `2 ^ 30` items, and the size of an item in bytes is less than
--- `2 ^ 31`, then the call can fail only with `OutOfMemory`.
+-- If `length v.items + k < 2 ^ 30`, and an item takes less than `2 ^ 31` bytes, then reserving room
+-- for `k` more items under `doubling` can fail only with `OutOfMemory`.
 pub few_more : {X T A : Type 0} (R : RattleType) (k : ℕ) (v w : Thin T A)
     (result : Result X ThinVecError) → length v.items + k < 2 ^ 30 → type_size R < 2 ^ 31
     → Reserves doubling R k v w result → IfErr result (λ cause. cause ≡ OutOfMemory)
@@ -97,22 +92,20 @@ either_most : (b : Bool) → (if b then 1 else 4) ≤ 4
 either_most true = omega arith
 either_most false = omega arith
 
--- If a list of capacity 0 grows under the growth rule `doubling`, then its new capacity is at least
--- `first s`, where `s` is the size of an item in bytes. The number `first s` is at most 4.
+-- If an item takes `s` bytes and a list of capacity 0 grows under `doubling`, then its new capacity
+-- is at least `first s`, which is at most 4.
 first_most : (s : ℕ) → first s ≤ 4
 unfolding first
 first_most s = either_most (nat_lt (2 ^ 61 - 1) s)
 
--- Suppose that a list of capacity `c` has to grow to make room for `w` items, so `c < w`. Under the
--- growth rule `doubling`, its new capacity is at least `2 * c`, or at least `first s` if `c` is 0
--- and an item takes `s` bytes. Both of these numbers are at most `max 4 (2 * w)`. The flag `b`
--- selects one of them.
+-- If a list of capacity `c` grows under `doubling`, then its new capacity is at least `2 * c`, or
+-- `first s` if `c` is 0. If `c < w`, then both numbers are at most `max 4 (2 * w)`.
 twice-most : (b : Bool) (s c w : ℕ) → c < w → (if b then first s else 2 * c) ≤ max 4 (2 * w)
 twice-most true s c w more = omega (arith, first_most s)
 twice-most false s c w more = omega (arith, more)
 
--- If the old capacity `c` is less than `w`, and the growth rule `doubling` chooses the capacity `n`
--- for a list that needs room for `w` items, then `n` is at most `max 4 (2 * w)`.
+-- If a list of capacity `c < w` needs room for `w` items, and the growth rule `doubling` chooses
+-- the capacity `n`, then `n ≤ max 4 (2 * w)`.
 pub doubling-most : (R : RattleType) (c w n : ℕ) → c < w → ruled_capacity doubling R c w ≡ Some n
     → n ≤ max 4 (2 * w)
 unfolding doubling fitting

@@ -14,10 +14,8 @@ use Rattle.thin_vec.proofs.list.InsertRemoveLemmas.{full-set}
 use Rattle.thin_vec.proofs.ListLemmas.{IsWritten, Settled, settle-front, thin-room}
 
 module _ {T : Type 0} where
-  -- The list `full xs ++ empty k` consists of the slots of the items `xs`, followed by `k` empty
-  -- slots. If the items `ws` are written into this list from slot 0 onward, then `ws` replaces the
-  -- first items of `xs`. Items of `ws` beyond the length of `xs` are ignored, and the empty slots
-  -- do not change.
+  -- Writing the items `ws` over the slots `full xs ++ empty k` replaces the first items of `xs`.
+  -- The empty slots stay empty, even if `ws` is longer than `xs`.
   pub over-front : (xs : List T) (k : ℕ) (ws : List T) → over (full xs ++ empty k) 0 ws ≡ full
       (refill (length xs) xs ws) ++ empty k
   over-front [] zero ws = refl
@@ -26,9 +24,8 @@ module _ {T : Type 0} where
   over-front (x ∷ xs) k (w ∷ ws) = ap (λ l. Some w ∷ l) (over-front xs k ws)
 
 module _ {T A : Type 0} where
-  -- Suppose that the items `ws` are written over the first items in the block `b` of a list. Then
-  -- the new block `b'` is the block of a list with the same length and the same items, except that
-  -- `ws` replaces the first items.
+  -- If `ws` replaces the first items in the block `b` of a list, then the new block `b'` is the
+  -- block of a list of the same length and capacity.
   pub settle-over : {b : Block T A} {a : A} → IsThin b a → (b' : Block T A) (ws : List T)
       {k : Cost} → IsWritten b b' (over b.slots 0 ws) b.len k
       → Settled b' a (refill (length (items_in b.slots)) (items_in b.slots) ws) (length b.slots)
@@ -41,18 +38,16 @@ module _ {T A : Type 0} where
       ∙ ap (λ n. full (refill (length xs) xs ws) ++ empty (length b.slots - n)) (sym same)))
       (t.packed.len ∙ sym same) (omega (arith, same, thin-room b a t))
 
-  -- Suppose that the items `ws` are written over the first items in the block `b` of a list. Then
-  -- contracts describe the new list as the old list, except that `ws` replaces its first items.
-  -- Nothing else about the list changes.
+  -- Writing the items `ws` over the first items of a list changes only these items in the view of
+  -- the list that contracts use.
   pub view-with_items : (b : Block T A) (a : A) (ws : List T) → IsThin b a
       → thin_of (block_with_items b 0 ws) a ≡ with_items (thin_of b a) ws
   view-with_items b a ws t =
       let f = settle-over t (block_with_items b 0 ws) ws refl in
       λ i. record { items = f.items i; capacity = f.cap i; alloc = a; cost = b.cost }
 
-  -- Suppose that `v` is written into the slot of the item at index `i` in the block `b` of a list.
-  -- Then the new block `b'` is the block of a list with the same items, except that `v` is the item
-  -- at index `i`.
+  -- If `v` replaces the item at index `i` in the block `b` of a list, then the new block `b'` is
+  -- the block of a list of the same length and capacity.
   pub settle-set : {b : Block T A} {a : A} → IsThin b a → (b' : Block T A) (i : ℕ) (v : T)
       {k : Cost} → i < length (items_in b.slots) → IsWritten b b' (set b.slots i (Some v)) b.len k
       → Settled b' a (set (items_in b.slots) i v) (length b.slots)
@@ -65,9 +60,8 @@ module _ {T A : Type 0} where
       ∙ ap (λ n. full (set xs i v) ++ empty (length b.slots - n)) (sym same)))
       (t.packed.len ∙ sym same) (omega (arith, same, thin-room b a t))
 
-  -- Suppose that `i` is less than the length of a list, and that the item `w` is written into slot
-  -- `i` of its block `b`. Then contracts describe the new list as the old list with `w` as the item
-  -- at index `i`. Nothing else about the list changes.
+  -- Writing `w` over the item at index `i` of a list changes only this item in the view of the list
+  -- that contracts use.
   pub view-with_item : (b : Block T A) (a : A) (i : ℕ) (w : T) → IsThin b a
       → i < length (items_in b.slots) → thin_of (block_with_item b i w)
       a ≡ with_item (thin_of b a) i w

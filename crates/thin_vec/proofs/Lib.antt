@@ -1,6 +1,5 @@
--- This file lists the modules of lemmas. `ThinVecLemmas` and `RetainLemmas` are for the proofs of
--- this crate and of other crates. `UndoLemmas`, `FewLemmas`, `SliceLemmas`, `TakenLemmas`,
--- `CollectLemmas` and `EditLemmas` are only for the proofs of other crates.
+-- This file lists the modules of lemmas. The modules marked `pub` are for the proofs of other
+-- crates. Of these, only `ThinVecLemmas` and `RetainLemmas` are also for this crate.
 mod ListLemmas
 pub mod ThinVecLemmas
 pub mod UndoLemmas

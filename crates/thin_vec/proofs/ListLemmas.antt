@@ -1,6 +1,5 @@
--- The block of a list contains slots, and each slot holds an item or is empty. The items of the
--- list fill the slots from slot 0 onward, without a gap. All later slots are empty. These lemmas
--- state what the block contains after each operation on it.
+-- The items of a list fill its block from slot 0 onward without a gap, and all later slots are
+-- empty. These lemmas state what the block contains after each operation.
 use Rattle.std.proofs.Common.{◌≡◌, ◌≢◌, ℕ, zero, suc, ◌+◌, ◌-◌, ◌<◌, ◌≤◌, List, [], ◌∷◌, ◌++◌, length, take, drop, Option, Some, None, refl, sym, ap, ◌∙◌, arith, get_or, length-append, append_assoc}
 use Rattle.std.proofs.lemmas.List.{length-replicate, length-map, take-append-drop, replicate-append-replicate, set_at, get_or_append_left, get_or-map, map_push, append-nil, length-take-le, drop_more, length_push, get_or-set_other}
 use Rattle.std.proofs.Math.Seq.{drop-length, take-append_seam}
@@ -22,20 +21,18 @@ module _ {T : Type 0} where
   items-empty zero = refl
   items-empty (suc k) = items-empty k
 
-  -- `full xs` is a list of slots that hold the items `xs`. The slots `full xs ++ s` contain the
-  -- items `xs`, followed by the items in the slots `s`.
+  -- The slots `full xs ++ s` hold the items `xs`, followed by the items in the slots `s`.
   pub items-full : (xs : List T) (s : List (Option T)) → items_in (full xs ++ s) ≡ xs ++ items_in s
   items-full [] s = refl
   items-full (x ∷ xs) s = ap (λ (ys : List T). x ∷ ys) (items-full xs s)
 
-  -- `full xs` is a list of slots that hold the items `xs`. The items in these slots are exactly
-  -- `xs`.
+  -- The items in the slots `full xs` are exactly `xs`.
   pub items-full-alone : (xs : List T) → items_in (full xs) ≡ xs
   items-full-alone [] = refl
   items-full-alone (x ∷ xs) = ap (λ (ys : List T). x ∷ ys) (items-full-alone xs)
 
-  -- `front xs c` is a list of slots that hold the items `xs`, followed by empty slots up to the
-  -- capacity `c`. It contains exactly the items `xs`.
+  -- `front xs c` consists of the slots of the items `xs`, followed by empty slots up to the
+  -- capacity `c`. It contains only the items `xs`.
   pub items-front : (xs : List T) (c : ℕ) → items_in (front xs c) ≡ xs
   items-front xs c = items-full xs (replicate (c - length xs) None)
       ∙ (ap (λ (ys : List T). xs ++ ys) (items-empty (c - length xs)) ∙ append-nil xs)
@@ -59,18 +56,16 @@ module _ {T : Type 0} where
   pub full-same : (xs ys : List T) → full xs ≡ full ys → xs ≡ ys
   full-same xs ys e = sym (items-full-alone xs) ∙ (ap items_in e ∙ items-full-alone ys)
 
-  -- If `i` is less than the length of `xs`, then slot `i` of `full xs ++ s` holds the item at index
-  -- `i` of `xs`. This item is `get_or xs i d`. The value `d` is the default for an index beyond the
-  -- end of `xs`, so it does not matter here.
+  -- If `i < length xs`, then slot `i` of `full xs ++ s` holds the item at index `i` of `xs`. The
+  -- default `d` is never used.
   pub slot-full : (xs : List T) (s : List (Option T)) (i : ℕ) (d : T) → i < length xs
       → slot (full xs ++ s) i ≡ Some (get_or xs i d)
   slot-full xs s i d h =
       let n : i < length (full xs) = omega (arith, length-full xs) in
       get_or_append_left (full xs) s None i n ∙ get_or-map (λ (x : T). Some x) xs i d None h
 
-  -- Suppose that a list of `c` slots begins with the items `xs`, and that all other slots are
-  -- empty. If there is at least one empty slot, then writing `v` into the first empty slot appends
-  -- `v` to the items.
+  -- If `length xs < c`, then writing `v` into the first empty slot of `front xs c` appends `v` to
+  -- the items.
   pub front-push : (xs : List T) (c : ℕ) (v : T) → length xs < c → set (front xs c) (length xs)
       (Some v) ≡ front (xs ++ v ∷ []) c
   front-push xs c v h =
@@ -84,10 +79,7 @@ module _ {T : Type 0} where
       (sym (map_push (λ (x : T). Some x) xs v))
       ∙ ap (λ (n : ℕ). full (xs ++ v ∷ []) ++ replicate n None) m)))
 
-  -- Suppose that `i` is less than the length of `xs`, and that slot `i` of `full xs ++ s` is
-  -- emptied. Then all other slots remain unchanged. The slots before slot `i` hold the first `i`
-  -- items of `xs`. The slots after slot `i` hold the later items of `xs`, and are followed by the
-  -- slots `s`.
+  -- If `i < length xs`, then emptying slot `i` of `full xs ++ s` leaves all other slots unchanged.
   pub full-take : (xs : List T) (s : List (Option T)) (i : ℕ) (d : T) → i < length xs
       → set (full xs ++ s) i None ≡ full (take i xs) ++ (None ∷ (full (drop (suc i) xs) ++ s))
   full-take [] s i d h = absurd (omega arith)
@@ -95,8 +87,8 @@ module _ {T : Type 0} where
   full-take (x ∷ xs) s (suc i) d h = let l : i < length xs = omega arith in
       ap (λ (r : List (Option T)). Some x ∷ r) (full-take xs s i d l)
 
-  -- Suppose that a list of `c` slots begins with the items `xs` and then `v`, and that its other
-  -- slots are empty. Then emptying the slot of `v` removes `v` from the items.
+  -- If `xs ++ v ∷ []` has at most `c` items, then emptying the slot of `v` in
+  -- `front (xs ++ v ∷ []) c` yields `front xs c`.
   pub front-pop : (xs : List T) (c : ℕ) (v : T) → length (xs ++ v ∷ []) ≤ c
       → set (front (xs ++ v ∷ []) c) (length xs) None ≡ front xs c
   front-pop xs c v h =
@@ -110,8 +102,8 @@ module _ {T : Type 0} where
       ∙ (set_at (full xs) (Some v) (replicate k None) None (length xs) (length-full xs)
       ∙ ap (λ (q : ℕ). full xs ++ replicate q None) m))
 
-  -- If the list `xs` has at most `c` items and `c ≤ d`, then appending `d - c` empty slots to
-  -- `front xs c` yields `front xs d`.
+  -- If `length xs ≤ c` and `c ≤ d`, then appending `d - c` empty slots to `front xs c` yields
+  -- `front xs d`.
   pub front-grow : (xs : List T) (c d : ℕ) → length xs ≤ c → c ≤ d
       → front xs c ++ replicate (d - c) None ≡ front xs d
   front-grow xs c d h l =
@@ -121,8 +113,7 @@ module _ {T : Type 0} where
       (replicate-append-replicate (c - length xs) (d - c) None
       ∙ ap (λ (q : ℕ). replicate q None) m)
 
-  -- Suppose that `i` is less than the length of `xs`. Then slot `i` of `full xs ++ s` holds the
-  -- item at index `i` of `xs`, which is the result of `slice_get xs i`.
+  -- If `i < length xs`, then slot `i` of `full xs ++ s` holds the item at index `i` of `xs`.
   pub slot-get : (xs : List T) (s : List (Option T)) (i : ℕ) → i < length xs
       → slot (full xs ++ s) i ≡ slice_get xs i
   slot-get [] s i h = absurd (omega arith)
@@ -143,11 +134,8 @@ module _ {T A : Type 0} where
     pub items : items_in b.slots ≡ xs
     pub cap : length b.slots ≡ c
 
-  -- Suppose that the slots of the block `b` are `front xs c`: they hold the items `xs`, and all
-  -- later slots up to the capacity `c` are empty. Suppose also that `xs` has at most `c` items,
-  -- that the stored length of `b` is the length of `xs`, and that the memory of `b` came from the
-  -- allocator `a`. Then `Settled` holds: `b` is the block of a list with the items `xs`, the
-  -- capacity `c` and the allocator `a`.
+  -- Suppose that the block `b` has the slots `front xs c`, the stored length `length xs ≤ c`, and
+  -- memory from the allocator `a`. Then it is the block of a list with the items `xs`.
   pub settled : (b : Block T A) (a : A) (xs : List T) (c : ℕ) → b.slots ≡ front xs c
       → b.len ≡ length xs → length xs ≤ c → IsFrom b.alloc a → Settled b a xs c
   settled b a xs c e n h f =
@@ -166,10 +154,8 @@ module _ {T A : Type 0} where
         cap = l;
       }
 
-  -- Suppose that the block of the list `v` is replaced with the block `b'`, which has `c` slots,
-  -- the items `xs` and the cost `k`. (The cost counts requests for memory, copied items and moves.)
-  -- Then contracts describe the new list as `v` with the capacity `c`, the items `xs` and the cost
-  -- `k`. Since `w` is equal to `v`, the new list has the allocator `w.alloc`.
+  -- If the block of a list is replaced with `b'`, then only the capacity, the items and the cost
+  -- change in the view `v` of the list that contracts use.
   pub thin_of-becomes : {w v : Thin T A} → w ≡ v → (b' : Block T A) {xs : List T} {c : ℕ} {k : Cost}
       → length b'.slots ≡ c → items_in b'.slots ≡ xs → b'.cost ≡ k
       → thin_of b' w.alloc ≡ record v { items = xs; capacity = c; cost = k }
@@ -180,17 +166,15 @@ module _ {T A : Type 0} where
     cost = cost i;
   }
 
-  -- Suppose that the block of the list `v` is replaced with the block `b'`, which has the items
-  -- `xs`, the cost `k`, and as many slots as the old block. (The cost counts requests for memory,
-  -- copied items and moves.) Then contracts describe the new list as `v` with the items `xs` and
-  -- the cost `k`. Since `w` is equal to `v`, the new list has the allocator `w.alloc`.
+  -- If the block of a list is replaced with a block `b'` of the same capacity, then only the items
+  -- and the cost change in the view `v` of the list that contracts use.
   pub thin_of-keeps : {w v : Thin T A} → w ≡ v → (b' : Block T A) {xs : List T} {k : Cost}
       → length b'.slots ≡ w.capacity → items_in b'.slots ≡ xs → b'.cost ≡ k
       → thin_of b' w.alloc ≡ record v { items = xs; cost = k }
   thin_of-keeps is b' slots items cost =
       thin_of-becomes is b' (slots ∙ ap (λ (u : Thin T A). u.capacity) is) items cost
 
-  -- The number of items in the block of a list is at most the number of its slots.
+  -- The block of a list does not contain more items than slots.
   pub thin-room : (b : Block T A) (a : A) → IsThin b a → length (items_in b.slots) ≤ length b.slots
   thin-room b a t =
       let xs : List T = items_in b.slots in
@@ -203,29 +187,27 @@ module _ {T A : Type 0} where
       → length (items_in b.slots) ≡ n → IsPacked b.slots n
   thin-packed b a n t long = record { row = t.packed.row; len = sym long }
 
-  -- If the blocks `b` and `b'` have the same allocator, and the memory of `b` came from the
-  -- allocator `a`, then the memory of `b'` also came from `a`.
+  -- If the memory of the block `b` came from the allocator `a`, and `b'` has the same allocator as
+  -- `b`, then the memory of `b'` also came from `a`.
   pub from-same : (b b' : Block T A) (a : A) → IsFrom b.alloc a → b'.alloc ≡ b.alloc
       → IsFrom b'.alloc a
   from-same b b' a f e = λ x h. f x (sym e ∙ h)
 
-  -- `IsWritten b b' s n k` holds if the block `b'` is the block `b` with the new slots `s`, the new
-  -- stored length `n` and the new cost `k`. (The cost counts requests for memory, copied items and
-  -- moves.)
+  -- `IsWritten b b' s n k` holds if the block `b'` is the block `b` with the slots `s`, the stored
+  -- length `n` and the cost `k`.
   abbrev pub IsWritten : Block T A → Block T A → List (Option T) → ℕ → Cost → Type 0
   IsWritten b b' s n k = seen b' ≡ record (seen b) { slots = s; len = n; cost = k }
 
-  -- Suppose that an operation turns the block `b` of a list into the block `b'`. If the slots of
-  -- `b'` are `front xs c`, and the stored length of `b'` is the length of `xs`, then `b'` is the
-  -- block of a list with the items `xs` and the capacity `c`.
+  -- If the block `b'` has the allocator of `b`, the slots `front xs c`, and the stored length
+  -- `length xs ≤ c`, then it is the block of a list with the items `xs`.
   pub settle-front : {b : Block T A} {a : A} → IsThin b a → (b' : Block T A) (xs : List T) (c : ℕ)
       {s : List (Option T)} {n : ℕ} {k : Cost} → IsWritten b b' s n k → s ≡ front xs c
       → n ≡ length xs → length xs ≤ c → Settled b' a xs c
   settle-front {b} {a} t b' xs c w e n h = settled b' a xs c (ap (λ v. v.slots) w ∙ e)
       (ap (λ v. v.len) w ∙ n) h (from-same b b' a t.from (ap (λ v. v.alloc) w))
 
-  -- Suppose that `v` was written into the slot directly after the last item, and that the stored
-  -- length was incremented. Then the new block `b'` is the block of the list with `v` appended.
+  -- If `v` is written into the slot directly after the last item, and the stored length is
+  -- incremented, then the new block `b'` is the block of the list with `v` appended.
   pub settle-push : {b : Block T A} {a : A} → IsThin b a → (b' : Block T A) (v : T) (i : ℕ)
       {k : Cost} → i ≡ b.len → i < length b.slots
       → IsWritten b b' (set b.slots i (Some v)) (i + 1) k
@@ -240,8 +222,8 @@ module _ {T A : Type 0} where
       ∙ front-push xs c v l))
       (omega (arith, t.packed.len, length_push xs v)) (omega (arith, length_push xs v))
 
-  -- If slot `j` is the last filled slot in the block of a list and holds `v`, then the list
-  -- consists of its first `j` items, followed by `v`.
+  -- If the last filled slot `j` in the block of a list holds `v`, then the list consists of its
+  -- first `j` items, followed by `v`.
   pub last-item : (b : Block T A) (a : A) (v : T) (j : ℕ) → IsThin b a → j + 1 ≡ b.len
       → slot b.slots j ≡ Some v → items_in b.slots ≡ take j (items_in b.slots) ++ v ∷ []
   last-item b a v j t o w =
@@ -259,8 +241,8 @@ module _ {T A : Type 0} where
       (drop_more xs j v l
       ∙ (ap (λ (r : List T). get_or xs j v ∷ r) z ∙ ap (λ (r : T). r ∷ []) (sym y)))
 
-  -- Suppose that the slot of the last item was emptied, and that the stored length was decremented.
-  -- Then the new block `b'` is the block of the list without its last item.
+  -- If the slot of the last item is emptied, and the stored length is decremented, then the new
+  -- block `b'` is the block of the list without its last item.
   pub settle-pop : {b : Block T A} {a : A} → IsThin b a → (b' : Block T A) (v : T) (j : ℕ)
       {k : Cost} → j + 1 ≡ b.len → slot b.slots j ≡ Some v
       → IsWritten b b' (set b.slots j None) j k
@@ -292,8 +274,8 @@ module _ {T A : Type 0} where
       → IsSome (slot b.slots i)
   thin-filled b a i t h = rw (thin-slot b a i t h) (get-some (items_in b.slots) i h)
 
-  -- Suppose that `n` is the length that the block `b` of a list stores. If the first `n` slots of
-  -- `b` hold exactly the items `xs`, then `xs` is the list of the items in `b`.
+  -- If `n` is the stored length of the block `b` of a list, and its first `n` slots hold exactly
+  -- the items `xs`, then `xs` is the list of all items in `b`.
   pub thin-run : (b : Block T A) (a : A) (xs : List T) (n : ℕ) → IsThin b a → n ≡ b.len
       → full xs ≡ slice_range b.slots 0 n → xs ≡ items_in b.slots
   thin-run b a xs n t len run =
@@ -303,8 +285,8 @@ module _ {T A : Type 0} where
       ∙ (ap (λ (k : ℕ). take k (front ys (length b.slots))) all ∙ take-append_seam (full ys)
       (empty (length b.slots - length ys)))))
 
-  -- If slot `i` of the block of a list holds `v`, and `i` is less than the length of the list, then
-  -- the item at index `i` is `v`.
+  -- If `i` is less than the length of a list, and slot `i` of its block holds `v`, then the item at
+  -- index `i` is `v`.
   pub thin-get : (b : Block T A) (a : A) (i : ℕ) (v : T) → IsThin b a
       → i < length (items_in b.slots) → slot b.slots i ≡ Some v
       → slice_get (items_in b.slots) i ≡ Some v

@@ -1,6 +1,5 @@
 -- An open block is the block of a list during an edit. It holds front items, middle items and tail
--- items, with gaps of empty slots between these groups. These lemmas state how contracts describe
--- an open block `h` after each operation on it.
+-- items, with gaps between them. These lemmas state what it contains after each operation.
 use Rattle.std.proofs.Common.{◌≡◌, ℕ, suc, ◌+◌, ◌-◌, ◌<◌, ◌≤◌, List, [], ◌∷◌, ◌++◌, Option, Some, None, length, take, drop, refl, sym, ap, ◌∙◌, subst, arith, length-append, append_assoc}
 use Rattle.std.proofs.lemmas.List.{drop_at, get_or-append_right, get_or-replicate, get_or_append_left, get_or_at, length-drop, length-take, length-take-le, length_push, map_push, replicate-append-replicate, set_at, take_at}
 use Rattle.std.proofs.lemmas.List.Edits.{split_between}
@@ -51,26 +50,22 @@ module _ {T : Type 0} where
       ∙ (get_or_append_left (empty k) post None (j - length pre) (omega (arith, length-empty T k))
       ∙ get_or-replicate k (j - length pre) None None n)
 
-  -- `empty g` is a list of `g` empty slots. If it is followed by one more empty slot, then the
-  -- result is `empty (g + 1)`.
+  -- A list of `g` empty slots, followed by one more empty slot, is a list of `g + 1` empty slots.
   pub empty-more : (g : ℕ) (z : List (Option T)) → empty g ++ (None ∷ z) ≡ empty (g + 1) ++ z
   empty-more g z = sym (append_assoc (empty g) (None ∷ []) z) ∙ ap (λ (e : List (Option T)). e ++ z)
       (replicate-append-replicate g 1 None)
 
 module _ {T A : Type 0} where
-  -- An open block is the block of a list during an edit. `Found h v` holds if `h` is a valid open
-  -- block, and contracts describe `h` as `v`.
+  -- `Found h v` holds if `h` is a valid open block, and `v` is the view of `h` that contracts use.
   pub record Found (h : Inside T A) (v : Open T A) : Type 0 where
     pub lies : IsOpen h
     pub view : open_of h ≡ v
 
-  -- `to_rest v` is the list of the slots before the middle items of the open block `v`: the slots
-  -- of its front items, and the empty slots of its first gap.
+  -- `to_rest v` is the list of the slots before the middle items of the open block `v`.
   abbrev pub to_rest : Open T A → List (Option T)
   to_rest v = full v.front ++ empty v.gap
 
-  -- `to_after v` is the list of the slots of the open block `v` up to the end of the middle items:
-  -- `to_rest v`, followed by the slots of the middle items.
+  -- `to_after v` is the list of the slots of the open block `v` up to the end of the middle items.
   abbrev to_after : Open T A → List (Option T)
   to_after v = to_rest v ++ full v.rest
 
@@ -87,33 +82,29 @@ module _ {T A : Type 0} where
   abbrev pub past_after : Open T A → List (Option T)
   past_after v = full v.tail ++ past_tail v
 
-  -- `past_rest v` is the list of the slots after the middle items of the open block `v`: its second
-  -- gap, the slots of its tail items, and the empty slots at the end.
+  -- `past_rest v` is the list of the slots after the middle items of the open block `v`.
   abbrev pub past_rest : Open T A → List (Option T)
   past_rest v = empty v.gap_after ++ past_after v
 
   module _ (h : Inside T A) (v : Open T A) (s : Shows h v) where
-    -- Suppose that `v` describes the layout of the open block `h`. Then the slots of `h` are, in
-    -- this order: `to_rest v` (the slots before the middle items), the slots of the middle items,
-    -- and `past_rest v` (the slots after the middle items).
+    -- If `v` describes the layout of the open block `h`, then the slots of `h` are, in order: the
+    -- slots before the middle items, the slots of the middle items, and the slots after them.
     pub by_rest : h.block.slots ≡ to_rest v ++ (full v.rest ++ past_rest v)
     by_rest = s.row ∙ sym
         (append_assoc (full v.front) (empty v.gap) (full v.rest ++ past_rest v))
 
-    -- Suppose that `v` describes the layout of the open block `h`. Then the slots of `h` are
-    -- `to_after v` (the slots up to the end of the middle items), followed by `past_rest v` (the
-    -- slots after the middle items).
+    -- If `v` describes the layout of the open block `h`, then the slots of `h` are `to_after v` (up
+    -- to the end of the middle items), followed by `past_rest v` (after the middle items).
     by_after : h.block.slots ≡ to_after v ++ past_rest v
     by_after = by_rest ∙ sym (append_assoc (to_rest v) (full v.rest) (past_rest v))
 
-    -- Suppose that `v` describes the layout of the open block `h`. Then the slots of `h` are
-    -- `to_tail v` (the slots before the tail items), followed by `past_after v` (the slots from the
-    -- first tail item onward).
+    -- If `v` describes the layout of the open block `h`, then the slots of `h` are `to_tail v`
+    -- (before the tail items), followed by `past_after v` (from the first tail item onward).
     by_tail : h.block.slots ≡ to_tail v ++ past_after v
     by_tail = by_after ∙ sym (append_assoc (to_after v) (empty v.gap_after) (past_after v))
 
-    -- Suppose that `v` describes the layout of the open block `h`. Then `to_rest v`, the list of
-    -- the slots before the middle items, has the length `h.rest_start`.
+    -- If `v` describes the layout of the open block `h`, then `h.rest_start` is the number of slots
+    -- before the middle items.
     pub at_rest : length (to_rest v) ≡ h.rest_start
     at_rest = omega (
       arith,
@@ -124,8 +115,8 @@ module _ {T A : Type 0} where
       s.gap,
     )
 
-    -- Suppose that `v` describes the layout of the open block `h`. Then `to_after v`, the list of
-    -- the slots up to the end of the middle items, has the length `h.rest_end`.
+    -- If `v` describes the layout of the open block `h`, then `h.rest_end` is the number of slots
+    -- up to the end of the middle items.
     at_after : length (to_after v) ≡ h.rest_end
     at_after = omega (
       arith,
@@ -135,9 +126,8 @@ module _ {T A : Type 0} where
       s.rest,
     )
 
-    -- Suppose that `v` describes the layout of the open block `h`. Then `to_tail v`, the list of
-    -- the slots before the tail items, has the length `h.tail_start`. (The tail items are the items
-    -- after the edited range.)
+    -- If `v` describes the layout of the open block `h`, then `h.tail_start` is the number of slots
+    -- before the tail items.
     at_tail : length (to_tail v) ≡ h.tail_start
     at_tail = omega (
       arith,
@@ -147,9 +137,8 @@ module _ {T A : Type 0} where
       s.gap_after,
     )
 
-    -- An open block is the block of a list during an edit. It holds front items, middle items and
-    -- tail items, with gaps of empty slots between these groups. `reach v` is the index directly
-    -- after the slots of the tail items of the open block `v`. This index is equal to `h.len`.
+    -- If `v` describes the layout of the open block `h`, then `h.len` is `reach v`, the index
+    -- directly after the slots of the tail items.
     pub reached : reach v ≡ h.len
     reached = omega (arith, s.front, s.gap, s.rest, s.gap_after, s.tail)
 
@@ -202,9 +191,8 @@ module _ {T A : Type 0} where
         ∙ ap (λ (k : ℕ). full v.tail ++ empty k) (sym some)))
         ∙ items-front v.tail (length v.tail + (v.capacity - reach v))
 
-    -- Suppose that the slots and the indices of the open block `h` have the layout that `v`
-    -- describes, and that `h` and `v` have the same allocator and the same cost. Then `Found h v`
-    -- holds: `h` is a valid open block, and contracts describe it as `v`.
+    -- If `v` describes the layout of `h`, and `v` and `h` have the same allocator and cost, then
+    -- `h` is a valid open block, and `v` is the view of `h` that contracts use.
     pub found : h.block.alloc ≡ v.alloc → h.block.cost ≡ v.cost → Found h v
     found alloc cost =
         let gap : h.rest_start - h.front_end ≡ v.gap = omega (arith, s.gap) in
@@ -252,16 +240,14 @@ module _ {T A : Type 0} where
       → xs ≡ (open_of h).rest
   rest-run h xs e = sym (items-full-alone xs) ∙ ap items_in e
 
-  -- The following definitions and lemmas are about the steps of an edit, such as the removal of one
-  -- item. For most steps, there are two definitions and one lemma. The first definition is the open
-  -- block after the step, with the slot indices that it stores. The second definition is the value
-  -- that describes this open block in contracts. The lemma states that the open block is valid, and
-  -- that contracts describe it as this value.
+  -- The following definitions and lemmas are about the steps of an edit. Most steps have two
+  -- definitions (the open block after the step, and the view of it that contracts use) and a lemma
+  -- that connects them.
 
   module _ (h : Inside T A) (o : IsOpen h) (b : Block T A)
       (some : 0 < length (open_of h).rest) where
-    -- `v` is the value that describes the open block `h` in contracts, before one of the middle
-    -- items of `h` is removed.
+    -- `v` is the view of the open block `h` that contracts use, before one of its middle items is
+    -- removed.
     abbrev v : Open T A
     v = open_of h
 
@@ -276,8 +262,8 @@ module _ {T A : Type 0} where
       len = h.len;
     }
 
-    -- Contracts describe the open block `first-left` as `first-seen ys`. The middle items of
-    -- `first-seen ys` are `ys`. The gap before them is one slot longer than in `h`.
+    -- `first-seen ys` is the view of the open block `first-left` that contracts use. Its middle
+    -- items are `ys`, and the gap before them is one slot longer than in `h`.
     abbrev pub first-seen : List T → Open T A
     first-seen ys = record {
       front = v.front;
@@ -290,9 +276,8 @@ module _ {T A : Type 0} where
       cost = v.cost;
     }
 
-    -- Suppose that the slot of the first middle item held `x` and was then emptied. Then the middle
-    -- items were `x ∷ ys` for some list `ys`. Contracts describe the new open block as `first-seen
-    -- ys`.
+    -- If the first middle item `x` was removed and the middle items `ys` remain, then
+    -- `first-seen ys` is the view of the new open block that contracts use.
     pub first-step : (x : T) → slot h.block.slots h.rest_start ≡ Some x
         → seen b ≡ record (seen h.block) { slots = set h.block.slots h.rest_start None }
         → (ys : List T) × (v.rest ≡ x ∷ ys) × Found first-left (first-seen ys)
@@ -345,8 +330,8 @@ module _ {T A : Type 0} where
       len = h.len;
     }
 
-    -- Contracts describe the open block `last-left` as `last-seen ys`. The middle items of
-    -- `last-seen ys` are `ys`. The gap after them is one slot longer than in `h`.
+    -- `last-seen ys` is the view of the open block `last-left` that contracts use. Its middle items
+    -- are `ys`, and the gap after them is one slot longer than in `h`.
     abbrev pub last-seen : List T → Open T A
     last-seen ys = record {
       front = v.front;
@@ -359,9 +344,8 @@ module _ {T A : Type 0} where
       cost = v.cost;
     }
 
-    -- Suppose that the slot of the last middle item held `x` and was then emptied. Then the middle
-    -- items were `ys ++ x ∷ []` for some list `ys`. Contracts describe the new open block as
-    -- `last-seen ys`.
+    -- If the last middle item `x` was removed and the middle items `ys` remain, then `last-seen ys`
+    -- is the view of the new open block that contracts use.
     pub last-step : (x : T) → slot h.block.slots (h.rest_end - 1) ≡ Some x
         → seen b ≡ record (seen h.block) { slots = set h.block.slots (h.rest_end - 1) None }
         → (ys : List T) × (v.rest ≡ ys ++ x ∷ []) × Found last-left (last-seen ys)
@@ -419,9 +403,8 @@ module _ {T A : Type 0} where
               (ap (λ (z : Seen T A). z.cost) now),
         )
 
-  -- This module is about two steps of an edit of the open block `h`. If `h` has no middle items,
-  -- then its two gaps can be joined. If `h` has no gap before its tail items, then `h` can be
-  -- closed: the items are moved to the first slots of the block.
+  -- This module is about two steps: joining the two gaps of an open block without middle items, and
+  -- moving the items to the first slots if there is no gap before the tail items.
   module _ (h : Inside T A) (o : IsOpen h) where
     -- `joined` is the open block `h` after its two gaps have been joined. The joined gap lies
     -- between the front items and the tail items.
@@ -435,8 +418,8 @@ module _ {T A : Type 0} where
       len = h.len;
     }
 
-    -- Contracts describe the open block `joined` as `joined-seen`. The first gap of `joined-seen`
-    -- contains the slots of both gaps of `h`, and the second gap is empty.
+    -- `joined-seen` is the view of the open block `joined` that contracts use. Its first gap
+    -- contains the slots of both gaps of `h`.
     abbrev pub joined-seen : Open T A
     joined-seen = let w : Open T A = open_of h in
         record {
@@ -450,8 +433,8 @@ module _ {T A : Type 0} where
           cost = w.cost;
         }
 
-    -- If the open block `h` has no middle items, then `joined` is a valid open block, and contracts
-    -- describe it as `joined-seen`.
+    -- If the open block `h` has no middle items, then `joined` is a valid open block, and
+    -- `joined-seen` is the view of `joined` that contracts use.
     pub join-step : (open_of h).rest ≡ [] → Found joined joined-seen
     join-step none =
         let w : Open T A = open_of h in
@@ -482,9 +465,8 @@ module _ {T A : Type 0} where
     abbrev all-after : List T
     all-after = (open_of h).rest ++ (open_of h).tail
 
-    -- Suppose that there is no gap before the tail items. Then the slots of the block are, in this
-    -- order: the slots of the front items, the empty slots of the first gap, the slots of
-    -- `all-after` (the middle items and the tail items), and the empty slots at the end.
+    -- If there is no gap before the tail items, then the slots of the block are, in order: the
+    -- front items, one gap, all other items, and empty slots.
     side-by-side : (open_of h).gap_after ≡ 0 → h.block.slots ≡ full (open_of h).front
         ++ (empty (open_of h).gap ++ (full all-after ++ past_tail (open_of h)))
     side-by-side none =
@@ -501,8 +483,8 @@ module _ {T A : Type 0} where
     count-after none =
         omega (arith, length-append (open_of h).rest (open_of h).tail, o.rest, o.gap_after, o.tail)
 
-    -- If there is no gap before the tail items, then each slot in the range `rest_start..len` is
-    -- filled: it holds a middle item or a tail item.
+    -- If there is no gap before the tail items, then each slot in the range `rest_start..len` holds
+    -- a middle item or a tail item.
     pub after-filled : (open_of h).gap_after ≡ 0 → (j : ℕ) → h.rest_start ≤ j → j < h.len
         → IsSome (slot h.block.slots j)
     after-filled none j low high =
@@ -515,14 +497,13 @@ module _ {T A : Type 0} where
         (slot-in-full pre all-after (past_tail w) j (omega (arith, start))
         (omega (arith, start, count-after none)))
 
-    -- The number of all items is the number of front items plus the length of `all-after`, the list
-    -- of the middle items and the tail items.
+    -- The number of all items is the number of front items plus the number of middle items and tail
+    -- items.
     count-all : length (items_of (open_of h)) ≡ h.front_end + length all-after
     count-all = omega (arith, length-append (open_of h).front all-after, o.front)
 
-    -- Suppose that there is no gap before the tail items. If the middle items and the tail items
-    -- are moved to the slots directly after the front items, then the items occupy the first slots
-    -- of the block without a gap, and all other slots are empty.
+    -- If there is no gap before the tail items, then moving the middle items and tail items
+    -- directly after the front items leaves all items in the first slots, without a gap.
     pub close-row : (open_of h).gap_after ≡ 0
         → moved h.rest_start h.front_end (h.len - h.rest_start) h.block.slots ≡ front
         (items_of (open_of h)) (length h.block.slots)
@@ -552,8 +533,8 @@ module _ {T A : Type 0} where
         (replicate-append-replicate w.gap (w.capacity - reach w) None
         ∙ ap (λ (k : ℕ). empty k) left))))
 
-    -- Suppose that there is no gap before the middle items and no gap before the tail items. Then
-    -- the slots of the open block are the slots of all its items, followed by empty slots.
+    -- If there is no gap before the middle items and no gap before the tail items, then the slots
+    -- of the block are the slots of all items, followed by empty slots.
     pub closed-row : (open_of h).gap_after ≡ 0 → h.front_end ≡ h.rest_start
         → h.block.slots ≡ front (items_of (open_of h)) (length h.block.slots)
     closed-row none here =
@@ -577,9 +558,8 @@ module _ {T A : Type 0} where
         ∙ (ap (λ (r : List (Option T)). r ++ past_tail w) (sym (full-append w.front all-after))
         ∙ ap (λ (k : ℕ). full (items_of w) ++ empty k) left)))
 
-  -- An open block is the block of a list during an edit. In this module, the block `b` of a list
-  -- becomes an open block. The items `start..end` of the list become the middle items of this open
-  -- block.
+  -- In this module, the block `b` of a list becomes an open block. Its middle items are the items
+  -- `start..end` of the list.
   module _ (b : Block T A) (a : A) (start end : ℕ) (t : IsThin b a) (order : start ≤ end)
       (within : end ≤ length (items_in b.slots)) where
     -- `opened len` is the block `b` as an open block without gaps. Its middle items are in the
@@ -595,9 +575,8 @@ module _ {T A : Type 0} where
           len = len;
         }
 
-    -- Contracts describe the open block `opened len` as `opened-seen`. Its front items are the
-    -- items of the list before index `start`, its middle items are the items `start..end`, and its
-    -- tail items are the items from index `end` onward.
+    -- `opened-seen` is the view of the open block `opened len` that contracts use. Its middle items
+    -- are the items `start..end` of the list.
     abbrev pub opened-seen : Open T A
     opened-seen = let xs : List T = items_in b.slots in
         record {
@@ -612,7 +591,7 @@ module _ {T A : Type 0} where
         }
 
     -- If `len` is the number of items in the block `b`, then `opened len` is a valid open block,
-    -- and contracts describe it as `opened-seen`.
+    -- and `opened-seen` is the view of it that contracts use.
     pub open-step : (len : ℕ) → len ≡ length (items_in b.slots) → Found (opened len) opened-seen
     open-step len all =
         let xs : List T = items_in b.slots in
@@ -646,8 +625,8 @@ module _ {T A : Type 0} where
               omega (arith, all, thin-room b a t);
         }) refl refl
 
-  -- In this module, the items `xs` are written into the gap after the front items of the open block
-  -- `h`. `end` is the index of the slot directly after these items.
+  -- In this module, the items `xs` are written directly after the front items of the open block
+  -- `h`. The slot directly after `xs` has the index `end`.
   module _ (h : Inside T A) (o : IsOpen h) (b : Block T A) (xs : List T) (end : ℕ)
       (ends : end ≡ h.front_end + length xs) (fits : end ≤ h.rest_start) where
     -- `filled` is the open block `h` after the items `xs` have been written into the gap after its
@@ -663,9 +642,8 @@ module _ {T A : Type 0} where
           len = h.len;
         }
 
-    -- Contracts describe the open block `filled` as `filled-seen`. Its front items are the front
-    -- items of `h`, followed by the items `xs`. Its first gap is `length xs` slots shorter than the
-    -- first gap of `h`.
+    -- `filled-seen` is the view of the open block `filled` that contracts use. Its front items end
+    -- with `xs`, and its first gap is `length xs` slots shorter than in `h`.
     abbrev pub filled-seen : Open T A
     filled-seen =
         let v : Open T A = open_of h in
@@ -680,8 +658,8 @@ module _ {T A : Type 0} where
           cost = b.cost;
         }
 
-    -- If the items `xs` were written into the slots directly after the front items, then `filled`
-    -- is a valid open block, and contracts describe it as `filled-seen`.
+    -- If the items `xs` were written directly after the front items, then `filled` is a valid open
+    -- block, and `filled-seen` is the view of it that contracts use.
     pub fill-step : b.slots ≡ laid h.front_end (full xs) h.block.slots → Found filled filled-seen
     fill-step now =
         let v : Open T A = open_of h in
@@ -725,7 +703,7 @@ module _ {T A : Type 0} where
         found filled filled-seen shows refl refl
 
   -- In this module, the tail items of the open block `h` are moved up by `count` slots. Before the
-  -- move, at least `count` empty slots follow the tail items.
+  -- move, at least `count` empty slots follow them.
   module _ (h : Inside T A) (o : IsOpen h) (b : Block T A) (count : ℕ)
       (room : h.len + count ≤ (open_of h).capacity) where
     -- `widened` is the open block `h` after its tail items have been moved up by `count` slots.
@@ -739,8 +717,8 @@ module _ {T A : Type 0} where
       len = h.len + count;
     }
 
-    -- Contracts describe the open block `widened` as `widened-seen`. The gap before the tail items
-    -- is `count` slots longer than in `h`.
+    -- `widened-seen` is the view of the open block `widened` that contracts use. The gap before its
+    -- tail items is `count` slots longer than in `h`.
     abbrev pub widened-seen : Open T A
     widened-seen =
         let v : Open T A = open_of h in
@@ -755,8 +733,8 @@ module _ {T A : Type 0} where
           cost = b.cost;
         }
 
-    -- The slots of the open block `h` are, in this order: the slots before the tail items, the
-    -- slots of the tail items, `count` empty slots, and any further empty slots.
+    -- The slots of the open block `h` are, in order: the slots before the tail items, the tail
+    -- items, `count` empty slots, and any further empty slots.
     spare : h.block.slots ≡ to_tail (open_of h)
         ++ (full (open_of h).tail
         ++ (empty count ++ empty ((open_of h).capacity - reach (open_of h) - count)))
@@ -787,7 +765,7 @@ module _ {T A : Type 0} where
         ∙ slot-in-empty before count end j (omega (arith, long)) (omega (arith, long))
 
     -- If the tail items were moved up by `count` slots, then `widened` is a valid open block, and
-    -- contracts describe it as `widened-seen`.
+    -- `widened-seen` is the view of it that contracts use.
     pub widen-step : b.slots ≡ moved h.tail_start (h.tail_start + count)
         (h.len - h.tail_start) h.block.slots
         → Found widened widened-seen

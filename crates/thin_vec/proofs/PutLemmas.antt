@@ -1,7 +1,5 @@
--- These lemmas are about loops that put items into the empty slots of a block. The first lemmas are
--- about loops that take the items from an iterator. These lemmas bound the number of items that the
--- loop takes. The other lemmas are about a loop that moves the items of a `Vec` into the slots one
--- by one, beginning with the last item. They state what the slots contain during this loop.
+-- These lemmas are about loops that move items into the empty slots of a block. The items come from
+-- an iterator or, in the last lemmas, from a `Vec`, beginning with the last item.
 use Rattle.std.proofs.Common.{◌≡◌, ℕ, ◌+◌, ◌<◌, ◌≤◌, List, [], ◌∷◌, ◌++◌, length, take, drop, Option, Some, None, sym, ap, ◌∙◌, append_assoc, arith, get_or, length-append}
 use Rattle.std.proofs.lemmas.List.{append-nil, length-take-le, length_push, set_at, take_more}
 use lib.ListN.{set}
@@ -14,8 +12,8 @@ use Rattle.thin_vec.specs.declared.put.Filled.{Filled}
 
 module _ {S X : Type 0} {steps : S → Option X → S → Type 0} {can : S → Type 0}
     {remaining : S → Count} {s : S} {f : Filled S} where
-  -- `IsFilledBy` describes a loop that moves items of an iterator into `room` empty slots. If it
-  -- holds, then the loop has moved at most `room` items into these slots.
+  -- `IsFilledBy` describes a loop that moves items of an iterator into `room` empty slots. Such a
+  -- loop moves at most `room` items.
   pub filled-fits : {room : ℕ} (by : IsFilledBy steps can remaining room s f)
       → length by.items ≤ room
   filled-fits {room} by = go f.ended by.full by.short
@@ -25,8 +23,8 @@ module _ {S X : Type 0} {steps : S → Option X → S → Type 0} {can : S → T
       go true full short = omega (arith, short refl)
       go false full short = omega (arith, full refl)
 
-  -- `IsFilledBy` describes a loop that moves items of an iterator into a given number of empty
-  -- slots. If it holds for `m` slots, and `m` equals `n`, then it also holds for `n` slots.
+  -- If `IsFilledBy` holds for a loop that fills `m` empty slots, and `m` is equal to `n`, then it
+  -- also holds for `n` slots.
   abbrev pub filled-room : {m n : ℕ} → m ≡ n → IsFilledBy steps can remaining m s f
       → IsFilledBy steps can remaining n s f
   filled-room same by = record {
@@ -39,9 +37,8 @@ module _ {S X : Type 0} {steps : S → Option X → S → Type 0} {can : S → T
   }
 
 module _ {T : Type 0} where
-  -- Suppose that `i` is the index of a slot in `s`, and that `k` is `i + 1`. Writing the slots `ys`
-  -- from index `k` onward, and then the slot `y` at index `i`, has the same result as writing the
-  -- slots `y ∷ ys` from index `i` onward.
+  -- If `k` is `i + 1`, then writing `ys` from slot `k` onward and `y` into slot `i` has the same
+  -- result as writing `y ∷ ys` from slot `i` onward.
   laid-before : (i k : ℕ) (y : Option T) (ys s : List (Option T)) → k ≡ i + 1 → i < length s
       → set (laid k ys s) i y ≡ laid i (y ∷ ys) s
   laid-before i k y ys s next low =
@@ -55,17 +52,16 @@ module _ {T : Type 0} where
       ∙ (set_at (take i s) (get_or s i None) (ys ++ rest) y i (length-take-le i s (omega arith))
       ∙ ap (λ (n : ℕ). take i s ++ (y ∷ (ys ++ drop n s))) past))
 
-  -- `IsMoving` is the invariant of a loop that moves the items `xs` into the slots from index
-  -- `start` onward, beginning with the last item. The items `left` have not been moved yet. The
-  -- slots were `r` before the loop, and they are `s` at present.
+  -- `IsMoving` is the invariant of a loop that moves the items `xs` into slots from index `start`
+  -- onward, beginning with the last item. The items `left` remain to be moved. The slots were `r`,
+  -- and are now `s`.
   pub record IsMoving (xs left : List T) (start : ℕ) (r s : List (Option T)) : Type 0 where
     pub rest : List T
     pub parts : xs ≡ left ++ rest
     pub row : s ≡ laid (start + length left) (full rest) r
 
-  -- `IsMoving` is the invariant of a loop that moves the items `xs` into slots, beginning with the
-  -- last item. It holds before the first item is moved. At this point, all items of `xs` still have
-  -- to be moved, and the slots `s` have not changed.
+  -- `IsMoving`, the invariant of a loop that moves the items `xs` into slots, holds before the
+  -- first item is moved.
   pub moving-first : (xs : List T) (start : ℕ) (s : List (Option T)) → IsMoving xs xs start s s
   moving-first xs start s =
       record {
@@ -74,11 +70,8 @@ module _ {T : Type 0} where
         row = sym (laid-none (start + length xs) s);
       }
 
-  -- `IsMoving` is the invariant of a loop that moves the items `xs` into slots, beginning with the
-  -- last item. Suppose that it holds, and that the items that have not been moved yet are `left`,
-  -- followed by `v`. Suppose also that there are enough slots for all items `xs`. If `v` is moved
-  -- into its slot, which is slot `i`, then `IsMoving` holds again, and only the items `left` have
-  -- not been moved yet.
+  -- Suppose that there are enough slots for the items `xs`. If the loop invariant `IsMoving` holds
+  -- and the next item `v` is moved into slot `i`, then the invariant still holds.
   pub moving-next : {xs : List T} (left : List T) {start : ℕ} (i : ℕ) (v : T)
       {r s : List (Option T)} → IsMoving xs (left ++ v ∷ []) start r s → i ≡ start + length left
       → start + length xs ≤ length r → IsMoving xs left start r (set s i (Some v))

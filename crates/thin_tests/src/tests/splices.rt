@@ -1,6 +1,5 @@
-//! The functions in this file call `splice`. Their contracts show what a caller can conclude from
-//! the contract of `splice`. The tests check which items a list has after a splice. They also check
-//! the error that `finish`, the method that completes a splice, returns on failure.
+//! Tests of `splice` and of `finish`, the method that completes a splice. The contracts in this
+//! file show what a caller of `splice` can prove.
 ghost use Rattle.std.specs.Prelude.{◌≡◌, ◌≤◌, ◌++◌, OnOk, drop, length, take};
 
 use crate::tests::support::assertions::{assert_items, assert_len, assert_list, assert_same};
@@ -32,8 +31,8 @@ pub fn replace<A: Allocator, G: Growth>(
     }
 }
 
-/// Replaces the items `start..end` of the list with `numbers`, and then puts the old items back. If
-/// the function succeeds, the list has the same items as before the call.
+/// Replaces the items `start..end` of the list with `numbers`, and then undoes this replacement. On
+/// success, the list has the same items as before the call.
 pub fn replace_and_undo<A: Allocator + Copy, G: Growth>(
     list: &mut ThinVec<u32, A, G>,
     start: usize,
@@ -67,10 +66,8 @@ fn second_splice_undoes_the_first(rt: HostRuntime) {
     }
 }
 
-// Asserts that the four fields of `refused`, the error of a failed call to `finish`, have the
-// values in the tuple `wanted`. These values are, in this order: the cause of the failure, the
-// items that the vector `held` contains, the option `in_hand`, and the items that the iterator
-// `rest` still yields.
+// Asserts that the fields of the error `refused` match `wanted`: `cause`, the items in `held`,
+// `in_hand`, and the items that `rest` still yields.
 fn assert_refused<A: Allocator>(
     rt: &impl Abort,
     refused: SpliceRefused<i32, Claims<'_>, A>,
@@ -90,10 +87,9 @@ fn assert_refused<A: Allocator>(
     assert_same(rt, rest.next(), None);
 }
 
-// Makes a list with the items `items`, tries to replace the range `range` of the list with the
-// items of `iter`, and asserts that this attempt fails. Then asserts that the list has the items
-// `left.0` and the capacity `left.1`. Finally, calls `assert_refused` to assert that the fields of
-// the error have the values in `wanted`.
+// Asserts that replacing the range `range` of a list of `items` with the items of `iter` fails with
+// an error that matches `wanted`. Also asserts that the list then has the items `left.0` and the
+// capacity `left.1`.
 fn assert_range_refused<A: Allocator + Copy>(
     rt: &impl Abort,
     alloc: A,
@@ -126,9 +122,8 @@ fn row_12_refused_finish_returns_the_item_in_hand(rt: HostRuntime) {
 
 #[test]
 fn row_39_refused_finish_returns_the_held_items(rt: HostRuntime) {
-    // The first request allocates the memory of the list. The second request allocates a vector for
-    // the items that do not fit into the range. The third request, which is made to grow the list,
-    // is refused.
+    // The first request is for the list, and the second is for a vector of the items that do not
+    // fit into the range. The third request, which would grow the list, is refused.
     let refusing = refusing_nth(&rt, rt.alloc(), 3);
     let iter = Claims::new(&[7, 8, 9], 0);
     let left = (&[1, 7, 3][..], 3);

@@ -67,9 +67,8 @@ fn prints_a_drain_of_many_items(rt: HostRuntime) {
     assert_text(&rt, rt.alloc(), &drain, "Drain([2, 3, 4, 5, 6, 7])");
 }
 
-// Asserts that `{:?}`, `{:#?}` and `{:04?}` print the error `refused` as the name of its type,
-// which is `name`, followed by its cause, which is `cause`. Also asserts that `{}` prints only the
-// cause.
+// Asserts that `{:?}`, `{:#?}` and `{:04?}` print the error `refused` as its type name `name`,
+// followed by `cause`. Also asserts that `{}` prints only the cause.
 fn assert_prints_cause<E: Debug + Display>(
     rt: &impl Abort,
     alloc: Global,
@@ -92,8 +91,8 @@ fn assert_prints_cause<E: Debug + Display>(
     assert_same(rt, told.as_str(), wanted.as_str());
 }
 
-// Calls `assert_prints_cause` for one error of each error type that gives values back to the
-// caller, such as `Rejected`. All these errors have the cause `cause`.
+// Calls `assert_prints_cause` for each error type that gives values back to the caller, such as
+// `Rejected`. All errors have the cause `cause`.
 fn assert_all_print_cause(rt: &impl Abort, alloc: Global, cause: ThinVecError) {
     let (value, in_hand, rest) = (1, Some(1), 2);
     let rejected = Rejected { value, cause };

@@ -1,5 +1,5 @@
-//! A function whose contract states that a list takes 8 bytes, and that a `Vec` takes 24 bytes. The
-//! contract holds for every item type and every growth rule.
+//! A function whose contract states, for every item type and growth rule, that a list takes 8 bytes
+//! and a `Vec` takes 24 bytes.
 ghost use Rattle.std.specs.Prelude.{◌≡◌};
 
 use std::alloc::{Allocator, Global};
@@ -7,8 +7,8 @@ use std::mem::size_of;
 use thin_block::Block;
 use thin_vec::{Growth, ThinVec};
 
-/// Returns three sizes in bytes: the size of a `Block` (the pointer inside a list), the size of a
-/// list with the global allocator, and the size of a `Vec` with the global allocator.
+/// Returns three sizes in bytes: of a `Block` (the pointer inside a list), of a list, and of a
+/// `Vec`. The list and the vector use the global allocator.
 pub fn widths<T, A: Allocator, G: Growth>() -> (usize, usize, usize)
     ensures block { result.0 ≡ 8 }
     ensures list { result.1 ≡ 8 }

@@ -1,7 +1,6 @@
--- These lemmas are about closures that remove duplicates from a list. Each item except the first is
--- tested against the last item kept before it. The lemmas state which items are kept, and how the
--- results of consecutive tests combine. In this file, `R` describes the calls to the closure, and
--- `s`, `t` and `u` are states of the closure.
+-- These lemmas are about closures that test each item of a list, except the first, against the last
+-- item kept before it. In this file, `R` describes the calls to the closure, and `s`, `t` and `u`
+-- are its states.
 use Rattle.std.proofs.Common.{◌≡◌, ℕ, zero, suc, ◌+◌, ◌<◌, ◌≤◌, Bool, true, false, List, [], ◌∷◌, ◌++◌, length, take, drop, refl, sym, ap, subst, ◌∙◌, arith, inl, inr, append_assoc}
 use Rattle.std.proofs.lemmas.List.{append-nil, drop_at, length_push, replicate-append-replicate, take_at}
 use Rattle.std.specs.List.{dedup, dedup_from}
@@ -15,14 +14,13 @@ use Rattle.thin_vec.specs.ThinVec.{Thin}
 use Rattle.thin_vec.proofs.RetainLemmas.{cons-head, cons-not-nil, cons-tail, moving-more, moving-none, single}
 use Rattle.thin_vec.proofs.OpenBlockLemmas.{last-of}
 
--- `OnPairs S T` is the type of the relations that describe a test of two items. Such a relation has
--- seven arguments: the state before the test, the later item, the last kept item, whether the later
--- item is removed, the state after the test, and the two items after the test.
+-- `OnPairs S T` is the type of relations that describe a test of two items. Their arguments are the
+-- old state, both items, the result, the new state, and both items after the test.
 abbrev OnPairs : Type 0 → Type 0 → Type 1
 OnPairs S T = S → T → T → Bool → S → T → T → Type 0
 
--- If the lists `a ++ x ∷ []` and `b ++ y ∷ []` are equal, then their last items `x` and `y` are
--- equal, and the lists `a` and `b` are equal.
+-- If `a ++ x ∷ []` and `b ++ y ∷ []` are equal, then `a` and `b` are equal, and `x` and `y` are
+-- equal.
 last-same : {X : Type 0} (a b : List X) (x y : X) → a ++ x ∷ [] ≡ b ++ y ∷ [] → (a ≡ b) × (x ≡ y)
 last-same [] [] x y e = (refl, cons-head e)
 last-same [] (z ∷ b) x y e = let n = ap length e in absurd (omega (arith, n, length_push b y))
@@ -46,15 +44,14 @@ trues-all : (n : ℕ) → trues (replicate n true) ≡ n
 trues-all zero = refl
 trues-all (suc n) = ap suc (trues-all n)
 
--- `moved_down` counts the kept items after the first removed item, because only these items are
--- moved. If the first `n` items of a list are kept, then none of them is moved. So `n` true flags
--- at the start of a list of flags do not change `moved_down`.
+-- `moved_down` counts the kept items after the first removed item. So `n` true flags (kept items)
+-- at the start of a list of flags do not change this count.
 moved-all : (n : ℕ) (b : List Bool) → moved_down (replicate n true ++ b) ≡ moved_down b
 moved-all zero b = refl
 moved-all (suc n) b = moved-all n b
 
--- `MatchBool b P Q` is `P` if `b` is true, and `Q` otherwise. If `P` implies `G` and `Q` implies
--- `G`, then `MatchBool b P Q` implies `G`.
+-- `MatchBool b P Q` is `P` if `b` is true, and `Q` otherwise. It implies `G` if both `P` and `Q`
+-- imply `G`.
 by-answer : (b : Bool) (P Q G : Type 0) → (P → G) → (Q → G) → MatchBool b P Q → G
 by-answer true P Q G f g m = f m
 by-answer false P Q G f g m = g m
@@ -65,9 +62,8 @@ map-answer : (b : Bool) {P Q P' Q' : Type 0} → (P → P') → (Q → Q') → M
 map-answer true f g m = f m
 map-answer false f g m = g m
 
--- Suppose that a list has at least two items, and that it begins with `k` and ends with `l`. If its
--- first item is removed, then the list still ends with `l`. If instead its last item is removed,
--- then the list still begins with `k`.
+-- If a list of at least two items begins with `k` and ends with `l`, then it still ends with `l`
+-- without its first item, and begins with `k` without its last item.
 after-first : {X : Type 0} (pre zs : List X) (k l : X) → pre ++ l ∷ [] ≡ k ∷ zs → 0 < length zs
     → (p : List X) × (zs ≡ p ++ l ∷ []) × (pre ≡ k ∷ p)
 after-first [] zs k l e some = let n = ap length e in absurd (omega (arith, n, some))
@@ -83,26 +79,23 @@ module _ {S T : Type 0} (R : OnPairs S T) where
       by-answer h.0 _ _ (0 < length ys) (λ m. last-some xs h.3 t h.2 h.4 ys m)
       (λ m. omega (arith, ap length m.2)) h.7
 
-  -- If the item `x` is tested against the kept item `k` and is removed, then only `k` is kept. `k'`
-  -- is the item `k` as the test left it.
+  -- If the item `x` is tested against the kept item `k` and is removed, then only `k` is kept. The
+  -- test left `k` as `k'`.
   pub last-goes : (s t : S) (k x x' k' : T) → R s x k true t x' k'
       → AskedLast R s k (x ∷ []) (false ∷ []) (k' ∷ []) t
   last-goes s t k x x' k' h = (true, x', k', t, [], h, refl, (refl, refl, refl))
 
-  -- If the item `x` is tested against the kept item `k` and is kept, then both items are kept. `k'`
-  -- and `x'` are the items `k` and `x` as the test left them.
+  -- If the item `x` is tested against the kept item `k` and is kept, then both items are kept. The
+  -- test left `k` as `k'` and `x` as `x'`.
   pub last-stays : (s t : S) (k x x' k' : T) → R s x k false t x' k'
       → AskedLast R s k (x ∷ []) (true ∷ []) (k' ∷ x' ∷ []) t
   last-stays s t k x x' k' h = (false, x', k', t, [], h, refl, (x' ∷ [], (refl, refl, refl), refl))
 
-  -- In this module, the items `zs` were tested after the kept item `l`. The tests changed the state
-  -- of the closure from `t` to `u`, and `ws` is the list of the kept items, including `l`.
+  -- In this module, the items `zs` were tested after the kept item `l`. The kept items, including
+  -- `l`, are `ws`. The state of the closure changed from `t` to `u`.
   module _ (t u : S) (l : T) (g : List Bool) (ws zs : List T) (m : AskedLast R t l zs g ws u) where
-    -- Suppose that the items `xs` were tested after the kept item `k`, and that these tests changed
-    -- the state of the closure from `s` to `t`. The kept items, including `k`, are `pre`, followed
-    -- by `l`. Suppose also that the items `zs` were then tested after `l`, and that these tests
-    -- changed the state from `t` to `u`. Here, the kept items, including `l`, are `ws`. Then the
-    -- tests of `xs ++ zs` changed the state from `s` to `u`, and the kept items are `pre ++ ws`.
+    -- If testing `xs` after the kept item `k` keeps `pre` and then `l`, and testing `zs` after `l`
+    -- keeps `ws` (including `l`), then testing `xs ++ zs` after `k` keeps `pre ++ ws`.
     last-append : (xs : List T) (s : S) (k : T) (f : List Bool) (pre : List T)
         → AskedLast R s k xs f (pre ++ l ∷ []) t → AskedLast R s k (xs ++ zs) (f ++ g) (pre ++ ws) u
     last-append [] s k f pre h =
@@ -133,9 +126,8 @@ module _ {S T : Type 0} (R : OnPairs S T) where
 
   -- The following definitions and lemmas are about adjacent items that are all kept.
 
-  -- `PairStays` states that the first `m` items of the list `xs` were kept. The first item is kept
-  -- without a test, and each later item was tested against the item before it. The tests turned
-  -- `xs` into `ys`, and changed the state of the closure from `s` to `t`.
+  -- `PairStays` states that the first `m` items of `xs` were kept, the first of them without a
+  -- test. The tests turned `xs` into `ys`, and the state `s` of the closure into `t`.
   pub record PairStays (m : ℕ) (s : S) (xs : List T) (t : S) (ys : List T) : Type 0 where
     pub first : T
     pub done : List T
@@ -165,16 +157,16 @@ module _ {S T : Type 0} (R : OnPairs S T) where
       }
 
   module _ (m : ℕ) (s : S) (xs : List T) (t : S) (ys : List T) (h : PairStays m s xs t ys) where
-    -- `NextPair b u zs a` holds if the next test, `a`, compared the first untested item with the
-    -- last kept item. The first untested item is `a.later`, and the last kept item is `h.last`.
+    -- `NextPair b u zs a` holds if the next test `a` compares the first untested item `a.later`
+    -- with the last kept item `h.last`.
     pub record NextPair (b : Bool) (u : S) (zs : List T)
         (a : IsPairAskedAt R m t ys b u zs) : Type 0 where
       pub front : a.before ≡ h.pre
       pub last : a.kept ≡ h.last
       pub after : h.after ≡ a.later ∷ a.after
 
-    -- Suppose that the next test, `a`, compared the item at index `m` with the item before it. Then
-    -- `NextPair` holds: `a` compared the first untested item with the last kept item.
+    -- If the next test `a` compares the items at the indices `m` and `m - 1`, then the former is
+    -- the first untested item, and the latter is the last kept item.
     next-pair : (b : Bool) (u : S) (zs : List T) (a : IsPairAskedAt R m t ys b u zs)
         → NextPair b u zs a
     next-pair b u zs a =
@@ -198,9 +190,8 @@ module _ {S T : Type 0} (R : OnPairs S T) where
     next-asked b u zs a = subst (λ (k : T). R t a.later k b u a.later_left a.kept_left)
         (next-pair b u zs a).last a.asked
 
-    -- The list `xs` consists of four parts, in this order: its first item, the items that were
-    -- tested before the next test `a`, the item that `a` tested, and the items that are still
-    -- untested.
+    -- The list `xs` consists of its first item, the items that were tested before `a`, the item
+    -- that `a` tested, and the untested items, in this order.
     next-was : (b : Bool) (u : S) (zs : List T) (a : IsPairAskedAt R m t ys b u zs)
         → xs ≡ h.first ∷ ((h.done ++ a.later ∷ []) ++ a.after)
     next-was b u zs a = h.was ∙ ap (λ (l : List T). h.first ∷ l)
@@ -245,9 +236,8 @@ module _ {S T : Type 0} (R : OnPairs S T) where
           now = next-now false u zs a;
         }
 
-    -- Suppose that the first `m` items were kept. If the test of the item at index `m` decides to
-    -- remove this item, then `PairsAskedUpTo` holds: the first `m` items were kept, and the tests
-    -- stopped at the item at index `m`.
+    -- If the first `m` items were kept, and the closure decides to remove the item at index `m`,
+    -- then `PairsAskedUpTo` holds: the tests stopped at index `m`.
     pub pair-goes : (u : S) (zs : List T) → IsPairAskedAt R m t ys true u zs
         → PairsAskedUpTo R m s xs u zs
     pair-goes u zs a =
@@ -278,15 +268,13 @@ module _ {S T : Type 0} (R : OnPairs S T) where
     pub run-left : take m ys ≡ r.left
     run-left = ap (take m) r.now ∙ take_at r.left (r.over ++ r.after) m r.long
 
-    -- From index `m` onward, the list `ys` consists of `r.over` and `r.after`. The list `r.over`
-    -- contains the item to be removed, if there is one. The list `r.after` contains the untested
-    -- items.
+    -- From index `m` onward, the list `ys` consists of the item to be removed, if there is one, and
+    -- the untested items.
     pub run-over : drop m ys ≡ r.over ++ r.after
     run-over = ap (drop m) r.now ∙ drop_at r.left (r.over ++ r.after) m r.long
 
-    -- Suppose that, in the list `ys`, the first `m` items (the kept items) are directly followed by
-    -- the item `value`, and then by the items `rest`. Then `value` is to be removed, and the items
-    -- `rest` have not been tested yet.
+    -- If the `m` kept items at the start of `ys` are followed by `value` and then by `rest`, then
+    -- `value` is to be removed, and the items `rest` have not been tested.
     pub run-goes : (value : T) (rest : List T) → drop m ys ≡ value ∷ rest → (r.after ≡ rest)
         × (r.stays ≡ all-stay r.more ++ false ∷ [])
     run-goes value rest k =
@@ -307,10 +295,8 @@ module _ {S T : Type 0} (R : OnPairs S T) where
           | inr q ↦ (q.1.0, q.1.1)
         ]
 
-    -- The list `r.stays` contains one flag for each tested item, which is true if the item is kept.
-    -- Suppose that this list consists of `r.more` true flags, followed by the flags `f`, which are
-    -- all false. Then the number `m` of kept items is 1 plus the number of true flags, because the
-    -- first item is kept without a test.
+    -- If the flags `r.stays` of the tested items are `r.more` true flags and then only false flags,
+    -- then `m` is 1 plus the number of true flags. (The first item is kept without a test.)
     pub run-count : (f : List Bool) → trues f ≡ 0 → r.stays ≡ all-stay r.more ++ f
         → suc (trues r.stays) ≡ m
     run-count f none e =
@@ -320,29 +306,23 @@ module _ {S T : Type 0} (R : OnPairs S T) where
   -- list during an edit.
 
   module _ {A : Type 0} (v w : Open T A) where
-    -- An open block is the block of a list during an edit. It holds front items, middle items and
-    -- tail items, with gaps of empty slots between these groups. `Moved front cost` holds if the
-    -- open block `w` has the front items `front` and the cost `cost`. The first gap and the middle
-    -- items of `w` may also differ from those of the open block `v`. Everything else is the same in
-    -- `v` and `w`.
+    -- `Moved front cost` holds if the open block `w` has the front items `front` and the cost
+    -- `cost`, and otherwise differs from the open block `v` only in its first gap and its middle
+    -- items.
     abbrev Moved : List T → Cost → Type 0
     Moved front cost = w ≡ record v
         { front = front; gap = w.gap; rest = w.rest; cost = cost }
 
-    -- If `f` equals `f'` and `k` equals `k'`, then the open block with the front items `f` and the
-    -- cost `k` is equal to the open block with the front items `f'` and the cost `k'`.
+    -- If `f` equals `f'` and `k` equals `k'`, then an open block with the front items `f` and the
+    -- cost `k` does not change if they are replaced with `f'` and `k'`.
     moved : {f f' : List T} {k k' : Cost} → f ≡ f' → k ≡ k'
         → record v { front = f; gap = w.gap; rest = w.rest; cost = k }
         ≡ record v { front = f'; gap = w.gap; rest = w.rest; cost = k' }
     moved e n = λ i. record v { front = e i; gap = w.gap; rest = w.rest; cost = n i }
 
     module _ (s t : S) where
-      -- `Dedups` relates an open block before some tests for duplicates to the open block after
-      -- them. Suppose that the first middle items of the open block `v`, which are `done`, are
-      -- tested in order. The first test compares an item with `first`, the last front item. The
-      -- kept items are moved to the end of the front items, at the cost of one move each, and the
-      -- other tested items are removed. If the resulting open block `w` has a gap, then `Dedups`
-      -- relates `v` to `w`.
+      -- `Dedups` relates the open block `v` to `w` if the middle items `done` were tested, the kept
+      -- ones were moved to the front, and the others were removed. The block `w` must have a gap.
       dedups-of : (before : List T) (first : T) (done : List T) (stays : List Bool) (kept : List T)
           → v.front ≡ before ++ first ∷ [] → v.rest ≡ done ++ w.rest
           → AskedLast R s first done stays kept t → 0 < w.gap
@@ -361,9 +341,8 @@ module _ {S T : Type 0} (R : OnPairs S T) where
             now = now;
           }
 
-    -- `Dedups` relates an open block before some tests for duplicates to the open block after them.
     -- If the first middle item `x` was tested and removed, then `Dedups` relates the open block `v`
-    -- before this test to the open block `w` after the removal.
+    -- before the test to the open block `w` after the removal.
     pub dedups-goes : {s t : S} (x y : T) (front : List T)
         → IsLastAsked R s x v.front true t y front → v.rest ≡ x ∷ w.rest → 0 < w.gap
         → Moved front v.cost → Dedups R s v t w
@@ -372,10 +351,8 @@ module _ {S T : Type 0} (R : OnPairs S T) where
         (last-goes s t a.kept x y a.kept_left a.asked) gap
         (now ∙ moved (λ i. a.now i) (sym (moving-none v.cost)))
 
-    -- `Dedups` relates an open block before some tests for duplicates to the open block after them.
-    -- Suppose that the first middle item `x` was tested and kept, and that it was moved to the end
-    -- of the front items, at the cost of one move. Then `Dedups` relates the open block `v` before
-    -- this test to the open block `w` after this move.
+    -- If the first middle item `x` was tested, kept and moved to the front, then `Dedups` relates
+    -- the open block `v` before the test to the open block `w` after the move.
     pub dedups-stays : {s t : S} (x y : T) (front : List T)
         → IsLastAsked R s x v.front false t y front → v.rest ≡ x ∷ w.rest
         → 0 < w.gap → Moved (front ++ y ∷ []) (moving 1 v.cost) → Dedups R s v t w
@@ -388,18 +365,14 @@ module _ {S T : Type 0} (R : OnPairs S T) where
     module _ (s t u : S) (x y z : T) (front ys zs : List T)
         (a : IsLastAsked R s x v.front false t y front) (b : Bool)
         (n : IsNextAsked R t y ys b u z zs) (whole : v.rest ≡ x ∷ ys) where
-      -- Suppose that the first middle item was tested and kept, so it became the last front item.
-      -- Suppose also that the second middle item was then tested. Then the last front item is `z`,
-      -- which is the old first middle item as the two tests left it. The item before `z` is
-      -- `a.kept_left`, which is the old last front item as the first test left it.
+      -- If the first middle item was kept and the second was then tested, then the front items end
+      -- with `a.kept_left` and `z`, which are the last two kept items as the tests left them.
       two-front : (front ++ z ∷ [] ≡ a.before ++ a.kept_left ∷ z ∷ [])
       two-front = ap (λ (l : List T). l ++ z ∷ []) a.now
           ∙ append_assoc a.before (a.kept_left ∷ []) (z ∷ [])
 
-      -- `Dedups` relates an open block before some tests for duplicates to the open block after
-      -- them. Suppose that the first middle item was tested, kept and moved to the end of the front
-      -- items. Suppose also that the second middle item was then tested and removed. Then `Dedups`
-      -- relates the open block `v` before these two tests to the open block `w` after them.
+      -- If the first middle item was kept and moved to the front, and the second was removed, then
+      -- `Dedups` relates the open block `v` before these tests to the open block `w` after them.
       pub dedups-two : b ≡ true → (value : T) → zs ≡ value ∷ w.rest → 0 < w.gap
           → Moved (front ++ z ∷ []) (moving 1 v.cost) → Dedups R s v u w
       dedups-two e value rest gap now =
@@ -413,11 +386,9 @@ module _ {S T : Type 0} (R : OnPairs S T) where
           (a.kept_left ∷ z ∷ []) a.was (whole ∙ ap (λ (l : List T). x ∷ l)
           (n.was ∙ ap (λ (l : List T). n.later ∷ l) same)) asked gap (now ∙ moved two-front refl)
 
-      -- `Dedups` relates an open block before some tests for duplicates to the open block after
-      -- them. Suppose that the first `m + 1` middle items were tested, kept and moved to the end of
-      -- the front items. Suppose also that the next middle item, if there is one, was tested and
-      -- removed. Then `Dedups` relates the open block `v` before these tests to the open block `w`
-      -- after them.
+      -- If the first `m + 1` middle items were kept and moved to the front, and the next one, if
+      -- any, was removed, then `Dedups` relates the open block `v` before these tests to `w` after
+      -- them.
       pub dedups-run : b ≡ false → (m : ℕ) (q : S) (ws : List T) (r : PairsAskedUpTo R m u zs q ws)
           → r.after ≡ w.rest → suc (trues r.stays) ≡ m
           → 0 < w.gap → Moved ((front ++ z ∷ []) ++ take m ws) (moving m (moving 1 v.cost))
@@ -446,9 +417,8 @@ module _ {S T : Type 0} (R : OnPairs S T) where
           ∙ append_assoc a.before (a.kept_left ∷ z ∷ []) r.left)
           (moving-more m 1 v.cost ∙ ap (λ (k : ℕ). moving k v.cost) paid))
 
-  -- `Dedups` relates an open block before some tests for duplicates to the open block after them.
-  -- Before the first test, `Dedups` relates an open block `v` to `v` itself if `v` has at least one
-  -- front item, and a gap of empty slots before its middle items.
+  -- `Dedups` relates an open block `v` to itself if no item has been tested, and if `v` has a front
+  -- item and a gap before its middle items.
   pub dedups-start : {A : Type 0} (s : S) (v : Open T A) → 0 < length v.front
       → 0 < v.gap → Dedups R s v s v
   dedups-start s v some gap =
@@ -466,8 +436,8 @@ module _ {S T : Type 0} (R : OnPairs S T) where
         now = λ i. record v { front = p.2 i; cost = sym (moving-none v.cost) i };
       }
 
-  -- `Dedups` relates an open block before some tests for duplicates to the open block after them.
-  -- It is transitive: if `Dedups` relates `v` to `w`, and `w` to `z`, then it relates `v` to `z`.
+  -- `Dedups` describes tests for duplicates in an open block. If it relates `v` to `w`, and `w` to
+  -- `z`, then it relates `v` to `z`.
   pub dedups-then : {A : Type 0} {s t u : S} {v w z : Open T A} → Dedups R s v t w
       → Dedups R t w u z → Dedups R s v u z
   dedups-then {s = s} {t} {u} {v} {w} {z} h k =
@@ -505,18 +475,14 @@ module _ {S T : Type 0} (R : OnPairs S T) where
 
   module _ {A : Type 0} (v w : Open T A) (m : ℕ) (s t : S) (ys : List T)
       (r : PairsAskedUpTo R m s v.rest t ys) where
-    -- `RunPassed` states that the front items of the open block `w` are exactly the `m` kept items,
-    -- as the tests left them. Apart from the front items, `w` may differ from the open block `v`
-    -- only in the gap and the middle items. The cost is the same, because the kept items were not
-    -- moved.
+    -- `RunPassed` holds if the front items of the open block `w` are the `m` kept items, and `w`
+    -- otherwise differs from `v` only in its first gap and its middle items. No item was moved.
     abbrev RunPassed : Type 0
     RunPassed = Moved v w (take m ys) v.cost
 
-    -- `IsDeduped` describes the removal of all duplicates from an open block. Suppose that the
-    -- first `m` middle items were kept, and that the next middle item, `value`, was removed.
-    -- Suppose also that all later middle items were then tested, and that the duplicates among them
-    -- were removed. Then `IsDeduped` relates the open block `v` before all tests to the open block
-    -- `z` after them.
+    -- If the first `m` middle items were kept, and `value` and the later duplicates were removed,
+    -- then `IsDeduped` relates the open block `v` before the tests to the open block `z` after
+    -- them.
     pub deduped-goes : (value : T) (u : S) (z : Open T A) → RunPassed → drop m ys ≡ value ∷ w.rest
         → Dedups R t w u z → z.rest ≡ [] → IsDeduped R s v u z
     deduped-goes value u z p k h none =
@@ -549,9 +515,8 @@ module _ {S T : Type 0} (R : OnPairs S T) where
           });
         }
 
-    -- `IsDeduped` describes the removal of all duplicates from an open block. If the tests found no
-    -- item to be removed, then all items were kept, and `IsDeduped` relates the open block `v`
-    -- before the tests to the open block `w` after them.
+    -- If the tests found no item to be removed, then `IsDeduped` relates the open block `v` before
+    -- the tests to the open block `w` after them.
     pub deduped-ends : RunPassed → drop m ys ≡ [] → w.rest ≡ [] → IsDeduped R s v t w
     deduped-ends p k none =
         let g = run-ends m s v.rest t ys r k in
@@ -573,15 +538,15 @@ module _ {S T : Type 0} (R : OnPairs S T) where
         }
 
 -- In this module, a test of two items is a struct that calls a closure and returns its result. `J`
--- is the type of the test, and `inside` maps a state of the test to the state of its closure.
+-- is the type of the test, and `inside` maps its state to the state of the closure.
 module _ {J S T : Type 0} (R : OnPairs S T) (inside : J → S) where
-  -- The test wraps a closure, and the relation `R` describes the calls to this closure. `through`
-  -- describes the calls to the test: it applies `R` to the states of the closure inside the test.
+  -- `through` describes the calls to a test that wraps a closure. It applies the relation `R` of
+  -- the closure to the states of the closure inside the test.
   abbrev through : OnPairs J T
   through s x k b t y l = R (inside s) x k b (inside t) y l
 
-  -- Suppose that the items `xs` follow the kept item `k`, and that they were passed to a test that
-  -- calls a closure. Then the closure was called with the same items and returned the same results.
+  -- If a test that wraps a closure tested the items `xs` after the kept item `k`, then the closure
+  -- was called with the same items and returned the same results.
   last-through : (xs : List T) (s t : J) (k : T) (f : List Bool) (ys : List T)
       → AskedLast through s k xs f ys t → AskedLast R (inside s) k xs f ys (inside t)
   last-through [] s t k f ys h = (h.0, h.1, ap inside h.2)
@@ -597,16 +562,15 @@ module _ {J S T : Type 0} (R : OnPairs S T) (inside : J → S) where
         (λ q. (q.0, last-through xs h.3 t h.1 h.4 q.0 q.1, q.2)) h.7,
   )
 
-  -- Suppose that the items `xs` were passed to a test that calls a closure. Then the closure was
-  -- called with the same items and returned the same results.
+  -- If a test that wraps a closure tested the items `xs`, then the closure was called with the same
+  -- items and returned the same results.
   pairs-through : (xs : List T) (s t : J) (f : List Bool) (ys : List T)
       → AskedPairs through s xs f ys t → AskedPairs R (inside s) xs f ys (inside t)
   pairs-through [] s t f ys h = (h.0, h.1, ap inside h.2)
   pairs-through (x ∷ xs) s t f ys h = last-through xs s t x f ys h
 
-  -- Suppose that a test calls a closure and returns its result. If a call to `dedup_by` with this
-  -- test turns the list `v` into the list `w`, then a call to `dedup_by` with the closure itself
-  -- also turns `v` into `w`.
+  -- If `dedup_by` with a test that wraps a closure turns the list `v` into `w`, then `dedup_by`
+  -- with the closure itself also turns `v` into `w`.
   pub deduped-through : {A : Type 0} (s : J) (v w : Thin T A) (t : J) → IsDedupedTo through s v w t
       → IsDedupedBy R (inside s) v w
   deduped-through s v w t h = (
@@ -619,12 +583,10 @@ module _ {J S T : Type 0} (R : OnPairs S T) (inside : J → S) where
     },
   )
 
--- In this module, the test is the function `E`, which has no state. Whether an item is kept depends
--- only on this item and the last kept item.
+-- In this module, the function `E` says whether an item is a duplicate of the last kept item.
 module _ {S T : Type 0} (E : T → T → Bool) where
-  -- Suppose that the items `xs` follow the kept item `k`, and that the function `E` tested them.
-  -- Then the flags `f`, which say which of these items are kept, are `unlike_from E k xs`. The list
-  -- `ys` of the kept items, including `k`, is `dedup_from E k xs`.
+  -- If the function `E` tested the items `xs` after the kept item `k`, then the flags `f` (true for
+  -- kept items) are `unlike_from E k xs`, and the kept items `ys` are `dedup_from E k xs`.
   last-compares : (xs : List T) (s t : S) (k : T) (f : List Bool) (ys : List T)
       → AskedLast (Compares E) s k xs f ys t → (f ≡ unlike_from E k xs) × (ys ≡ dedup_from E k xs)
   last-compares [] s t k f ys h = (h.0, h.1)
@@ -650,9 +612,8 @@ module _ {S T : Type 0} (E : T → T → Bool) where
       ]
       h.5.0 h.6 h.7
 
-  -- Suppose that the function `E` tested all items of the list `xs` except the first. Then the
-  -- flags `f`, which say which of these items are kept, are `unlike E xs`. The list `ys` of the
-  -- kept items, including the first item, is `dedup E xs`.
+  -- If the function `E` tested all items of `xs` except the first, then the flags `f` (true for
+  -- kept items) are `unlike E xs`, and the kept items `ys` are `dedup E xs`.
   pub pairs-compare : (xs : List T) (s t : S) (f : List Bool) (ys : List T)
       → AskedPairs (Compares E) s xs f ys t → (f ≡ unlike E xs) × (ys ≡ dedup E xs)
   pairs-compare [] s t f ys h = (h.0, h.1)
@@ -667,7 +628,7 @@ module _ {S T : Type 0} (R : OnPairs S T) where
   few-last (x ∷ xs) s t k stays ys h =
       one h.0 h.7 (λ l zs m. few-last xs h.3 t l h.4 zs m)
     where
-      -- One more test increases the number of kept items by at most 1.
+      -- Testing one more item increases the number of kept items by at most 1.
       one : (b : Bool) → MatchBool b (AskedLast R h.3 h.2 xs h.4 ys t)
           ((zs : List T) × AskedLast R h.3 h.1 xs h.4 zs t × (ys ≡ h.2 ∷ zs))
           → ((l : T) (zs : List T) → AskedLast R h.3 l xs h.4 zs t → length zs ≤ suc (length xs))

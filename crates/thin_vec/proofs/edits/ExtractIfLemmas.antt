@@ -1,5 +1,5 @@
--- These lemmas are about the item that a call to `next` on an `ExtractIf` extracts. This item is
--- the first untested item for which the closure returns true.
+-- These lemmas are about the item that `next` on an `ExtractIf` extracts: the first untested item
+-- for which the closure returns true.
 use Rattle.std.proofs.Common.{◌≡◌, ℕ, ◌+◌, ◌≤◌, Bool, true, false, List, [], ◌∷◌, ◌++◌, Option, None, Some, length, take, drop, refl, sym, ap, subst, ◌∙◌, arith, length-append}
 use Rattle.std.proofs.lemmas.List.{drop_at, length-take-le, nil_from_length, take_at}
 use Rattle.std.specs.List.Retain.{ExtractsNext}
@@ -16,9 +16,8 @@ not-not true = refl
 not-not false = refl
 
 module _ {F T : Type 0} (R : F → T → Bool → F → T → Type 0) where
-  -- Suppose that a call to `next` tests items of the list `xs`. Then the length of `xs` is the
-  -- number of kept items, plus 1 if an item was extracted, plus the number of items that are still
-  -- untested.
+  -- If `next` tests items of the list `xs`, then the length of `xs` is the number of kept,
+  -- extracted and untested items together.
   pub picked-count : (s : F) (xs : List T) (item : Option T) (t : F) (kept rest : List T)
       → ExtractsNext R s xs item t kept rest → length xs ≡ length kept + length
       (option_to_list item) + length rest
@@ -30,8 +29,8 @@ module _ {F T : Type 0} (R : F → T → Bool → F → T → Type 0) where
   picked-count s (x ∷ xs) item t kept rest e =
       answered e.0 (λ ks m. picked-count e.1 xs item t ks rest m) e.4
     where
-      -- This is the induction step of the lemma `picked-count`. If the lemma holds for the items
-      -- after the first item, then it holds for the whole list.
+      -- This is the induction step of the lemma `picked-count`, from the list `xs` to the list
+      -- `x ∷ xs`.
       answered : (b : Bool)
           → ((ks : List T) → ExtractsNext R e.1 xs item t ks rest
           → length xs ≡ length ks + length (option_to_list item) + length rest)
@@ -44,20 +43,17 @@ module _ {F T : Type 0} (R : F → T → Bool → F → T → Type 0) where
       answered false more m = omega (arith, more m.0 m.1, ap length m.2)
 
   module _ {S : Type 0} (of : S → F) where
-    -- `J` describes the calls to a test that calls a closure and negates its result. So the test
-    -- keeps exactly the items for which the closure returns false. If `s` is a state of the test,
-    -- then `of s` is the state of the closure.
+    -- `J` describes the calls to a test that keeps the items for which a closure returns false. If
+    -- `s` is a state of the test, then `of s` is the state of the closure.
     abbrev J : S → T → Bool → S → T → Type 0
     J s x b t y = R (of s) x (not b) (of t) y
 
-    -- In this module, the test is in the state `between`, and the list `after` contains the items
-    -- that have not been tested yet. The closure returns true for the first item of `after`, unless
-    -- `after` is empty.
+    -- In this module, the test has the state `between`, and the items `after` are untested. The
+    -- closure returns true for the first of these items, if there is one.
     module _ (between : S) (after : List T) (item : Option T) (t : F) (rest : List T)
         (e : ExtractsNext R (of between) after item t [] rest) where
-      -- Suppose that the test keeps all items of the list `run`. Then a call to `next` that tests
-      -- the list `run ++ after` extracts the first item of `after`. If `after` is empty, then this
-      -- call extracts no item.
+      -- If the test keeps all items of `run`, then `next` extracts from `run ++ after` the first
+      -- item of `after`, or no item if `after` is empty.
       picked-after : (s : S) (run left : List T) → Asked J s run (stay left) between
           → ExtractsNext R (of s) (run ++ after) item t left rest
       picked-after s [] [] a =
@@ -92,19 +88,18 @@ module _ {F T : Type 0} (R : F → T → Bool → F → T → Type 0) where
 
     module _ (m : ℕ) (s : S) (xs : List T) (t : S) (ys : List T)
         (h : AskedUpTo J 0 m s xs t ys) where
-      -- `h` describes tests of the items of the list `xs`, beginning at index 0. So `h.before`, the
-      -- list of the items before the first tested item, is empty.
+      -- The tests that `h` describes began at index 0. So `h.before`, the list of the items before
+      -- the first tested item, is empty.
       none-before : h.before ≡ []
       none-before = nil_from_length h.before h.place
 
-      -- Before the tests, the list `xs` began with `h.run`, the list of the items that the tests
-      -- kept. All other items of `xs` are in the list `h.after`.
+      -- Before the tests, the list `xs` consisted of `h.run` (the items that the tests kept),
+      -- followed by `h.after` (all other items).
       was : xs ≡ h.run ++ h.after
       was = h.was ∙ ap (λ (l : List T). l ++ (h.run ++ h.after)) none-before
 
-      -- After the tests, the list `ys` consists of the kept items `h.left`, followed by `h.end`.
-      -- The list `h.end` contains the item to be extracted, if there is one, and the untested
-      -- items.
+      -- After the tests, the list `ys` consists of the kept items `h.left`, followed by `h.end`:
+      -- the item to be extracted, if there is one, and the untested items.
       now : ys ≡ h.left ++ h.end
       now = h.now ∙ ap (λ (l : List T). l ++ (h.left ++ h.end)) none-before
 
@@ -117,8 +112,8 @@ module _ {F T : Type 0} (R : F → T → Bool → F → T → Type 0) where
       left-is : take m ys ≡ h.left
       left-is = ap (take m) now ∙ take_at h.left h.end m reached
 
-      -- From index `m` onward, the list `ys` consists of the items `h.end`: the item to be
-      -- extracted, if there is one, and the untested items.
+      -- From index `m` onward, the list `ys` consists of the item to be extracted, if there is one,
+      -- and the untested items.
       end-is : drop m ys ≡ h.end
       end-is = ap (drop m) now ∙ drop_at h.left h.end m reached
 
@@ -127,9 +122,8 @@ module _ {F T : Type 0} (R : F → T → Bool → F → T → Type 0) where
       pub picked-room : m ≤ length ys
       picked-room = omega (arith, reached, ap length now, length-append h.left h.end)
 
-      -- Suppose that the tests kept the first `m` items of the list `xs`. If `item` is extracted
-      -- from the later items, then `item` is also extracted from the whole list `xs`. (`item` is
-      -- `None` if no item is extracted.)
+      -- If the tests kept the first `m` items of `xs`, and `item` is extracted from the later
+      -- items, then `item` is also extracted from the whole list `xs`.
       whole : (item : Option T) (rest : List T) → ExtractsNext R (of h.between) h.after item (of t)
           [] rest → ExtractsNext R (of s) xs item (of t) (take m ys) rest
       whole item rest e =
@@ -153,9 +147,8 @@ module _ {F T : Type 0} (R : F → T → Bool → F → T → Type 0) where
           whole (Some v) zs (stops-at-item h.between t h.after h.end v zs
           h.stops (sym end-is ∙ some))
 
--- Suppose that the list `xs` contains at least `k` items, so `take k xs` has the length `k`. Then
--- moving `k` items across a gap of `gap` empty slots costs the same as moving the items `take k xs`
--- across it. If `gap` is 0, then no item is moved, and the cost does not change.
+-- If `k ≤ length xs`, then moving `k` items across a gap costs the same as moving the items
+-- `take k xs`. If `gap` is 0, then no item is moved.
 pub cost-of : {T : Type 0} (gap : ℕ) (cost : Cost) (k : ℕ) (xs : List T) → k ≤ length xs
     → (if gap == 0 then cost else moving k cost)
     ≡ (if gap == 0 then cost else moving (length (take k xs)) cost)

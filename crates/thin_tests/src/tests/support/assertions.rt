@@ -1,6 +1,5 @@
-//! Assertions that many tests share. If a test contained such an assertion itself, the proof of the
-//! test would take one or two seconds longer. A call to one of these functions takes almost no time
-//! to prove.
+//! Assertions that many tests share. A test that contains such an assertion itself takes one or two
+//! seconds longer to prove.
 ghost use Rattle.std.specs.Prelude.{◌≡◌, length};
 
 use std::alloc::{Allocator, Global};
@@ -9,8 +8,8 @@ use std::process::Abort;
 use thin_testing::Refusing;
 use thin_vec::{Growth, ThinVec};
 
-/// Asserts that the two values are equal. The contract of this function says nothing about the
-/// values, so the prover learns nothing about them from a call.
+/// Asserts that the two values are equal. The prover learns nothing about the values, because this
+/// function has no contract.
 pub fn assert_same<T: PartialEq + Debug + Drop>(rt: &impl Abort, value: T, wanted: T) {
     assert_eq!(rt; value, wanted);
 }
@@ -26,8 +25,8 @@ pub fn assert_text<D: Debug>(rt: &impl Abort, alloc: Global, value: &D, line: &s
     assert_same(rt, text.as_str(), line);
 }
 
-/// Asserts that the list has `len` items. After a call to this function, the prover knows the
-/// length of the list. Tests need this to prove that a range is within the list.
+/// Asserts that the list has `len` items. The contract tells the prover this length, so that tests
+/// can prove that a range is within the list.
 pub fn assert_len<T, A: Allocator, G: Growth>(rt: &impl Abort, list: &ThinVec<T, A, G>, len: usize)
     ensures len { length list.now.items ≡ len }
 {

@@ -2,8 +2,8 @@
 ghost use Rattle.std.specs.Prelude.{◌+◌, length};
 ghost use Rattle.std.specs.Iterator.{at_most};
 
-/// An iterator over a slice. It yields the items in order, and then always returns `None`. Its size
-/// hint is always `(lower, None)`, no matter how many items remain.
+/// An iterator over a slice. Its size hint is always `(lower, None)`, no matter how many items
+/// remain.
 #[derive(Drop)]
 pub struct Claims<'a> {
     items: &'a [i32],

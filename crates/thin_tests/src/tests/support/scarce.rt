@@ -3,9 +3,8 @@ use crate::tests::support::counted::Counted;
 use std::alloc::AllocError;
 use std::cell::Cell;
 
-/// An item that counts its drops and can be cloned only a limited number of times. When it is
-/// dropped, it adds 1 to the cell `drops`. Each clone subtracts 1 from the number in the cell
-/// `granted`. While this number is 0, cloning fails.
+/// An item that adds 1 to the cell `drops` when it is dropped. Each clone subtracts 1 from the cell
+/// `granted`. While this cell contains 0, cloning fails.
 #[derive(Drop)]
 pub struct Scarce<'a> {
     drops: &'a Cell<u32>,

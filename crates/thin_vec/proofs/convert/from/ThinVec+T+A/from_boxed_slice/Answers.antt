@@ -1,6 +1,5 @@
--- `from_boxed_slice` requests a capacity that is equal to the number of items in the boxed slice.
--- The new list has exactly this capacity. The call fails with `CapacityOverflow` if and only if a
--- block of this capacity is too large to be allocated.
+-- `from_boxed_slice` requests a block for exactly the items of the boxed slice. It fails with
+-- `CapacityOverflow` if and only if this block is too large to be allocated.
 use Rattle.std.proofs.Common.{arith, ◌∙◌, ap}
 use denote.Param.{param}
 use Rattle.thin_block.specs.Growth.{exact_capacity}
