@@ -11,36 +11,28 @@ use crate::list::ThinVec;
 use std::alloc::Allocator;
 use thin_block::ThinVecError;
 
-/// Makes a list with the growth rule `Doubling`, which chooses the new capacity whenever the list
-/// grows. The macro has three forms:
+/// Makes a list with the growth rule `Doubling`. The macro evaluates to a
+/// `Result<ThinVec<T, A>, ThinVecError>`, and has three forms:
 ///
-/// - `thin_vec![alloc =>]` makes an empty list of capacity 0. It allocates nothing.
-/// - `thin_vec![alloc => x, y]` makes a list of the given items, in order. The capacity is exactly
-///   the number of items.
-/// - `thin_vec![alloc => x; k]` makes a list of `k` items: clones of `x`, and then `x` itself as
-///   the last item. `Doubling` chooses the capacity for `k` items. If `k` is 0, the capacity is 0,
-///   and `x` is dropped.
+/// - `thin_vec![alloc =>]` makes an empty list without an allocation.
+/// - `thin_vec![alloc => x, y]` makes a list of the given items. The capacity is the number of
+///   items.
+/// - `thin_vec![alloc => x; k]` makes a list of `k` items: clones of `x`, and then `x` itself.
+///   `Doubling` chooses the capacity. If `k` is 0, the capacity is 0, and `x` is dropped.
 ///
 /// Instead of `alloc =>`, you can write `in alloc;`, as in `thin_vec![in alloc; x, y]`. The first
 /// form is then `thin_vec![in alloc]`. A trailing comma is allowed after items, but not after `k`.
 ///
-/// The macro evaluates to a `Result<ThinVec<T, A>, ThinVecError>`. An error does not make the
-/// surrounding function return. So you can use the macro in a function of any return type.
-///
-/// The macro evaluates `alloc` first, and only once. The next steps depend on the form:
-///
-/// - In the second form, the macro requests the memory for the list. If the allocator grants the
-///   memory, the macro then evaluates each item once, in order.
-/// - In the third form, the macro evaluates `x`, then evaluates `k`, and then requests the memory
-///   for the list.
+/// The macro evaluates `alloc` first. The second form then requests the memory, and evaluates the
+/// items only if the request succeeds. The third form evaluates `x` and then `k` before it requests
+/// the memory.
 ///
 /// # Errors
 ///
-/// On failure, no list is made. In the third form, `x` and the clones that were already made are
-/// dropped.
+/// On failure, no list is made. In the third form, `x` and its clones are dropped.
 ///
 /// - `CapacityOverflow`: the capacity would be too large.
-/// - `OutOfMemory`: the allocator failed or, in the third form, a clone failed.
+/// - `OutOfMemory`: the allocator failed or, in the third form, `x` could not be cloned.
 #[macro_export]
 macro_rules! thin_vec {
     ($alloc:expr =>) => {
@@ -85,8 +77,8 @@ macro_rules! count_items {
     };
 }
 
-/// Appends `value` to `list`, which must have room for one more item. After the call, `list` owns
-/// `value`. `thin_vec!` calls this function once for each item.
+/// Appends `value` to `list`, which must have room for one more item. `thin_vec!` calls this
+/// function once for each item.
 #[doc(hidden)]
 pub fn place<T, A: Allocator>(list: &mut ThinVec<T, A>, value: T)
     requires room { HasRoomFor list.old 1 }
@@ -98,16 +90,15 @@ pub fn place<T, A: Allocator>(list: &mut ThinVec<T, A>, value: T)
     list.push_reserved(value);
 }
 
-/// Makes a list of `count` items: clones of `value`, and then `value` itself as the last item. If
-/// `count` is 0, `value` is dropped. `thin_vec!` calls this function for
-/// `thin_vec![alloc => value; count]`.
+/// Makes the list for `thin_vec![alloc => value; count]`: clones of `value`, and then `value`
+/// itself. If `count` is 0, `value` is dropped.
 ///
 /// # Errors
 ///
-/// On failure, no list is made. `value` and the clones that were already made are dropped.
+/// On failure, no list is made. `value` and its clones are dropped.
 ///
 /// - `CapacityOverflow`: the capacity for `count` items would be too large.
-/// - `OutOfMemory`: the allocator or a clone failed.
+/// - `OutOfMemory`: the allocator failed, or `value` could not be cloned.
 #[doc(hidden)]
 pub fn repeated<T: Clone, A: Allocator>(
     alloc: A,

@@ -18,8 +18,8 @@ pub(crate) struct Filled<I> {
     /// The iterator after the call. It yields the items that were not taken from it during the
     /// call.
     pub(crate) rest: I,
-    /// The index of the slot directly after the last item that was placed. If no item was placed,
-    /// this is the index of the first of the empty slots.
+    /// The index of the slot directly after the last placed item. If no item was placed, this is
+    /// the index of the first empty slot.
     pub(crate) end: usize,
     /// Whether the iterator returned `None` before the slots were full.
     pub(crate) ended: bool,
@@ -50,9 +50,8 @@ pub(crate) fn put_vec<T, A: Allocator, B: Allocator>(
       cost = moving (length items.items) block.old.cost;
     } }
 {
-    // This call is needed only for the proof. The contract of `cap` says that the number of slots
-    // is less than 2^63. So the index of each slot is less than 2^63, too, and the addition in the
-    // loop cannot overflow.
+    // Only the proof needs this call. The contract of `cap` says that there are fewer than 2^63
+    // slots, so the addition in the loop cannot overflow.
     let _whole = block.cap();
     while let Some(item) = items.pop() {
         block.put(start + items.len(), item);
@@ -60,8 +59,8 @@ pub(crate) fn put_vec<T, A: Allocator, B: Allocator>(
     items.destroy_empty();
 }
 
-// Puts clones of `items` into the empty slots from index `start` onward, in order, until a clone
-// fails. Returns the number of clones that were made.
+// Puts clones of `items` into the empty slots from index `start` onward, in order, until an item
+// cannot be cloned. Returns the number of clones.
 pub(crate) fn put_clones<T: Clone, A: Allocator>(
     block: &mut Block<T, A>,
     start: usize,
@@ -78,9 +77,8 @@ pub(crate) fn put_clones<T: Clone, A: Allocator>(
     ensures refused { result < length items.now
         → HoldsAt (λ x. ¬ (T.is_infallible x)) items.now result }
 {
-    // This call is needed only for the proof. The contract of `cap` says that the number of slots
-    // is less than 2^63. So the index of each slot is less than 2^63, too, and the addition in the
-    // loop cannot overflow.
+    // Only the proof needs this call. The contract of `cap` says that there are fewer than 2^63
+    // slots, so the addition in the loop cannot overflow.
     let _whole = block.cap();
     for i in 0..items.len() {
         match items[i].clone() {
@@ -91,8 +89,8 @@ pub(crate) fn put_clones<T: Clone, A: Allocator>(
     items.len()
 }
 
-// Puts clones of `value` into the `count` empty slots from index `start` onward, until a clone
-// fails. Returns the number of clones that were made.
+// Puts clones of `value` into the `count` empty slots from index `start` onward, until `value`
+// cannot be cloned. Returns the number of clones.
 pub(crate) fn put_repeated<T: Clone, A: Allocator>(
     block: &mut Block<T, A>,
     start: usize,
@@ -110,9 +108,8 @@ pub(crate) fn put_repeated<T: Clone, A: Allocator>(
     } }
     ensures refused { result < count → ¬ (T.is_infallible value.now) }
 {
-    // This call is needed only for the proof. The contract of `cap` says that the number of slots
-    // is less than 2^63. So the index of each slot is less than 2^63, too, and the addition in the
-    // loop cannot overflow.
+    // Only the proof needs this call. The contract of `cap` says that there are fewer than 2^63
+    // slots, so the addition in the loop cannot overflow.
     let _whole = block.cap();
     for i in 0..count {
         match value.clone() {
@@ -141,9 +138,8 @@ pub(crate) fn put_results<T, A: Allocator, F: FnMut() -> T>(
       cost = moving count block.old.cost;
     } }
 {
-    // This call is needed only for the proof. The contract of `cap` says that the number of slots
-    // is less than 2^63. So the index of each slot is less than 2^63, too, and the addition in the
-    // loop cannot overflow.
+    // Only the proof needs this call. The contract of `cap` says that there are fewer than 2^63
+    // slots, so the addition in the loop cannot overflow.
     let _whole = block.cap();
     for i in 0..count {
         block.put(start + i, make());
@@ -151,8 +147,8 @@ pub(crate) fn put_results<T, A: Allocator, F: FnMut() -> T>(
 }
 
 // Moves items of `iter` into the empty slots `start..end`, in order, until the slots are full or
-// `iter` returns `None`. The block is passed by value and is returned. This keeps its pointer in a
-// register, and allows LLVM to vectorize the loop.
+// `iter` returns `None`. The block is passed by value, so that its pointer can stay in a register
+// and LLVM can vectorize the loop.
 pub(crate) fn put_iter<T, A: Allocator, I: Iterator<Item = T>>(
     block: Block<T, A>,
     start: usize,

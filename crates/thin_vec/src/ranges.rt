@@ -5,14 +5,12 @@ ghost use Rattle.thin_vec.specs.Ranges.{range_between};
 
 use std::ops::Bound;
 
-/// Converts the bounds `start` and `end` of a range into two indices: the inclusive start and the
-/// exclusive end of the range. `len` is the length of the list. Returns `None` if the range begins
-/// after its end, or if it ends after the end of the list.
+/// Converts the bounds `start` and `end` into two indices of a list of length `len`: the inclusive
+/// start and the exclusive end of the range. Returns `None` if the range begins after its end, or
+/// if it ends after the end of the list.
 ///
-/// The two indices satisfy the preconditions of `drain`, `extract_if` and `splice`. Rust's
-/// `slice::range` returns the same indices. If this function returns `None`, `slice::range` panics.
-///
-/// The Rust crate thin-vec has no such function.
+/// Rust's `slice::range` returns the same indices, but panics instead of returning `None`. The Rust
+/// crate thin-vec has no such function.
 pub fn bounds(start: Bound<usize>, end: Bound<usize>, len: usize) -> Option<(usize, usize)>
     ensures value { result ≡ range_between start end len }
     ensures start_le_end { IfSome result (λ range. range.0 ≤ range.1) }

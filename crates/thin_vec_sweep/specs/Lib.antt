@@ -1,2 +1,1 @@
--- This crate contains only tests. It has no definitions of its own for contracts and proofs, so
--- this file contains nothing but this comment.
+-- This crate contains only tests, so this file has no definitions.

@@ -1,14 +1,13 @@
 //! Assertions for the sweeps. A sweep tests one call on many lists. The message of a failed
-//! assertion contains an `At`, which says on which list and with which argument the call was made.
+//! assertion contains an `At`, which identifies the test case.
 use crate::ledger::{Counts, Ledger, count};
 use crate::samples::Sample;
 use crate::shapes::Shape;
 use std::fmt::Debug;
 use std::process::Abort;
 
-/// Identifies one test case of a sweep: the call, the length and the spare capacity of the list,
-/// the argument, and the allocation request that is refused. The message of a failed assertion
-/// contains these values.
+/// Identifies one test case of a sweep: the call, the shape of the list, the argument, and the
+/// refused allocation request. The message of a failed assertion contains these values.
 #[derive(Debug, Clone, Copy)]
 pub struct At {
     pub call: &'static str,
@@ -17,8 +16,7 @@ pub struct At {
     /// The number of the allocation request that is refused, counting from 1. It is 0 if no request
     /// is refused.
     pub refused: u64,
-    /// The counters of the running test. The counter `comparisons` counts the comparisons that the
-    /// test makes.
+    /// The counters of the running test, such as the number of its comparisons.
     pub counts: &'static Counts,
 }
 
@@ -34,8 +32,7 @@ pub fn assert_same<T: PartialEq + Debug + Drop, R: Abort>(
     assert_eq!(rt; value, wanted, "{what}, {at:?}");
 }
 
-/// Asserts that `item` is the item that `T::nth` makes from `number`, or that `item` and `number`
-/// are both `None`.
+/// Asserts that `item` is the item that `T::nth` makes from `number`, or that both are `None`.
 pub fn assert_same_item<T: Sample, R: Abort>(
     rt: &R,
     at: &At,
@@ -53,8 +50,8 @@ pub fn assert_same_item<T: Sample, R: Abort>(
     assert_same(rt, at, "item", found, expected);
 }
 
-/// Returns `true` if `item` is the item that `T::nth` makes from `number`, or if `item` and
-/// `number` are both `None`. Otherwise, returns `false`.
+/// Returns whether `item` is the item that `T::nth` makes from `number`, or whether both are
+/// `None`.
 pub fn is_item<T: Sample>(item: Option<T>, number: Option<u64>) -> bool {
     match (item, number) {
         (Some(item), Some(number)) => item.kept_number() == T::expected_number(number),
@@ -63,19 +60,16 @@ pub fn is_item<T: Sample>(item: Option<T>, number: Option<u64>) -> bool {
     }
 }
 
-/// Asserts that `items` consists of the items that `T::nth` makes from `numbers`, in the same
-/// order.
+/// Asserts that `items` consists of the items that `T::nth` makes from `numbers`, in order.
 pub fn assert_same_items<T: Sample, R: Abort>(rt: &R, at: &At, items: &[T], numbers: &[u64]) {
     assert_same(rt, at, "length", items.len(), numbers.len());
     let difference = first_difference(items, numbers);
     assert_same(rt, at, "first item that differs", difference, None);
 }
 
-/// Asserts that `ledger` has the counts that are expected if `items` items exist. If the ledger
-/// counts items of type `T`, it must count exactly `items` items that have not been dropped.
-/// Otherwise, it must count no items. If each item owns a block, one block must be allocated for
-/// each of the items. If `capacity`, the capacity of the list, is not 0, one more block must be
-/// allocated for the list. No other blocks may be allocated.
+/// Asserts that `ledger` counts `items` items that have not been dropped, or 0 if it does not count
+/// items of type `T`. The only allocated blocks must be those of the items, and one for the list
+/// unless `capacity` is 0.
 pub fn assert_live<T: Sample, R: Abort>(
     rt: &R,
     at: &At,
@@ -94,7 +88,7 @@ pub fn assert_live<T: Sample, R: Abort>(
 }
 
 // Returns the first index at which `items[index]` is not the item that `T::nth` makes from
-// `numbers[index]`. Returns `None` if there is no such index.
+// `numbers[index]`, or `None` if there is no such index.
 fn first_difference<T: Sample>(items: &[T], numbers: &[u64]) -> Option<usize> {
     let mut index: usize = 0;
     for (item, number) in items.iter().zip(numbers.iter()) {

@@ -1,5 +1,5 @@
-//! One test case of a sweep: a call on a list, and the expected result. Each item is made from a
-//! number, so a `Vec` of numbers describes the expected items.
+//! One test case of a sweep: a list, and the expected result of a call on it. The expected items
+//! are represented by the numbers from which they are made.
 use crate::assertions::{At, assert_live, assert_same, assert_same_item, assert_same_items};
 use crate::ledger::Ledger;
 use crate::samples::Sample;
@@ -20,10 +20,10 @@ pub enum Verdict {
     /// The call fails because the capacity would overflow, and not because the allocator refuses a
     /// request.
     Overflow,
-    /// The call fails because the allocator refuses to allocate a block, that is, the memory in
-    /// which a list or a `Vec` stores its items.
+    /// The call fails because the allocator refuses to allocate a block for a list or a `Vec`.
     NoRoom,
-    /// The call fails because cloning an item fails. The clones that were already made are dropped.
+    /// The call fails because an item cannot be cloned. The clones that were already made are
+    /// dropped.
     NoClone,
 }
 
@@ -38,15 +38,14 @@ impl Verdict {
     }
 }
 
-/// A list, and what is expected of a call on this list: the items and the capacity after the call,
-/// and the numbers of allocation requests and clones during the call.
+/// A list, and what is expected of a call on it: the items and the capacity afterwards, and the
+/// numbers of allocation requests and clones.
 #[derive(Drop)]
 pub struct Case<T: Drop, G: Ruled> {
     pub at: At,
     pub ledger: &'static Ledger,
     pub list: List<T, G>,
-    /// The expected items of the list after the call. Each item is represented by the number from
-    /// which it is made.
+    /// The expected items of the list after the call, as the numbers from which they are made.
     pub items: Vec<u64, Global>,
     /// The expected capacity of the list after the call.
     pub capacity: usize,
@@ -59,8 +58,8 @@ pub struct Case<T: Drop, G: Ruled> {
 }
 
 impl<T: Sample, G: Ruled> Case<T, G> {
-    /// Returns a test case whose list has the length and the spare capacity of `at.shape`. The
-    /// items of the list are made from the numbers 1, 2, 3, and so on.
+    /// Returns a test case whose list has the shape `at.shape`. Its items are made from the numbers
+    /// 1, 2, 3, and so on.
     pub fn new<R: Abort>(rt: &R, ledger: &'static Ledger, at: At) -> Case<T, G> {
         ledger.begin(0);
         let list = filled(rt, ledger, at.shape, 1);
@@ -82,16 +81,16 @@ impl<T: Sample, G: Ruled> Case<T, G> {
         T::nth(rt, self.ledger, number)
     }
 
-    /// Prepares for the call under test, and is called immediately before it. Resets the counts of
-    /// requests, of clones, and of calls to `next` and `size_hint`. Then makes the allocator refuse
-    /// the request with the number `at.refused`, or no request if this number is 0.
+    /// Prepares for the call under test, which must follow immediately. Resets the counts of
+    /// requests, clones, and calls to `next` and `size_hint`. The allocator then refuses request
+    /// `at.refused`, or no request if this is 0.
     pub fn begin(&self) {
         self.ledger.begin(self.at.refused);
     }
 
-    /// Returns the expected capacity of the list after a call that makes room for `additional` more
-    /// items. If there is enough room already, this is the current capacity. Otherwise, the growth
-    /// rule determines the capacity. Returns `None` if the capacity overflows.
+    /// Returns the expected capacity after a call that makes room for `additional` more items: the
+    /// current capacity if it is sufficient, and otherwise the one that the growth rule chooses.
+    /// Returns `None` if the capacity overflows.
     pub fn ruled(&self, additional: usize) -> Option<usize> {
         let want = self.items.len().checked_add(additional)?;
         if want <= self.capacity {
@@ -100,36 +99,32 @@ impl<T: Sample, G: Ruled> Case<T, G> {
         fitting::<T>(G::expected_capacity(T::SIZE, self.capacity, want))
     }
 
-    /// Returns the expected capacity of the list after a call such as `reserve_exact(additional)`:
-    /// the length plus `additional`, or the current capacity if that is greater. Returns `None` if
-    /// no block can have this capacity.
+    /// Returns the expected capacity after a call such as `reserve_exact(additional)`: the length
+    /// plus `additional`, or the current capacity if that is greater. Returns `None` if this
+    /// capacity is too large.
     pub fn exact(&self, additional: usize) -> Option<usize> {
         let want = self.items.len().checked_add(additional)?;
         fitting::<T>(want.max(self.capacity))
     }
 
-    /// Determines whether the call must be skipped because a list of capacity `capacity` would take
-    /// too much memory. Stores the result in `is_left_out`, and returns it. There are two cases in
-    /// which a call is never skipped. If its first request is refused, the call allocates nothing.
-    /// If the items have a size of 0 bytes, a list takes little memory, no matter how large its
-    /// capacity is.
+    /// Returns whether the call must be skipped because a list of capacity `capacity` would take
+    /// too much memory. Also stores this in `is_left_out`. No call is skipped if its first request
+    /// is refused, or if items have size 0.
     pub fn is_too_much(&mut self, capacity: Option<usize>) -> bool {
         let is_great = capacity.is_some_and(|capacity| capacity > 1_000_000);
         self.is_left_out = is_great && self.at.refused != 1 && T::LIMIT < isize::MAX as usize;
         self.is_left_out
     }
 
-    /// Returns how many requests of the call can be refused, one in each test case. Usually, this
-    /// is the number of requests that the call must make. If the call was skipped because it would
-    /// need too much memory, the result is 1. Such a call can still be tested with its first
-    /// request refused, because it then takes no memory.
+    /// Returns how many requests of the call can be refused, one in each test case. If the call was
+    /// skipped, this is 1: with its first request refused, the call takes no memory.
     pub fn requests_in_turn(&self) -> u64 {
         if self.is_left_out { 1 } else { self.requests }
     }
 
-    /// Returns the expected outcome of a call that changes the capacity of the list to `capacity`
-    /// and then clones `clones` items. Also updates the expected capacity and the expected numbers
-    /// of requests and clones. `capacity` is `None` if the capacity overflows.
+    /// Returns the expected outcome of a call that changes the capacity to `capacity` (`None` on
+    /// overflow) and then clones `clones` items. Also updates the expected capacity and the
+    /// expected numbers of requests and clones.
     pub fn growth(&mut self, capacity: Option<usize>, clones: usize) -> Verdict {
         let Some(capacity) = capacity else {
             return Verdict::Overflow;
@@ -142,10 +137,9 @@ impl<T: Sample, G: Ruled> Case<T, G> {
         verdict
     }
 
-    /// Records that the call must grow the list to `capacity`, and returns whether this growth must
-    /// succeed. Adds one to the expected number of allocation requests. If the allocator grants
-    /// this request, also updates the expected capacity. If the capacity overflows, `capacity` is
-    /// `None`. In this case, nothing is recorded, and the result is `false`.
+    /// Records that the call must grow the list to `capacity`, and returns whether this must
+    /// succeed. Updates the expected number of requests and, on success, the expected capacity. If
+    /// `capacity` is `None` (overflow), returns `false` without recording anything.
     pub fn grows(&mut self, capacity: Option<usize>) -> bool {
         let Some(capacity) = capacity else {
             return false;
@@ -164,10 +158,9 @@ impl<T: Sample, G: Ruled> Case<T, G> {
         self.requests != self.at.refused
     }
 
-    /// Returns the expected outcome of a growth of the list to `capacity`, during a call that may
-    /// grow the list several times. Also updates the expected capacity and the expected number of
-    /// requests. If `capacity` is already the expected capacity, the list does not grow, and no
-    /// request is expected. `capacity` is `None` if the capacity overflows.
+    /// Returns the expected outcome of growing the list to `capacity` (`None` on overflow) during a
+    /// call that may grow it several times. Updates the expected capacity and requests. If the
+    /// capacity does not change, no request is expected.
     pub fn further_growth(&mut self, capacity: Option<usize>) -> Verdict {
         let Some(wanted) = capacity else {
             return Verdict::Overflow;
@@ -180,7 +173,7 @@ impl<T: Sample, G: Ruled> Case<T, G> {
     }
 
     /// Returns the expected outcome of a call that allocates a new list or `Vec` of capacity
-    /// `capacity` and then clones `clones` items. `capacity` is `None` if the capacity overflows.
+    /// `capacity` (`None` on overflow) and then clones `clones` items.
     pub fn fresh(&mut self, capacity: Option<usize>, clones: usize) -> Verdict {
         match capacity {
             Some(capacity) => self.verdict(u64::from(capacity != 0), clones),
@@ -189,8 +182,7 @@ impl<T: Sample, G: Ruled> Case<T, G> {
     }
 
     // Returns the expected outcome of a call that requests `blocks` blocks and then clones `clones`
-    // items. Also sets the expected number of requests. If the call must succeed, also sets the
-    // expected number of clones.
+    // items. Sets the expected number of requests and, on success, the expected number of clones.
     fn verdict(&mut self, blocks: u64, clones: usize) -> Verdict {
         let refused = self.at.refused;
         let clones = clones as u64;
@@ -210,7 +202,7 @@ impl<T: Sample, G: Ruled> Case<T, G> {
     }
 
     /// Asserts that `answer`, the return value of the call under test, agrees with `verdict`, the
-    /// expected outcome of this call.
+    /// expected outcome.
     pub fn assert_answer<R: Abort>(
         &self,
         rt: &R,
@@ -220,9 +212,8 @@ impl<T: Sample, G: Ruled> Case<T, G> {
         assert_same(rt, &self.at, "answer", answer, verdict.answer());
     }
 
-    /// Checks the result of a call that adds an item at `index`. The item is made from `number`. If
-    /// the call succeeded, inserts `number` into the expected items. If the call failed, asserts
-    /// that the call returned the item.
+    /// Checks a call that adds the item made from `number` at `index`. If the call succeeded,
+    /// inserts `number` into the expected items. If it failed, asserts that it returned the item.
     pub fn put<R: Abort>(
         &mut self,
         rt: &R,
@@ -256,8 +247,7 @@ impl<T: Sample, G: Ruled> Case<T, G> {
         );
     }
 
-    /// Asserts that `item` is the item that `T::nth` makes from `number`, or that `item` and
-    /// `number` are both `None`.
+    /// Asserts that `item` is the item that `T::nth` makes from `number`, or that both are `None`.
     pub fn assert_item_or_none<R: Abort>(&self, rt: &R, item: Option<T>, number: Option<u64>) {
         assert_same_item(rt, &self.at, item, number);
     }
@@ -271,14 +261,13 @@ impl<T: Sample, G: Ruled> Case<T, G> {
         }
     }
 
-    /// Asserts that `items` consists of the items that `T::nth` makes from `numbers`, in the same
-    /// order.
+    /// Asserts that `items` consists of the items that `T::nth` makes from `numbers`, in order.
     pub fn assert_items<R: Abort>(&self, rt: &R, items: &[T], numbers: &[u64]) {
         assert_same_items(rt, &self.at, items, numbers);
     }
 
-    /// Asserts that `list` consists of the items that `T::nth` makes from `numbers`, in the same
-    /// order, and that the capacity of `list` is `capacity`.
+    /// Asserts that `list` has the capacity `capacity`, and consists of the items that `T::nth`
+    /// makes from `numbers`, in order.
     pub fn assert_list<H: Growth, R: Abort>(
         &self,
         rt: &R,
@@ -296,10 +285,9 @@ impl<T: Sample, G: Ruled> Case<T, G> {
         );
     }
 
-    /// Checks a list after a call that moves all its items to another list. On success, the list
-    /// must be empty, and its capacity must be unchanged. On failure, the whole list must be
-    /// unchanged. Before the call, the list had the shape `shape`, and its items were made from
-    /// consecutive numbers, beginning with `first`.
+    /// Checks a list after a call that moves its items to another list. On success, it must be
+    /// empty. On failure, it must still have `shape.length` items, made from consecutive numbers
+    /// beginning with `first`. Its capacity must be unchanged.
     pub fn assert_moved_from<R: Abort>(
         &self,
         rt: &R,
@@ -317,9 +305,8 @@ impl<T: Sample, G: Ruled> Case<T, G> {
         self.assert_list(rt, list, numbers.as_slice(), capacity);
     }
 
-    /// Checks the result of a call that makes a second list. On success, the second list must
-    /// consist of the items that `T::nth` makes from `numbers`, and its capacity must be
-    /// `capacity`.
+    /// Checks the result of a call that makes a second list. On success, this list must have the
+    /// capacity `capacity`, and consist of the items that `T::nth` makes from `numbers`.
     pub fn assert_second_list<H: Growth, R: Abort>(
         &self,
         rt: &R,
@@ -337,8 +324,8 @@ impl<T: Sample, G: Ruled> Case<T, G> {
         }
     }
 
-    /// Moves the list and its expected items out of the test case. After the call, the test case
-    /// contains an empty list of capacity 0.
+    /// Moves the list and its expected items out of the test case, which then contains an empty
+    /// list of capacity 0.
     pub fn take(&mut self) -> (List<T, G>, Vec<u64, Global>) {
         self.capacity = 0;
         let list = mem::replace(&mut self.list, ThinVec::ruled(&self.ledger.alloc));
@@ -353,9 +340,8 @@ impl<T: Sample, G: Ruled> Case<T, G> {
         self.capacity = capacity;
     }
 
-    /// Checks the state after the call: the items and the capacity of the list, and the numbers of
-    /// requests and clones. Also asserts that no items exist except the items of the list, and that
-    /// no blocks are allocated except the blocks of the list and of its items.
+    /// Checks the state after the call: the items, the capacity, and the numbers of requests and
+    /// clones. Also asserts that no items and no blocks exist except those of the list.
     pub fn check<R: Abort>(&self, rt: &R) {
         let requests = self.ledger.alloc.requests();
         assert_same(rt, &self.at, "requests", requests, self.requests);

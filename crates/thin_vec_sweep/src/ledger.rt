@@ -22,7 +22,7 @@ pub struct Ledger {
     pub alloc: Refusing<Global>,
     /// The allocator for values that are not under test.
     pub global: Global,
-    /// The number of items of type `Counted` that have been made but have not been dropped yet.
+    /// The number of items of type `Counted` that have been made but not dropped yet.
     pub standing: Cell<u64>,
     /// The number of clones of `Counted` items since the last call to `Ledger::begin`.
     pub clones: Cell<u64>,
@@ -55,9 +55,8 @@ impl Ledger {
         Box::leak(Box::new(alloc, ledger).ok().expect(rt, "memory"))
     }
 
-    /// Resets the counts of requests, of clones, and of calls to `next` and `size_hint`. After the
-    /// call, the allocator `alloc` refuses the request with the number `refused`, or no request if
-    /// `refused` is 0.
+    /// Resets the counts of requests, clones, and calls to `next` and `size_hint`. The allocator
+    /// `alloc` then refuses the request whose number is `refused`, or no request if `refused` is 0.
     pub fn begin(&self, refused: u64) {
         self.alloc.refuse(refused);
         self.clones.set(0);
@@ -65,8 +64,8 @@ impl Ledger {
         self.hinted.set(0);
     }
 
-    /// Counts a completed test case that made `requests` allocation requests. If the request with
-    /// the number `refused` is one of them, also counts a refusal.
+    /// Counts a completed test case that made `requests` allocation requests. If request `refused`
+    /// is one of them, also counts a refusal.
     pub fn count_case(&self, refused: u64, requests: u64) {
         count(&self.counts.cases);
         if 0 < refused && refused <= requests {

@@ -16,8 +16,8 @@ use std::process::Abort;
 use thin_testing::{Fourfold, Ruled, Threefold};
 use thin_vec::{Doubling, PowerBytes};
 
-// Selects the lists to test. If each item owns a block, these are the lists of at most 40 items.
-// Otherwise, these are all lists except the two longest lists, which have 100,000 items.
+// Selects the lists of at most 40 items if each item owns a block, and otherwise all lists except
+// the two with 100,000 items.
 fn all<T: Sample, R: Abort>(rt: &R, alloc: Global) -> Scope {
     let shapes = if T::OWNS_BLOCK { SHORT } else { SHAPES };
     Scope {
@@ -26,8 +26,7 @@ fn all<T: Sample, R: Abort>(rt: &R, alloc: Global) -> Scope {
     }
 }
 
-// Selects the lists to test: lists of every length from 0 to 40, with various numbers of empty
-// slots.
+// Selects the lists of 0 to 40 items, with various numbers of empty slots.
 fn short<R: Abort>(rt: &R, alloc: Global) -> Scope {
     Scope {
         ledger: Ledger::new(rt, alloc),
@@ -35,7 +34,7 @@ fn short<R: Abort>(rt: &R, alloc: Global) -> Scope {
     }
 }
 
-// Selects the lists to test: only the two longest lists, which have 100,000 items.
+// Selects only the two longest lists, which have 100,000 items.
 fn longest<R: Abort>(rt: &R, alloc: Global) -> Scope {
     Scope {
         ledger: Ledger::new(rt, alloc),

@@ -10,20 +10,18 @@ use thin_block::{Block, Growth, ThinVecError};
 impl<T, A: Allocator, G: Growth> ThinVec<T, A, G> {
     ghost use Rattle.thin_vec.specs.ThinVec.{IsWithin, cost_shrunk, cost_shrunk_to};
 
-    /// Shrinks the capacity to `min_capacity`, or to the length if the length is greater. If this
-    /// would not reduce the capacity, nothing changes.
+    /// Shrinks the capacity to `min_capacity`, or to the length if that is greater. If this would
+    /// not reduce the capacity, nothing changes.
     ///
-    /// If the capacity is reduced to 0, the allocation is freed. In this case, all counts in the
-    /// field `cost` of the list become 0, too. The field `cost` exists only in contracts. It counts
-    /// allocations, and the copies and moves of items.
+    /// If the capacity is reduced to 0, the allocation is freed. In contracts, the counts in the
+    /// field `cost` then become 0.
     ///
-    /// Rust's `Vec` has a method of this name, but the Rust crate thin-vec does not.
+    /// Rust's `Vec` has a method of this name. The Rust crate thin-vec does not.
     ///
     /// # Errors
     ///
-    /// Fails with `OutOfMemory` if the allocator fails. On failure, the list is unchanged. If an
-    /// empty list is shrunk to capacity 0, the call cannot fail, because it only frees the
-    /// allocation.
+    /// Fails with `OutOfMemory` if the allocator fails. The list is then unchanged. Shrinking an
+    /// empty list to capacity 0 cannot fail.
     pub fn shrink_to(&mut self, min_capacity: usize) -> Result<(), ThinVecError>
         // On success.
         ensures capacity { OnOk result (self.new.capacity
@@ -57,14 +55,13 @@ impl<T, A: Allocator, G: Growth> ThinVec<T, A, G> {
 
     /// Shrinks the capacity to the length. If the list is full, nothing changes.
     ///
-    /// If the list is empty but has an allocation, the allocation is freed. In this case, all
-    /// counts in the field `cost` of the list become 0, too. The field `cost` exists only in
-    /// contracts. It counts allocations, and the copies and moves of items.
+    /// If an empty list has an allocation, it is freed. In contracts, the counts in the field
+    /// `cost` then become 0.
     ///
     /// # Errors
     ///
-    /// Fails with `OutOfMemory` if the allocator fails. On failure, the list is unchanged. If the
-    /// list is empty, the call cannot fail, because it only frees the allocation.
+    /// Fails with `OutOfMemory` if the allocator fails. The list is then unchanged. If the list is
+    /// empty, the call cannot fail.
     pub fn shrink_to_fit(&mut self) -> Result<(), ThinVecError>
         // On success.
         ensures capacity { OnOk result (self.new.capacity ≡ length self.old.items) }
@@ -94,8 +91,7 @@ impl<T, A: Allocator, G: Growth> ThinVec<T, A, G> {
         requires smaller { cap < self.old.capacity }
         requires within { IsWithin T.row self.old }
 
-        // Whether or not the call succeeds, only the fields `capacity` and `cost` of the list may
-        // change.
+        // On success and on failure, only the fields `capacity` and `cost` of the list may change.
         ensures changes { self.new ≡ record self.old {
           capacity = self.new.capacity;
           cost = self.new.cost;
@@ -116,9 +112,8 @@ impl<T, A: Allocator, G: Growth> ThinVec<T, A, G> {
         Ok(())
     }
 
-    // Frees the allocation of the list. The list must be empty. After the call, the capacity of the
-    // list is 0. All counts in the field `cost` of the list, such as the number of allocations, are
-    // then 0, too. The field `cost` exists only in contracts.
+    // Frees the allocation of the list, which must be empty. The capacity and, in contracts, the
+    // counts in the field `cost` become 0.
     fn give_block_back(&mut self)
         requires empty { self.old.items ≡ [] }
         ensures changes { self.new ≡ record self.old { items = []; capacity = 0; cost = no_cost } }

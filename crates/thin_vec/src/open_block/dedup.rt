@@ -1,10 +1,6 @@
-//! The functions that the `dedup` methods call. These functions keep the first item, and test each
-//! later item against the last item that was kept before it. If the test decides that the later
-//! item is to be removed, the functions drop this item.
-//!
-//! The front of the block contains the items that have been kept so far. After the front, there may
-//! be a gap of empty slots. After the gap, the middle run contains the remaining items, that is,
-//! the items that have not been kept or removed yet.
+//! Functions that the `dedup` methods call. They keep the first item, and test each later item
+//! against the last kept item. The front contains the kept items, and the middle run contains the
+//! remaining items.
 ghost use Rattle.std.specs.Prelude.{◌≡◌, ◌+◌, ◌-◌, ◌^◌, ◌<◌, ◌≤◌, ◌∷◌, ◌++◌, [], Bool, length};
 ghost use Rattle.thin_block.specs.Block.{seen};
 ghost use Rattle.thin_block.specs.Cost.{moving};
@@ -15,16 +11,15 @@ use crate::open_block::OpenBlock;
 use std::alloc::Allocator;
 use thin_block::Block;
 
-/// A test of two items of a list: an item, and the last item that was kept before it. The test
-/// decides whether the later of the two items is to be removed. It may write to both items.
+/// A test of an item and the last item that was kept before it. It decides whether the later item
+/// is removed, and may write to both items.
 pub(crate) trait PairTest<T> {
-    /// `tests s x k b t y l` holds if one call to the test may change the state of the test from
-    /// `s` to `t`, the later item from `x` to `y`, and the last item that was kept before it from
-    /// `k` to `l`. The flag `b` is true if the later item is to be removed.
+    /// `tests s x k b t y l` holds if the test, called in state `s` with the later item `x` and the
+    /// kept item `k`, may return `b` and leave the state `t` and the items `y` and `l`.
     ghost tests: { Self → T → T → Bool → Self → T → T → Type 0 };
 
-    /// `ready s` holds if the test can be called in the state `s`, with any two items. After such a
-    /// call, `ready` holds again for the new state of the test.
+    /// `ready s` holds if the test can be called in state `s` with any two items. After each call,
+    /// `ready` holds for the new state, too.
     ghost ready: { Self → Type 0 };
 
     /// Returns whether the item `later` is to be removed. `kept` is the last item that was kept
@@ -38,8 +33,8 @@ pub(crate) trait PairTest<T> {
 impl<T, A: Allocator> OpenBlock<T, A> {
     ghost use Rattle.thin_vec.specs.OpenBlock.Dedup.{IsPairAskedAt, IsLastAsked, IsNextAsked};
 
-    // Tests the item at index `k` of the remaining items against the item before it. `k` must not
-    // be 0. Returns whether the item at index `k` is to be removed. Neither item is moved.
+    // Tests the item at index `k` of the remaining items against the item at index `k - 1`. Returns
+    // whether the item at index `k` is to be removed.
     pub(crate) fn test_pair<J: PairTest<T>>(&mut self, k: usize, test: &mut J) -> bool
         requires some { 0 < k }
         requires in_bounds { k < length self.old.rest }
@@ -53,8 +48,8 @@ impl<T, A: Allocator> OpenBlock<T, A> {
         test_neighbours(&mut self.block, kept, test)
     }
 
-    // Tests the item `later` against the last item that was kept. Returns whether `later` is to be
-    // removed. The kept item is not moved.
+    // Tests `later` against the last kept item, without moving the kept item. Returns whether
+    // `later` is to be removed.
     pub(crate) fn test_last<J: PairTest<T>>(&mut self, later: &mut T, test: &mut J) -> bool
         requires some { 0 < length self.old.front }
         requires ready { J.ready test.old }
@@ -66,8 +61,8 @@ impl<T, A: Allocator> OpenBlock<T, A> {
         test.test(later, self.block.slot_mut(self.front_end - 1))
     }
 
-    // Tests the first of the remaining items against the item `kept`. Returns whether the first of
-    // the remaining items is to be removed. This item is not moved.
+    // Tests the first remaining item against `kept`, without moving the remaining item. Returns
+    // whether the remaining item is to be removed.
     pub(crate) fn test_next<J: PairTest<T>>(&mut self, kept: &mut T, test: &mut J) -> bool
         requires some { 0 < length self.old.rest }
         requires ready { J.ready test.old }
@@ -96,10 +91,9 @@ impl<T, A: Allocator> OpenBlock<T, A> {
 impl<T, A: Allocator> OpenBlock<T, A> {
     ghost use Rattle.thin_vec.specs.OpenBlock.Dedup.{PairsAskedUpTo};
 
-    // Tests the remaining items, in order, each against the item before it. The first remaining
-    // item is not tested. Stops at the first item that is to be removed, and returns the number of
-    // remaining items before that item. If no item is to be removed, returns the number of all
-    // remaining items. No item is moved or dropped.
+    // Tests each remaining item except the first against the item before it, and stops at the first
+    // one that is to be removed. Returns its index, or the number of remaining items if there is
+    // none.
     fn test_pairs<J: PairTest<T>>(&mut self, test: &mut J) -> usize
         requires some { 0 < length self.old.rest }
         requires ready { J.ready test.old }
@@ -122,9 +116,8 @@ impl<T, A: Allocator> OpenBlock<T, A> {
 impl<T: Drop, A: Allocator> OpenBlock<T, A> {
     ghost use Rattle.thin_vec.specs.OpenBlock.Dedup.{IsDeduped, Dedups};
 
-    // Keeps the first of the remaining items. Tests each later item against the last item that was
-    // kept before it, and drops the items that are to be removed. After the call, no item remains
-    // to be tested, and the front contains the kept items.
+    // Keeps the first of the remaining items, and tests each later one against the last kept item.
+    // Drops the items that are to be removed, and appends the others to the front.
     pub(crate) fn dedup_rest<J: PairTest<T>>(&mut self, test: &mut J)
         requires some { 0 < length self.old.rest }
         requires front { self.old.front ≡ [] }
@@ -140,8 +133,8 @@ impl<T: Drop, A: Allocator> OpenBlock<T, A> {
         }
     }
 
-    // Continues the work of `dedup_rest` after the first item has been removed. The slot of the
-    // removed item is empty, so there is a gap after the kept items.
+    // Continues `dedup_rest` after the first removal. There is a gap, because the slot of the
+    // removed item is empty.
     fn dedup_past_gap<J: PairTest<T>>(&mut self, test: &mut J)
         requires some { 0 < length self.old.front }
         requires gap { 0 < self.old.gap }
@@ -155,15 +148,11 @@ impl<T: Drop, A: Allocator> OpenBlock<T, A> {
         self.dedup_last(test);
     }
 
-    // Tests the remaining items, in order, each against the last item that was kept before it.
-    // Stops at the first item that is to be removed, and drops this item. Appends the items before
-    // it to the kept items. If no item is to be removed, appends all remaining items. At least two
-    // items must remain before the call.
+    // Tests each remaining item against the last kept item, and appends it to the kept items, until
+    // an item is to be removed. Drops that item. At least two items must remain before the call.
     //
-    // The first remaining item is taken out of the block before it is tested. This is necessary
-    // because the test needs mutable references to this item and to the last kept item at the same
-    // time. The block can provide two such references only for adjacent items, but there are empty
-    // slots between these two items.
+    // The first remaining item is taken out of the block for its test, because only adjacent items
+    // of a block can be borrowed mutably at the same time.
     fn dedup_two<J: PairTest<T>>(&mut self, test: &mut J)
         requires some { 0 < length self.old.front }
         requires two { 1 < length self.old.rest }
@@ -171,10 +160,8 @@ impl<T: Drop, A: Allocator> OpenBlock<T, A> {
         requires ready { J.ready test.old }
         ensures dedups { Dedups J.tests test.old self.old test.new self.new }
 
-        // The function `dedup_past_gap` calls this function in a loop. The proof of the loop uses
-        // three facts about the state after the call: the front is not empty, fewer items remain
-        // than before the call, and the test can be called again. This clause and the next two
-        // clauses state these facts.
+        // `dedup_past_gap` calls this function in a loop. The proof of the loop needs this clause
+        // and the next two.
         ensures some { 0 < length self.new.front }
         ensures less { length self.new.rest < length self.old.rest }
         ensures ready { J.ready test.new }
@@ -197,8 +184,8 @@ impl<T: Drop, A: Allocator> OpenBlock<T, A> {
         }
     }
 
-    // Tests the last remaining item, if there is one. If the test keeps the item, appends it to the
-    // kept items. Otherwise, drops it.
+    // Tests the remaining item, if there is one. Appends it to the kept items if the test keeps it,
+    // and drops it otherwise.
     fn dedup_last<J: PairTest<T>>(&mut self, test: &mut J)
         requires some { 0 < length self.old.front }
         requires short { length self.old.rest ≤ 1 }
@@ -220,7 +207,7 @@ impl<T: Drop, A: Allocator> OpenBlock<T, A> {
 }
 
 // Tests the item in slot `i + 1` against the item in slot `i`. Returns whether the item in slot
-// `i + 1` is to be removed. Neither item is moved.
+// `i + 1` is to be removed.
 fn test_neighbours<T, A: Allocator, J: PairTest<T>>(
     block: &mut Block<T, A>,
     i: usize,

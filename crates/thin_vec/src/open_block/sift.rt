@@ -1,8 +1,6 @@
-//! The functions that `retain`, `retain_mut` and `extract_if` call. These functions test the items
-//! of a range in place, and then move the kept items down.
-//!
-//! The front of the block contains the items that have been kept so far. After the front, there may
-//! be a gap of empty slots. After the gap, the middle run contains the remaining items.
+//! Functions that `retain`, `retain_mut` and `extract_if` call. They test the items of a range in
+//! place, and then move the kept items down. The front contains the kept items, and the middle run
+//! contains the remaining items.
 ghost use Rattle.std.specs.Prelude.{◌≡◌, ◌↔◌, ◌+◌, ◌<◌, ◌≤◌, ◌==◌, ◌++◌, [], Bool, IsTrue, drop, length, take};
 ghost use Rattle.thin_block.specs.Cost.{moving};
 
@@ -11,18 +9,18 @@ use std::alloc::Allocator;
 use std::mem;
 use thin_block::Block;
 
-// If at least this many items have to be moved, they are moved together. For so many items, this is
-// faster than moving them one by one.
+// If at least this many items have to be moved, they are moved together, which is faster than
+// moving them one by one.
 const MANY: usize = 8;
 
 /// A test of one item. It decides whether the item is kept, and may write to the item.
 pub(crate) trait Test<T> {
-    /// `tests s x b t y` holds if one call to the test may change the state of the test from `s` to
-    /// `t`, and the item from `x` to `y`. The flag `b` is true if the item is kept.
+    /// `tests s x b t y` holds if the test, called in state `s` with the item `x`, may return `b`
+    /// and leave the state `t` and the item `y`.
     ghost tests: { Self → T → Bool → Self → T → Type 0 };
 
-    /// `ready s` holds if the test can be called in the state `s`, with any item. After such a
-    /// call, `ready` holds again for the new state of the test.
+    /// `ready s` holds if the test can be called in state `s` with any item. After each call,
+    /// `ready` holds for the new state, too.
     ghost ready: { Self → Type 0 };
 
     /// Returns whether `item` is kept.
@@ -35,8 +33,8 @@ pub(crate) trait Test<T> {
 impl<T, A: Allocator> OpenBlock<T, A> {
     ghost use Rattle.thin_vec.specs.OpenBlock.Sift.{IsAskedAt, AskedUpTo};
 
-    // Tests the item at index `k` of the remaining items, and returns whether this item is kept.
-    // The item is not moved.
+    // Tests the item at index `k` of the remaining items, without moving it. Returns whether it is
+    // kept.
     pub(crate) fn test<J: Test<T>>(&mut self, k: usize, test: &mut J) -> bool
         requires in_bounds { k < length self.old.rest }
         requires ready { J.ready test.old }
@@ -47,8 +45,8 @@ impl<T, A: Allocator> OpenBlock<T, A> {
         test.test(self.block.slot_mut(self.rest_start + k))
     }
 
-    // Adds the first `k` of the remaining items to the kept items. There must be no gap before the
-    // remaining items, so no item is moved.
+    // Adds the first `k` of the remaining items to the kept items. There must be no gap before
+    // them, so no item is moved.
     pub(crate) fn pass(&mut self, k: usize)
         requires none { self.old.gap ≡ 0 }
         requires in_bounds { k ≤ length self.old.rest }
@@ -78,9 +76,9 @@ impl<T, A: Allocator> OpenBlock<T, A> {
         self.rest_start += 1;
     }
 
-    // Moves the first `k` of the remaining items down, so that they directly follow the kept items.
-    // If `k` is at least `MANY`, all `k` items are moved together. Otherwise, they are moved one by
-    // one. If `k` is 2, this is done without a loop.
+    // Moves the first `k` of the remaining items down, directly after the kept items. They are
+    // moved together if `k` is at least `MANY`, and otherwise one by one. If `k` is 2, there is no
+    // loop.
     #[inline(always)]
     pub(crate) fn move_down(&mut self, k: usize)
         requires in_bounds { k ≤ length self.old.rest }
@@ -105,9 +103,9 @@ impl<T, A: Allocator> OpenBlock<T, A> {
         }
     }
 
-    // Moves the first `k` of the remaining items down, so that they directly follow the kept items.
-    // The method `close_gap` of the block moves all `k` items together. `close_gap` takes the block
-    // by value, so that the other fields of the open block can stay in registers.
+    // Moves the first `k` of the remaining items down together, directly after the kept items.
+    // `close_gap` takes the block by value, so that the other fields of the open block can stay in
+    // registers.
     #[inline(always)]
     fn move_run_down(&mut self, k: usize)
         requires in_bounds { k ≤ length self.old.rest }
@@ -121,17 +119,15 @@ impl<T, A: Allocator> OpenBlock<T, A> {
         let block = mem::replace(&mut self.block, Block::none());
         let closed = block.close_gap(self.front_end, self.rest_start - self.front_end, k);
         let none = mem::replace(&mut self.block, closed);
-        // `none` is the empty block that was in the field `block` during the call to `close_gap`.
-        // It has no allocation, so there is nothing to free.
+        // `none` is the empty block that replaced `block` during the call to `close_gap`. It has no
+        // allocation to free.
         none.forget_none();
         self.front_end += k;
         self.rest_start += k;
     }
 
-    // Returns whether at least two items remain. There must be a gap before the remaining items.
-    // Because of this gap, `rest_end` is at least 1, and the subtraction cannot overflow. The code
-    // subtracts 1 from `rest_end`, instead of adding 1 to `rest_start`, because `rest_end - 1` can
-    // stay in a register during a loop.
+    // Returns whether at least two items remain. There must be a gap before them, so that
+    // `rest_end - 1` does not overflow. During a loop, `rest_end - 1` can stay in a register.
     pub(crate) fn has_two(&self) -> bool
         requires gap { 0 < self.now.gap }
         ensures value { IsTrue result ↔ (1 < length self.now.rest) }
@@ -139,9 +135,8 @@ impl<T, A: Allocator> OpenBlock<T, A> {
         self.rest_start < self.rest_end - 1
     }
 
-    // Tests the remaining items from index `k` onward, and stops at the first item that is to be
-    // removed. Returns the index of this item among the remaining items. If there is no such item,
-    // returns the number of all remaining items, including the items before index `k`. No item is
+    // Tests the remaining items from index `k` onward, and stops at the first one that is to be
+    // removed. Returns its index, or the number of remaining items if there is none. No item is
     // moved.
     pub(crate) fn test_run<J: Test<T>>(&mut self, k: usize, test: &mut J) -> usize
         requires in_bounds { k ≤ length self.old.rest }
@@ -164,12 +159,8 @@ impl<T, A: Allocator> OpenBlock<T, A> {
 impl<T, A: Allocator> OpenBlock<T, A> {
     ghost use Rattle.thin_vec.specs.OpenBlock.Sift.{Advances};
 
-    // Tests the remaining items, in order, and stops at the first item that is to be removed.
-    // Returns whether there is such an item. If so, it is the first of the remaining items after
-    // the call, and the items before it are added to the kept items. If no item is to be removed,
-    // all remaining items are added to the kept items. If there is a gap before the remaining
-    // items, the added items are moved down, so that they directly follow the items that were kept
-    // earlier.
+    // Tests each remaining item, and appends it to the kept items, until an item is to be removed.
+    // Returns whether there is such an item. If so, it is then the first of the remaining items.
     pub(crate) fn advance<J: Test<T>>(&mut self, test: &mut J) -> bool
         requires ready { J.ready test.old }
         ensures advances { Advances J.tests test.old self.old test.new self.new }
@@ -184,9 +175,7 @@ impl<T, A: Allocator> OpenBlock<T, A> {
         self.rest_len() > 0
     }
 
-    // Does the same as `advance`: tests the remaining items up to the first item that is to be
-    // removed, and returns whether there is such an item. There must be empty slots after the kept
-    // items.
+    // Does the same as `advance`, but needs a gap before the remaining items.
     fn advance_past_gap<J: Test<T>>(&mut self, test: &mut J) -> bool
         requires gap { 0 < self.old.gap }
         requires ready { J.ready test.old }
@@ -201,9 +190,8 @@ impl<T, A: Allocator> OpenBlock<T, A> {
         }
     }
 
-    // Does the same as `advance`, but needs empty slots after the kept items, and at least two
-    // remaining items. The first two items are tested before the loop. If one of them is to be
-    // removed, the function returns before the loop, and needs no loop counter.
+    // Does the same as `advance`, but needs a gap and at least two remaining items. The first two
+    // items are tested before the loop. If one of them is to be removed, no loop counter is needed.
     fn advance_two<J: Test<T>>(&mut self, test: &mut J) -> bool
         requires two { 1 < length self.old.rest }
         requires gap { 0 < self.old.gap }
@@ -224,8 +212,7 @@ impl<T, A: Allocator> OpenBlock<T, A> {
         self.rest_len() > 0
     }
 
-    // Does the same as `advance`, but needs empty slots after the kept items. At most one item may
-    // remain before the call.
+    // Does the same as `advance`, but needs a gap. At most one item may remain before the call.
     fn advance_last<J: Test<T>>(&mut self, test: &mut J) -> bool
         requires short { length self.old.rest ≤ 1 }
         requires gap { 0 < self.old.gap }
@@ -248,9 +235,8 @@ impl<T, A: Allocator> OpenBlock<T, A> {
 impl<T: Drop, A: Allocator> OpenBlock<T, A> {
     ghost use Rattle.thin_vec.specs.OpenBlock.Sift.{IsSifted, Sifts};
 
-    // Tests each remaining item, in order, and drops the items that are not kept. Each item that is
-    // kept after the first removal is moved down, so that there are no empty slots between the kept
-    // items. After the call, no item remains to be tested.
+    // Tests the remaining items, in order. Drops the items that are not kept, and appends the
+    // others to the front.
     pub(crate) fn sift<J: Test<T>>(&mut self, test: &mut J)
         requires none { self.old.gap ≡ 0 }
         requires ready { J.ready test.old }
@@ -264,8 +250,8 @@ impl<T: Drop, A: Allocator> OpenBlock<T, A> {
         }
     }
 
-    // Continues the work of `sift` after the first item has been removed. The slot of the removed
-    // item is empty, so there is a gap after the kept items.
+    // Continues `sift` after the first removal. There is a gap, because the slot of the removed
+    // item is empty.
     fn sift_past_gap<J: Test<T>>(&mut self, test: &mut J)
         requires gap { 0 < self.old.gap }
         requires ready { J.ready test.old }
@@ -278,9 +264,8 @@ impl<T: Drop, A: Allocator> OpenBlock<T, A> {
         self.sift_last(test);
     }
 
-    // Tests the remaining items, in order, up to the first item that is to be removed, and drops
-    // this item. Appends the items before it to the kept items. If no item is to be removed,
-    // appends all remaining items. At least two items must remain before the call.
+    // Tests each remaining item, and appends it to the kept items, until an item is to be removed.
+    // Drops that item. At least two items must remain before the call.
     fn sift_two<J: Test<T>>(&mut self, test: &mut J)
         requires two { 1 < length self.old.rest }
         requires gap { 0 < self.old.gap }
@@ -294,8 +279,8 @@ impl<T: Drop, A: Allocator> OpenBlock<T, A> {
         }
     }
 
-    // Tests the last remaining item, if there is one. If the test keeps the item, appends it to the
-    // kept items. Otherwise, drops it.
+    // Tests the remaining item, if there is one. Appends it to the kept items if the test keeps it,
+    // and drops it otherwise.
     fn sift_last<J: Test<T>>(&mut self, test: &mut J)
         requires short { length self.old.rest ≤ 1 }
         requires gap { 0 < self.old.gap }

@@ -9,13 +9,11 @@ use std::process::Abort;
 use thin_testing::Ruled;
 use thin_vec::ThinVecError;
 
-// Each test item is made from a number. The tests call `resize` with the item that is made from
-// `FRESH`. The items that `resize_with` adds are made from consecutive numbers, in descending
-// order. The last of these items is made from `FRESH`.
+// Each test item is made from a number. `resize` adds clones of the item made from `FRESH`.
+// `resize_with` adds items made from descending numbers, the last of which is `FRESH`.
 const FRESH: u64 = 80_000;
 
-/// A test that calls `resize` with several new lengths. Some of them are at most the old length,
-/// and others are greater.
+/// A test that calls `resize` with several new lengths, some of which are at most the old length.
 pub struct Resize {}
 
 impl<T: Sample, G: Ruled> Call<T, G> for Resize {
@@ -39,9 +37,8 @@ impl<T: Sample, G: Ruled> Call<T, G> for Resize {
     }
 }
 
-// Returns two numbers for the test case with the number `argument`: the new length of the list, and
-// the number of items to add. In the first few test cases, the new length is at most the old
-// length, so the second number is 0.
+// Returns the new length of the list in the test case `argument`, and the number of items to add.
+// This number is 0 if the list does not become longer.
 fn length(shape: Shape, argument: usize) -> (usize, usize) {
     match argument.checked_sub(shape.indices()) {
         None => (shape.index(argument), 0),
@@ -52,8 +49,8 @@ fn length(shape: Shape, argument: usize) -> (usize, usize) {
     }
 }
 
-/// A test that calls `resize_with` with the same new lengths as the test `Resize`. Each call of the
-/// closure removes the last item of a vector, and returns this item.
+/// A test that calls `resize_with` with the same new lengths as `Resize`. The closure removes the
+/// last item of a vector, and returns it.
 pub struct ResizeWith {}
 
 impl<T: Sample, G: Ruled> Call<T, G> for ResizeWith {
@@ -104,8 +101,8 @@ fn add_from_last<T: Sample, G: Ruled, R: Abort>(rt: &R, case: &mut Case<T, G>, m
     case.items.append(&mut new).expect(rt, "memory");
 }
 
-// For each `k` from 0 to 6, the number of test cases on a range of `k` items. This number is always
-// 1, because each range is tried once.
+// For each `k` from 0 to 6, the number of test cases on a range of `k` items. Each range is tried
+// once.
 const EACH_RANGE: Cases = [1; 7];
 
 /// A test that calls `extend_from_within` with each range of a list of at most 6 items, and with

@@ -12,10 +12,9 @@ use std::hash::{DefaultHasher, Hash, Hasher};
 use std::process::Abort;
 use thin_testing::Ruled;
 
-/// A test that compares a list with a second list, and hashes the first list. There are four test
-/// cases: the second list is equal to the first list, differs from it in the last item, is one item
-/// shorter, or is one item longer. If the first list is empty, the second list is empty in the
-/// first three test cases.
+/// A test that hashes a list, and compares it with four others: an equal one, one with a different
+/// last item, one without the last item, and one with one more item. If the list is empty, so are
+/// the first three others.
 pub struct Compare {}
 
 impl<T: Sample + Ord + Hash + Debug, G: Ruled> Call<T, G> for Compare {
@@ -78,8 +77,8 @@ fn hash<H: Hash>(value: &H) -> u64 {
     hasher.finish()
 }
 
-/// A test that formats two values with `{:?}` and with `{:#?}`: a list, and the iterator that
-/// `into_iter` returns.
+/// A test that formats a list, and the iterator that `into_iter` returns, with `{:?}` and with
+/// `{:#?}`.
 pub struct Print {}
 
 impl<T: Sample + Debug, G: Ruled> Call<T, G> for Print {
@@ -115,7 +114,7 @@ impl<T: Sample + Debug, G: Ruled> Call<T, G> for Print {
 }
 
 // Returns the expected result of formatting an `IntoIter` over `items` with `{:?}` and with
-// `{:#?}`. A space separates the two texts.
+// `{:#?}`, separated by a space.
 fn iter_text<D: Debug, R: Abort>(rt: &R, global: Global, items: &D) -> String {
     text(rt, global, &Told { items })
 }

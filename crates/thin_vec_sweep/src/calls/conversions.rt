@@ -10,11 +10,10 @@ use std::process::Abort;
 use thin_testing::{Refusing, Ruled};
 use thin_vec::{Doubling, Rejected, ThinVec, ThinVecError, thin_vec};
 
-// Each test item is made from a number. In the test `Repeated`, all items are made from `FRESH`.
+// The number from which all items in the test `Repeated` are made.
 const FRESH: u64 = 70_000;
 
-// The type of the allocator of the lists under test. The allocator can refuse one allocation
-// request.
+// The allocator of the lists under test. It can refuse one allocation request.
 type Lender = &'static Refusing<Global>;
 
 /// A test that calls `into_vec` or `into_boxed_slice`.
@@ -61,8 +60,8 @@ fn into_other<T: Sample, G: Ruled>(
     }
 }
 
-/// A test that calls `mem::try_take`. The call must return the list, and must leave an empty list
-/// of capacity 0 in its place. The call must make no allocation request.
+/// A test that calls `mem::try_take`. The call must return the list, leave an empty list of
+/// capacity 0 in its place, and make no allocation request.
 pub struct TryTake {}
 
 impl<T: Sample, G: Ruled> Call<T, G> for TryTake {
@@ -80,8 +79,8 @@ impl<T: Sample, G: Ruled> Call<T, G> for TryTake {
     }
 }
 
-// Converts the list under test to a `Vec`, and reserves room for `spare` more items in the `Vec`.
-// After the call, `case` contains an empty list of capacity 0.
+// Converts the list under test to a `Vec`, and reserves room for `spare` more items. `case` is left
+// with an empty list of capacity 0.
 fn vec_of<T: Sample, R: Abort>(
     rt: &R,
     case: &mut Case<T, Doubling>,
@@ -142,8 +141,8 @@ fn from_other<T: Sample>(
     }
 }
 
-/// A test that calls `from_str` with two texts. Both texts have the same number of letters, but
-/// each letter takes one byte in the first text, and two bytes in the second text.
+/// A test that calls `from_str` with two texts of the same number of letters. Each letter takes one
+/// byte in the first text, and two bytes in the second.
 pub struct FromStr {}
 
 impl Call<u8, Doubling> for FromStr {
@@ -217,8 +216,8 @@ impl<T: Sample> Call<T, Doubling> for WithCapacity {
     }
 }
 
-/// A test that makes a list of `k` equal items, for several numbers `k`, using
-/// `thin_vec![alloc => x; k]` or `thin_vec![in alloc; x; k]`.
+/// A test that makes a list of `k` equal items, for several `k`, using `thin_vec![alloc => x; k]`
+/// or `thin_vec![in alloc; x; k]`.
 pub struct Repeated {}
 
 impl<T: Sample> Call<T, Doubling> for Repeated {
@@ -245,8 +244,8 @@ impl<T: Sample> Call<T, Doubling> for Repeated {
             case.items.resize(count, FRESH).expect(rt, "memory");
         }
         if verdict == Verdict::NoClone {
-            // If a clone fails, the new list is dropped. The test case then still contains its old,
-            // empty list, whose capacity is 0.
+            // If an item cannot be cloned, the new list is dropped. The test case then still
+            // contains its old, empty list of capacity 0.
             case.capacity = 0;
         }
     }

@@ -1,6 +1,5 @@
-//! Tests of the calls that add or remove one item (`push`, `push_mut`, `push_reserved`, `pop`,
-//! `insert`, `insert_mut`, `insert_reserved`, `remove`, `swap_remove`), and of `truncate` and
-//! `clear`.
+//! Tests of the calls that add or remove one item, such as `push` and `swap_remove`, and of
+//! `truncate` and `clear`.
 use crate::case::{Case, Verdict, put};
 use crate::samples::Sample;
 use crate::shapes::Shape;
@@ -10,12 +9,11 @@ use std::process::Abort;
 use thin_testing::Ruled;
 use thin_vec::Rejected;
 
-// Each test item is made from a number. The new item that a test adds to a list is made from
-// `FRESH`.
+// The number from which a test makes the item that it adds to a list.
 const FRESH: u64 = 70_000;
 
-// The number from which a test makes the item that it passes to `push_mut` or `insert_mut`. After
-// the call, the test replaces this item with the item that is made from `FRESH`.
+// The number from which a test makes the item that it passes to `push_mut` or `insert_mut`. The
+// test then replaces this item with the one that is made from `FRESH`.
 const PASSED: u64 = 71_000;
 
 /// A test that calls `push`.
@@ -56,10 +54,8 @@ impl<T: Sample, G: Ruled> Call<T, G> for PushMut {
     }
 }
 
-// Checks the result of `push_mut` or `insert_mut`. If the call succeeded, the test has already
-// replaced the item that the call added, and `hand` is the item that was replaced. In this case,
-// `hand` must be the item that was passed to the call. If the call failed, its error must contain
-// the item that was passed to the call.
+// Checks the result of `push_mut` or `insert_mut`. The item that the test has replaced (`hand`), or
+// the item in the error if the call failed, must be the item that was passed to the call.
 fn lent<T: Sample, G: Ruled, R: Abort>(
     rt: &R,
     case: &mut Case<T, G>,

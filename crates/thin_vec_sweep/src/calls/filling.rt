@@ -1,6 +1,5 @@
-//! Tests of the calls that fill a list from an iterator, such as `extend` and `from_iter`. Several
-//! size hints are tried for each iterator. The lower bound of a size hint is too small, exact, too
-//! large, or even greater than the greatest possible capacity of a list.
+//! Tests of the calls that fill a list from an iterator, such as `extend` and `from_iter`, with
+//! various size hints, some of which are wrong.
 use crate::assertions::assert_same;
 use crate::case::{Case, Verdict, numbers, put, source};
 use crate::claims::Claims;
@@ -14,16 +13,15 @@ use std::process::Abort;
 use thin_testing::Ruled;
 use thin_vec::{Doubling, ThinVec};
 
-// The number from which the first item of an iterator is made. Each further item of the iterator is
-// made from the next lower number.
+// The number from which the first item of an iterator is made. Each further item is made from the
+// next lower number.
 const FRESH: u64 = 800_000;
 
 // The number of size hints that are tried.
 const HINTS: usize = 10;
 
-// Returns one of the lower bounds that are tried for the size hint of an iterator over `count`
-// items. `number` selects the bound. `length` is the length of the list, on which some of the
-// bounds depend.
+// Returns a lower bound for the size hint of an iterator over `count` items. `number` selects the
+// bound. Some bounds depend on `length`, the length of the list.
 fn hint<T: Sample>(number: usize, count: usize, length: usize) -> usize {
     match number {
         0 => 0,
@@ -45,11 +43,10 @@ pub struct Ending {
     pub verdict: Verdict,
     /// The number of items that are moved into the list.
     pub placed: usize,
-    /// The number of items that are taken from the iterator and then stored in a temporary vector
+    /// The number of items that are taken from the iterator and stored in a temporary vector
     /// instead of the list.
     pub held: usize,
-    /// The number of items in hand: 1 if the call takes an item from the iterator and finds no room
-    /// for this item, and 0 otherwise.
+    /// The number of items (0 or 1) that the call takes from the iterator but finds no room for.
     pub in_hand: usize,
     /// The number of times that the iterator returns `None`, which is 0 or 1.
     pub ends: usize,
@@ -58,9 +55,8 @@ pub struct Ending {
 }
 
 impl Ending {
-    /// Returns the expected outcome of a call that fails after it has moved `placed` items into the
-    /// list. If `in_hand` is 1, the call then takes one more item from the iterator, and finds no
-    /// room for this item. If `in_hand` is 0, the call takes no further item.
+    /// Returns the expected outcome of a call that fails after moving `placed` items into the list.
+    /// `in_hand` is 1 if the call then takes an item for which it finds no room, and 0 otherwise.
     pub fn refused(verdict: Verdict, placed: usize, in_hand: usize) -> Ending {
         Ending {
             verdict,
@@ -72,7 +68,7 @@ impl Ending {
         }
     }
 
-    /// Returns the expected outcome of a call that succeeds and moves all `placed` items of the
+    /// Returns the expected outcome of a call that succeeds, and moves all `placed` items of the
     /// iterator into the list.
     pub fn done(placed: usize) -> Ending {
         Ending {
@@ -93,10 +89,9 @@ impl Ending {
     }
 }
 
-/// Returns the expected outcome of a call that appends `count` items from an iterator. Also appends
-/// the expected items to `case.items`. The call first grows the list to the capacity `hinted`,
-/// which it computes from the size hint. Later, it grows the list whenever there is no room for the
-/// next item. `hinted` is `None` if the capacity that the call computes is too large.
+/// Returns the expected outcome of a call that appends `count` items from an iterator, and updates
+/// the expected items. The call first grows the list to `hinted`, the capacity for the size hint
+/// (`None` on overflow), and later as needed.
 pub fn fill<T: Sample, G: Ruled, R: Abort>(
     rt: &R,
     case: &mut Case<T, G>,
@@ -120,8 +115,8 @@ pub fn fill<T: Sample, G: Ruled, R: Abort>(
     Ending::done(count)
 }
 
-/// Returns the `count` items that the iterator yields after its first `before` items. Each item is
-/// represented by the number from which it is made.
+/// Returns the numbers from which the next `count` items of the iterator are made, after its first
+/// `before` items.
 pub fn coming<R: Abort>(
     rt: &R,
     ledger: &'static Ledger,
@@ -154,10 +149,9 @@ pub fn assert_iterator_calls<T: Sample, G: Ruled, R: Abort>(
     );
 }
 
-/// Checks the items that a failed call returned. Before the call, the iterator had `count` items.
-/// The call must have returned the iterator as `rest`, with all items that it had not taken. If the
-/// call had taken an item for which it found no room, it must also have returned this item, as
-/// `in_hand`.
+/// Checks what a failed call returned: the iterator `rest` with the items that the call had not
+/// taken, and the item `in_hand` for which it found no room, if any. Before the call, the iterator
+/// had `count` items.
 pub fn back<T: Sample, G: Ruled, R: Abort>(
     rt: &R,
     case: &Case<T, G>,
@@ -177,8 +171,8 @@ pub fn back<T: Sample, G: Ruled, R: Abort>(
     case.assert_items(rt, items.as_slice(), numbers.as_slice());
 }
 
-/// Returns an iterator over `count` items. The items are made from the numbers `FRESH`,
-/// `FRESH - 1`, and so on. The lower bound of the iterator's size hint is `lower`.
+/// Returns an iterator over `count` items, made from `FRESH`, `FRESH - 1`, and so on. The lower
+/// bound of its size hint is `lower`.
 pub fn claims<T: Sample, G: Ruled, R: Abort>(
     rt: &R,
     case: &Case<T, G>,
@@ -217,8 +211,8 @@ impl<T: Sample, G: Ruled> Call<T, G> for Extend {
     }
 }
 
-/// A test that calls `extend` of the trait `std::iter::Extend`. If this call fails, it must drop
-/// the items that it did not append.
+/// A test that calls `extend` of the trait `std::iter::Extend`. If the call fails, it must drop the
+/// items that it did not append.
 pub struct ExtendAsTrait {}
 
 impl<T: Sample, G: Ruled> Call<T, G> for ExtendAsTrait {
@@ -239,8 +233,8 @@ impl<T: Sample, G: Ruled> Call<T, G> for ExtendAsTrait {
     }
 }
 
-// Asserts that the call succeeded if and only if it was expected to succeed. `ending` is the
-// expected outcome, and `is_done` says whether the call really succeeded.
+// Asserts that the call succeeded if and only if `ending` says that it must succeed. `is_done` says
+// whether it succeeded.
 fn done<T: Sample, G: Ruled, R: Abort>(rt: &R, case: &Case<T, G>, ending: &Ending, is_done: bool) {
     assert_same(
         rt,
@@ -251,9 +245,9 @@ fn done<T: Sample, G: Ruled, R: Abort>(rt: &R, case: &Case<T, G>, ending: &Endin
     );
 }
 
-// Returns three values: an iterator whose items are to be appended, the number of these items, and
-// the expected outcome of the call. Returns `None` if the call must be skipped because it would
-// need too much memory.
+// Returns an iterator whose items are to be appended, the number of these items, and the expected
+// outcome of the call. Returns `None` if the call must be skipped because it would need too much
+// memory.
 fn extension<T: Sample, G: Ruled, R: Abort>(
     rt: &R,
     case: &mut Case<T, G>,
@@ -334,9 +328,8 @@ impl<T: Sample> Call<T, Doubling> for Collect {
     }
 }
 
-// Drops the list under test. Returns two values: an iterator, and the expected outcome of a call
-// that makes a list from this iterator. Returns `None` if the call must be skipped because it would
-// need too much memory.
+// Drops the list under test. Returns an iterator, and the expected outcome of making a list from
+// it. Returns `None` if the call must be skipped because it would need too much memory.
 fn collection<T: Sample, R: Abort>(
     rt: &R,
     case: &mut Case<T, Doubling>,

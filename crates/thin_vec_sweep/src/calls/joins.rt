@@ -7,12 +7,12 @@ use crate::sweep::Call;
 use std::process::Abort;
 use thin_testing::Ruled;
 
-// The number from which the first item of the second list is made. Each further item of this list
-// is made from the next higher number.
+// The number from which the first item of the second list is made. Each further item is made from
+// the next higher number.
 const FRESH: u64 = 80_000;
 
-/// A test that calls `append` with second lists of various lengths. For each length, the second
-/// list is tried once without spare capacity, and once with one empty slot.
+/// A test that calls `append` with second lists of various lengths, with and without one empty
+/// slot.
 pub struct Append {}
 
 impl<T: Sample, G: Ruled> Call<T, G> for Append {
@@ -37,8 +37,8 @@ impl<T: Sample, G: Ruled> Call<T, G> for Append {
     }
 }
 
-/// A test that calls `append_reserved`. The length of the second list is at least 1, and at most
-/// the number of empty slots in the first list.
+/// A test that calls `append_reserved`. The second lists have all lengths from 1 to the number of
+/// empty slots in the first list.
 pub struct AppendReserved {}
 
 impl<T: Sample, G: Ruled> Call<T, G> for AppendReserved {

@@ -10,8 +10,8 @@ use std::process::Abort;
 use thin_testing::Ruled;
 use thin_vec::ThinVecError;
 
-// The number from which the first item of the slice is made. Each further item of the slice is made
-// from the next higher number.
+// The number from which the first item of the slice is made. Each further item is made from the
+// next higher number.
 const FRESH: u64 = 80_000;
 
 /// A call that appends the items of a slice to a list of `T` with the growth rule `G`.
@@ -35,7 +35,7 @@ pub trait AppendsSlice<T: Sample, G: Ruled> {
 }
 
 /// A test that makes the call `C` with slices of several lengths. If `C` requires spare capacity,
-/// the test uses each length from 1 to the number of empty slots.
+/// these are all lengths from 1 to the number of empty slots.
 pub struct AppendSlice<C> {
     call: PhantomData<C>,
 }
@@ -190,9 +190,8 @@ impl<G: Ruled> AppendsSlice<u8, G> for WriteAll {
     }
 }
 
-// Asserts that `error`, the error of a failed write, has the kind `OutOfMemory`. Returns
-// `OutOfMemory` as the cause of the failure. After a capacity overflow, the error has the same
-// kind. So this function returns `OutOfMemory` in that case, too.
+// Asserts that the kind of `error` is `OutOfMemory`, and returns the cause `OutOfMemory`. A
+// capacity overflow has the same error kind, and so the same result.
 fn cause<R: Abort>(rt: &R, at: &At, error: &Error) -> ThinVecError {
     let kind = error.kind() == ErrorKind::OutOfMemory;
     assert_same(rt, at, "the error's kind is OutOfMemory", kind, true);

@@ -1,14 +1,12 @@
-//! The judges that the runs use. Commands contain no closures. Instead, a judge makes the decisions
-//! that a method such as `retain` leaves to its closure. For example, the judge decides which items
-//! are kept, and which items are removed.
+//! The judges of the runs. Commands contain no closures. Instead, a judge makes the decisions that
+//! a method such as `retain` leaves to its closure.
 ghost use Rattle.std.specs.Prelude.{◌≡◌, ◌==◌, ◌/◌, ◌%◌};
 
 use std::mem;
 use thin_runner::judge::Judge;
 
 /// A judge whose decisions are the binary digits of a number, beginning with the last digit: 1 is
-/// `true`, and 0 is `false`. A judge makes the decisions that a method such as `retain` leaves to
-/// its closure. The method `same` of this judge, which compares two items, also swaps them.
+/// `true`, and 0 is `false`. Its method `same`, which compares two items, also swaps them.
 #[derive(Clone, Copy)]
 pub struct Digits {
     /// The number whose binary digits are the decisions that the judge has not made yet.
@@ -16,8 +14,7 @@ pub struct Digits {
 }
 
 /// A judge that decides `true`, then `false`, then `true`, and so on. After 64 decisions, every
-/// decision is `false`. A judge makes the decisions that a method such as `retain` leaves to its
-/// closure.
+/// decision is `false`.
 pub const EACH_SECOND: Digits = Digits {
     digits: 0x5555_5555_5555_5555,
 };
@@ -72,9 +69,8 @@ impl<T> Judge<T> for Digits {
 }
 
 /// A judge that decides `true` for even numbers, and considers `x` and `y` equal if
-/// `x / 2 == y / 2`. A judge makes the decisions that a method such as `retain` leaves to its
-/// closure. Three methods of this judge also change items: `keep` and `key` halve the item,
-/// rounding down, and `same` sets the kept item to 0.
+/// `x / 2 == y / 2`. Its methods `keep` and `key` also halve the item, and `same` sets the kept
+/// item to 0.
 #[derive(Clone, Copy)]
 pub struct Evens;
 

@@ -1,6 +1,5 @@
-//! Long runs of commands, and a run that fails. Unlike random runs, these runs are not compared
-//! with the model. The model is a simple program that specifies the commands, and it would be too
-//! slow for long runs.
+//! Long runs of commands, and a run that fails. These runs are not compared with the model, which
+//! would be too slow for long runs.
 use crate::runs::judges::EACH_SECOND;
 use crate::runs::samples::{Lender, put};
 use std::alloc::Global;
@@ -64,8 +63,8 @@ fn steps<R: Abort>(rt: &R, alloc: Global, count: u32) -> Vec<Step, Global> {
     steps
 }
 
-// Returns commands that need memory: some of them for one item, and others for thousands of items.
-// Before each of these commands, a `ShrinkToFit` removes the spare capacity.
+// Returns commands that need memory for one item or for thousands of items. Before each of them, a
+// `ShrinkToFit` removes the spare capacity.
 fn long_commands<R: Abort>(rt: &R, alloc: Global) -> Vec<Command<u32, Global>, Global> {
     let many = || numbers(rt, alloc, 6000);
     let mut commands = Vec::new(alloc);
@@ -137,8 +136,8 @@ fn earlier_reply<'a, R: Abort>(rt: &R, alloc: Lender<'a>) -> Replies<'a> {
     replies
 }
 
-// Returns whether `replies` contains exactly one reply, and this reply reports a capacity overflow,
-// like the reply that `earlier_reply` makes.
+// Returns whether `replies` contains exactly one reply, which reports a capacity overflow, as the
+// reply of `earlier_reply` does.
 fn has_earlier_alone(replies: &Replies<'_>) -> bool {
     match replies.as_slice() {
         [left] => left.refusal() == Some(ThinVecError::CapacityOverflow),
@@ -147,7 +146,7 @@ fn has_earlier_alone(replies: &Replies<'_>) -> bool {
 }
 
 // Asserts that a run fails if its first allocation request is refused. The run must drop its
-// commands, and must not remove the reply to an earlier command.
+// commands, but keep the reply to an earlier command.
 fn assert_refused<'a, R: Abort>(rt: &R, alloc: Lender<'a>) {
     let mut list = ThinVec::new(alloc);
     let mut replies = earlier_reply(rt, alloc);

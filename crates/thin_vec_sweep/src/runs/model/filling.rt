@@ -1,6 +1,5 @@
-//! The commands `Splice` and `Extend` in the model, which is a program that specifies the commands.
-//! The model treats an `Extend` as a splice at the end of the list, without calls to `next` and
-//! `next_back`.
+//! The commands `Splice` and `Extend` in the model. The model treats an `Extend` as a splice at the
+//! end of the list, without calls to `next` and `next_back`.
 use super::{Model, walked};
 use crate::runs::orders::{Kind, Order};
 use crate::runs::samples::{Numbered, samples};
@@ -10,9 +9,8 @@ use thin_testing::Ruled;
 use thin_vec::ThinVecError;
 
 impl<T: Numbered<A>, A: Allocator + Copy, G: Ruled> Model<T, A, G> {
-    // If `order` describes an `Extend`, returns a copy of `order` with two changes. The range of
-    // the copy is empty and lies at the end of the list. The copy also has no steps (calls to
-    // `next` and `next_back`). If `order` describes another command, returns `order` unchanged.
+    // Returns `order`, with two changes if it describes an `Extend`: the range is empty and at the
+    // end of the list, and there are no steps (calls to `next` and `next_back`).
     pub(crate) fn placed(&self, order: Order) -> Order {
         let len = self.items.len();
         if order.kind == Kind::Extend {
@@ -27,15 +25,11 @@ impl<T: Numbered<A>, A: Allocator + Copy, G: Ruled> Model<T, A, G> {
         }
     }
 
-    // Increases the capacity of the model in the same way as a splice increases the capacity of a
-    // list. Returns whether this succeeded.
+    // Increases the capacity of the model as a splice does, and returns whether this succeeded.
     //
-    // If there are no items after the range, the splice first makes room for as many items as the
-    // size hint says. Then it makes room for each new item separately.
-    //
-    // If there are items after the range, the splice makes room only if the new items fill the
-    // whole range. In this case, it first makes room for as many items as the size hint says. Then
-    // it makes room for all new items at once.
+    // If there are no items after the range, the splice makes room as the size hint says, and then
+    // for each new item separately. If there are items after the range, the splice makes room as
+    // the size hint says, and then for all new items at once, but only if they fill the range.
     fn make_rooms(&mut self, order: Order) -> bool {
         let len = self.items.len();
         let gap = order.to.saturating_sub(order.at);
@@ -91,21 +85,16 @@ impl<T: Numbered<A>, A: Allocator + Copy, G: Ruled> Model<T, A, G> {
         self.fill(alloc, order, placed, Some(ThinVecError::CapacityOverflow))
     }
 
-    // Returns whether `given` is a possible reply to a command that stopped because an allocation
-    // request was refused. The reply contains the new items that were not moved into the list. One
-    // of them may be in hand: the command took this item from the iterator, but found no room for
-    // it. Others may be held back: the command stored these items in a temporary vector.
+    // Returns whether `given` is a possible reply after a refused request. The reply contains the
+    // new items that were not moved into the list. One of them may be in hand: there was no room
+    // for it. Others may be held back in a temporary vector.
     //
-    // If there are no items after the range, no item may be held back. In addition, the list must
-    // be full if an item is in hand. If no item is in hand, no new item may have been moved into
-    // the list.
+    // If there are no items after the range, no item may be held back. If an item is in hand, the
+    // list must be full. Otherwise, no new item may have been moved into the list.
     //
-    // If there are items after the range, the new items must have filled the range. In addition, at
-    // least one of three conditions must hold:
-    //
-    // - An item is in hand.
-    // - No item is held back.
-    // - The iterator has yielded all its items.
+    // If there are items after the range, the new items must have filled the range. In addition, an
+    // item must be in hand, or no item may be held back, or the iterator must have yielded all its
+    // items.
     fn may_stop(&self, order: Order, given: &Shown<T, A>) -> bool {
         let placed = order.count.saturating_sub(given.items.len());
         if order.to == self.items.len() {
@@ -117,11 +106,9 @@ impl<T: Numbered<A>, A: Allocator + Copy, G: Ruled> Model<T, A, G> {
             && (given.in_hand || given.number == 0 || has_ended)
     }
 
-    // Increases the capacity of the model to the capacity that the list had when the request was
-    // refused. `given` is the reply of the runner. Suppose that it contains an item that the
-    // command had taken from the iterator but not moved into the list. Then the command had already
-    // made room, first according to the size hint, and then for the `placed` items that it moved
-    // into the list. So this function does the same. Otherwise, the capacity is unchanged.
+    // Increases the capacity of the model to the one that the list had when the request was
+    // refused. If the reply `given` contains an item that was taken from the iterator, the command
+    // had made room for `placed` items. Otherwise, the capacity is unchanged.
     fn make_first_rooms(&mut self, order: Order, placed: usize, given: &Shown<T, A>) {
         if given.number > 0 || given.in_hand {
             let first = Order {
@@ -133,8 +120,8 @@ impl<T: Numbered<A>, A: Allocator + Copy, G: Ruled> Model<T, A, G> {
     }
 
     // Executes a `Splice` or an `Extend` in which an allocation request was refused, and returns
-    // the reply. `given`, the reply of the runner, contains the new items that had not been moved
-    // into the list before the refusal. All other new items had been moved into the list.
+    // the reply. `given`, the reply of the runner, contains the new items that were not moved into
+    // the list.
     pub(crate) fn stop(
         &mut self,
         alloc: A,

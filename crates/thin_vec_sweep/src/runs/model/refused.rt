@@ -1,6 +1,5 @@
-//! The part of the model for commands in which an allocation request is refused. The model is a
-//! program that specifies the commands. This file specifies three things: the items of the list
-//! after such a command, the capacity of the list after it, and the reply.
+//! The part of the model for commands in which an allocation request is refused. It specifies the
+//! items and the capacity of the list afterwards, and the reply.
 use super::Model;
 use crate::runs::orders::{Kind, Order};
 use crate::runs::samples::{Numbered, samples};
@@ -22,9 +21,8 @@ fn form_of(order: Order) -> Form {
 }
 
 impl<T: Numbered<A>, A: Allocator + Copy, G: Ruled> Model<T, A, G> {
-    // Returns the capacity that the list must have before the command clones items into the list.
-    // If the command is neither a `Resize` nor an `ExtendFromSlice`, it clones no items into the
-    // list, and the result is 0.
+    // Returns the capacity that a `Resize` or an `ExtendFromSlice` needs before it clones items
+    // into the list. Returns 0 for other commands.
     fn room_of_clones(&self, order: Order) -> usize {
         match order.kind {
             Kind::Resize => order.lower,
@@ -33,8 +31,8 @@ impl<T: Numbered<A>, A: Allocator + Copy, G: Ruled> Model<T, A, G> {
         }
     }
 
-    // Executes a command whose allocation request with the number `nth` was refused, and returns
-    // the reply. `given` is the reply of the runner to the same command.
+    // Executes a command whose allocation request `nth` was refused, and returns the reply. `given`
+    // is the reply of the runner.
     pub(crate) fn refuse(
         &mut self,
         alloc: A,
