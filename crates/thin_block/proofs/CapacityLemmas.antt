@@ -75,7 +75,7 @@ fits-less R c d e less =
     let under : c * type_size R ≤ d * type_size R = mul-le-mul_right (type_size R) less in
     closed R c (fits_yes R c (omega arith) (omega arith))
 
--- the capacity 0 fits
+-- A block of capacity 0 is small enough to be allocated.
 pub fits-none : (R : RattleType) → Fits R 0
 fits-none R = closed R 0 (fits_none R)
 

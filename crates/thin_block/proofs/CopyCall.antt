@@ -33,7 +33,7 @@ module _ (E : El) (g : Ghosts (el_x E)) (d : Dict) {M : Type 1} {𝓤 : Ura M} (
     (at_mem : Memory → SProp 𝓤) (run : Routine → Fun 𝓤) where
   open 𝓛 use {H, A}
 
-  -- the contract of `copied`
+  -- `Copied` is the contract of the function `copied`.
   abbrev pub Copied : Contract 𝓤
   Copied = triple_of 𝓛 (C.signature E.row) (C.spec E.row g d 𝓛 at_mem run)
 

@@ -32,7 +32,7 @@ module _ (E : El) (Y : Al) {M : Type 1} {𝓤 : Ura M} (𝓛 : Logic 𝓤) (at_m
     (run : Routine → Fun 𝓤) where
   open 𝓛 use {H, A}
 
-  -- the contract of `resized`
+  -- `Resizing` is the contract of the function `resized`.
   abbrev pub Resizing : Contract 𝓤
   Resizing = triple_of 𝓛 (F.signature E.row Y.row) (F.spec E.row Y.row Y.g Y.d Y.drops 𝓛 at_mem run)
 

@@ -19,11 +19,11 @@ use Rattle.std_alloc.proofs.SendSync.{quiet, lies, seen}
 use Rattle.thin_block.specs.Ownership.{bare, word_of, words_of, place, places, ways, way_back, block_owns, place_lent, places_lent, block_lent}
 use Rattle.thin_block.specs.contracts.block.Block as C
 
--- numbers may be sent
+-- Numbers may be sent to another thread.
 number_send : IsSend usize
 number_send = search sendable
 
--- numbers may be shared
+-- Numbers may be shared between threads.
 number_sync : IsSync usize
 number_sync = search sendable
 

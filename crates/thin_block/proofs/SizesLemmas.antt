@@ -23,7 +23,7 @@ use Rattle.std.proofs.lemmas.Bool.Decides.{nat_tests}
 use Rattle.thin_block.specs.Capacity.{IsAlign, items_offset, block_align, block_bytes, is_small, fits, Fits, first}
 use Rattle.thin_block.specs.Growth.{fitting, doubling}
 
--- Section: rounding up
+-- The next lemmas are about rounding up.
 
 -- `Rounded a x` collects bounds on the alignment and the size of a block whose items have the
 -- alignment `a` and take `x` bytes in total.
@@ -112,7 +112,7 @@ capped_product zero s h = zero-mul (capped s) ∙ sym (zero-mul s)
 capped_product (suc c) s h = let more = suc-mul c s in
     ap (λ (k : ℕ). suc c * k) (capped_is s (omega arith))
 
--- Section: tests
+-- The next lemmas are about tests of sizes.
 
 both_true : (x y : Bool) → x ≡ true → y ≡ true → (x && y) ≡ true
 both_true true y e f = f
@@ -188,7 +188,7 @@ module _ (R : RattleType) (c : ℕ) where
   unfolding fits
   opened e = e
 
-  -- a small capacity fits
+  -- If `is_small` is true for `c` items of type `R`, then `Fits R c` holds.
   pub closed : IsSmall → Fits R c
   unfolding fits
   closed e = e
@@ -227,7 +227,7 @@ fits_none R =
     let nothing = zero-mul (type_size R) in
     fits_yes R 0 (omega arith) (omega arith)
 
--- Section: the first capacity
+-- The next lemmas are about the first capacity of a block.
 
 -- `first s` is the least capacity that the rule `doubling` chooses for the first allocation of a
 -- block. If the item size `s`, capped at `usize::MAX`, exceeds `2 ^ 61 - 1`, then `first s` is 1.
@@ -249,7 +249,7 @@ first_many s small =
     let same = capped_is s (omega arith) in
     rw (le-ltb (2 ^ 61 - 1) s (omega arith)) refl
 
--- Section: what doubling chooses
+-- The next lemmas are about the growth rule `Doubling`.
 
 first_false : (x y : Bool) → x ≡ false → (x && y) ≡ false
 first_false true y f = cc

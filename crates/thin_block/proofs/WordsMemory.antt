@@ -320,7 +320,7 @@ module _ {M : Type 1} {𝓤 : Ura M} (𝓛 : Logic 𝓤) (T : RattleType) (L : L
   named : u' ≡ type_size (R W)
   named = size-raw (layout W.row)
 
-  -- Section: one word
+  -- The next lemmas are about the memory of one word.
   abbrev fields : List Member
   fields = record { row = ArrayAt (R E) N; ty = ty_array σ m }
       ∷ record { row = Array u64 0; ty = ty_array (ty_int w64) 0 } ∷ []
@@ -382,7 +382,7 @@ module _ {M : Type 1} {𝓤 : Ura M} (𝓛 : Logic 𝓤) (T : RattleType) (L : L
         rewrite ! 0 (λ (n : ℕ). ‵ (part_at (Array (R E) m) full_share xs b n)) at_start refl $
         done !
 
-  -- Section: several adjacent words.
+  -- The next lemmas are about the memory of several adjacent words.
   abbrev chunks : ℕ → List X → List (List X)
   chunks n xs = first_chunks m n xs
 
@@ -470,7 +470,7 @@ module _ {M : Type 1} {𝓤 : Ura M} (𝓛 : Logic 𝓤) (T : RattleType) (L : L
       rewrite ! 0 (λ (n : ℕ). ‵ (ways τ' m n b o))
       (let more : suc (j + n) ≡ w = omega (arith, ew) in more) refl $ move ! (1 ∷ 0 ∷ []) $ done !
 
-  -- Section: empty slots
+  -- The next lemmas are about the memory of empty slots.
   module _ (j v pad at far : ℕ) (whole : j + pad ≡ v * m) (end : far ≡ at + j * size τ') where
     abbrev Spare : Fml
     Spare = froom (ty_array τ' pad) b far

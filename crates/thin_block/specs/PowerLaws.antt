@@ -14,7 +14,7 @@ use Rattle.thin_block.specs.Capacity.{fits, items_offset}
 use Rattle.thin_block.specs.Growth.{FillsPower, IsGrown, KeepsLaw, doubled_to, doubling, fitting, least_power, power_bytes}
 use Rattle.thin_block.specs.GrowthLaws.{doubling_law, fitting_is}
 
--- Section: the least power
+-- The next lemmas are about the least power of two.
 
 -- Each number `n` is less than `2 ^ n`.
 below_power : (n : ℕ) → n < 2 ^ n
@@ -66,7 +66,7 @@ one_least_power n p q first second =
     (subst (λ x. x / 2 < max 1 n) second.0.1 second.2) in
     omega (arith, first.0.1, second.0.1, under, over)
 
--- Section: the rule
+-- The next lemmas are about the growth rule `PowerBytes`.
 
 -- If the size `s` of an item is 0, the rule `power_bytes` chooses the same capacity as `doubling`.
 pub powers_of_none : (s a c w : ℕ) → s ≡ 0 → power_bytes s a c w ≡ doubling s a c w

@@ -165,7 +165,7 @@ pub record Stand (T : Type 0) : Type 0 where
   pub front : List T
   -- The number of items that have been yielded so far.
   pub out : ℕ
-  -- the cost so far
+  -- The cost of the list so far.
   pub paid : Cost
 
 -- In this module, `asked` contains the verdicts of an `ExtractIf` on the items of its range.

@@ -19,13 +19,13 @@ use denote.Triple.Spec.{triple_of}
 use Rattle.thin_testing.specs.contracts.refusing.Counts as CT
 use Rattle.thin_testing.specs.contracts.refusing.refuses as RF
 
--- The type `Counts`.
+-- `Row` is the type `Counts`.
 abbrev pub Row : RattleType
 Row = CT.the_row
 
 module _ {M : Type 1} {𝓤 : Ura M} (𝓛 : Logic 𝓤) (at_mem : Memory → SProp 𝓤)
     (run : Routine → Fun 𝓤) where
-  -- The contract of `refuses`.
+  -- `Asks` is the contract of `refuses`.
   abbrev pub Asks : Contract 𝓤
   Asks = triple_of 𝓛 RF.signature (RF.spec 𝓛 at_mem run)
 

@@ -21,17 +21,17 @@ use Rattle.thin_testing.specs.contracts.refusing.Counts as CT
 use Rattle.thin_testing.specs.contracts.refusing.granted as GR
 use Rattle.thin_testing.specs.contracts.refusing.returned as RE
 
--- The type `Counts`.
+-- `Row` is the type `Counts`.
 abbrev pub Row : RattleType
 Row = CT.the_row
 
 module _ {M : Type 1} {𝓤 : Ura M} (𝓛 : Logic 𝓤) (at_mem : Memory → SProp 𝓤)
     (run : Routine → Fun 𝓤) where
-  -- The contract of `granted`.
+  -- `Granted` is the contract of `granted`.
   abbrev pub Granted : Contract 𝓤
   Granted = triple_of 𝓛 GR.signature (GR.spec 𝓛 at_mem run)
 
-  -- The contract of `returned`.
+  -- `Returned` is the contract of `returned`.
   abbrev pub Returned : Contract 𝓤
   Returned = triple_of 𝓛 RE.signature (RE.spec 𝓛 at_mem run)
 

@@ -95,7 +95,7 @@ module _ (g : Former {0}) where
   slot_get-map X Y h (Some a) n v =
       λ i. (Some (g.get-map X Y h a n v i).0, (g.get-map X Y h a n v i).1)
 
-  -- The former of slots.
+  -- `slot` is the type former of slots.
   abbrev pub slot : Former {0}
   slot = record {
     Of = λ X. Option (g.Of X);
@@ -229,7 +229,7 @@ module _ (g : Former {0}) (Z : Type 0) where
         ((list (slot g)).get-map X Y h a.slots n v i).1,
       )
 
-  -- The former of blocks.
+  -- `the_former` is the type former of blocks.
   abbrev pub the_former : Former {0}
   the_former = record {
     Of = λ X. Block (g.Of X) Z;

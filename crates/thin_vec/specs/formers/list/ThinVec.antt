@@ -32,7 +32,7 @@ use Rattle.thin_vec.specs.declared.list.ThinVec.TheView.{view, invariant}
 use Rattle.thin_vec.specs.contracts.list.ThinVec as C
 use Rattle.thin_vec.specs.contracts.list.ThinVec.TheInside as I
 
--- The former of lists.
+-- `the_former` is the type former of lists.
 abbrev pub the_former : Former {0} → Type 0 → Type 0 → Former {0}
 the_former g Z Q =
     via (pair (list g) (const (ℕ × (Z × Cost)))) (λ X. Thin (g.Of X) Z)
