@@ -12,8 +12,9 @@ if_true x y e = ap (λ (b : Bool). if b then x else y) e
 if_false : {b : Bool} (x y : ℕ) → b ≡ false → (if b then x else y) ≡ y
 if_false x y e = ap (λ (b : Bool). if b then x else y) e
 
--- If `f i j ≡ v`, and `f` and `g` agree at all other places, then `f k l` is
--- `if k == i && l == j then v else g k l` for all `k` and `l`.
+-- Suppose that the functions `f` and `g` map a row and a column to a number, and that they may
+-- differ only at row `i` and column `j`. If `f i j` is `v`, then, for all `k` and `l`, the value of
+-- `f k l` is `if k == i && l == j then v else g k l`.
 pub at_place : (f g : ℕ → ℕ → ℕ) (i j v : ℕ) → f i j ≡ v → ((k l : ℕ) → l ≢ j → f k l ≡ g k l)
     → ((k l : ℕ) → k ≢ i → f k l ≡ g k l)
     → (k l : ℕ) → f k l ≡ (if k == i && l == j then v else g k l)
@@ -28,7 +29,8 @@ at_place f g i j v here columns rows k l = elim (cases_eq k i) [
       ∙ sym (if_false v (g k l) (and_left (k == i) (l == j) (ne_eqb k i other)))
 ]
 
--- In this module, `f` is `v` at row `i` and column `j`, and `f` and `g` agree at all other places.
+-- In this module, the functions `f` and `g` map a row and a column to a number. At row `i` and
+-- column `j`, the value of `f` is `v`. Everywhere else, `f` and `g` agree.
 module _ (f g : ℕ → ℕ → ℕ) (i j v : ℕ)
     (told : (k l : ℕ) → f k l ≡ (if k == i && l == j then v else g k l)) where
   pub here : f i j ≡ v
@@ -42,8 +44,9 @@ module _ (f g : ℕ → ℕ → ℕ) (i j v : ℕ)
   other_rows k l other =
       told k l ∙ if_false v (g k l) (and_left (k == i) (l == j) (ne_eqb k i other))
 
--- If `f` agrees with `h` in row `i`, and with `g` in all other rows, then `f k l` is
--- `if k == i then h k l else g k l` for all `k` and `l`.
+-- Suppose that the functions `f`, `g` and `h` map a row and a column to a number. If `f` agrees
+-- with `h` in row `i`, and with `g` in all other rows, then, for all `k` and `l`, the value of
+-- `f k l` is `if k == i then h k l else g k l`.
 pub at_row : (f g h : ℕ → ℕ → ℕ) (i : ℕ) → ((l : ℕ) → f i l ≡ h i l)
     → ((k l : ℕ) → k ≢ i → f k l ≡ g k l)
     → (k l : ℕ) → f k l ≡ (if k == i then h k l else g k l)
@@ -74,13 +77,15 @@ module _ (t : Table ℕ) (i j : ℕ) where
       (λ k l other. ap (λ o. unwrap_or o 0) (columns_left t i j k l other))
       (λ k l other. ap (λ o. unwrap_or o 0) (rows_left t i j k l other))
 
--- If `x` and `y` are less than `n`, then so is `if b then x else y`.
+-- If both `x` and `y` are less than `n`, then `if b then x else y` is less than `n`, whatever the
+-- boolean `b` is.
 either_below : (b : Bool) (x y n : ℕ) → x < n → y < n → (if b then x else y) < n
 either_below true x y n first second = first
 either_below false x y n first second = second
 
--- Suppose that the numbers of the table `u` are those of `t`, except for `v` at row `i` and column
--- `j`. If `v` and all numbers of `t` are less than `2 ^ 64`, then so are all numbers of `u`.
+-- Suppose that the table `u` has the same numbers as the table `t`, except that its number at row
+-- `i` and column `j` is `v`. If `v` and all numbers of `t` are less than `2 ^ 64`, then so are all
+-- numbers of `u`.
 pub still_small : (t u : Table ℕ) (i j v : ℕ) → v < 2 ^ 64
     → ((k l : ℕ) → number_at t k l < 2 ^ 64)
     → ((k l : ℕ) → number_at u k l ≡ (if k == i && l == j then v else number_at t k l))
@@ -88,9 +93,9 @@ pub still_small : (t u : Table ℕ) (i j v : ℕ) → v < 2 ^ 64
 still_small t u i j v fits small told k l =
     rw (told k l) (either_below (k == i && l == j) v (number_at t k l) (2 ^ 64) fits (small k l))
 
--- Suppose that a call writes `v` into row `i` of the table `t`, or fails and leaves `t` unchanged.
--- If `v` and all numbers of `t` are less than `2 ^ 64`, then so are all numbers of the resulting
--- table `u`.
+-- A call with the result `result` either writes `v` at row `i` and column `j` of the table `t`, or
+-- fails and changes nothing. Suppose that `t` has a row `i`, and that `u` is the table after the
+-- call. If `v` and all numbers of `t` are less than `2 ^ 64`, then so are all numbers of `u`.
 pub small_if_written : {X E : Type 0} (result : Result X E) (t u : Table ℕ) (i j v : ℕ)
     → i < length t → v < 2 ^ 64 → ((k l : ℕ) → number_at t k l < 2 ^ 64)
     → OnOk result (u ≡ with_value t i j v) → OnErr result (u ≡ t)

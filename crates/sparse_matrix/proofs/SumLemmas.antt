@@ -32,8 +32,8 @@ same_sum f g (suc n) same =
     let last : f n ≡ g n = same n (omega arith) in
     λ i. rest i + last i
 
--- If `f c ≡ v + g c` for some `c < n`, and `f` and `g` agree at all other numbers, then
--- `sum_below n f ≡ v + sum_below n g`.
+-- `sum_below n f` is `f 0 + f 1 + .. + f (n - 1)`. If `c < n`, `f c ≡ v + g c`, and `f` and `g`
+-- agree at all other numbers, then `sum_below n f ≡ v + sum_below n g`.
 sum_differs : (f g : ℕ → ℕ) (c v n : ℕ) → c < n → f c ≡ v + g c → ((j : ℕ) → j ≢ c → f j ≡ g j)
     → sum_below n f ≡ v + sum_below n g
 sum_differs f g c v zero inside here others = absurd (omega arith)
@@ -66,8 +66,9 @@ module _ (f : ℕ → ℕ) where
       (is_less (nat_cmp x e.0) (both_hold _ _ below).0)
       ∙ none_found x entries (both_hold _ _ below).1
 
-  -- If the columns of `entries` are strictly increasing and less than `n`, then the sum of
-  -- `x * f c` over all entries `(c, x)` is `sum_below n (term entries)`.
+  -- Suppose that the columns of the list `entries` are strictly increasing and less than `n`. Each
+  -- entry `(c, x)` contains the number `x` in column `c`. Then the sum of `x * f c` over all
+  -- entries equals the sum of `term entries j` over all columns `j` less than `n`.
   entries_sum : (entries : List (ℕ × ℕ)) (n : ℕ) → T (is_sorted nat_cmp entries)
       → ((k : ℕ) → k < length entries → (slice_index_or entries k (0, 0)).0 < n)
       → sum_by (λ e. e.1 * f e.0) entries ≡ sum_below n (term entries)
@@ -96,8 +97,10 @@ module _ (f : ℕ → ℕ) where
           ∙ (let nothing : term entries e.0 ≡ 0 * f e.0 = ap (λ o. unwrap_or o 0 * f e.0) none in
           omega (arith, nothing))
 
--- If all entries of `row` are in columns less than `n`, then summing `x * f c` over the entries
--- `(c, x)` is the same as summing over all columns less than `n`, with 0 for missing entries.
+-- Suppose that `entries` is the list of the entries of `row`, and that all of them are in columns
+-- less than `n`. Then the sum of `x * f c` over all entries `(c, x)` equals a sum over all columns
+-- `j` less than `n`. In this second sum, `f j` is multiplied by the number in column `j`, or by 0
+-- if column `j` has no entry.
 pub row_sum : (f : ℕ → ℕ) (row : Columns ℕ) (n : ℕ) (entries : List (ℕ × ℕ))
     → entries ≡ columns.entries row
     → ((k : ℕ) → k < length entries → (slice_index_or entries k (0, 0)).0 < n)

@@ -1,5 +1,5 @@
--- These lemmas are about loops that write the entries of a row into a matrix, one entry per
--- iteration, each at a different place.
+-- These lemmas are about loops that write the entries of a row into a matrix. Each iteration writes
+-- one entry, and no two entries are written at the same place.
 use Rattle.std.proofs.Common.{◌≡◌, ◌≢◌, ℕ, ◌+◌, ◌<◌, ◌≤◌, List, Some, None, inl, inr, length, ap, arith, refl, subst, sym, ◌∙◌}
 use Rattle.std.specs.FinMap as columns
 use Rattle.std.specs.Option.{unwrap_or}
@@ -12,9 +12,9 @@ use Rattle.thin_rows.proofs.TableLemmas.{in_order, is_listed, listed}
 never : {P : Type 0} {x : ℕ} → None ≡ Some x → P
 never e = cc
 
--- In this module, a loop writes the entries of `row` into a matrix. Each column `j` has its own
--- place, which contains `old j` before the loop. Writing `v` at a place that contains `u` leaves
--- `write u v` there.
+-- In this module, a loop writes the entries of `row` into a matrix. Before the loop, the matrix
+-- contains the number `old j` at the place where an entry of column `j` is written. If the number
+-- `v` is written at a place with the number `u`, then the new number at this place is `write u v`.
 module _ (write : ℕ → ℕ → ℕ) (row : Columns ℕ) (old : ℕ → ℕ) where
   abbrev column : ℕ → ℕ
   column k = (slice_index_or (columns.entries row) k (0, 0)).0
@@ -32,8 +32,9 @@ module _ (write : ℕ → ℕ → ℕ) (row : Columns ℕ) (old : ℕ → ℕ) w
   pub none_written : IsWritten 0 old
   none_written = record { done = λ k less. absurd (omega arith); left = λ j none. refl }
 
-  -- If `IsWritten n now` holds, and the loop then writes only the entry at index `n`, then
-  -- `IsWritten (n + 1) next` holds. Here, `next j` is the number at column `j` after this write.
+  -- `IsWritten n now` holds if `now j` is the number at each column `j` after the first `n` entries
+  -- have been written. If the entry at index `n` is then written, and `next j` is the number at
+  -- each column `j` after this write, then `IsWritten (n + 1) next` holds.
   pub one_more : (n : ℕ) (now next : ℕ → ℕ) → n < length (columns.entries row) → IsWritten n now
       → next (column n) ≡ write (now (column n)) (number n)
       → ((j : ℕ) → j ≢ column n → next j ≡ now j) → IsWritten (n + 1) next
@@ -62,9 +63,9 @@ module _ (write : ℕ → ℕ → ℕ) (row : Columns ℕ) (old : ℕ → ℕ) w
       → IsWritten (n + 1) next
   next_written entries is = rw is one_more
 
-  -- If `row` has `n` entries, `IsWritten n now` holds, and writing 0 over `old j` would change
-  -- nothing, then `now j` is `write (old j) v`. Here, `v` is the number of `row` in column `j`, or
-  -- 0 if there is none.
+  -- Suppose that all `n` entries of `row` have been written, and that `now j` is the number at
+  -- column `j` afterward. If `write (old j) 0` is `old j`, then `now j` is `write (old j) v`. Here,
+  -- `v` is the number of `row` in column `j`, or 0 if `row` has no entry there.
   pub all_written : (n : ℕ) (now : ℕ → ℕ) → n ≡ length (columns.entries row) → IsWritten n now
       → (j : ℕ) → write (old j) 0 ≡ old j
       → now j ≡ write (old j) (unwrap_or (columns.get row j) 0)
@@ -81,8 +82,8 @@ module _ (write : ℕ → ℕ → ℕ) (row : Columns ℕ) (old : ℕ → ℕ) w
             ∙ listed row k (0, 0) (omega (arith, less, all))))) ∙ sym zero
       ] refl
 
--- If `value_at t i j` is `None` for every row `i` and every column `j ≥ n`, then all entries of the
--- table `t` are in columns less than `n`.
+-- Suppose that the table `t` has no value in column `n` or in any later column. Then all entries in
+-- each row of `t` are in columns less than `n`.
 pub columns_below : (t : Table ℕ) (n : ℕ) → ((i j : ℕ) → n ≤ j → value_at t i j ≡ None) → (i : ℕ)
     (entries : List (ℕ × ℕ)) → entries ≡ columns.entries (row_of t i) → (k : ℕ)
     → k < length entries → (slice_index_or entries k (0, 0)).0 < n

@@ -106,7 +106,8 @@ impl<A: Allocator> Matrix<A> {
     ///
     /// # Errors
     ///
-    /// Fails if there is not enough memory for the number. On failure, the matrix is unchanged.
+    /// Fails if there is not enough memory for the number. In this case, the matrix does not
+    /// change.
     #[tactic(auto, using(thin_rows::proofs::TableLemmas::values))]
     pub fn set(&mut self, row: usize, column: usize, number: u64) -> Result<(), ThinVecError>
         requires row_in_bounds { row < length self.old.numbers }
@@ -125,8 +126,8 @@ impl<A: Allocator> Matrix<A> {
         Ok(())
     }
 
-    // Adds row `row` of `other` to the same row of this matrix. If the call fails, some of the
-    // numbers may already have been added.
+    // Adds the numbers in row `row` of `other` to the numbers in the same row of this matrix. If
+    // the call fails, some of the numbers may already have been added.
     fn add_row(&mut self, row: usize, other: &Matrix<A>) -> Result<(), ThinVecError>
         requires row_in_bounds { row < length self.old.numbers }
         requires other_row_in_bounds { row < length other.now.numbers }
@@ -144,9 +145,9 @@ impl<A: Allocator> Matrix<A> {
         Ok(())
     }
 
-    // Writes row `column` of `other` into column `column` of this matrix. All numbers in this
-    // column must be 0 before the call. If the call fails, some of the numbers may already have
-    // been written.
+    // Writes the numbers in row `column` of `other` to column `column` of this matrix. Before the
+    // call, all numbers in this column must be 0. If the call fails, some of the numbers may
+    // already have been written.
     fn set_column(&mut self, column: usize, other: &Matrix<A>) -> Result<(), ThinVecError>
         requires column_in_bounds { column < self.old.columns }
         requires row_in_bounds { column < length other.now.numbers }
@@ -166,7 +167,8 @@ impl<A: Allocator> Matrix<A> {
 }
 
 impl<A: Allocator> fmt::Debug for Matrix<A> {
-    // Prints the rows in order, each as a map from columns to the numbers that are not 0.
+    // Prints the rows in order. Each row is printed as a map from columns to the numbers that are
+    // not 0.
     fn fmt<W: fmt::Write>(&self, f: &mut fmt::Formatter<W>) -> fmt::Result {
         self.numbers.fmt(f)
     }

@@ -1,4 +1,4 @@
-//! The function `row_product`, which computes the product of a row of a matrix and a vector.
+//! Computes the product of a row of a matrix and a vector.
 ghost use Rattle.std.specs.List.{sum};
 ghost use Rattle.std.specs.Prelude.{◌≡◌, ◌-◌, ◌*◌, ◌^◌, ◌<◌, ℕ, length, map, min, slice_index, slice_index_or};
 

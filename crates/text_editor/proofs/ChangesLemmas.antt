@@ -6,17 +6,17 @@ use Rattle.std.specs.List.{replace_range}
 use Rattle.text_editor.specs.Changes.{AllFit, FitAlong, Fits, changed, texts_along, texts_of}
 use Rattle.text_editor.specs.declared.change.Change.{Change}
 
--- In this module, `change` turns the text `text` into the text `new`. The change inserts `n`
--- characters, and its range is within `text`.
+-- In this module, `change` turns the text `text` into the text `new`. The range of `change` is
+-- within `text`, and `change` inserts `n` characters.
 module _ (change : Change) (n : ℕ) (text new : List ℕ) (fits : Fits change text)
     (count : n ≡ length change.characters.items) (made : new ≡ changed change text) where
-  -- The part of `text` before index `change.start` has `change.start` characters, because this
-  -- index is at most the length of `text`.
+  -- The change begins at index `change.start`, which is at most the length of `text`. So the part
+  -- of `text` before that index has exactly `change.start` characters.
   short : length (take change.start text) ≡ change.start
   short = length-take-le change.start text (omega (arith, fits.start_le_end, fits.in_bounds))
 
-  -- The range of the inserted characters, `change.start..change.start + n`, is within the text
-  -- `new`.
+  -- The change inserts `n` characters, which begin at index `change.start` of the text `new`. The
+  -- range of these characters is within `new`.
   pub comes_in : change.start + n ≤ length new
   comes_in =
       let front : List ℕ = take change.start text in
@@ -28,8 +28,8 @@ module _ (change : Change) (n : ℕ) (text new : List ℕ) (fits : Fits change t
         length-append front change.characters.items,
       )
 
-  -- If `old` consists of the characters that the change removed, then replacing the inserted
-  -- characters in `new` with `old` restores `text`.
+  -- Suppose that `old` consists of the characters that the change removed from `text`. If the
+  -- inserted characters in `new` are replaced with `old`, then the result is `text` again.
   pub takes_back : (old : List ℕ) → old ≡ slice_range text change.start change.end
       → text ≡ replace_range new change.start (change.start + n) old
   takes_back old is =
@@ -53,21 +53,22 @@ module _ (change : Change) (n : ℕ) (text new : List ℕ) (fits : Fits change t
 -- `text` results in the text `after`.
 module _ (changes rest : List Change) (change : Change) (text after : List ℕ)
     (is : changes ≡ rest ++ change ∷ []) (made : after ≡ changed change text) where
-  -- Since `changes` is `rest` followed by `change`, the reverse of `changes` is `change` followed
+  -- The list `changes` consists of `rest` and then `change`. So its reverse is `change`, followed
   -- by the reverse of `rest`.
   turned : reverse changes ≡ change ∷ reverse rest
   turned = ap (λ (cs : List Change). reverse cs) is ∙ reverse-append rest (change ∷ [])
 
-  -- `texts_of` applies the changes of a list from the last to the first. The last change turns
-  -- `text` into `after`, so `after` is the first resulting text. The other texts result from
-  -- applying `rest` to `after`.
+  -- `texts_of` applies the last change in the list `changes` first. This change turns `text` into
+  -- `after`, so `after` is the first text in the result. The other changes are `rest`, so the
+  -- remaining texts in the result are `texts_of rest after`.
   pub texts_of-last : texts_of changes text ≡ after ∷ texts_of rest after
   texts_of-last =
       ap (λ (cs : List Change). texts_along cs text) turned
       ∙ ap (λ (t : List ℕ). t ∷ texts_along (reverse rest) t) (sym made)
 
-  -- If `change` fits `text` and results in `after`, and the other changes, `rest`, fit `after`
-  -- (`AllFit`), then all `changes` fit `text`. They are applied from the last to the first.
+  -- `AllFit changes text` states that each change fits the text to which it is applied, if
+  -- `changes` are applied from the last to the first. If the last change, `change`, fits `text`,
+  -- and `AllFit rest after` holds for the other changes, then `AllFit changes text` holds.
   pub AllFit-last : Fits change text → AllFit rest after → AllFit changes text
   AllFit-last fits all =
       subst (λ (cs : List Change). FitAlong cs text) (sym turned)
@@ -91,8 +92,8 @@ pub length-texts_of : (changes : List Change) (text : List ℕ)
 length-texts_of changes text =
     length-texts_along (reverse changes) text ∙ length-reverse changes
 
--- If only the first `k` changes of a list are applied to a text, then the results are the first `k`
--- texts of `texts_along changes text`.
+-- The first `k` texts of `texts_along changes text` are the texts that result if only the first `k`
+-- changes are applied to `text`.
 texts_along-take : (k : ℕ) (changes : List Change) (text : List ℕ)
     → texts_along (take k changes) text ≡ take k (texts_along changes text)
 texts_along-take zero changes text = refl
@@ -122,10 +123,11 @@ reverse-drop m changes =
     length-reverse (drop m changes) ∙ length-drop m changes in
     rw whole (sym (take_at left (reverse (take m changes)) (length changes - m) count))
 
--- In this module, the first `m` changes are removed from the list `changes`.
+-- In this module, the first `m` changes are removed from the list `changes`. Only the other changes
+-- are applied to the text `text`.
 module _ (m : ℕ) (changes : List Change) (text : List ℕ) where
   -- `texts_of` applies the changes of a list from the last to the first. So if the first `m`
-  -- changes are removed, only the last `m` resulting texts are missing.
+  -- changes are removed from the list, only the last `m` of the resulting texts are lost.
   pub texts_of-drop : texts_of (drop m changes) text
       ≡ take (length changes - m) (texts_of changes text)
   texts_of-drop =

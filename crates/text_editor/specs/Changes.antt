@@ -12,25 +12,27 @@ pub record Fits (change : Change) (text : List ℕ) : Type 0 where
   pub start_le_end : change.start ≤ change.end
   pub in_bounds : change.end ≤ length text
 
--- `texts_along changes text` lists the text after each change. The changes are applied to `text` in
--- order, each to the result of the previous change.
+-- `texts_along changes text` contains the text after each change. The first change is applied to
+-- `text`, and each later change to the text that results from the previous change.
 abbrev pub texts_along : List Change → List ℕ → List (List ℕ)
 texts_along [] text = []
 texts_along (change ∷ changes) text =
     changed change text ∷ texts_along changes (changed change text)
 
--- `FitAlong changes text` holds if each change fits the text to which it is applied. The changes
--- are applied to `text` in order, each to the result of the previous change.
+-- `FitAlong changes text` holds if each change fits the text to which it is applied. The first
+-- change is applied to `text`, and each later change to the text that results from the previous
+-- change.
 abbrev pub FitAlong : List Change → List ℕ → Type 0
 FitAlong [] text = Unit {0}
 FitAlong (change ∷ changes) text = Fits change text × FitAlong changes (changed change text)
 
--- `texts_of changes text` lists the text after each change if `changes` are applied to `text` from
--- the last to the first.
+-- Suppose that `changes` are applied to `text` one after another, from the last change in the list
+-- to the first. `texts_of changes text` is the list of the texts after each change, in the order in
+-- which the changes are applied.
 abbrev pub texts_of : List Change → List ℕ → List (List ℕ)
 texts_of changes text = texts_along (reverse changes) text
 
--- `AllFit changes text` holds if each change fits the text to which it is applied. The changes are
--- applied to `text` from the last to the first.
+-- Suppose that `changes` are applied to `text` one after another, from the last change in the list
+-- to the first. `AllFit changes text` holds if each change fits the text to which it is applied.
 abbrev pub AllFit : List Change → List ℕ → Type 0
 AllFit changes text = FitAlong (reverse changes) text

@@ -1,9 +1,9 @@
--- The record `History` is the view of an editor that contracts use.
+-- In contracts, the state of an editor is a `History`.
 use Rattle.std.specs.Prelude.{◌≡◌, ℕ, List, []}
 
--- A `History` contains the text, the texts that repeated calls to `undo` restore (`past`), and the
--- texts that repeated calls to `redo` restore (`future`). In each list, the text to restore next is
--- the first.
+-- A `History` contains the current text and two lists of texts. Repeated calls to `undo` restore
+-- the texts in `past`, and repeated calls to `redo` restore the texts in `future`. In each list,
+-- the first text is the one that the next call restores.
 pub record History : Type 0 where
   pub past : List (List ℕ)
   pub text : List ℕ

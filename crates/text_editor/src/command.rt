@@ -6,7 +6,7 @@ use crate::editor::Editor;
 use std::alloc::Global;
 use thin_vec::ThinVec;
 
-/// A command of the editor, parsed from one line of the input.
+/// A command of the editor. Each line of the input is parsed as one command.
 #[derive(Drop)]
 pub enum Command {
     /// Replaces a range of characters. The fields are the start of the range, its exclusive end,
@@ -22,8 +22,8 @@ pub enum Command {
     Undo,
     /// Redoes the edit that was undone last. In the input, the command is written `redo`.
     Redo,
-    /// Forgets the oldest edits. The field is the greatest number of edits that can still be
-    /// undone. In the input, the command is written `forget COUNT`.
+    /// Forgets the oldest edits. The field is the greatest number of edits that can still be undone
+    /// after this command. In the input, the command is written `forget COUNT`.
     Forget(usize),
     /// Prints the text. In the input, the command is written `print`.
     Print,
@@ -63,7 +63,8 @@ impl Command {
         }
     }
 
-    /// Runs the command on `editor`. `Print` does nothing here, because `main.rt` prints the text.
+    /// Runs the command on `editor`. For `Print`, this function does nothing, because `main.rt`
+    /// prints the text.
     ///
     /// # Errors
     ///
@@ -93,14 +94,14 @@ fn replacement(alloc: Global, start: usize, end: usize, text: &str) -> Result<Co
     Ok(Command::Replace(start, end, characters))
 }
 
-// Splits `text` at its first space, and returns the two parts without this space. If there is no
-// space, the second part is empty.
+// Splits `text` at its first space. Returns two parts: the text before the space, and the text
+// after it. If there is no space, the first part is the whole text, and the second part is empty.
 fn first_word(text: &str) -> (&str, &str) {
     text.split_once(' ').unwrap_or((text, ""))
 }
 
-// Parses the first word of `text` as a number. Returns the number and the text after the next
-// space. Fails with `NotACommand` if the word is not a number.
+// Parses the first word of `text` as a number. Returns two values: the number, and the text after
+// the space that follows the word. Fails with `NotACommand` if the word is not a number.
 fn number(text: &str) -> Result<(usize, &str), EditError> {
     let (word, rest) = first_word(text);
     match word.parse::<usize>() {

@@ -1,5 +1,5 @@
-//! The type `Editor`. An editor owns a text, a list of changes that undo edits, and a list of
-//! changes that redo undone edits.
+//! The type `Editor`. An editor owns a text and two lists of changes. The changes in one list undo
+//! edits, and the changes in the other list redo edits that have been undone.
 ghost use Rattle.std.specs.Prelude.{◌≡◌, ◌↔◌, ◌⊎◌, ◌<◌, [], ◌∷◌, IsErrOf, OnErr, OnOk, length, take};
 ghost use Rattle.std.specs.List.{replace_range};
 ghost use Rattle.text_editor.specs.Changes.{AllFit, texts_of};
@@ -11,8 +11,9 @@ use std::alloc::Global;
 use std::marker::Model;
 use thin_vec::{ThinVec, ThinVecError};
 
-/// A text with the history of its edits. The record `History` is the view of an editor that
-/// contracts use.
+/// A text with the history of its edits. In contracts, an editor is a `History`, which contains the
+/// text, the texts that repeated calls to `undo` restore, and the texts that repeated calls to
+/// `redo` restore.
 #[derive(Drop)]
 pub struct Editor {
     text: ThinVec<char>,
@@ -62,8 +63,9 @@ impl Editor {
     ///
     /// # Errors
     ///
-    /// Returns `OutOfBounds` if `start..end` is not a range within the text, and `NoRoom` if there
-    /// is not enough memory. On failure, the editor is unchanged, and `characters` is dropped.
+    /// Returns `OutOfBounds` if `end` is less than `start` or greater than the length of the text.
+    /// Returns `NoRoom` if there is not enough memory for the edit. On failure, the editor is
+    /// unchanged, and `characters` is dropped.
     pub fn replace(
         &mut self,
         start: usize,
@@ -142,8 +144,9 @@ impl Editor {
     }
 }
 
-// Removes the last change from `from` and applies it to `text`. Appends to `to` a change that
-// undoes the applied change. On failure, `text` and the items of both lists are unchanged.
+// Removes the last change from the list `from`, and applies it to `text`. Appends to the list `to`
+// a change that undoes the applied change. On failure, `text` and the items of both lists are
+// unchanged.
 fn step(
     text: &mut ThinVec<char>,
     from: &mut ThinVec<Change>,

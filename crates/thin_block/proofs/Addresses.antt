@@ -1,7 +1,7 @@
 -- These lemmas are steps of proofs about function bodies:
 --
--- - `its_ptr` evaluates an operand that reads the pointer of a block.
--- - `moves_on` and `slot_found` execute the code that computes the address of a slot.
+-- - `its_ptr` symbolically evaluates an operand that reads the pointer of a block.
+-- - `moves_on` and `slot_found` symbolically execute statements that compute the address of a slot.
 -- - `takes_slot`, `takes_item` and `takes_two` separate one or two slots from the other slots.
 use Rattle.std.proofs.Common.{◌≡◌, ℕ, zero, Some, None, ◌+◌, ◌*◌, ◌^◌, ◌<◌, ◌≤◌, List, [], ◌∷◌, length, true, refl, sym, ap, subst, arith, w64}
 use lib.Dec.{T}
@@ -28,7 +28,7 @@ use Rattle.thin_block.proofs.HeaderMemory.{Br, block_val}
 use Rattle.thin_block.proofs.SlotMemory.{Slot, sz, reach, besides, slot_out, Two}
 
 -- If a block with the slots `xs` is small enough to be allocated, and `i ≤ length xs`, then `i`
--- items take less than `2 ^ 64` bytes.
+-- items take fewer than `2 ^ 64` bytes in total.
 pub near : (E : El) (xs : List (Slot E)) (i : ℕ) → fits_block (R E) (length xs) ≡ true
     → i ≤ length xs → i * sz E < 2 ^ 64
 near E xs i fits le = let low = reach (R E) i (length xs) fits le in omega arith
@@ -36,7 +36,8 @@ near E xs i fits le = let low = reach (R E) i (length xs) fits le in omega arith
 module _ (E : El) (Y : Al) {M : Type 1} {𝓤 : Ura M} {𝓛 : Logic 𝓤} {K : Type 0}
     {Γ : List (Item 𝓤)} {h s : Item 𝓤} where
   -- Symbolically evaluates an operand that reads a block's pointer through the reference in the
-  -- local variable `p`. The result is the pointer to the offset `o` of the allocation `b`.
+  -- local variable `p`. This reference points to the offset `ro` of the allocation `rb`. The result
+  -- is the block's pointer, which points to the offset `o` of the allocation `b`.
   pub its_ptr : K → {Ev : Env 𝓤 𝓛.H} {p b o rb ro : ℕ} {q : Share}
       → at 𝓛 p (h ∷ s ∷ ‵
       (cell_at full_share (Br E Y).mir (block_val (block_ptr b o) ∷ []) rb ro) ∷ Γ)
@@ -49,12 +50,13 @@ module _ (E : El) (Y : Al) {M : Type 1} {𝓤 : Ura M} {𝓛 : Logic 𝓤} {K : 
 module _ {M : Type 1} {𝓤 : Ura M} (𝓛 : Logic 𝓤) (Ev : Env 𝓤 𝓛.H) where
   open 𝓛 use {H}
 
-  -- `holds p v` is the context entry that says that the local variable `p` holds the value `v`.
+  -- `holds p v` is an entry of the proof context. It states that the local variable `p` holds the
+  -- value `v`.
   abbrev holds : ℕ → Val → Item 𝓤
   holds p v = ‵ (fat full_share (spot_of 𝓤 H Ev p).0 (spot_of 𝓤 H Ev p).1 zero v)
 
-  -- `free p Γ` is the entry of the proof context `Γ` that lets the code assign a value to the local
-  -- variable `p`.
+  -- `free p Γ` is an entry of the proof context `Γ`. It states that the code may assign a value to
+  -- the local variable `p`. Before the assignment, `p` may hold any value of its type, or no value.
   abbrev free : ℕ → List (Item 𝓤) → Item 𝓤
   free p Γ = nth 𝓛 0 (free_needs 𝓛 (((spot_of 𝓤 H Ev p).0, (spot_of 𝓤 H Ev p).1) ∷ [])
       (at 𝓛 p Γ ∷ ‵ ftrue ∷ []))
@@ -64,47 +66,54 @@ module _ {M : Type 1} {𝓤 : Ura M} (𝓛 : Logic 𝓤) (Ev : Env 𝓤 𝓛.H) 
   Takes p v = T (has_ty (spot_of 𝓤 H Ev p).0 v)
 
   module _ (Γ : List (Item 𝓤)) (E : El) (b o i p₃ p₄ : ℕ) where
-    -- `far` is the proof context `Γ` after the first statement of `p.add(i)`, which stores the size
-    -- of `i` items in the local variable `p₃`.
+    -- The computation of `p.add(i)` first stores the product of `i` and the item size in the local
+    -- variable `p₃`. `far` is the proof context `Γ` after this statement.
     abbrev far : List (Item 𝓤)
     far = set 𝓛 p₃ (holds p₃ (vint w64 (i * sz E))) Γ
 
-    -- `gone` is the proof context `Γ` after `p.add(i)` has been computed: `p₃` holds the size of
-    -- `i` items, and `p₄` holds the address of item `i`.
+    -- `gone` is the proof context `Γ` after `p.add(i)` has been computed. In `gone`, the local
+    -- variable `p₃` holds the product of `i` and the item size, and the local variable `p₄` holds
+    -- the address of item `i`.
     abbrev pub gone : List (Item 𝓤)
     gone = set 𝓛 p₄ (holds p₄ (vptr b (i * sz E + o))) far
 
-    -- `goes_by p pᵢ` lists the context entries for the local variables that `p.add(i)` uses. The
-    -- lemma `moves_on` requires that they equal the needed entries, `goes_with p pᵢ`.
+    -- `goes_by p pᵢ` lists the entries of the proof context for the local variables that the
+    -- computation of `p.add(i)` uses. The local variable `p` holds the address of the first item,
+    -- and `pᵢ` holds the index `i`.
     abbrev pub goes_by : ℕ → ℕ → List (Item 𝓤)
     goes_by p pᵢ = at 𝓛 pᵢ Γ ∷ at 𝓛 p₃ Γ ∷ at 𝓛 p far ∷ at 𝓛 p₃ far ∷ at 𝓛 p₄ far ∷ []
 
-    -- `goes_with p pᵢ` lists the context entries that computing `p.add(i)` needs. The lemma
-    -- `moves_on` requires that they equal the actual entries, `goes_by p pᵢ`.
+    -- `goes_with p pᵢ` lists the entries that the proof context must contain so that `p.add(i)` can
+    -- be computed. The local variable `p` has to hold the address of the first item, and `pᵢ` has
+    -- to hold the index `i`.
     abbrev pub goes_with : ℕ → ℕ → List (Item 𝓤)
     goes_with p pᵢ = holds pᵢ (vint w64 i) ∷ free p₃ Γ ∷ holds p (vptr b o)
         ∷ holds p₃ (vint w64 (i * sz E)) ∷ free p₄ far ∷ []
 
   module _ (Γ : List (Item 𝓤)) (E : El) (b o i p₁ p₂ : ℕ) where
-    -- `first` is the proof context `Γ` after the first of the four statements that compute the
-    -- address of a slot: `p₁` holds the address of the first slot.
+    -- Four statements compute the address of a slot. The first statement stores the address of the
+    -- first slot in the local variable `p₁`. `first` is the proof context `Γ` after this statement.
     abbrev first : List (Item 𝓤)
     first = set 𝓛 p₁ (holds p₁ (vptr b (o + 16))) Γ
 
-    -- `turned` is the proof context `Γ` after the first two of the four statements that compute the
-    -- address of a slot: `p₁` and `p₂` hold the address of the first slot.
+    -- Four statements compute the address of a slot. The first two statements store the address of
+    -- the first slot in the local variables `p₁` and `p₂`. `turned` is the proof context `Γ` after
+    -- these two statements.
     abbrev pub turned : List (Item 𝓤)
     turned = set 𝓛 p₂ (holds p₂ (vptr b (o + 16))) first
 
-    -- `meets p₃ p₄ p pᵢ` lists the context entries for the local variables that computing the
-    -- address of a slot uses. The lemma `slot_found` requires that they equal the needed entries,
-    -- `needs p₃ p₄ p pᵢ`.
+    -- Four statements compute the address of a slot. `meets p₃ p₄ p pᵢ` lists the entries of the
+    -- proof context for the local variables that these statements use. The local variable `p` holds
+    -- the pointer of the block, and `pᵢ` holds the index of the slot. The statements store an
+    -- intermediate result in `p₃`, and the address of the slot in `p₄`.
     abbrev pub meets : ℕ → ℕ → ℕ → ℕ → List (Item 𝓤)
     meets p₃ p₄ p pᵢ = at 𝓛 p Γ ∷ at 𝓛 p₁ Γ ∷ at 𝓛 p₁ first ∷ at 𝓛 p₂ first
         ∷ goes_by turned E b (o + 16) i p₃ p₄ p₂ pᵢ
 
-    -- `needs p₃ p₄ p pᵢ` lists the context entries that computing the address of a slot needs. The
-    -- lemma `slot_found` requires that they equal the actual entries, `meets p₃ p₄ p pᵢ`.
+    -- Four statements compute the address of a slot. `needs p₃ p₄ p pᵢ` lists the entries that the
+    -- proof context must contain so that these statements can be executed. The local variable `p`
+    -- has to hold the pointer of the block, and `pᵢ` the index of the slot. The statements assign
+    -- values to `p₃` and `p₄`.
     abbrev pub needs : ℕ → ℕ → ℕ → ℕ → List (Item 𝓤)
     needs p₃ p₄ p pᵢ = holds p (vptr b o) ∷ free p₁ Γ ∷ holds p₁ (vptr b (o + 16)) ∷ free p₂ first
         ∷ goes_with turned E b (o + 16) i p₃ p₄ p₂ pᵢ
@@ -159,8 +168,9 @@ module _ (E : El) {M : Type 1} {𝓤 : Ura M} {𝓛 : Logic 𝓤} {K : Type 0} {
 
 module _ (E : El) {M : Type 1} {𝓤 : Ura M} {𝓛 : Logic 𝓤} {K : Type 0} {Γ : List (Item 𝓤)}
     {G : Goal 𝓤 𝓛.H} {h : Item 𝓤} where
-  -- Separates slot `i` from the other slots. Proof context before this step: the header; all slots.
-  -- Proof context after it: slot `i`; the other slots; the header.
+  -- Separates the memory of slot `i` from the memory of the other slots. Before this step, the
+  -- proof context begins with the header and all slots. After this step, it begins with slot `i`,
+  -- the other slots and the header, in this order.
   pub takes_slot : K → {x : Slot E} (b o : ℕ) (xs : List (Slot E)) (i : ℕ) → i < length xs
       → get_or xs i None ≡ x
       → Step K 𝓛 (‵ (slot_place (R E) x b (i * sz E + o)) ∷ ‵ (besides E 𝓛 b o xs i) ∷ h ∷ Γ) G
@@ -172,8 +182,8 @@ module _ (E : El) {M : Type 1} {𝓤 : Ura M} {𝓛 : Logic 𝓤} {K : Type 0} {
       rewrite k 0 (λ (x : Slot E). ‵ (slot_place (R E) x b (i * sz E + o))) e refl $ rest)
 
 module _ (E : El) {M : Type 1} (𝓤 : Ura M) where
-  -- `Bits b o v` says that the memory at the offset `o` of the allocation `b` holds the machine
-  -- value `v` of an item.
+  -- `Bits b o v` says that the memory at the offset `o` of the allocation `b` holds `v`, which is
+  -- the machine value of an item.
   abbrev Bits : ℕ → ℕ → Val → Item 𝓤
   Bits b o v = ‵ (fat full_share (elτ E) b o v)
 
@@ -183,8 +193,9 @@ module _ (E : El) {M : Type 1} (𝓤 : Ura M) where
 
 module _ (E : El) {M : Type 1} {𝓤 : Ura M} {𝓛 : Logic 𝓤} {K : Type 0} {Γ : List (Item 𝓤)}
     {G : Goal 𝓤 𝓛.H} {h : Item 𝓤} where
-  -- Separates the filled slot `i` from the other slots. Proof context afterward, in order: the
-  -- bytes of the item; the resources that the item owns; the other slots; the header.
+  -- Separates the filled slot `i` from the other slots, so that a proof can read the item in slot
+  -- `i`. After this step, the proof context begins with these entries, in this order: the bytes of
+  -- the item; the resources that the item owns; the other slots; the header.
   pub takes_item : K → {x : el_x E} (b o : ℕ) (xs : List (Slot E)) (i : ℕ) → i < length xs
       → get_or xs i None ≡ Some x
       → ((v : Val) → Good E v → Seq K 𝓛 (Bits E 𝓤 b (i * sz E + o) v ∷ Owned E 𝓤 x v
@@ -195,9 +206,10 @@ module _ (E : El) {M : Type 1} {𝓤 : Ura M} {𝓛 : Logic 𝓤} {K : Type 0} {
       use1 𝓛 (some (λ (v : Val). given (Good E v) (Bits E 𝓤 b (i * sz E + o) v ⊛ Owned E 𝓤 x v)))
       (el_out E 𝓛 b x (i * sz E + o)) $ pick k (λ v. learn k (λ good. split k $ next v good))
 
-  -- Separates the filled slots `i` and `j` from the other slots. Proof context afterward, in order:
-  -- the bytes and the resources of the item in slot `j`; the same for slot `i`; the other slots;
-  -- the header.
+  -- Separates the filled slots `i` and `j` from the other slots. After this step, the proof context
+  -- begins with these entries, in this order: the bytes of the item in slot `j`; the resources that
+  -- this item owns; the bytes of the item in slot `i`; the resources that this item owns; the other
+  -- slots; the header.
   pub takes_two : K → {x y : el_x E} (b o : ℕ) (xs : List (Slot E)) (i j : ℕ)
       (p : Two E 𝓛 b o xs i j) → (get_or xs i None ≡ Some x) × (get_or xs j None ≡ Some y)
       → ((v w : Val) → Good E v → Good E w → Seq K 𝓛 (Bits E 𝓤 b (j * sz E + o) w ∷ Owned E 𝓤 y w

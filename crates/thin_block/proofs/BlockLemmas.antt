@@ -1,5 +1,4 @@
--- These two lemmas are about the record `Seen`, which contains the parts of a block that contracts
--- mention.
+-- These two lemmas are about the record `Seen`, which is how contracts see a block.
 use Rattle.std.proofs.Common.{◌≡◌, ℕ, List, ap, ◌∙◌}
 use Rattle.std.specs.Prelude.{Option}
 use Rattle.thin_block.specs.Block.{Seen}

@@ -1,5 +1,6 @@
--- These lemmas are about the functions that choose a new capacity, `ruled_capacity` and
--- `exact_capacity`, and about capacities that are small enough to be allocated (`Fits`).
+-- These lemmas are about the functions that choose the new capacity of a block. `ruled_capacity`
+-- uses a growth rule, and `exact_capacity` chooses exactly the wanted capacity. `Fits` says that a
+-- block of a given capacity is small enough to be allocated.
 use Rattle.std.proofs.Common.{if◌then◌else◌, Bool, true, false, IsTrue, ◌≡◌, ℕ, zero, suc, ◌*◌, ◌^◌, ◌<◌, ◌≤◌, ap, refl, subst, sym, ◌∙◌, arith}
 use Rattle.std.specs.declared.option.Option.TheVariants.{Some, None}
 use borrow.Author.Tests.{lt-ltb, le-ltb, le-leb, lt-leb}
@@ -35,7 +36,8 @@ pub ruled-rule : (rule : Rule) (R : RattleType) (c w : ℕ) → c < w → w < 2 
 unfolding ruled_capacity
 ruled-rule rule R c w more word = rw (lt-leb w c more) (rw (lt-ltb w (2 ^ 64) word) refl)
 
--- `Grown R c w n` holds if `n` is at least `w` and at least `2 * c`, and a block of capacity `n` is
+-- `Grown R c w n` says that the new capacity `n` is at least the required capacity `w` and at least
+-- twice the old capacity `c`. It also says that a block of capacity `n` for items of type `R` is
 -- small enough to be allocated.
 pub record Grown (R : RattleType) (c w n : ℕ) : Type 0 where
   pub enough : w ≤ n
@@ -45,8 +47,9 @@ pub record Grown (R : RattleType) (c w n : ℕ) : Type 0 where
 none_some : {A B : Type 0} (x : A) → None ≡ Some x → B
 none_some x e = cc
 
--- If `rule` satisfies the law of growth rules, and `ruled_capacity` chooses `n` for `c < w`, then
--- `Grown R c w n` holds: `n` is at least `w` and `2 * c`, and small enough to be allocated.
+-- Suppose that `rule` satisfies the law of growth rules (`KeepsLaw`), and that `c < w`. If
+-- `ruled_capacity rule R c w` is `Some n`, then `Grown R c w n` holds: `n` is at least `w` and at
+-- least `2 * c`, and a block of capacity `n` is small enough to be allocated.
 pub ruled-grows : (rule : Rule) (R : RattleType) (c w n : ℕ) → KeepsLaw rule → c < w
     → ruled_capacity rule R c w ≡ Some n → Grown R c w n
 ruled-grows rule R c w n law more e = elim (dec_lt w (2 ^ 64)) [
@@ -60,8 +63,8 @@ ruled-grows rule R c w n law more e = elim (dec_lt w (2 ^ 64)) [
 pub fits-small : (R : RattleType) (c : ℕ) → Fits R c → c < 2 ^ 63
 fits-small R c e = (fits_tells R c (opened R c e)).few
 
--- If a block of capacity `c` is small enough to be allocated, then `c` items take less than
--- `2 ^ 63` bytes.
+-- If a block of capacity `c` is small enough to be allocated, then `c` items take fewer than
+-- `2 ^ 63` bytes in total.
 pub fits-bytes : (R : RattleType) (c : ℕ) → Fits R c → c * type_size R < 2 ^ 63
 fits-bytes R c e = let room = (fits_tells R c (opened R c e)).room in omega arith
 
@@ -82,8 +85,8 @@ fits-none R = closed R 0 (fits_none R)
 -- The next lemmas are about fewer than `2 ^ 31` items of fewer than `2 ^ 31` bytes each. A block
 -- for these items is far below every size limit.
 
--- Fewer than `2 ^ 31` items of fewer than `2 ^ 31` bytes each take fewer than `2 ^ 62` bytes in
--- total.
+-- If there are fewer than `2 ^ 31` items, and each item takes fewer than `2 ^ 31` bytes, then all
+-- items together take fewer than `2 ^ 62` bytes.
 pub few_bytes : (c s : ℕ) → c < 2 ^ 31 → s < 2 ^ 31 → c * s < 2 ^ 62
 few_bytes c s few small =
     let wide : c * s ≤ c * (2 ^ 31) =
@@ -98,8 +101,9 @@ small_fits R c few small =
     let about = rounded R 0 in
     closed R c (fits_yes R c (omega arith) (omega (arith, about.most)))
 
--- If an item takes less than `2 ^ 31` bytes, and a block of capacity 0 needs room for 1 to 4 items,
--- then the rule `doubling` chooses the capacity 4.
+-- Suppose that each item takes fewer than `2 ^ 31` bytes. If the old capacity `c` is 0, and the
+-- required capacity `w` is at least 1 and at most 4, then the rule `doubling` chooses the capacity
+-- 4.
 pub doubling_first : (R : RattleType) (c w : ℕ) → c ≡ 0 → 0 < w → w ≤ 4 → type_size R < 2 ^ 31
     → ruled_capacity doubling R c w ≡ Some 4
 unfolding doubling fitting first
@@ -111,8 +115,9 @@ doubling_first R c w none some few small =
     subst (Fits R) (sym four) (small_fits R 4 (omega arith) small) in
     ruled-rule doubling R c w more (omega arith) ∙ (rw fit (ap Some four))
 
--- If `0 < c < 2 ^ 30`, `c < w ≤ 2 * c`, and an item takes less than `2 ^ 31` bytes, then the rule
--- `doubling` chooses the capacity `2 * c`.
+-- Suppose that `0 < c < 2 ^ 30`, and that each item takes fewer than `2 ^ 31` bytes. If the
+-- capacity `c` is too small for `w` items, but `2 * c` suffices, then the rule `doubling` chooses
+-- the capacity `2 * c`.
 pub doubling_next : (R : RattleType) (c w : ℕ) → 0 < c → c < w → w ≤ 2 * c → c < 2 ^ 30
     → type_size R < 2 ^ 31 → ruled_capacity doubling R c w ≡ Some (2 * c)
 unfolding doubling fitting
@@ -165,7 +170,8 @@ pub exact-past : (R : RattleType) (c w : ℕ) → c < w → 2 ^ 64 ≤ w → exa
 exact-past R c w more high =
     exact-overflow R c w more (λ fit. let small = fits-small R w fit in absurd (omega arith))
 
--- In this module, the item types `R` and `S` have the same size and the same alignment.
+-- The next two lemmas assume that the item types `R` and `S` have the same size and the same
+-- alignment.
 module _ (R S : RattleType) (c w : ℕ) (size : type_size R ≡ type_size S)
     (align : type_align R ≡ type_align S) where
   -- If the item types `R` and `S` have the same size and the same alignment, then `exact_capacity`

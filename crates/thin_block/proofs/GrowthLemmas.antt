@@ -1,5 +1,5 @@
--- This file proves that a growth rule that never chooses more than the wanted capacity breaks the
--- law of growth rules.
+-- This file proves that a growth rule must sometimes choose more than the wanted capacity. A rule
+-- that never does so breaks the law of growth rules.
 use Rattle.std.specs.Prelude.{◌*◌, ◌≤◌, refl}
 use Rattle.std.proofs.Common.{arith}
 use Rattle.thin_block.specs.Capacity.{fits}

@@ -47,17 +47,18 @@ use Rattle.thin_block.proofs.SizesLemmas.{fits_none}
 abbrev pub plainly : List RattleType → RattleType
 plainly Rs = Struct (record { name = []; args = []; types = []; fields = Rs })
 
--- `block_val p` is the machine value of a block with the pointer `p`: a struct of `p` and two
--- fields that take no bytes.
+-- `block_val p` is the machine value of a block with the pointer `p`. It is a struct that consists
+-- of `p` and of two fields that take no bytes.
 abbrev pub block_val : Ptr → Val
 block_val p = vstruct (vcons (ptr_val p) (vcons (vstruct vnil) (vcons (vstruct vnil) vnil)))
 
--- `block_own p vs` states what the fields of a block own if its pointer is `p` and its machine
--- values are `vs`.
+-- Suppose that a block has the pointer `p`, and that `vs` is the list of its machine values.
+-- `block_own p vs` states what the fields of this block own.
 abbrev pub block_own : Ptr → List Val → Fml
 block_own p = (plainly (RawPtr ∷ plainly [] ∷ plainly [] ∷ [])).own_val (p, (tt, (tt, tt)))
 
--- The only machine value of a block with the pointer `p` is `block_val p`.
+-- If `vs` is the list of the machine values of a block with the pointer `p`, then `vs` is
+-- `block_val p ∷ []`.
 pub block_told : (p : Ptr) (vs : List Val) → shadow (block_own p vs) → vs ≡ block_val p ∷ []
 block_told p vs s = s.1.0
     ∙ (λ i. vstruct (of_list (s.1.1.0 i ++ (s.1.1.1.0.1.0 i ++ (s.1.1.1.1.0.1.0 i ++ [])))) ∷ [])
@@ -101,15 +102,17 @@ module _ (R : RattleType) (c : ℕ) where
   abbrev τ : Ty
   τ = lone R.mir
 
-  -- `items` is the type of the memory of all slots: an array of possibly uninitialized items.
+  -- `items` is the type of the memory of all slots. It is an array of possibly uninitialized items.
   abbrev pub items : Ty
   items = raw (ty_array τ c)
 
-  -- The memory of a whole block with `c` slots has the alignment that `block_align` computes.
+  -- A whole block with `c` slots for items of the type `R` has the alignment that `block_align`
+  -- computes.
   pub whole_align : align (whole R c) ≡ block_align (type_align R)
   whole_align = ap (λ (a : ℕ). max 8 (max 8 (max a 1))) (align-raw τ) ∙ (aligned τ).0
 
-  -- The memory of a whole block with `c` slots has the size that `block_bytes` computes.
+  -- A whole block with `c` slots for items of the type `R` has the size that `block_bytes`
+  -- computes.
   pub whole_size : size (whole R c) ≡ block_bytes (type_size R) (type_align R) c
   whole_size =
       let ends : up (align items) 16 + size items ≡ max 16 (align τ) + c * size τ =
@@ -119,8 +122,9 @@ module _ (R : RattleType) (c : ℕ) where
 module _ {M : Type 1} {𝓤 : Ura M} (𝓛 : Logic 𝓤) (R : RattleType) where
   open 𝓛 use {H}
 
-  -- Splits the memory of a whole block into memory for the capacity, the length and the slots, and
-  -- the right to put these parts back together.
+  -- Splits the memory of a whole block into memory for the capacity, memory for the length, and
+  -- memory for the slots. The result also contains the right to put these three parts back
+  -- together.
   pub carve : (c b o : ℕ) → ent 𝓤 (H.room (whole R c) b o)
       (sep 𝓤 (H.room (ty_int w64) b o)
       (sep 𝓤 (H.room (ty_int w64) b (o + 8))
@@ -148,8 +152,9 @@ module _ {M : Type 1} {𝓤 : Ura M} (𝓛 : Logic 𝓤) (R : RattleType) where
       move ! (2 ∷ 4 ∷ []) $ join ! $ move ! (2 ∷ 0 ∷ []) $ join ! $ move ! (1 ∷ 0 ∷ []) $ join ! $
       by ! (apply∗ 𝓤 rooms (H.room (whole R c) b o))
 
--- `header` states what a block owns besides its slots: its header and the right to free the
--- allocation, or, without an allocator, a share of the static header.
+-- `header` states what a block owns besides its slots. If the block has an allocator, the block
+-- owns its header and the right to free the allocation. Otherwise, the block owns a share of the
+-- static header.
 abbrev pub header : {D : Type 0} → (D → Ty → Ptr → Fml) → RattleType → ℕ → ℕ
     → Option D → ℕ → ℕ → Fml
 header t R n c None b o = fsep (lent_at usize (block_ptr b o) 0 [])
@@ -216,13 +221,14 @@ module _ (E : El) (Y : Al) where
   abbrev pub t : Y.row.Denot → Ty → Ptr → Fml
   t = Y.g.dealloc_token
 
-  -- `Header x b o` states what the block `x` owns besides its slots: its header and the right to
-  -- free the allocation, or, without an allocator, a share of the static header.
+  -- `Header x b o` states what the block `x` owns besides its slots. If `x` has an allocator, `x`
+  -- owns its header, which begins at the offset `o` of the allocation `b`, and the right to free
+  -- the allocation. Otherwise, `x` owns a share of the static header.
   abbrev pub Header : Br.Denot → ℕ → ℕ → Fml
   Header x b o = header t (R E) x.len (length x.slots) x.alloc b o
 
-  -- `Slots x b o` is the memory of the slots of the block `x`, whose header begins at the offset
-  -- `o` of the allocation `b`.
+  -- `Slots x b o` is the memory of the slots of the block `x`. The header of this block begins at
+  -- the offset `o` of the allocation `b`.
   abbrev pub Slots : Br.Denot → ℕ → ℕ → Fml
   Slots x b o = places (R E) x.slots b (o + 16)
 
@@ -257,9 +263,9 @@ module _ (E : El) (Y : Al) {M : Type 1} {𝓤 : Ura M} {𝓛 : Logic 𝓤} {K : 
 
 module _ (E : El) (Y : Al) {M : Type 1} {𝓤 : Ura M} {𝓛 : Logic 𝓤} {K : Type 0}
     {Γ : List (Item 𝓤)} {G : Goal 𝓤 𝓛.H} where
-  -- Splits the block behind a mutable reference. Proof context afterward, in order: the header; the
-  -- slots; the memory of the block's pointer; the open borrow; the value that the reference
-  -- records; the same value, recorded by the borrow.
+  -- Splits the block behind a mutable reference into its parts. After this step, the proof context
+  -- begins with these entries, in this order: the header; the slots; the memory that holds the
+  -- block's pointer; three entries about the open borrow of the block.
   pub block_opens : K → Soaks G → {κ : Lft} {q : Share} {γ : GName} (x : (Br E Y).Denot) (rb ro : ℕ)
       → ((b o : ℕ) → x.at ≡ block_ptr b o → fits_block (R E) (length x.slots) ≡ true
       → Seq K 𝓛 (‵ (Header E Y x b o) ∷ ‵ (Slots E Y x b o) ∷ ‵
@@ -274,8 +280,8 @@ module _ (E : El) (Y : Al) {M : Type 1} {𝓤 : Ura M} {𝓛 : Logic 𝓤} {K : 
       rewrite k 2 (λ (us : List Val). ‵ (cell_at full_share (Br E Y).mir us rb ro))
       is refl $ next b o at fits))
 
-  -- Puts the header and the slots of the block behind a mutable reference back together, and closes
-  -- the borrow of the block.
+  -- Puts the header and the slots of the block behind a `&mut` back together, and closes the borrow
+  -- of the block.
   pub block_closes : K → Soaks G → {κ : Lft} {q : Share} {u v : Gv} {γ : GName} (x : (Br E Y).Denot)
       (b o rb ro : ℕ) → x.at ≡ block_ptr b o
       → Step K 𝓛 (‵ (fobs γ ((Br E Y).coded.code x)) ∷ ‵

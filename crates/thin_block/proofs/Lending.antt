@@ -1,5 +1,5 @@
--- These lemmas return lent items to their block after the mutable reference has ended. The slots
--- then hold the new values.
+-- These lemmas are about a mutable reference to items of a block. After the reference has ended,
+-- the lemmas return the items, which may have new values, to the block.
 --
 -- - `item_back` is for a mutable reference to one item.
 -- - `items_back` is for a mutable reference to contiguous items.
@@ -30,8 +30,8 @@ module _ (E : El) (Y : Al) {M : Type 1} {𝓤 : Ura M} (𝓛 : Logic 𝓤) (x : 
   abbrev B : Type 0
   B = (Br E Y).Denot
 
-  -- `Waiting` consists of the parts that a block keeps while its slots are lent: the header, and
-  -- the memory of the block's pointer.
+  -- `Waiting` consists of two parts of a block: the header, and the memory that holds the block's
+  -- pointer. The block keeps these parts while its slots are lent.
   abbrev pub Waiting : Fml
   Waiting = fsep (Header E Y x b o)
       (cell_at full_share (Br E Y).mir (block_val (block_ptr b o) ∷ []) rb ro)

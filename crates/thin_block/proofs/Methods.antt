@@ -48,22 +48,24 @@ others [] = []
 others (s ∷ ss) = ss
 
 module _ {n : ℕ} where
-  -- `dropped ss ks` is the choice that a function gives none of the arguments for the parameters
-  -- `ss` back to its caller. For each parameter, `ks` contains the lifetimes of the references
-  -- whose final values the contract may mention.
+  -- The proof of a function chooses which arguments the function gives back to its caller.
+  -- `dropped ss ks` is the choice to give back none of the arguments for the parameters `ss`. For
+  -- each of these parameters, `ks` contains the lifetimes of the references whose final values the
+  -- contract may mention.
   abbrev pub dropped : (ss : List (Slot n)) (ks : Kepts ss) → Stays ss ks
   dropped [] ks = tt
   dropped (s ∷ ss) ks = (stay_dropped s ks.0, dropped ss ks.1)
 
 module _ {M : Type 1} {𝓤 : Ura M} (𝓛 : Logic 𝓤) {n : ℕ} where
   -- `AllSilent ss ks` holds if the contract says nothing about the values that the arguments for
-  -- the parameters `ss` have after the call.
+  -- the parameters `ss` have after the call. For each parameter, `ks` contains the lifetimes of the
+  -- references whose final values a contract is allowed to mention.
   abbrev pub AllSilent : (ss : List (Slot n)) → Kepts ss → Type 1
   AllSilent [] ks = Unit {1}
   AllSilent (s ∷ ss) ks = Silent 𝓛 n s ks.0 × AllSilent ss ks.1
 
-  -- If the contract says nothing about the values of the arguments after the call (`AllSilent`),
-  -- then the function need not give the arguments back to its caller.
+  -- Suppose that the contract of a function does not say which values the arguments have after the
+  -- call (`AllSilent`). Then the function need not give the arguments back to its caller.
   pub all_go : (ss : List (Slot n)) (ks : Kepts ss) → AllSilent ss ks
       → AllGo 𝓛 n ss ks (dropped ss ks)
   all_go [] ks silent = tt
@@ -90,8 +92,8 @@ abbrev pub word : {n : ℕ} → n < 2 ^ 64 → T (has_ty (ty_int w64) (vint w64 
 word fits = (tt, record { fits = fits })
 
 module _ {M : Type 1} {𝓤 : Ura M} {𝓛 : Logic 𝓤} {K : Type 0} {Γ : List (Item 𝓤)} where
-  -- Begins the proof about the body of the function `f`. The argument list `us` is replaced with
-  -- the equal list `vs`, in which each argument is written out.
+  -- Begins the proof about the body of the function `f`. This step replaces the argument list `us`
+  -- with the equal list `vs`, in which each argument is written out.
   pub enters : K → {C : Calls 𝓤 𝓛.H} {Λ : Loops 𝓤 𝓛.H} (f : Fn) {us : List Val}
       {P : Val → SProp 𝓤} (vs : List Val) → us ≡ vs
       → Step K 𝓛 Γ (allocs f.locals (λ E. params' E vs (runs C Λ E f.body (at_ret E P))))
@@ -100,13 +102,13 @@ module _ {M : Type 1} {𝓤 : Ura M} {𝓛 : Logic 𝓤} {K : Type 0} {Γ : List
       regoal k (λ (us : List Val). prop (WpFn 𝓤 𝓛.H C Λ f us P)) e refl $
       enter k C Λ f vs P $ s)
 
--- Combines the item type `T` and its laws into one record, which the lemmas about blocks take as an
--- argument.
+-- Combines the item type `T` and its laws into one record. The lemmas about blocks take this record
+-- as an argument.
 abbrev pub item : {T : RattleType} → Laws T → El
 item {T} L = record { row = T; laws = L }
 
 -- Combines the allocator type `A`, its laws and its ghost members (such as `dealloc_token`) into
--- one record, which the lemmas about blocks take as an argument.
+-- one record. The lemmas about blocks take this record as an argument.
 abbrev pub source : {A : RattleType} → Laws A → Ghosts A.Denot → Dict → Dict → Al
 source {A} L g d drops = record { row = A; laws = L; g = g; d = d; drops = drops }
 
@@ -117,18 +119,20 @@ args_at E Y N = bounded (a_type ∷ a_type ∷ a_number ∷ []) (E.row, (Y.row, 
     (dcons Y.d (dcons Y.drops dnil))
 
 module _ (E : El) (Y : Al) {n : ℕ} (ss : List (Slot (suc n))) where
-  -- `on_block` is the parameter list of a method that takes `&mut self`: the mutable reference to
-  -- the block, and then the parameters `ss`.
+  -- `on_block` lists the parameters of a method that takes `&mut self`: first the `&mut Block`, and
+  -- then the parameters `ss`.
   abbrev pub on_block : List (Slot (suc n))
   on_block = mut_ref_to (0 ∷ []) tt (plain (λ _. Br E Y)) ∷ ss
 
-  -- `block_stays ks` is the choice that a method gives only the mutable reference to the block back
-  -- to its caller, and none of the other arguments.
+  -- The proof of a method chooses which arguments the method gives back to its caller.
+  -- `block_stays ks` is the choice to give back only the `&mut Block`. For each other parameter,
+  -- `ks` contains the lifetimes of the references whose final values the contract may mention.
   abbrev pub block_stays : (ks : Kepts ss) → Stays on_block (yes, ks)
   block_stays ks = (stay_ref (0 ∷ []) tt (plain (λ _. Br E Y)), dropped ss ks)
 
-  -- If the contract says nothing about the values of arguments other than `self` after the call,
-  -- then the method need not give these arguments back to its caller.
+  -- Suppose that the contract of a method says nothing about the values that the arguments other
+  -- than `self` have after the call. Then the method need not give these arguments back to its
+  -- caller.
   pub goes : {M : Type 1} {𝓤 : Ura M} (𝓛 : Logic 𝓤) (ks : Kepts ss) → AllSilent 𝓛 ss ks
       → AllGo 𝓛 (suc n) on_block (yes, ks) (block_stays ks)
   goes 𝓛 ks silent =
@@ -152,15 +156,15 @@ module _ {n : ℕ} (s : Slot (suc n)) (ss : List (Slot (suc n))) where
   Passed Bd = (κs : Lfts (suc n)) × Shares (suc n) × Bd κs × Denots (types_at (s ∷ ss) κs)
       × Valss (types_at (s ∷ ss) κs)
 
-  -- `Entry 𝓛 x` states what a function owns at the start of a call that passes `x`: the lifetime
-  -- tokens, and what the arguments own. The `requires` clauses are not included.
+  -- `Entry 𝓛 x` states what a function owns on entry if `x` is passed to the function. The
+  -- `requires` clauses are not included.
   abbrev Entry : {M : Type 1} {𝓤 : Ura M} (𝓛 : Logic 𝓤) {Bd : Lfts (suc n) → Type 0} → Passed Bd
       → SProp 𝓤
   Entry {𝓤 = 𝓤} 𝓛 x = sep 𝓤 (toks 𝓛 (suc n) x.0 x.1) (sem 𝓛 (owns (types_at (s ∷ ss) x.0) x.3 x.4))
 
-  -- Begins the proof of a function. Proof context afterward, in order: what the first argument
-  -- owns; the first lifetime token; the other lifetime tokens; what the other arguments own; the
-  -- `requires` clauses.
+  -- Begins the proof of a function. After this step, the proof context holds these entries, in this
+  -- order: what the first argument owns; the first lifetime token; the other lifetime tokens; what
+  -- the other arguments own; the `requires` clauses.
   pub arrives : {M : Type 1} {𝓤 : Ura M} (𝓛 : Logic 𝓤) {Bd : Lfts (suc n) → Type 0} {P : SProp 𝓤}
       (x : Passed Bd) (Q : SProp 𝓤)
       → Sq 𝓛 (‵ ((s.row x.0).own_val x.3.0 x.4.0) ∷ ‵ (flft x.0.0 x.1.0)
@@ -180,16 +184,19 @@ module _ (E : El) (Y : Al) {M : Type 1} {𝓤 : Ura M} (𝓛 : Logic 𝓤) {n : 
   abbrev shared : Slot (suc n)
   shared = shr_ref_to (0 ∷ []) tt (plain (λ _. Br E Y))
 
-  -- `Entered x Γ` is the proof context at the start of a method that takes `&mut self`: the current
-  -- value and the borrow of the block; the lifetime tokens; what the other arguments own; then `Γ`.
+  -- `Entered x Γ` is the proof context at the start of a method that takes `&mut self`. It holds
+  -- these entries, in this order: the current value of the `&mut`; the borrow of the block; the
+  -- lifetime token of this `&mut`; the other lifetime tokens; what the other arguments own; the
+  -- entries in the list `Γ`.
   abbrev Entered : {Bd : Lfts (suc n) → Type 0} → Passed lent ss Bd → List (Item 𝓤) → List (Item 𝓤)
   Entered x Γ = ‵ (fobs x.3.0.ghost_name ((Br E Y).coded.code x.3.0.now)) ∷ ‵
       (fbor x.0.0 (Body (mem (Br E Y)) x.3.0.ref_ptr.0 x.3.0.ref_ptr.1 x.3.0.ghost_name))
       ∷ ‵ (flft x.0.0 x.1.0) ∷ raw (toks 𝓛 n x.0.1 x.1.1) ∷ ‵
       (owns (types_at ss x.0) x.3.1 x.4.1) ∷ Γ
 
-  -- Begins the proof of a method that takes `&mut self`. Proof context afterward, in order: what
-  -- the method owns at the start of a call (`Entered`); the `requires` clauses.
+  -- Begins the proof of a method that takes `&mut self`. After this step, the proof context holds
+  -- everything that the method owns at the start of a call (`Entered`), and then the `requires`
+  -- clauses.
   pub starts : {Bd : Lfts (suc n) → Type 0} {P : SProp 𝓤} (x : Passed lent ss Bd) (Q : SProp 𝓤)
       → Sq 𝓛 (Entered x (raw Q ∷ [])) (prop P) → ent 𝓤 (sep 𝓤 (Entry lent ss 𝓛 x) Q) P
   starts x Q next = arrives lent ss 𝓛 x Q (fsplit3 ! $ drop ! $ next)
@@ -212,9 +219,9 @@ module _ (E : El) (Y : Al) {M : Type 1} {𝓤 : Ura M} (𝓛 : Logic 𝓤) {n : 
       → ent 𝓤 (sep 𝓤 (Entry lent ss 𝓛 x) (Facts 𝓤 φs)) P
   begins x φs next = begins_with x φs (λ said. keep ! (0 ∷ 1 ∷ 2 ∷ 3 ∷ []) $ next said)
 
-  -- Begins the proof of a method that takes `&self`. Proof context afterward, in order: the
-  -- resources behind the reference; its lifetime token; the other lifetime tokens; what the other
-  -- arguments own; the `requires` clauses.
+  -- Begins the proof of a method that takes `&self`. After this step, the proof context holds these
+  -- entries, in this order: the resources behind the `&`; the lifetime token of this `&`; the other
+  -- lifetime tokens; what the other arguments own; the `requires` clauses.
   pub seen : {Bd : Lfts (suc n) → Type 0} {P : SProp 𝓤} (x : Passed shared ss Bd) (Q : SProp 𝓤)
       → Sq 𝓛 (‵ (hidden_shr (Br E Y) x.0.0 x.3.0.now x.3.0.ref_ptr.0 x.3.0.ref_ptr.1)
       ∷ ‵ (flft x.0.0 x.1.0) ∷ raw (toks 𝓛 n x.0.1 x.1.1) ∷ ‵
@@ -231,16 +238,17 @@ module _ {M : Type 1} {𝓤 : Ura M} {𝓛 : Logic 𝓤} {K : Type 0} {Γ : List
   token_out k n κs qs = step (λ s.
       use1 𝓛 (‵ (flft κs.0 qs.0) ⊛ raw (toks 𝓛 n κs.1 qs.1)) (id⊢ 𝓤 _) $ split k $ s)
 
--- `blanks m` is the part of the final goal for `m` arguments that a function does not give back:
--- one trivially true formula for each argument.
+-- Suppose that a function does not give `m` of its arguments back to its caller. At the end of the
+-- proof of the function, `blanks m` has to be proved about these arguments. It consists of one
+-- trivially true formula for each argument.
 abbrev pub blanks : ℕ → Fml
 blanks zero = ftrue
 blanks (suc m) = fsep ftrue (blanks m)
 
 module _ {M : Type 1} {𝓤 : Ura M} {𝓛 : Logic 𝓤} {K : Type 0} {Γ : List (Item 𝓤)}
     {G : Goal 𝓤 𝓛.H} where
-  -- Adds `blanks m` to the proof context. This needs no resource, because `blanks m` is trivially
-  -- true.
+  -- Adds the formula `blanks m` to the proof context. The formula is trivially true, so this step
+  -- needs no resource.
   pub blank : K → (m : ℕ) → Step K 𝓛 (‵ (blanks m) ∷ Γ) G Γ G
   blank k zero = nothing k
   blank k (suc m) = step (λ s. blank k m $ nothing k $ fjoin k $ s)
@@ -255,9 +263,9 @@ module _ {M : Type 1} {𝓤 : Ura M} {𝓛 : Logic 𝓤} {K : Type 0} {G : Goal 
 
 module _ (E : El) (Y : Al) {M : Type 1} {𝓤 : Ura M} {𝓛 : Logic 𝓤} {K : Type 0}
     {G : Goal 𝓤 𝓛.H} where
-  -- Splits the block behind the mutable reference `r`. Proof context afterward, in order: the
-  -- header; the slots; the memory of the block's pointer; the open borrow; the value that the
-  -- reference records; the same value, recorded by the borrow.
+  -- Splits the block behind the mutable reference `r` into its parts. After this step, the proof
+  -- context begins with these entries, in this order: the header; the slots; the memory that holds
+  -- the block's pointer; three entries about the open borrow of the block.
   pub opens_self : K → Soaks G → {Γ : List (Item 𝓤)} {κ : Lft} {q : Share}
       (r : MutBor (Br E Y).Denot)
       → ((b o : ℕ) → r.now.at ≡ block_ptr b o → fits_block (R E) (length r.now.slots) ≡ true
@@ -270,9 +278,10 @@ module _ (E : El) (Y : Al) {M : Type 1} {𝓤 : Ura M} {𝓛 : Logic 𝓤} {K : 
       (fbor κ (Body (mem (Br E Y)) r.ref_ptr.0 r.ref_ptr.1 r.ghost_name)) ∷ ‵ (flft κ q) ∷ Γ) G
   opens_self k z r next = block_opens E Y k z r.now r.ref_ptr.0 r.ref_ptr.1 next
 
-  -- Puts the block behind the mutable reference `r` back together, with the new value `y`. Proof
-  -- context before this step, in order: the slots; the header; the memory of the block's pointer;
-  -- the open borrow; the values that the reference and the borrow record.
+  -- Puts the parts of the block behind the mutable reference `r` back together. The result is the
+  -- block `y`. Before this step, the proof context begins with these entries, in this order: the
+  -- slots, which may have changed; the header; the memory that holds the block's pointer; three
+  -- entries about the open borrow of the block.
   pub closes_over : K → Soaks G → {Γ : List (Item 𝓤)} {κ : Lft} {q : Share} {u v : Gv} {c : ℕ}
       (r : MutBor (Br E Y).Denot) (y : (Br E Y).Denot) (b o : ℕ) → y.at ≡ block_ptr b o
       → length y.slots ≡ c

@@ -32,8 +32,9 @@ capped_le s = elim (cases_lt s (2 ^ 64)) [
 takes_some : (s size : ℕ) → size ≡ capped s → 0 < size → 0 < s
 takes_some s size is some = omega (arith, is, some, capped_le s)
 
--- If `s > 0` and `power_bytes` chooses the capacity `n`, then, for some power of two `p`, the
--- header and `n` items fit into `p` bytes, but the header and `n + 1` items do not.
+-- Suppose that an item takes `s` bytes, that `s` is positive, and that `power_bytes` chooses the
+-- capacity `n`. Then there is a power of two `p` such that the header and `n` items fit into `p`
+-- bytes, but the header and `n + 1` items do not.
 pub each_fills : (s a c w : ℕ) (r : Option ℕ) → r ≡ power_bytes s a c w → 0 < s
     → IfSome r (FillsPower s a)
 each_fills s a c w None e some = tt
@@ -47,16 +48,17 @@ module _ (R : RattleType) (c w size : ℕ) (is : size ≡ capped (type_size R))
   abbrev a : ℕ
   a = type_align R
 
-  -- In the code of `PowerBytes`, `items` is the greater of the required capacity `w` and `2 * c`.
-  -- If `2 * c` exceeds `usize::MAX`, the code uses `usize::MAX` instead.
+  -- In the code of `PowerBytes`, `items` is the greater of the required capacity `w` and twice the
+  -- old capacity `c`. If `2 * c` exceeds `usize::MAX`, the code uses `usize::MAX` instead of
+  -- `2 * c`.
   abbrev items : ℕ
   items = max w (min (c * 2) (2 ^ 64 - 1))
 
   abbrev wanted : ℕ
   wanted = max w (2 * c)
 
-  -- In this module, a header and `items` items take at most `2 ^ 63` bytes. So no number that the
-  -- code computes exceeds `usize::MAX`.
+  -- These lemmas assume that a header and `items` items take at most `2 ^ 63` bytes in total. In
+  -- this case, no number that the code computes exceeds `usize::MAX`.
   module _ (small : 16 + items * size ≤ 2 ^ 63) where
     size_is : s ≡ size
     size_is =
@@ -82,7 +84,8 @@ module _ (R : RattleType) (c w size : ℕ) (is : size ≡ capped (type_size R))
         λ i. ((e ∙ ap least_power bytes) i - offset i) / sym size_is i in
         ap (fitting s a) next ∙ sym (powers_of_some s a c w (omega (arith, size_is, some)))
 
-  -- If a header and `items` items take more than `2 ^ 63` bytes, then `power_bytes` is `None`.
+  -- If a header and `items` items take more than `2 ^ 63` bytes in total, then the result of
+  -- `power_bytes` is `None`.
   pub power_past : 2 ^ 63 < 16 + items * size → None ≡ power_bytes s a c w
   power_past large =
       let offset = (rounded R 0).offset in

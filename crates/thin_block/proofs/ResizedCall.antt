@@ -21,9 +21,10 @@ use Rattle.core.proofs.alloc.Resizes.{Sizes, Flagged, by_flag}
 use Rattle.core.proofs.mem.Param.{El, R, el_x}
 use Rattle.thin_block.specs.contracts.in_place.resized as F
 
--- `Sized E len held wanted` is a precondition of the allocator's methods `grow` and `shrink`: `len`
--- is at most `held` and at most `wanted`, and blocks for `held` items and for `wanted` items are
--- small enough to be allocated.
+-- `Sized E len held wanted` is a condition that the allocator's methods `grow` and `shrink`
+-- require. It states that `len` items fit into the old memory block, which has room for `held`
+-- items, and into the new memory block, which has room for `wanted` items. It also states that
+-- neither memory block is too large to be allocated.
 abbrev pub Sized : El → Sizes
 Sized E len held wanted = (len ≤ held) × ((len ≤ wanted)
     × (FitsBlock (R E) held × FitsBlock (R E) wanted))
@@ -38,8 +39,9 @@ module _ (E : El) (Y : Al) {M : Type 1} {𝓤 : Ura M} (𝓛 : Logic 𝓤) (at_m
 
   module _ (κ κT κA : Lft) (q qT qA : Share) (out : κ ⊑ κA) (p : ℕ × ℕ) (a : Y.row.Denot)
       (b o len held wanted : ℕ) (xs : List (el_x E)) where
-    -- `at_resizing` contains the ghost arguments of a call of `resized`: lifetimes, shares of
-    -- lifetime tokens, the arguments with their machine values, and the items `xs`.
+    -- `at_resizing` contains the ghost arguments of a call of the function `resized`. These are
+    -- lifetimes, shares of lifetime tokens, the arguments of the call with their machine values,
+    -- and the items `xs`.
     abbrev pub at_resizing : Resizing.Ghost
     at_resizing = (
       (
@@ -61,7 +63,7 @@ module _ (E : El) (Y : Al) {M : Type 1} {𝓤 : Ura M} (𝓛 : Logic 𝓤) (at_m
     abbrev Block : Fml
     Block = block_with_items (token Y a) (R E) (block_ptr b o) len held xs
 
-    -- `leaves r` states what the caller owns after `resized` has returned `r`.
+    -- `leaves r` states what the caller owns after the call to `resized` has returned `r`.
     abbrev pub leaves : Answer.Denot → Fml
     leaves = resized_if_ok (token Y a) (R E) (block_ptr b o) len held wanted xs
 
@@ -85,8 +87,9 @@ module _ (E : El) (Y : Al) {M : Type 1} {𝓤 : Ura M} (𝓛 : Logic 𝓤) (at_m
         feq_i ! (List Val) (vint w64 len ∷ []) (vint w64 len ∷ []) refl $ fjoin ! $ fjoin ! $
         feq_i ! (List Val) (vptr b o ∷ []) (vptr b o ∷ []) refl $ fjoin ! $ move ! (2 ∷ []) $
         feq_i ! (List Val) (vptr p.0 p.1 ∷ []) (vptr p.0 p.1 ∷ []) refl $ fjoin ! $ fjoin ! $
-        -- The arguments of the call have been joined into one entry. Proof context, in order: the
-        -- arguments; the required facts and the memory of the block; the three lifetime tokens.
+        -- The previous steps have joined the arguments of the call into one entry of the proof
+        -- context. The proof context now holds these entries, in this order: the arguments; one
+        -- entry for the required facts and the memory of the block; three lifetime tokens.
         nothing ! $ move ! (5 ∷ 0 ∷ []) $ join ! $ move ! (4 ∷ 0 ∷ []) $ join ! $
         move ! (3 ∷ 0 ∷ []) $ join ! $ join ! $ join ! $ done !
 

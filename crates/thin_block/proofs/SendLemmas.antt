@@ -1,6 +1,7 @@
--- These lemmas say when a block may be sent to another thread (`block_send`) or shared between
--- threads (`block_sync`). `Keyless` says that a resource does not depend on the thread that owns
--- it. `Common` says the same of shared resources.
+-- These lemmas say when a block may be sent to another thread (`block_send`), and when a block may
+-- be shared between threads (`block_sync`). `Keyless` says that a resource does not depend on the
+-- thread that owns the resource. `Common` says that the resources behind a shared reference do not
+-- depend on the thread that uses the reference.
 use Rattle.std.specs.Prelude.{ℕ, zero, suc, ◌+◌, List, [], ◌∷◌, length, Option}
 use Rattle.std.specs.declared.option.Option.TheVariants.{Some, None}
 use Rattle.std.specs.Int.{div_ceil}
@@ -27,8 +28,8 @@ number_send = search sendable
 number_sync : IsSync usize
 number_sync = search sendable
 
--- The rights to convert memory for items into memory for `w` words of `m` items each do not depend
--- on the thread that owns these rights.
+-- The rights to convert memory for items of the type `τ` into memory for `w` words do not depend on
+-- the thread that owns these rights. Each word is a struct of `m` items.
 ways_Keyless : (τ : Ty) (m w b o : ℕ) → Keyless (ways τ m w b o)
 ways_Keyless τ m zero b o = tt
 ways_Keyless τ m (suc w) b o = ((tt, tt), ways_Keyless τ m w b (o + size (word_of τ m)))
@@ -69,8 +70,9 @@ module _ (R : RattleType) where
       (place_Common y x (block_ptr b o) κ, places_Common y xs b (o + type_size R) κ)
 
   module _ (Z : RattleType) (g : Ghosts Z.Denot) where
-    -- If items and the right to free memory may be sent to another thread, then the resources of a
-    -- block do not depend on the thread that owns the block.
+    -- Suppose that items may be sent to another thread, and that the right to free memory does not
+    -- depend on the thread that owns this right. Then the resources of a block do not depend on the
+    -- thread that owns the block.
     block_Keyless : IsSend R → Frees g g.dealloc_token → (p : Ptr) (n : ℕ)
         (xs : List (Option R.Denot)) (a : Option Z.Denot)
         → Keyless (block_owns g.dealloc_token R p n xs a)

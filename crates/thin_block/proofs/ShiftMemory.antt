@@ -1,8 +1,11 @@
--- These lemmas separate the memory that a move of items uses from the memory of the other slots.
--- After the move, they put the memory back together (`Moves`).
+-- These lemmas are about moving the items in contiguous slots of a block. They separate the memory
+-- of the old and the new slots of these items from the memory of the other slots. After the move,
+-- the lemmas put the memory of all slots back together.
 --
--- - `apart` is for a move between slots that do not overlap.
--- - `slides` is for a move through empty slots.
+-- - `Moves` says that the memory can be separated before the move, and put back together after the
+--   move.
+-- - `apart` proves `Moves` if the old and the new slots of the items do not overlap.
+-- - `slides` proves `Moves` if the items are moved through empty slots.
 use Rattle.std.proofs.Common.{◌≡◌, ◌⊎◌, Bool, true, false, ℕ, Some, None, ◌+◌, ◌-◌, ◌*◌, ◌<◌, ◌≤◌, List, [], ◌∷◌, ◌++◌, length, refl, sym, ap, ◌∙◌, arith, append_assoc}
 use Rattle.std.proofs.lemmas.List.{length-map, length-replicate, length-append, length-take}
 use mathlib.Core.Logic.{inl, inr, ⊎_elim}
@@ -75,9 +78,10 @@ module _ (E : El) {M : Type 1} {𝓤 : Ura M} (𝓛 : Logic 𝓤) (b o : ℕ) (s
   empty-long : (n : ℕ) → length (empty {T = el_x E} n) ≡ n
   empty-long n = length-replicate n None
 
-  -- If the slots `from..from + k` hold items, and the `d` slots directly before them are empty,
-  -- then the memory for moving the items down by `d` slots can be separated from the other slots
-  -- and put back (`Moves`).
+  -- Suppose that the slots `from..from + k` hold items, and that the `d` slots directly before them
+  -- are empty. Then the memory of the items and of the `d` empty slots can be separated from the
+  -- memory of the other slots. After the items have been moved down by `d` slots, the memory of all
+  -- slots can be put back together.
   pub slides_down : (d : ℕ) → from ≡ to + d → from + k ≤ length slots → run to d slots ≡ empty d
       → Moves (memory_before_copy (R E) false d k (block_ptr b src) (block_ptr b dst) xs)
       (memory_after_copy (R E) false d k (block_ptr b src) (block_ptr b dst) xs)
@@ -127,9 +131,10 @@ module _ (E : El) {M : Type 1} {𝓤 : Ura M} (𝓛 : Logic 𝓤) (b o : ℕ) (s
             rewrite ! 0 (λ (l : S). ‵ (Row o l)) result refl $ done !;
       }
 
-  -- If the slots `from..from + k` hold items, and the `d` slots directly after them are empty, then
-  -- the memory for moving the items up by `d` slots can be separated from the other slots and put
-  -- back (`Moves`).
+  -- Suppose that the slots `from..from + k` hold items, and that the `d` slots directly after them
+  -- are empty. Then the memory of the items and of the `d` empty slots can be separated from the
+  -- memory of the other slots. After the items have been moved up by `d` slots, the memory of all
+  -- slots can be put back together.
   pub slides_up : (d : ℕ) → to ≡ from + d → to + k ≤ length slots → run (from + k) d slots ≡ empty d
       → Moves (memory_before_copy (R E) true d k (block_ptr b src) (block_ptr b dst) xs)
       (memory_after_copy (R E) true d k (block_ptr b src) (block_ptr b dst) xs)
@@ -177,8 +182,9 @@ module _ (E : El) {M : Type 1} {𝓤 : Ura M} (𝓛 : Logic 𝓤) (b o : ℕ) (s
             rewrite ! 0 (λ (l : S). ‵ (Row o l)) result refl $ done !;
       }
 
-  -- Splits the memory of the slots `ys ++ (mid ++ zs)` into the memory of `ys`, of `zs` and of
-  -- `mid`. The memory of `ys` begins at the offset `lo`, and that of `zs` at the offset `hi`.
+  -- Splits the memory of the slots `ys ++ (mid ++ zs)` into the memory of `ys`, the memory of `zs`
+  -- and the memory of `mid`. The list `ys` consists of `k` slots. The memory of `ys` begins at the
+  -- offset `lo`, and the memory of `zs` begins at the offset `hi`.
   cut3 : (ys mid zs : S) (lo hi : ℕ) → length ys ≡ k → hi ≡ length mid * s + (k * s + lo)
       → ent 𝓤 (sem 𝓛 (Row lo (ys ++ (mid ++ zs))))
       (sep 𝓤 (sem 𝓛 (Row lo ys)) (sep 𝓤 (sem 𝓛 (Row hi zs)) (sem 𝓛 (Row (k * s + lo) mid))))
@@ -218,9 +224,9 @@ module _ (E : El) {M : Type 1} {𝓤 : Ura M} (𝓛 : Logic 𝓤) (b o : ℕ) (s
       let same : length mid * s ≡ m * s = ap (λ (n : ℕ). n * s) count in
       omega arith
 
-  -- Suppose that `k` slots hold items, and that `m` other slots and `k` empty slots follow. Then
-  -- the memory for moving the items up into the empty slots can be separated from the other slots
-  -- and put back (`Moves`).
+  -- If `k` adjacent slots somewhere above a run of `k` items are empty, then the memory of the
+  -- items and of these slots can be split off from the memory of the other slots. After the items
+  -- have been moved up into these slots, the memory of all slots can be put back together.
   goes_over : (m : ℕ) → to ≡ from + k + m → to + k ≤ length slots
       → run to k slots ≡ empty k → Moves Was Is
   goes_over m apart within gap =
@@ -278,9 +284,9 @@ module _ (E : El) {M : Type 1} {𝓤 : Ura M} (𝓛 : Logic 𝓤) (b o : ℕ) (s
             rewrite ! 0 (λ (l : S). ‵ (Row o l)) result refl $ done !;
       }
 
-  -- Suppose that `k` slots are empty, and that `m` other slots and `k` slots with items follow.
-  -- Then the memory for moving the items down into the empty slots can be separated from the other
-  -- slots and put back (`Moves`).
+  -- If `k` adjacent slots somewhere below a run of `k` items are empty, then the memory of the
+  -- items and of these slots can be split off from the memory of the other slots. After the items
+  -- have been moved down into these slots, the memory of all slots can be put back together.
   goes_back : (m : ℕ) → from ≡ to + k + m → from + k ≤ length slots
       → run to k slots ≡ empty k → Moves Was Is
   goes_back m apart within gap =
@@ -338,13 +344,14 @@ module _ (E : El) {M : Type 1} {𝓤 : Ura M} (𝓛 : Logic 𝓤) (b o : ℕ) (s
             rewrite ! 0 (λ (l : S). ‵ (Row o l)) result refl $ done !;
       }
 
-  -- `Bare` is the precondition `empty` of `move_run`: each slot to which an item is moved is empty,
-  -- or is one of the slots from which items are moved.
+  -- `Bare` is the precondition `empty` of `move_run`. It states that each slot to which an item is
+  -- moved is empty or is one of the slots from which the items are moved.
   abbrev pub Bare : Type 0
   Bare = (i : ℕ) → to ≤ i → i < to + k → (i < from) ⊎ (from + k ≤ i) → slot slots i ≡ None
 
-  -- If the old and the new slots of the items do not overlap, and the new slots are empty, then the
-  -- memory for the move can be separated from the other slots and put back (`Moves`).
+  -- Suppose that adjacent items are to be moved to empty slots, and that their old and new slots do
+  -- not overlap. Then the memory of the old and new slots can be split off from the memory of the
+  -- other slots. After the move, the memory of all slots can be put back together.
   pub apart : from + k ≤ length slots → to + k ≤ length slots → Bare → (from + k ≤ to)
       ⊎ (to + k ≤ from) → Moves Was Is
   apart source target bare far =
@@ -355,8 +362,8 @@ module _ (E : El) {M : Type 1} {𝓤 : Ura M} (𝓛 : Logic 𝓤) (b o : ℕ) (s
       (empty-run slots to k target
       (λ i h j. bare i h j (inl (let q : i < from = omega arith in q))))) far
 
-  -- `distance up` is the number of slots by which the items are moved. They are moved up if `up` is
-  -- true, and down otherwise.
+  -- `distance up` is the number of slots by which the items are moved. The items are moved up if
+  -- `up` is true, and down otherwise.
   abbrev pub distance : Bool → ℕ
   distance true = to - from
   distance false = from - to
@@ -365,18 +372,21 @@ module _ (E : El) {M : Type 1} {𝓤 : Ura M} (𝓛 : Logic 𝓤) (b o : ℕ) (s
   Way up = Moves (memory_before_copy (R E) up (distance up) k (block_ptr b src) (block_ptr b dst)
       xs) (memory_after_copy (R E) up (distance up) k (block_ptr b src) (block_ptr b dst) xs)
 
-  -- If `up` is true, `GapAbove up` states that `from ≤ to`, and that the slots `from + k..to + k`,
-  -- through which the items are moved up, are empty. Otherwise, it states nothing.
+  -- `GapAbove up` is about a move of items from the slots `from..from + k` to the slots `to..to +
+  -- k`. If `up` is true, the items are moved up, and `GapAbove up` states that `from ≤ to` and that
+  -- the slots `from + k..to + k` are empty. If `up` is false, `GapAbove up` states nothing.
   abbrev pub GapAbove : Bool → Type 0
   GapAbove up = up ≡ true → (from ≤ to) × AreEmpty slots (from + k) (to - from)
 
-  -- If `up` is false, `GapBelow up` states that `to ≤ from`, and that the slots `to..from`, through
-  -- which the items are moved down, are empty. Otherwise, it states nothing.
+  -- `GapBelow up` is about a move of items from the slots `from..from + k` to the slots `to..to +
+  -- k`. If `up` is false, the items are moved down, and `GapBelow up` states that `to ≤ from` and
+  -- that the slots `to..from` are empty. If `up` is true, `GapBelow up` states nothing.
   abbrev pub GapBelow : Bool → Type 0
   GapBelow up = up ≡ false → (to ≤ from) × AreEmpty slots to (from - to)
 
-  -- If all slots through which adjacent items are moved up or down are empty, then the memory for
-  -- the move can be separated from the other slots and put back (`Moves`).
+  -- Suppose that adjacent items are to be moved only through empty slots. Then the memory of the
+  -- items and of these empty slots can be split off from the memory of the other slots. After the
+  -- move, the memory of all slots can be put back together.
   pub slides : from + k ≤ length slots → to + k ≤ length slots → (up : Bool) → GapAbove up
       → GapBelow up → Way up
   slides source target true above below =
@@ -390,8 +400,9 @@ module _ (E : El) {M : Type 1} {𝓤 : Ura M} (𝓛 : Logic 𝓤) (b o : ℕ) (s
       slides_down (from - to) (omega arith) source
       (empty-run slots to (from - to) within gap.1)
 
-  -- If all slots through which the items are moved are empty, then the new address of the items is
-  -- `distance up` slots above the old address if `up` is true, and below it otherwise.
+  -- Suppose that all slots through which the items are moved are empty. Then `IsShifted` holds. It
+  -- states that the new address of the items is `distance up` slots above the old address if `up`
+  -- is true, and `distance up` slots below the old address otherwise.
   pub shifted : (up : Bool) → GapAbove up → GapBelow up → IsShifted (R E) up (distance up)
       (block_ptr b src) (block_ptr b dst)
   shifted true above below = let le : from ≤ to = (above refl).0 in

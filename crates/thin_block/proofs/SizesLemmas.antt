@@ -25,8 +25,8 @@ use Rattle.thin_block.specs.Growth.{fitting, doubling}
 
 -- The next lemmas are about rounding up.
 
--- `Rounded a x` collects bounds on the alignment and the size of a block whose items have the
--- alignment `a` and take `x` bytes in total.
+-- Suppose that the items of a block take `x` bytes in total, and that each item has the alignment
+-- `a`. `Rounded a x` collects bounds on the alignment and the size of this block.
 pub record Rounded (a x : ℕ) : Type 0 where
   pub least : 8 ≤ block_align a
   pub most : block_align a ≤ 16
@@ -83,13 +83,15 @@ rounded_to w128 x = record {
 pub align_known : (R : RattleType) → IsAlign (type_align R)
 align_known R = (align_w (layout R), align-bytes (layout R))
 
--- If `a` is 1, 2, 4, 8 or 16 (`IsAlign a`), then `Rounded a x` holds: it bounds the alignment and
--- the size of a block.
+-- `Rounded a x` collects bounds on the alignment and the size of a block whose items have the
+-- alignment `a` and take `x` bytes in total. If `a` is 1, 2, 4, 8 or 16 (`IsAlign a`), then
+-- `Rounded a x` holds for every `x`.
 pub rounded_at : (a x : ℕ) → IsAlign a → Rounded a x
 rounded_at a x is = subst (λ (k : ℕ). Rounded k x) (sym is.1) (rounded_to is.0 x)
 
--- If `a` is the alignment of an item type `R`, then `Rounded a x` holds for every `x`: it bounds
--- the alignment and the size of a block.
+-- `Rounded a x` collects bounds on the alignment and the size of a block whose items have the
+-- alignment `a` and take `x` bytes in total. If `a` is the alignment of an item type `R`, then
+-- `Rounded a x` holds for every `x`.
 pub rounded : (R : RattleType) (x : ℕ) → Rounded (type_align R) x
 rounded R x = rounded_at (type_align R) x (align_known R)
 
@@ -112,7 +114,7 @@ capped_product zero s h = zero-mul (capped s) ∙ sym (zero-mul s)
 capped_product (suc c) s h = let more = suc-mul c s in
     ap (λ (k : ℕ). suc c * k) (capped_is s (omega arith))
 
--- The next lemmas are about tests of sizes.
+-- The next lemmas are about boolean conditions and comparisons of numbers.
 
 both_true : (x y : Bool) → x ≡ true → y ≡ true → (x && y) ≡ true
 both_true true y e f = f
@@ -136,21 +138,21 @@ lt_of_not a b never = omega arith
 
 -- The next lemmas are about blocks that are small enough to be allocated.
 
--- `Small s a c` holds if the header, `c` items of `s` bytes, and `block_align a` bytes for padding
--- take at most `2 ^ 63` bytes in total.
+-- Suppose that each item has the size `s` and the alignment `a`. `Small s a c` holds if the header,
+-- `c` items and `block_align a` bytes for padding take at most `2 ^ 63` bytes in total.
 abbrev pub Small : ℕ → ℕ → ℕ → Type 0
 Small s a c = c * s + 16 + block_align a ≤ 2 ^ 63
 
--- `Told s a c` collects facts about a block for `c` items of size `s` and alignment `a` that is
--- small enough to be allocated.
+-- `Told s a c` collects the facts that hold if a block for `c` items is small enough to be
+-- allocated. Each item has the size `s` and the alignment `a`.
 pub record Told (s a c : ℕ) : Type 0 where
   pub few : c < 2 ^ 63
   pub room : Small s a c
   pub short : block_bytes s a c < 2 ^ 63
 
 module _ (s a c : ℕ) (is : IsAlign a) where
-  -- If `a` is an alignment, `c < 2 ^ 63`, and `Small s a c` holds, then a block for `c` items is
-  -- small enough to be allocated (`is_small`).
+  -- Suppose that `a` is an alignment. If `c < 2 ^ 63` and `Small s a c` holds, then `is_small s a
+  -- c` is true: a block for `c` items is small enough to be allocated.
   pub small_yes : c < 2 ^ 63 → Small s a c → is_small s a c ≡ true
   small_yes few room =
       let whole : block_bytes s a c < 2 ^ 63 = (rounded_at a (c * s) is).short room in
@@ -193,8 +195,9 @@ module _ (R : RattleType) (c : ℕ) where
   unfolding fits
   closed e = e
 
-  -- The code of `fits` divides the bytes available for items by the item size `size`. If `c` is at
-  -- most this quotient, then `Small` holds for `c` items of type `R`.
+  -- The code of `fits` divides the number of bytes that are available for items by the item size
+  -- `size`. If the capacity `c` is at most this quotient, then `Small` holds for `c` items of type
+  -- `R`.
   pub divided : (size : ℕ) → size ≡ capped (type_size R) → 0 < size
       → c ≤ (2 ^ 63 - block_align (type_align R) - 16) / size → Small (type_size R) (type_align R) c
   divided size is some few =
@@ -208,8 +211,9 @@ module _ (R : RattleType) (c : ℕ) where
       ∙ ap (λ (k : ℕ). c * k) (sym is) in
       omega arith
 
-  -- The code of `fits` divides the bytes available for items by the item size `size`. If `Small`
-  -- holds for `c` items of type `R`, then `c` is at most this quotient.
+  -- The code of `fits` divides the number of bytes that are available for items by the item size
+  -- `size`. If `Small` holds for `c` items of type `R`, then the capacity `c` is at most this
+  -- quotient.
   pub dividing : (size : ℕ) → size ≡ capped (type_size R) → 0 < size
       → Small (type_size R) (type_align R) c → c ≤ (2 ^ 63 - block_align (type_align R) - 16) / size
   dividing size is some room =
@@ -219,8 +223,8 @@ module _ (R : RattleType) (c : ℕ) where
       let same' : c * size ≡ c * type_size R = ap (λ (k : ℕ). c * k) is ∙ same in
       le-div c (2 ^ 63 - block_align (type_align R) - 16) size some (omega arith)
 
--- An empty block is never too large to be allocated: `is_small` is true for the capacity 0 and
--- every item type `R`.
+-- For the capacity 0 and every item type `R`, `is_small` is true: an empty block is never too large
+-- to be allocated.
 pub fits_none : (R : RattleType) → is_small (type_size R) (type_align R) 0 ≡ true
 fits_none R =
     let about = rounded R 0 in
@@ -230,7 +234,8 @@ fits_none R =
 -- The next lemmas are about the first capacity of a block.
 
 -- `first s` is the least capacity that the rule `doubling` chooses for the first allocation of a
--- block. If the item size `s`, capped at `usize::MAX`, exceeds `2 ^ 61 - 1`, then `first s` is 1.
+-- block whose items have the size `s`. `capped s` is the lesser of `s` and `usize::MAX`. If `capped
+-- s` exceeds `2 ^ 61 - 1`, then `first s` is 1.
 pub first_one : (s : ℕ) → 2 ^ 61 - 1 < capped s → 1 ≡ first s
 unfolding first
 first_one s large =
@@ -240,8 +245,8 @@ first_one s large =
     rw (lt-ltb (2 ^ 61 - 1) s above) refl
 
 -- `first s` is the least capacity that the rule `doubling` chooses for the first allocation of a
--- block. If the item size `s`, capped at `usize::MAX`, is at most `2 ^ 61 - 1`, then `first s` is
--- 4.
+-- block whose items have the size `s`. `capped s` is the lesser of `s` and `usize::MAX`. If `capped
+-- s` is at most `2 ^ 61 - 1`, then `first s` is 4.
 pub first_many : (s : ℕ) → capped s ≤ 2 ^ 61 - 1 → 4 ≡ first s
 unfolding first
 first_many s small =
@@ -260,19 +265,19 @@ unfolding fits
 fits_no s a c many = first_false (ltb c (2 ^ 63)) (ltb (block_bytes s a c) (2 ^ 63))
     (le-ltb c (2 ^ 63) many)
 
--- `tried s c w` is the capacity that the rule `doubling` chooses, unless a block of this capacity
--- is too large to be allocated. `s` is the item size, `c` the old capacity, and `w` the required
--- capacity.
+-- `tried s c w` is the capacity that the rule `doubling` computes from the item size `s`, the old
+-- capacity `c` and the required capacity `w`. The rule chooses this capacity unless a block of this
+-- capacity is too large to be allocated.
 abbrev pub tried : ℕ → ℕ → ℕ → ℕ
 tried s c w = max w (if c == 0 then first s else 2 * c)
 
--- If the old capacity `c` is 0, and `d` is `first s`, then the greater of `w` and `d` is
--- `tried s c w`, the capacity that the rule `doubling` computes.
+-- Suppose that the old capacity `c` is 0, and that `d` is `first s`. Then `tried s c w`, which is
+-- the capacity that the rule `doubling` computes, is the greater of `w` and `d`.
 pub tried_first : (s c w d : ℕ) → c ≡ 0 → d ≡ first s → max w d ≡ tried s c w
 tried_first s c w d none is = grind (arith, nat_tests)
 
--- If the old capacity `c` is not 0, and `d` is `2 * c`, then the greater of `w` and `d` is
--- `tried s c w`, the capacity that the rule `doubling` computes.
+-- Suppose that the old capacity `c` is not 0, and that `d` is `2 * c`. Then `tried s c w`, which is
+-- the capacity that the rule `doubling` computes, is the greater of `w` and `d`.
 pub tried_twice : (s c w d : ℕ) → (c ≡ 0 → ⊥) → d ≡ 2 * c → max w d ≡ tried s c w
 tried_twice s c w d some is = grind (arith, nat_tests)
 
@@ -282,9 +287,10 @@ pub fitting_past : (s a n : ℕ) → 2 ^ 63 ≤ n → fitting s a n ≡ None
 unfolding fitting
 fitting_past s a n many = λ i. if fits_no s a n many i then Some n else None
 
--- Suppose that `c < w`. The code of `Doubling` uses `first s` if `c` is 0, and otherwise `2 * c`,
--- capped at `usize::MAX`. It chooses the same capacity as the function `doubling`, which does not
--- cap `2 * c`.
+-- The code of `Doubling` computes a number `d`. If the old capacity `c` is 0, then `d` is
+-- `first s`. Otherwise, `d` is `2 * c`, capped at `usize::MAX`. If `c < w`, the cap makes no
+-- difference: the code chooses the same capacity as the function `doubling`, which does not cap
+-- `2 * c`.
 pub doubling_is : (s a c w d : ℕ) → c < w → (c ≡ 0 → d ≡ first s)
     → ((c ≡ 0 → ⊥) → d ≡ min (c * 2) (2 ^ 64 - 1)) → fitting s a (max w d) ≡ doubling s a c w
 unfolding doubling

@@ -1,5 +1,5 @@
--- These lemmas separate some slots of a block from the other slots, and convert the memory of
--- slots.
+-- These lemmas separate the memory of some slots of a block from the memory of the other slots.
+-- They also convert the memory of slots into other kinds of memory.
 --
 -- - `slot_out` separates one slot, and `slot_in` puts it back.
 -- - `run_out` separates the slots `i..i + k`, and `run_in` puts them back.
@@ -35,8 +35,8 @@ use Rattle.thin_block.specs.Ownership.{fits_block, place, places}
 use Rattle.thin_block.specs.Slots.{full, empty, run, laid}
 use Rattle.thin_block.proofs.SizesLemmas.{fits_tells}
 
--- If a block of `c` slots is small enough to be allocated, and `i ≤ c`, then `i` items take less
--- than `2 ^ 63` bytes.
+-- If a block of `c` slots is small enough to be allocated, and `i ≤ c`, then `i` items take fewer
+-- than `2 ^ 63` bytes in total.
 pub reach : (Rw : RattleType) (i c : ℕ) → fits_block Rw c ≡ true → i ≤ c → i * type_size Rw < 2 ^ 63
 reach Rw i c fits le =
     let small = (fits_tells Rw c fits).room in
@@ -74,8 +74,9 @@ module _ (E : El) {M : Type 1} {𝓤 : Ura M} (𝓛 : Logic 𝓤) (b : ℕ) wher
       (cut xs ys (o + s) at (omega (arith, suc-mul (length xs) s))) $ split ! $
       move ! (2 ∷ 0 ∷ []) $ fjoin ! $ done !
 
-  -- Joins the memory of the slots `xs` at the offset `o` with the memory of the slots `ys` at the
-  -- offset `at`, where the memory of `xs` ends.
+  -- Joins the memory of the slots `xs` and the memory of the slots `ys` into the memory of the
+  -- slots `xs ++ ys`. The memory of `xs` begins at the offset `o`. The memory of `ys` must begin
+  -- directly after the memory of `xs`, at the offset `at`.
   pub glue : (xs ys : List (Slot E)) (o at : ℕ) → at ≡ length xs * s + o
       → ent 𝓤 (sep 𝓤 (sem 𝓛 (Row o xs)) (sem 𝓛 (Row at ys))) (sem 𝓛 (Row o (xs ++ ys)))
   glue [] ys o at e = qed 𝓛 (‵ ftrue ∷ ‵ (Row at ys) ∷ []) ∵ skip ! $
@@ -232,8 +233,8 @@ module _ (E : El) {M : Type 1} {𝓤 : Ura M} (𝓛 : Logic 𝓤) (b : ℕ) wher
   to_raw k o = via 𝓤 (H.room (ty_array (elτ E) k) b o) (to_room k o)
       (𝓛.laws.room-raw (ty_array (elτ E) k) b o)
 
-  -- `Others o xs i j` is the memory of all slots in `xs` except the slots `i` and `j`, where
-  -- `i < j`. The memory of slot 0 begins at the offset `o`.
+  -- If `i < j`, then `Others o xs i j` is the memory of all slots in the list `xs` except the slots
+  -- `i` and `j`. The memory of the first slot in `xs` begins at the offset `o`.
   abbrev Others : ℕ → List (Slot E) → ℕ → ℕ → Fml
   Others o xs i j = fsep (besides o (take j xs) i) (Row (j * s + o + s) (drop (suc j) xs))
 
@@ -272,8 +273,9 @@ module _ (E : El) {M : Type 1} {𝓤 : Ura M} (𝓛 : Logic 𝓤) (b : ℕ) wher
       (sym (drop-set-lt (suc j) xs i x (omega arith))) refl $ fjoin ! $ move ! (1 ∷ 0 ∷ []) $
       by ! (slot_in o (set xs i x) j low' y)
 
-  -- `Two o xs i j` states that the slots `i` and `j` can be separated from the other slots in `xs`
-  -- and put back later, possibly with new contents.
+  -- `Two o xs i j` states that the slots `i` and `j` can be separated from the other slots in the
+  -- list `xs`, and that all slots can later be put back together. In between, the contents of the
+  -- slots `i` and `j` may change. The memory of the first slot in `xs` begins at the offset `o`.
   pub record Two (o : ℕ) (xs : List (Slot E)) (i j : ℕ) : Type 1 where
     pub Rest : Fml
     pub out : ent 𝓤 (sem 𝓛 (Row o xs))
@@ -308,8 +310,9 @@ module _ (E : El) {M : Type 1} {𝓤 : Ura M} (𝓛 : Logic 𝓤) (b : ℕ) wher
             done !;
       }
 
-  -- Two different slots `i` and `j` can be separated from the other slots in `xs` and put back
-  -- later, possibly with new contents.
+  -- If `i` and `j` are different, then the slots `i` and `j` can be separated from the other slots
+  -- in the list `xs`, and all slots can later be put back together. In between, the contents of the
+  -- slots `i` and `j` may change.
   pub two_slots : (o : ℕ) (xs : List (Slot E)) (i j : ℕ) → (i ≡ j → ⊥) → i < length xs
       → j < length xs → Two o xs i j
   two_slots o xs i j apart low low' = ⊎_elim (λ (p : i < j). in_order o xs i j p low')

@@ -38,8 +38,9 @@ module _ {T : Type 0} where
   filled-within (x ∷ s) zero is = omega arith
   filled-within (x ∷ s) (suc i) is = let low = filled-within s i is in omega arith
 
-  -- If the slots `i..i + k` of the list `s` are filled, then there is a list `xs` of items with
-  -- `run i k s ≡ full xs`: these slots hold `xs`.
+  -- If the slots `i..i + k` of the list `s` are filled, then there is a list `xs` of items such
+  -- that `run i k s`, the list of these slots, is `full xs`: the slots hold the items `xs`, in
+  -- order.
   pub full-run : (s : List (Option T)) (i k : ℕ) → i + k ≤ length s
       → ((j : ℕ) → i ≤ j → j < i + k → IsSome (slot s j)) → (xs : List T) × (run i k s ≡ full xs)
   full-run [] zero zero le filled = ([], refl)
@@ -54,8 +55,8 @@ module _ {T : Type 0} where
       (λ j p q. filled (suc j) (omega arith) (omega arith)) in
       (item.0 ∷ rest.0, λ n. item.1 n ∷ rest.1 n)
 
-  -- If the slots `i..i + k` of the list `s` are empty, then the list of these slots, `run i k s`,
-  -- is `empty k`.
+  -- If each of the slots `i..i + k` of the list `s` is empty, then `run i k s`, the list of these
+  -- slots, is `empty k`: a list of `k` empty slots.
   pub empty-run : (s : List (Option T)) (i k : ℕ) → i + k ≤ length s
       → ((j : ℕ) → i ≤ j → j < i + k → slot s j ≡ None) → run i k s ≡ empty k
   empty-run [] zero zero le bare = refl
@@ -73,8 +74,9 @@ module _ {T : Type 0} where
   pub length-run : (s : List (Option T)) (i k : ℕ) → i + k ≤ length s → length (run i k s) ≡ k
   length-run s i k le = omega (arith, length-take k (drop i s), length-drop i s)
 
-  -- If `i + length ys ≤ length s`, then replacing slots of `s` with `ys` (`laid i ys s`) does not
-  -- change the length of the list.
+  -- Replacing slots does not change the number of slots. `laid i ys s` is the list `s` with the
+  -- slots `i..i + length ys` replaced with `ys`. If `i + length ys ≤ length s`, then `laid i ys s`
+  -- is as long as `s`.
   pub length-laid : (i : ℕ) (ys s : List (Option T)) → i + length ys ≤ length s
       → length (laid i ys s) ≡ length s
   length-laid i ys s le =
@@ -86,8 +88,8 @@ module _ {T : Type 0} where
         length-drop (i + length ys) s,
       )
 
-  -- If the slots `i..i + length ws` are filled, then `over s i ws` is `laid i (full ws) s`: both
-  -- replace the items in these slots with `ws`.
+  -- If the slots `i..i + length ws` are filled, then `over s i ws` is `laid i (full ws) s`. Both
+  -- functions replace the items in these slots with the items `ws`.
   pub over-laid : (s : List (Option T)) (i : ℕ) (ws : List T) → i + length ws ≤ length s
       → ((j : ℕ) → i ≤ j → j < i + length ws → IsSome (slot s j)) → over s i ws ≡ laid i (full ws) s
   over-laid [] zero [] le held = refl
@@ -115,8 +117,9 @@ module _ {T : Type 0} where
   laid-none i s = ap (λ (k : ℕ). take i s ++ drop k s) (let e : i + 0 ≡ i = omega arith in
       e) ∙ take-append-drop i s
 
-  -- If `k ≡ i + length ys` and `k < length s`, then setting slot `k` of `laid i ys s` to `y`
-  -- results in `laid i (ys ++ y ∷ []) s`.
+  -- `laid i ys s` is the list `s` with the slots `i..i + length ys` replaced with `ys`. If `k` is
+  -- the index directly after these slots, and `k < length s`, then setting slot `k` of
+  -- `laid i ys s` to `y` results in `laid i (ys ++ y ∷ []) s`.
   pub laid-one : (i : ℕ) (ys s : List (Option T)) (k : ℕ) (y : Option T) → k ≡ i + length ys
       → k < length s → set (laid i ys s) k y ≡ laid i (ys ++ y ∷ []) s
   laid-one i ys s k y e within =
@@ -134,8 +137,8 @@ module _ {T : Type 0} where
       (sym (append_assoc ys (y ∷ []) (drop (suc k) s)))
       ∙ ap (λ (n : ℕ). take i s ++ ((ys ++ y ∷ []) ++ drop n s)) long))))
 
-  -- If `i ≤ length s` and `i + length ys ≤ k`, then replacing the slots `i..i + length ys` with
-  -- `ys` (`laid i ys s`) does not change slot `k`.
+  -- `laid i ys s` is the list `s` with the slots `i..i + length ys` replaced with `ys`. If
+  -- `i ≤ length s`, then each slot of `s` whose index `k` is at least `i + length ys` is unchanged.
   pub slot-laid : (i : ℕ) (ys s : List (Option T)) (k : ℕ) → i ≤ length s → i + length ys ≤ k
       → slot (laid i ys s) k ≡ slot s k
   slot-laid i ys s k low past =
@@ -146,8 +149,8 @@ module _ {T : Type 0} where
       ∙ ap (λ (n : ℕ). slot s n)
       (let e : i + length ys + (k - i - length ys) ≡ k = omega arith in e)))
 
-  -- A list of slots is the concatenation of the slots before index `i`, the slots `i..i + k`, and
-  -- the slots from index `i + k` onward.
+  -- A list `s` of slots is the concatenation of three parts: the slots before index `i`, the slots
+  -- `i..i + k`, and the slots from index `i + k` onward.
   pub parted-run : (s : List (Option T)) (i k : ℕ) → s ≡ take i s ++ (run i k s ++ drop (i + k) s)
   parted-run s i k =
       sym (take-append-drop i s)
@@ -160,7 +163,7 @@ module _ {T : Type 0} where
   run-split s i a k = take-add a k (drop i s)
       ∙ ap (λ (l : List (Option T)). run i a s ++ take k l) (drop-drop a i s)
 
-  -- If `i ≡ length pre`, and `ys` is as long as `old`, then `laid i ys` replaces `old` with `ys` in
+  -- If `i ≡ length pre` and `length ys ≡ length old`, then `laid i ys` replaces `old` with `ys` in
   -- the list `pre ++ (old ++ post)`.
   pub laid-at : (i : ℕ) (pre ys old post : List (Option T)) → i ≡ length pre
       → length ys ≡ length old → laid i ys (pre ++ (old ++ post)) ≡ pre ++ (ys ++ post)
@@ -171,8 +174,8 @@ module _ {T : Type 0} where
       ∙ drop_at (pre ++ old) post (i + length ys) (length-append pre old ∙ omega arith) in
       λ m. take_at pre (old ++ post) i (sym e) m ++ (ys ++ rest m)
 
-  -- If `i ≡ length pre` and `k ≡ length ys`, then `run i k` selects `ys` from the list
-  -- `pre ++ (ys ++ post)`.
+  -- `run i k` selects the `k` slots from index `i` onward. If `i ≡ length pre` and `k ≡ length ys`,
+  -- then `run i k` selects `ys` from the list `pre ++ (ys ++ post)`.
   pub run-at : (i k : ℕ) (pre ys post : List (Option T)) → i ≡ length pre → k ≡ length ys
       → run i k (pre ++ (ys ++ post)) ≡ ys
   run-at i k pre ys post e n = ap (λ (l : List (Option T)). take k l)
@@ -187,8 +190,8 @@ module _ {T : Type 0} where
     unfolding moved
     moved-by s ys bare result e f g = (λ n. laid to (e n) (f n)) ∙ g
 
-  -- If `from + k` and `to + k` are at most `length s`, then moving items (`moved from to k s`) does
-  -- not change the length of the list.
+  -- Moving items does not change the number of slots. If both `from + k` and `to + k` are at most
+  -- `length s`, then `moved from to k s` is as long as `s`.
   pub length-moved : (from to k : ℕ) (s : List (Option T)) → from + k ≤ length s → to + k ≤ length s
       → length (moved from to k s) ≡ length s
   unfolding moved
@@ -200,8 +203,8 @@ module _ {T : Type 0} where
       length-laid to (run from k s) (emptied from k s)
       (omega (arith, left, length-run s from k source)) ∙ left
 
-  -- `a` empty slots, `k` empty slots and `post` form the same list as `k` empty slots, `a` empty
-  -- slots and `post`.
+  -- Two adjacent groups of empty slots may change places: the list `empty a ++ (empty k ++ post)`
+  -- equals `empty k ++ (empty a ++ post)`.
   empty-turn : (a k : ℕ) (post : List (Option T))
       → empty a ++ (empty k ++ post) ≡ empty k ++ (empty a ++ post)
   empty-turn a k post =
@@ -323,8 +326,8 @@ module _ {T : Type 0} where
   full-filled (x ∷ xs) rest (suc i) low =
       full-filled xs rest i (let low' : suc i < suc (length xs) = low in omega arith)
 
-  -- If `c ≡ a + b`, then `full xs` followed by `c` empty slots is `full xs` followed by `a` empty
-  -- slots and `b` empty slots.
+  -- If `c ≡ a + b`, then the list `full xs ++ empty c` equals `(full xs ++ empty a) ++ empty b`:
+  -- the `c` empty slots are split into two groups.
   tail-split : (xs : List T) (a b c : ℕ) → c ≡ a + b
       → full xs ++ empty c ≡ (full xs ++ empty a) ++ empty b
   tail-split xs a b c e =
@@ -372,8 +375,8 @@ module _ {T : Type 0} (s : List (Option T)) (n : ℕ) (packed : IsPacked s n) wh
   packed-rest = ap (λ (l : Row). drop n l) parted
       ∙ drop_at (full xs) (empty (length s - n)) n full-long
 
-  -- If exactly the first `n` slots of `s` are filled, then emptying them results in a list of empty
-  -- slots.
+  -- Suppose that exactly the first `n` slots of `s` are filled. If these slots are emptied, then
+  -- all slots of `s` are empty.
   pub packed-emptied : emptied 0 n s ≡ empty (length s)
   packed-emptied =
       let le = packed-le in
@@ -393,9 +396,9 @@ module _ {T : Type 0} (s : List (Option T)) (n : ℕ) (packed : IsPacked s n) wh
       ∙ (ap (λ (k : ℕ). full xs ++ drop k (empty c)) long ∙ ap (λ (l : Row). full xs ++ l)
       (drop-replicate n c None))
 
-  -- Suppose that exactly the first `n` slots of `s` are filled, and that `length s ≤ c`. Moving
-  -- their items to the start of `c` empty slots results in `s`, followed by `c - length s` empty
-  -- slots.
+  -- Suppose that exactly the first `n` slots of `s` are filled, and that `length s ≤ c`. If the
+  -- items in these `n` slots are moved to the start of a list of `c` empty slots, then this list
+  -- becomes `s`, followed by `c - length s` empty slots.
   pub packed-grown : (c : ℕ) → length s ≤ c
       → laid 0 (run 0 n s) (empty c) ≡ s ++ empty (c - length s)
   packed-grown c more =

@@ -60,8 +60,8 @@ module _ (Rw : RattleType) (c : ℕ) where
   abbrev τ₀ : Ty
   τ₀ = lone Rw.mir
 
-  -- The number of items in a word depends only on the size of the item type, and not on its field
-  -- names.
+  -- The number of items in a word depends only on the size of the item type. The names of the
+  -- fields of this type do not matter.
   pub same_words : words_of Rw ≡ in_words s₀
   same_words = ap in_words (size-raw τ₀)
 
@@ -79,34 +79,35 @@ module _ (Rw : RattleType) (c : ℕ) where
   align_for (Some w) e = ap word_align (align-raw τ₀) ∙ (words_told Rw w.0 w.1 e).align
 
   -- A block is allocated with the size that `block_bytes` computes, whether or not its items can be
-  -- grouped into words.
+  -- grouped into words. A word is a struct of 8 or 16 bytes that consists of whole items.
   pub asked_size : size (asked Rw c) ≡ block_bytes s₀ a₀ c
   asked_size = size_for (words_of Rw) (sym same_words)
 
   -- A block is allocated with the alignment that `block_align` computes, whether or not its items
-  -- can be grouped into words.
+  -- can be grouped into words. A word is a struct of 8 or 16 bytes that consists of whole items.
   pub asked_align : align (asked Rw c) ≡ block_align a₀
   asked_align = align_for (words_of Rw) (sym same_words)
 
--- The next lemmas split the memory of a block with `c` slots, and put it back together. The block
--- begins at the offset `o` of the allocation `b`.
+-- Section: splitting the memory of a block into its parts.
 module _ {M : Type 1} {𝓤 : Ura M} (𝓛 : Logic 𝓤) (E : El) (b c o : ℕ) where
   open 𝓛 use {H}
 
   -- `Parts w` consists of the parts of a block's memory: the two halves of the header, the slots,
-  -- and the right to put these parts back together.
+  -- and the right to put these parts back together. Here, `w` is the result of `in_words` for the
+  -- item size.
   abbrev Parts : Option (ℕ × ℕ) → SProp 𝓤
   Parts w = sep 𝓤 (H.room half b o) (sep 𝓤 (H.room half b (o + 8))
       (sep 𝓤 (H.room (array_of (R E) c) b (o + 16)) (sem 𝓛 (way_back w (bare (R E)) c b o))))
 
   -- If `in_words` returns the pair `w` for the item size, then `w.0` items make a word, and the
-  -- header takes as many bytes as `w.1` words. Field names are erased from the item type.
+  -- header takes as many bytes as `w.1` words. This also holds if all field names are erased from
+  -- the item type.
   known : (w : ℕ × ℕ) → in_words (type_size (R E)) ≡ Some w
       → InWords (size (bare (R E))) (align (bare (R E))) w.0 w.1
   known w e = nameless (elτ E) w.0 w.1 (words_told (R E) w.0 w.1 e)
 
   -- Splits the memory of a block into its parts. Here, `w` is the result of `in_words` for the item
-  -- size. It is `None` if the items cannot be grouped into words.
+  -- size. If the items cannot be grouped into words, `w` is `None`.
   carve_for : (w : Option (ℕ × ℕ)) → in_words (type_size (R E)) ≡ w
       → ent 𝓤 (H.room (asked_for w (bare (R E)) c) b o) (Parts w)
   carve_for None e = carve 𝓛 (R E) c b o
@@ -130,8 +131,8 @@ module _ {M : Type 1} {𝓤 : Ura M} (𝓛 : Logic 𝓤) (E : El) (b c o : ℕ) 
   pub carve_asked : ent 𝓤 (H.room (asked (R E) c) b o) (Parts (words_of (R E)))
   carve_asked = carve_for (words_of (R E)) (sym (same_words (R E) c))
 
-  -- Combines what a block owns besides its slots with uninitialized memory for the slots. The
-  -- result is the memory of the whole block and the right to free it.
+  -- Combines uninitialized memory for the slots of a block with all other parts of the block. The
+  -- result is the memory of the whole block and the right to free this memory.
   pub gather : (t : Ty → Ptr → Fml) (n : ℕ)
       → ent 𝓤 (sep 𝓤 (sem 𝓛 (frame t (R E) n c b o)) (H.room (array_of (R E) c) b (o + 16)))
       (sep 𝓤 (H.room (asked (R E) c) b o) (sem 𝓛 (t (asked (R E) c) (block_ptr b o))))
@@ -144,15 +145,15 @@ module _ {M : Type 1} {𝓤 : Ura M} (𝓛 : Logic 𝓤) (E : El) (b c o : ℕ) 
       (uint_out 𝓛 full_share w64 n b (o + 8)) $
       use1 𝓛 (‵ (froom half b (o + 8))) (𝓛.laws.at_room half b (o + 8) (vint w64 n)) $
       move ! (1 ∷ []) $ fsplit ! $ drop ! $ fsplit ! $
-      -- The block has been split. Proof context, in order: the right to put its parts back
-      -- together; the right to free the block; memory for the length; memory for the capacity;
-      -- memory for the slots.
+      -- The previous steps have split the block into its parts. The proof context now holds these
+      -- entries, in this order: the right to put the parts of the block back together; the right to
+      -- free the block; memory for the length; memory for the capacity; memory for the slots.
       move ! (3 ∷ 2 ∷ 4 ∷ 0 ∷ []) $ group ! 4 $
       use1 𝓛 (‵ (froom (asked (R E) c) b o))
       (gather_for (words_of (R E)) (sym (same_words (R E) c))) $ done !
 
--- In this module, the header takes as many bytes as `k` items, so the memory of a block can be used
--- as one array of items.
+-- The next lemmas are about a block whose header takes as many bytes as `k` items. The memory of
+-- such a block can be used as one array of items that begins at the start of the block.
 module _ {M : Type 1} {𝓤 : Ura M} (𝓛 : Logic 𝓤) (E : El) (b : ℕ) (k : ℕ)
     (hd : k * type_size (R E) ≡ 16) (o : ℕ) where
   open 𝓛 use {H}
@@ -163,8 +164,9 @@ module _ {M : Type 1} {𝓤 : Ura M} (𝓛 : Logic 𝓤) (E : El) (b : ℕ) (k :
   abbrev Slots' : ℕ → List (Option (el_x E)) → Fml
   Slots' at xs = places (R E) xs b at
 
-  -- In this module, the slots of a block hold the items `xs` and then `k` items `ys`, followed by
-  -- `m` empty slots. The items `ys` take as many bytes as the header.
+  -- In this module, the first slots of a block hold `n` items: the items `xs`, and then the `k`
+  -- items `ys`. These slots are followed by `m` empty slots. The items `ys` take as many bytes as
+  -- the header.
   module _ (xs ys : List (el_x E)) (long : length ys ≡ k) (n m : ℕ)
       (count : n ≡ length xs + k) where
     abbrev there : ℕ
@@ -203,8 +205,8 @@ module _ {M : Type 1} {𝓤 : Ura M} (𝓛 : Logic 𝓤) (E : El) (b : ℕ) (k :
     abbrev Last : ℕ → Fml
     Last at = part_at (Array (R E) k) full_share ys b at
 
-    -- Splits the memory of the slots into the memory of the items `xs`, of the last `k` items `ys`,
-    -- and of the `m` empty slots.
+    -- Splits the memory of the slots into three parts: the memory of the first items `xs`, the
+    -- memory of the last `k` items `ys`, and the memory of the empty slots.
     pub turn_out : ent 𝓤 (sem 𝓛 (Slots' (o + 16) All))
         (sep 𝓤 (sem 𝓛 (Slots' (o + 16) (full xs)))
         (sep 𝓤 (sem 𝓛 (Last there)) (sem 𝓛 (Slots' past_all (empty m)))))
@@ -259,8 +261,8 @@ module _ {M : Type 1} {𝓤 : Ura M} (𝓛 : Logic 𝓤) (E : El) (b : ℕ) (k :
       counted' : length (ys ++ xs) ≡ n
       counted' = let a = length-append ys xs in omega arith
 
-      -- If the last `k` items have been moved into the memory of the header, then all items form
-      -- one array that begins at the start of the block.
+      -- If the last `k` items are stored in the memory of the header, then all items form one array
+      -- that begins at the start of the block.
       pub turn_up : ent 𝓤 (sep 𝓤 (sem 𝓛 (Last o)) (sep 𝓤 (sem 𝓛 (Slots' (o + 16) (full xs)))
           (sep 𝓤 (H.room (ty_array τ' k) b there)
           (sep 𝓤 (sem 𝓛 (Slots' past_all (empty m))) (sem 𝓛 Token))))) (sem 𝓛 Whole)
@@ -282,9 +284,9 @@ module _ {M : Type 1} {𝓤 : Ura M} (𝓛 : Logic 𝓤) (E : El) (b : ℕ) (k :
           rewrite ! 0 (λ (j : ℕ). ‵ (froom (array_of (R E) spare) b j)) turned refl $
           move ! (1 ∷ 0 ∷ 2 ∷ []) $ fjoin3 ! $ done !
 
-      -- Splits a block whose items form one array into five parts: the first `k` items, which are
-      -- in the memory of the header; the other items; uninitialized memory for `k` items; `m` empty
-      -- slots; and the right to free the block.
+      -- Splits a block into five parts: the first `k` items, which are in the memory of the header;
+      -- the other items; uninitialized memory for `k` items; `m` empty slots; and the right to free
+      -- the block. Before this step, the items form one array.
       pub turn_down : ent 𝓤 (sem 𝓛 Whole) (sep 𝓤 (sem 𝓛 (Last o))
           (sep 𝓤 (sem 𝓛 (Slots' (o + 16) (full xs))) (sep 𝓤 (H.room (ty_array τ' k) b there)
           (sep 𝓤 (sem 𝓛 (Slots' past_all (empty m))) (sem 𝓛 Token)))))
@@ -304,8 +306,8 @@ module _ {M : Type 1} {𝓤 : Ura M} (𝓛 : Logic 𝓤) (E : El) (b : ℕ) (k :
           use1 𝓛 (‵ (froom (ty_array τ' k) b there)) (to_room E 𝓛 b k there) $
           move ! (2 ∷ 3 ∷ 0 ∷ 1 ∷ 4 ∷ []) $ done !
 
--- In this module, `m` items make a word, which is a struct of 8 or 16 bytes. The header takes as
--- many bytes as `k` words.
+-- In this module, `m` items of the type `T` make a word, which is a struct of 8 or 16 bytes. The
+-- header takes as many bytes as `k` words.
 module _ {M : Type 1} {𝓤 : Ura M} (𝓛 : Logic 𝓤) (T : RattleType) (L : Laws T) (b m k : ℕ)
     (is : in_words (type_size (param 0 T)) ≡ Some (m, k)) (o : ℕ) where
   open 𝓛 use {H}
@@ -322,8 +324,8 @@ module _ {M : Type 1} {𝓤 : Ura M} (𝓛 : Logic 𝓤) (T : RattleType) (L : L
   hd : InWords (size (bare (R Item))) (align (bare (R Item))) m k
   hd = nameless (elτ Item) m k (words_told (R Item) m k is)
 
-  -- Splits uninitialized memory for `k` words into memory for the capacity, memory for the length,
-  -- and the right to convert this memory back (`header_way`).
+  -- Splits uninitialized memory for `k` words into three parts: memory for the capacity, memory for
+  -- the length, and the right to convert these two parts back into memory for words.
   pub units_out : ent 𝓤 (H.room units b o)
       (sep 𝓤 (H.room half b o)
       (sep 𝓤 (H.room half b (o + 8)) (sem 𝓛 (header_way (bare (R Item)) m k b o))))
@@ -331,7 +333,7 @@ module _ {M : Type 1} {𝓤 : Ura M} (𝓛 : Logic 𝓤) (T : RattleType) (L : L
       (header_out 𝓛 (bare (R Item)) m k b hd o)
 
   -- Converts uninitialized memory for the capacity and the length into uninitialized memory for `k`
-  -- words. This conversion requires the right `header_way`.
+  -- words. The lemma uses up `header_way`, the right to do this.
   pub units_in : ent 𝓤 (sep 𝓤 (H.room half b o) (sep 𝓤 (H.room half b (o + 8))
       (sem 𝓛 (header_way (bare (R Item)) m k b o)))) (H.room units b o)
   units_in = via 𝓤 (H.room (array_of (R W) k) b o) (header_in 𝓛 (bare (R Item)) m k b hd o)
@@ -347,9 +349,9 @@ module _ {M : Type 1} {𝓤 : Ura M} (𝓛 : Logic 𝓤) (T : RattleType) (L : L
     asked_words : words_of (R Item) ≡ Some (m, k)
     asked_words = same_words (R Item) c ∙ is
 
-    -- Splits what a block owns besides its slots into uninitialized memory for `k` words at the
-    -- address of the header, the right to convert the slots into words, and the right to free the
-    -- block.
+    -- Splits a block, except for its slots, into three parts: uninitialized memory for `k` words at
+    -- the address of the header, the right to convert memory for the slots into memory for words,
+    -- and the right to free the block.
     pub header_apart : ent 𝓤 (sem 𝓛 (frame t (R Item) n c b o))
         (sep 𝓤 (H.room units b o) (sep 𝓤 (sem 𝓛 Rest) (sem 𝓛 Right)))
     header_apart =
@@ -365,16 +367,18 @@ module _ {M : Type 1} {𝓤 : Ura M} (𝓛 : Logic 𝓤) (T : RattleType) (L : L
         rewrite ! 0 (λ (w : Option (ℕ × ℕ)). ‵ (backing_for t w (bare (R Item)) c b o)) asked_words
         refl $
         fsplit ! $ fsplit ! $
-        -- The block has been split. Proof context, in order: the right to convert the header into
-        -- words; the same right for the slots; the right to free the block; memory for the length;
-        -- memory for the capacity.
+        -- The previous steps have split the block into its parts. The proof context now holds these
+        -- entries, in this order: the right to convert memory for the header into memory for words;
+        -- the same right for the slots; the right to free the block; memory for the length; memory
+        -- for the capacity.
         move ! (4 ∷ 3 ∷ 0 ∷ []) $ use3 𝓛 (‵ (froom units b o)) units_in $ move ! (2 ∷ []) $
         rewrite ! 0 (λ (j : ℕ). ‵ (t (array_of (R W) j) (block_ptr b o))) (sym total) refl $
         move ! (1 ∷ 2 ∷ 0 ∷ []) $ done !
 
-    -- Combines the capacity, the length, the rights to convert the header and the slots into words,
-    -- and the right to free the block into what a block owns besides its slots. The block must be
-    -- small enough to be allocated.
+    -- Combines five parts into what a block owns besides its slots. The parts are: the capacity;
+    -- the length; the right to convert memory for the header into memory for words; the right to
+    -- convert memory for the slots into memory for words; the right to free the block. The block
+    -- must be small enough to be allocated.
     pub header_whole : fits_block (R Item) c ≡ true
         → ent 𝓤 (sep 𝓤 (sem 𝓛 (lies_at usize full_share (block_ptr b o) c))
         (sep 𝓤 (sem 𝓛 (lies_at usize full_share (block_ptr b (o + 8)) n))

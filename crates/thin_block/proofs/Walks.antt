@@ -1,5 +1,5 @@
 -- These lemmas are for proofs about function bodies. They are about the parts of a body, and about
--- the conditions before and after a part.
+-- the conditions that must hold before or after a part is executed.
 pub use Rattle.core.proofs.alloc.Shapes.{after, head, inside, arm_body}
 use Rattle.std.proofs.Common.{◌≡◌, ℕ, zero, suc, List, [], ◌∷◌, refl, T}
 use seplogic.Ra.Ura.{Ura}
@@ -21,8 +21,8 @@ use denote.Laws.{Is, Typed}
 use denote.Builtin.{unit}
 use denote.Signature.{Slot, plain}
 
--- `slot_at k ss` is the parameter with the index `k` in the list `ss`, or a parameter of type `()`
--- if the list is too short.
+-- `slot_at k ss` is the parameter with the index `k` in the list `ss`. If the list is too short,
+-- `slot_at k ss` is a parameter of type `()`.
 abbrev pub slot_at : {n : ℕ} → ℕ → List (Slot n) → Slot n
 slot_at k [] = plain (λ _. unit)
 slot_at zero (s ∷ ss) = s
@@ -31,9 +31,9 @@ slot_at (suc k) (s ∷ ss) = slot_at k ss
 module _ {M : Type 1} {𝓤 : Ura M} (𝓛 : Logic 𝓤) where
   open 𝓛 use {H}
 
-  -- `then_runs C Λ E b q` is the condition that must hold before `b`, the last part of a function
-  -- body, so that `q` holds afterward. `C` and `Λ` are the tables of calls and loops, and `E` is
-  -- the environment.
+  -- Let `b` be the last part of a function body. `then_runs C Λ E b q` is the condition that must
+  -- hold before `b` is executed, so that `q` holds after `b`. `C` is the table of calls, `Λ` is the
+  -- table of loops, and `E` is the environment of the local variables.
   abbrev pub then_runs : Calls 𝓤 H → Loops 𝓤 H → Env 𝓤 H → Body → Post 𝓤 H → Post 𝓤 H
   then_runs C Λ E b q = any_q (after_seq 𝓤 H (Wp 𝓤 H C Λ E b (post 𝓤 H q)) (post 𝓤 H q))
 
@@ -42,15 +42,15 @@ module _ {M : Type 1} {𝓤 : Ura M} (𝓛 : Logic 𝓤) where
   abbrev pub out_of_block : Post 𝓤 H → Post 𝓤 H
   out_of_block q = any_q (after_block 𝓤 H (post 𝓤 H q))
 
--- `Facts 𝓤 φs` states the facts `φs`, such as the `requires` clauses of a function, as one entry of
--- the proof context.
+-- `Facts 𝓤 φs` states the facts `φs` as one entry of the proof context. The facts are the
+-- `requires` clauses or the `ensures` clauses of a function.
 abbrev pub Facts : {M : Type 1} (𝓤 : Ura M) → List (Type 0) → SProp 𝓤
 Facts 𝓤 [] = emp 𝓤
 Facts 𝓤 (φ ∷ []) = fact 𝓤 φ
 Facts 𝓤 (φ ∷ ψ ∷ φs) = sep 𝓤 (fact 𝓤 φ) (Facts 𝓤 (ψ ∷ φs))
 
--- `Shown φs` is the type of proofs of all facts in the list `φs`, such as the `ensures` clauses of
--- a function.
+-- A value of type `Shown φs` is a proof of all facts in the list `φs`. The facts are the `requires`
+-- clauses or the `ensures` clauses of a function.
 abbrev pub Shown : List (Type 0) → Type 0
 Shown [] = Unit {0}
 Shown (φ ∷ []) = φ
@@ -64,8 +64,7 @@ facts_i 𝓤 (φ ∷ ψ ∷ φs) x =
     (via 𝓤 (sep 𝓤 (fact 𝓤 φ) (emp 𝓤)) (mono_l 𝓤 (emp 𝓤) (fact_i 𝓤 φ (emp 𝓤) x.0))
     (mono_r 𝓤 (fact 𝓤 φ) (facts_i 𝓤 (ψ ∷ φs) x.1)))
 
--- Proves several `ensures` clauses, the facts `φs`, at once. The rest of the goal remains to be
--- proved.
+-- Proves several `ensures` clauses at once. The rest of the goal remains to be proved.
 pub says_all : {M : Type 1} {𝓤 : Ura M} {𝓛 : Logic 𝓤} {K : Type 0} {Γ : List (Item 𝓤)} → K
     → (φs : List (Type 0)) {P : SProp 𝓤}
     → Shown φs → Step K 𝓛 Γ (prop P) Γ (prop (sep 𝓤 P (Facts 𝓤 φs)))

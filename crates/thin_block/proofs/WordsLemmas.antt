@@ -23,13 +23,13 @@ use Rattle.std.specs.Option.{is_some}
 abbrev pub word_align : ℕ → ℕ
 word_align a = max a (max 8 1)
 
--- `word_size s a m` is the size in bytes of a word of `m` items with the size `s` and the alignment
--- `a`.
+-- `word_size s a m` is the size in bytes of a word of `m` items. Each item has the size `s` and the
+-- alignment `a`.
 abbrev pub word_size : ℕ → ℕ → ℕ → ℕ
 word_size s a m = up (word_align a) (up 8 (up a 0 + m * s) + 0 * 8)
 
--- `Counts m` collects facts about `div_ceil c m`, the number of words that `c` items need if a word
--- holds `m` items.
+-- If a word holds `m` items, then `c` items need `div_ceil c m` words. `Counts m` collects facts
+-- about this number of words.
 pub record Counts (m : ℕ) : Type 0 where
   pub some : 0 < m
   pub covers : (c : ℕ) → c ≤ div_ceil c m * m
@@ -38,7 +38,8 @@ pub record Counts (m : ℕ) : Type 0 where
   pub least : (n : ℕ) → n ≤ n * m
   pub few : (c : ℕ) → div_ceil c m ≤ c
 
--- This lemma and the next three lemmas state that `Counts` holds for words of 1, 2, 4 and 8 items.
+-- `Counts m` collects facts about words that hold `m` items each. This lemma and the next three
+-- lemmas state that `Counts m` holds if `m` is 1, 2, 4 or 8.
 counts_1 : Counts 1
 counts_1 = record {
   some = omega arith;
@@ -87,8 +88,9 @@ Laid s a m k = (word_size s a m ≡ m * s) × ((word_align a ≡ block_align a)
     × (Dv 8 (word_align a) × (Dv a (word_align a)
     × ((c : ℕ) → (k + div_ceil c m) * (m * s) ≡ block_bytes s a c))))
 
--- This lemma and the next four lemmas are about words of items of 1, 2, 4, 8 and 16 bytes. `Laid`
--- holds if the alignment `bytes w` divides the item size.
+-- Suppose that items have the size 1, and that their alignment, `bytes w`, divides this size. Then
+-- `Laid` holds for words of 8 such items: the header takes as many bytes as 2 words. The next four
+-- lemmas are about items of the sizes 2, 4, 8 and 16.
 laid_1 : (w : Width) → Dv (bytes w) 1 → Laid 1 (bytes w) 8 2
 laid_1 w8 d = (refl, (refl, (tt, (tt, λ c. omega arith))))
 laid_1 w16 d = absurd d
@@ -124,8 +126,8 @@ laid_16 w32 d = (refl, (refl, (tt, (tt, λ c. omega arith))))
 laid_16 w64 d = (refl, (refl, (tt, (tt, λ c. omega arith))))
 laid_16 w128 d = (refl, (refl, (tt, (tt, λ c. omega arith))))
 
--- `InWords s a m k` holds if `m` items with the size `s` and the alignment `a` make a word, and `k`
--- words take as many bytes as the header.
+-- `InWords s a m k` holds if `m` items with the size `s` and the alignment `a` make a word, and the
+-- header takes as many bytes as `k` words.
 pub record InWords (s a m k : ℕ) : Type 0 where
   pub counts : Counts m
   pub size : word_size s a m ≡ m * s
@@ -136,8 +138,9 @@ pub record InWords (s a m k : ℕ) : Type 0 where
   pub room : k * (m * s) ≡ 16
   pub any : 0 < k
 
--- If `k > 0` and `k` words take 16 bytes, then `Counts m` and `Laid s a m k` together imply
--- `InWords s a m k`.
+-- `InWords s a m k` states that `m` items of the size `s` and the alignment `a` make a word, and
+-- that the header takes as many bytes as `k` words. If `Counts m` and `Laid s a m k` hold, `k` is
+-- positive, and `k` words take 16 bytes in total, then `InWords s a m k` holds.
 in_words_by : (s a m k : ℕ) → Counts m → 0 < k → k * (m * s) ≡ 16 → Laid s a m k → InWords s a m k
 in_words_by s a m k c any room l = record {
   counts = c;
@@ -150,8 +153,8 @@ in_words_by s a m k c any room l = record {
   any = any;
 }
 
--- `AtAny s m k` holds if `InWords s a m k` holds for every alignment `a` that divides the item size
--- `s`.
+-- `AtAny s m k` holds if, for every alignment `a` that divides the item size `s`, `m` items make a
+-- word, and the header takes as many bytes as `k` words (`InWords s a m k`).
 abbrev AtAny : ℕ → ℕ → ℕ → Type 0
 AtAny s m k = (w : Width) → Dv (bytes w) s → InWords s (bytes w) m k
 
@@ -160,21 +163,25 @@ abbrev pair : Option (ℕ × ℕ) → ℕ × ℕ
 pair None = (0, 0)
 pair (Some p) = p
 
--- If `AtAny` holds for the item size `t` and the pair `p`, and if `s ≡ t` and `p ≡ q`, then `AtAny`
--- also holds for `s` and `q`.
+-- `AtAny` states that items of a given size can be grouped into words. If `AtAny` holds for the
+-- item size `t` and the two numbers in the pair `p`, then it also holds for an equal size `s` and
+-- an equal pair `q`.
 at_size : (s t : ℕ) (p q : ℕ × ℕ) → s ≡ t → ◌≡◌ {A = Option (ℕ × ℕ)} (Some p) (Some q)
     → AtAny t p.0 p.1 → AtAny s q.0 q.1
 at_size s t p q es e all =
     subst (λ (x : ℕ × (ℕ × ℕ)). AtAny x.0 x.1.0 x.1.1) (λ i. (sym es i, pair (e i))) all
 
--- `tested x y z u v` is the result of `in_words` for an item size. The booleans say whether this
--- size is 1, 2, 4, 8 or 16, in this order.
+-- `tested x y z u v` is the result of `in_words` for an item size. The booleans `x`, `y`, `z`, `u`
+-- and `v` say whether this size is 1, 2, 4, 8 or 16, in this order. If the result is a pair, it
+-- contains two numbers: the number of items that make a word, and the number of words that take as
+-- many bytes as the header.
 abbrev tested : Bool → Bool → Bool → Bool → Bool → Option (ℕ × ℕ)
 tested x y z u v = if x then Some (8, 2) else (if y then Some (4, 2) else
     (if z then Some (2, 2) else (if u then Some (1, 2) else (if v then Some (1, 1) else None))))
 
--- Suppose that the booleans say whether the item size `s` is 1, 2, 4, 8 or 16, in this order. If
--- `tested x y z u v` is the pair `q`, then `AtAny s q.0 q.1` holds.
+-- Suppose that the booleans `x`, `y`, `z`, `u` and `v` say whether the item size `s` is 1, 2, 4, 8
+-- or 16, in this order. If `tested x y z u v` is the pair `q`, then `AtAny s q.0 q.1` holds: `q.0`
+-- items make a word, and the header takes as many bytes as `q.1` words.
 by_test : (x y z u v : Bool) (s : ℕ) (q : ℕ × ℕ) → (s == 1) ≡ x → (s == 2) ≡ y → (s == 4) ≡ z
     → (s == 8) ≡ u → (s == 16) ≡ v → tested x y z u v ≡ Some q → AtAny s q.0 q.1
 by_test true y z u v s q ex ey ez eu ev e =
@@ -206,7 +213,9 @@ words_told R m k e =
     subst (λ (a : ℕ). InWords s a m k) (sym known)
     (at_width (align_w (layout R)) (subst (λ (a : ℕ). Dv a s) known (align_size (layout R))))
 
--- If `InWords` holds for the type `τ`, then it also holds for `τ` with all field names erased.
+-- `InWords` states that `m` items of a type make a word, and that the header takes as many bytes as
+-- `k` words. If `InWords` holds for the type `τ`, then it also holds for `τ` with all field names
+-- erased.
 pub nameless : (τ : Ty) (m k : ℕ) → InWords (size τ) (align τ) m k
     → InWords (size (raw τ)) (align (raw τ)) m k
 nameless τ m k h = subst (λ (p : ℕ × ℕ). InWords p.0 p.1 m k)

@@ -91,8 +91,8 @@ module _ {M : Type 1} {𝓤 : Ura M} (𝓛 : Logic 𝓤) (τ : Ty) (m k b : ℕ)
   one_more : (w : ℕ) → m + w * m ≡ suc w * m
   one_more w = omega (arith, suc-mul w m)
 
-  -- Splits memory for `w` words into memory for their items, and the rights (`ways`) to convert
-  -- this memory back into memory for the words.
+  -- Splits memory for `w` words into memory for the items of these words, and the rights (`ways`)
+  -- to convert the memory for the items back into memory for words.
   pub ways_out : (w o : ℕ) → ent 𝓤 (H.room (ty_array ω w) b o)
       (sep 𝓤 (H.room (ty_array τ (w * m)) b o) (sem 𝓛 (ways τ m w b o)))
   ways_out zero o =
@@ -108,17 +108,18 @@ module _ {M : Type 1} {𝓤 : Ura M} (𝓛 : Logic 𝓤) (τ : Ty) (m k b : ℕ)
       split ! $ move ! (2 ∷ []) $
       use1 𝓛 (‵ (froom (ty_array τ (w * m)) b (o + u)) ⊛ ‵ (ways τ m w b (o + u)))
       (ways_out w (o + u)) $ split ! $
-      -- The memory for the words has been split. Proof context, in order: memory for the items of
-      -- all words except the first; the right to convert this memory back; the same two entries for
-      -- the first word.
+      -- The previous steps have split the memory for the words. The proof context now holds these
+      -- entries, in this order: memory for the items of all words except the first; the right to
+      -- convert this memory back into memory for these words; memory for the items of the first
+      -- word; the right to convert this memory back into memory for the first word.
       rewrite ! 0 (λ (n : ℕ). ‵ (froom (ty_array τ (w * m)) b n)) (sym (after_run o)) refl $
       move ! (2 ∷ 0 ∷ []) $ use2 𝓛 (‵ (froom (ty_array τ (m + w * m)) b o))
       (room_glue 𝓛 τ m (w * m) b o) $
       rewrite ! 0 (λ (n : ℕ). ‵ (froom (ty_array τ n) b o)) (one_more w) refl $
       move ! (2 ∷ 1 ∷ 0 ∷ []) $ fjoin ! $ move ! (1 ∷ 0 ∷ []) $ done !
 
-  -- Converts memory for the items of `w` words into memory for these words. This conversion
-  -- requires the rights `ways`.
+  -- Converts memory for the items of `w` words into memory for these words. The lemma uses up
+  -- `ways`, the rights to do this.
   pub ways_in : (w o : ℕ) → ent 𝓤 (sep 𝓤 (H.room (ty_array τ (w * m)) b o) (sem 𝓛 (ways τ m w b o)))
       (H.room (ty_array ω w) b o)
   ways_in zero o = qed 𝓛 (‵ (froom (ty_array τ (0 * m)) b o) ∷ ‵ ftrue ∷ []) ∵ keep ! [] $
@@ -128,9 +129,11 @@ module _ {M : Type 1} {𝓤 : Ura M} (𝓛 : Logic 𝓤) (τ : Ty) (m k b : ℕ)
       rewrite ! 0 (λ (n : ℕ). ‵ (froom (ty_array τ n) b o)) (sym (one_more w)) refl $
       use1 𝓛 (‵ (froom run b o) ⊛ ‵ (froom (ty_array τ (w * m)) b (past τ m o)))
       (room_cut 𝓛 τ m (w * m) b o) $ split ! $ move ! (2 ∷ []) $ fsplit ! $
-      -- The first word has been separated. Proof context, in order: the right to convert items into
-      -- the first word; the same right for the other words; memory for the items of the first word;
-      -- memory for the other items.
+      -- The previous steps have separated the memory for the items of the first word from the
+      -- memory for the other items. The proof context now holds these entries, in this order: the
+      -- right to convert memory for the items of the first word into memory for a word; the same
+      -- right for the other words; memory for the items of the first word; memory for the items of
+      -- the other words.
       move ! (2 ∷ 0 ∷ []) $ use2 𝓛 (‵ (froom ω b o)) (apply∗ 𝓤 (H.room run b o) (H.room ω b o)) $
       move ! (2 ∷ 1 ∷ []) $
       rewrite ! 0 (λ (n : ℕ). ‵ (froom (ty_array τ (w * m)) b n)) (after_run o) refl $
@@ -144,8 +147,8 @@ module _ {M : Type 1} {𝓤 : Ura M} (𝓛 : Logic 𝓤) (τ : Ty) (m k b : ℕ)
   after_header : (o : ℕ) → past ω k o ≡ o + 16
   after_header o = past_is ω k o ∙ ap (λ (n : ℕ). o + n) header_bytes
 
-  -- Splits memory for `k` words into memory for the capacity, memory for the length, and the right
-  -- to convert this memory back (`header_way`).
+  -- Splits memory for `k` words into three parts: memory for the capacity, memory for the length,
+  -- and `header_way`, the right to convert these two kinds of memory back into memory for words.
   pub header_out : (o : ℕ) → ent 𝓤 (H.room units b o)
       (sep 𝓤 (H.room half b o) (sep 𝓤 (H.room half b (o + 8)) (sem 𝓛 (header_way τ m k b o))))
   header_out o =
@@ -164,8 +167,8 @@ module _ {M : Type 1} {𝓤 : Ura M} (𝓛 : Logic 𝓤) (τ : Ty) (m k b : ℕ)
       move ! (1 ∷ 0 ∷ []) $ use2 𝓛 (‵ (froom two b o)) (𝓛.laws.room_cons half 1 b o) $
       by ! (apply∗ 𝓤 (H.room two b o) (H.room units b o))
 
-  -- Converts memory for the capacity and the length into memory for `k` words. This conversion
-  -- requires the right `header_way`.
+  -- Converts memory for the capacity and the length into memory for `k` words. The lemma uses up
+  -- `header_way`, the right to do this.
   pub header_in : (o : ℕ) → ent 𝓤 (sep 𝓤 (H.room half b o) (sep 𝓤 (H.room half b (o + 8))
       (sem 𝓛 (header_way τ m k b o)))) (H.room units b o)
   header_in o =
@@ -173,7 +176,8 @@ module _ {M : Type 1} {𝓤 : Ura M} (𝓛 : Logic 𝓤) (τ : Ty) (m k b : ℕ)
       fjoin ! $ by ! (apply∗ 𝓤 (sem 𝓛 (header_room b o)) (H.room units b o))
 
   -- If `c` slots fit into `w` words, then memory for these words can be split into memory for the
-  -- slots, and the right to convert this memory back (`slots_way`).
+  -- slots and `slots_way`, the right to convert the memory for the slots back into memory for
+  -- words.
   slots_out : (w c o : ℕ) → c ≤ w * m → ent 𝓤 (H.room (ty_array ω w) b o)
       (sep 𝓤 (H.room (ty_array τ c) b o) (sem 𝓛 (slots_way τ m w c b o)))
   slots_out w c o le =
@@ -188,7 +192,7 @@ module _ {M : Type 1} {𝓤 : Ura M} (𝓛 : Logic 𝓤) (τ : Ty) (m k b : ℕ)
       move ! (2 ∷ 0 ∷ []) $ fjoin ! $ move ! (1 ∷ 0 ∷ []) $ done !
 
   -- If `c` slots fit into `w` words, then memory for the slots can be converted into memory for the
-  -- words. This conversion requires the right `slots_way`.
+  -- words. This uses up `slots_way`, the right to do so.
   slots_in : (w c o : ℕ) → c ≤ w * m → ent 𝓤 (sep 𝓤 (H.room (ty_array τ c) b o)
       (sem 𝓛 (slots_way τ m w c b o))) (H.room (ty_array ω w) b o)
   slots_in w c o le =
@@ -205,8 +209,9 @@ module _ {M : Type 1} {𝓤 : Ura M} (𝓛 : Logic 𝓤) (τ : Ty) (m k b : ℕ)
     abbrev Back : Fml
     Back = fsep (header_way τ m k b o) (slots_way τ m w c b (o + 16))
 
-    -- Splits memory for a block of words into memory for the capacity, the length and the slots,
-    -- and the right to convert this memory back (`Back`).
+    -- Splits memory for a block of words into four parts: memory for the capacity, memory for the
+    -- length, memory for the slots, and `Back`, the right to convert these three kinds of memory
+    -- back into memory for words.
     pub block_out : ent 𝓤 (H.room (ty_array ω (k + w)) b o)
         (sep 𝓤 (H.room half b o) (sep 𝓤 (H.room half b (o + 8))
         (sep 𝓤 (H.room (ty_array τ c) b (o + 16)) (sem 𝓛 Back))))
@@ -221,8 +226,8 @@ module _ {M : Type 1} {𝓤 : Ura M} (𝓛 : Logic 𝓤) (τ : Ty) (m k b : ℕ)
         (slots_out w c (o + 16) le) $ split ! $ move ! (4 ∷ 1 ∷ []) $ fjoin ! $
         move ! (2 ∷ 3 ∷ 1 ∷ 0 ∷ []) $ done !
 
-    -- Converts memory for the capacity, the length and the slots into memory for a block of words.
-    -- This conversion requires the right `Back`.
+    -- Converts memory for the capacity, memory for the length and memory for the slots into memory
+    -- for a block of words. The lemma uses up `Back`, the right to do this.
     pub block_in : ent 𝓤 (sep 𝓤 (H.room half b o) (sep 𝓤 (H.room half b (o + 8))
         (sep 𝓤 (H.room (ty_array τ c) b (o + 16)) (sem 𝓛 Back)))) (H.room (ty_array ω (k + w)) b o)
     block_in =
@@ -234,16 +239,18 @@ module _ {M : Type 1} {𝓤 : Ura M} (𝓛 : Logic 𝓤) (τ : Ty) (m k b : ℕ)
         move ! (2 ∷ 3 ∷ 1 ∷ []) $ use3 𝓛 (‵ (froom units b o)) (header_in o) $
         by ! (room_glue 𝓛 ω k w b o)
 
--- `number_of_items m` is the const argument of the type `Words` for words of `m` items.
+-- The type `Words` has a const argument: the number of items in a word. `number_of_items m` is this
+-- argument if each word has `m` items.
 abbrev pub number_of_items : ℕ → RattleType
 number_of_items m = param 1 (number m)
 
--- `word_row T m` is the type of words that consist of `m` items of type `T`.
+-- `word_row T m` is the type of a word that consists of `m` items of the type `T`.
 abbrev pub word_row : RattleType → ℕ → RattleType
 word_row T m = the_row (param 0 T) (number_of_items m)
 
--- `word_el T L m` combines the type of words of `m` items of type `T` with its laws. The lemmas
--- about blocks take this record as an argument.
+-- `word_el T L m` is a record that combines the type of words with the laws of this type. Each word
+-- consists of `m` items of type `T`, and `L` contains the laws of `T`. The lemmas about blocks take
+-- such a record as an argument.
 abbrev pub word_el : (T : RattleType) → Laws T → ℕ → El
 word_el T L m = record {
   row = word_row T m;
@@ -268,14 +275,15 @@ zero_up τ = subst (λ (a : ℕ). up a 0 ≡ 0) (sym (align-bytes τ)) (zero_at 
 abbrev pub words_made : (T : RattleType) (m n : ℕ) → List T.Denot → List (word_row T m).Denot
 words_made T m n xs = map (word (param 0 T) (number_of_items m)) (first_chunks m n xs)
 
--- `first_chunks m n xs`, the list of the first `n` chunks of `m` items in `xs`, has the length `n`,
--- even if `xs` is too short.
+-- `first_chunks m n xs` is the list of the first `n` chunks of `m` items in `xs`. The length of
+-- this list is `n`, even if `xs` contains fewer than `n * m` items.
 pub chunks_long : {X : Type 0} (m n : ℕ) (xs : List X) → length (first_chunks m n xs) ≡ n
 chunks_long m zero xs = refl
 chunks_long m (suc n) xs = ap suc (chunks_long m n (rest m xs))
 
--- `words_made T m n xs`, the list of the first `n` words made from the items `xs`, has the length
--- `n`, even if `xs` is too short.
+-- `words_made T m n xs` is the list of the first `n` words that are made from the items `xs`, with
+-- `m` items in each word. The length of this list is `n`, even if `xs` contains fewer than `n * m`
+-- items.
 pub words_long : (T : RattleType) (m n : ℕ) (xs : List T.Denot)
     → length (words_made T m n xs) ≡ n
 words_long T m n xs = length-map (first_chunks m n xs) (word (param 0 T) (number_of_items m))
@@ -348,8 +356,9 @@ module _ {M : Type 1} {𝓤 : Ura M} (𝓛 : Logic 𝓤) (T : RattleType) (L : L
     abbrev Rooms : SProp 𝓤
     Rooms = rooms_for 𝓤 H fields zero b o
 
-    -- If memory for all fields of a word can be converted into memory for the word, then so can
-    -- memory for the items of the word, because the only other field takes no bytes.
+    -- The array of items is the only field of a word that takes any bytes. So if memory for all
+    -- fields of a word can be converted into memory for the word, then memory for the items alone
+    -- can be converted, too.
     way_out : ent 𝓤 (RoomBack 𝓤 H (the_type (R E) N).name fields b o) (sem 𝓛 (way τ' m b o))
     way_out =
         qed 𝓛 (raw (RoomBack 𝓤 H (the_type (R E) N).name fields b o) ∷ []) ∵
@@ -361,8 +370,8 @@ module _ {M : Type 1} {𝓤 : Ura M} (𝓛 : Logic 𝓤) (T : RattleType) (L : L
         use2 𝓛 (‵ (froom (layout W.row) b o)) (apply∗ 𝓤 Rooms (H.room (layout W.row) b o)) $
         by ! (𝓛.laws.room-raw (layout W.row) b o)
 
-    -- Splits a word in memory into its items, and the right to convert the memory of the items back
-    -- into memory for the word (`way`).
+    -- Splits a word in memory into its items and a right (`way`). With this right, the memory of
+    -- the items can be converted back into memory for the word.
     pub word_out : (xs : List X) → ent 𝓤 (sem 𝓛 (part_at (R W) full_share (word (R E) N xs) b o))
         (sep 𝓤 (sem 𝓛 (part_at (Array (R E) m) full_share xs b o)) (sem 𝓛 (way τ' m b o)))
     word_out xs =
@@ -389,8 +398,8 @@ module _ {M : Type 1} {𝓤 : Ura M} (𝓛 : Logic 𝓤) (T : RattleType) (L : L
   abbrev words : ℕ → List X → List W.row.Denot
   words n xs = words_made T m n xs
 
-  -- `full xs` consists of the slots of the first word, which hold the first `m` items, and the
-  -- slots of the other items, `rest m xs`.
+  -- `full xs` is `full (take m xs) ++ full (rest m xs)`. The first `m` items of `xs` make the first
+  -- word, and `rest m xs` contains the items after them.
   parted : (xs : List X) → full xs ≡ full (take m xs) ++ full (rest m xs)
   parted xs = ap full (sym (take-append-drop m xs)) ∙ map-append Some (take m xs) (rest m xs)
 
@@ -429,9 +438,10 @@ module _ {M : Type 1} {𝓤 : Ura M} (𝓛 : Logic 𝓤) (T : RattleType) (L : L
       (to_items E 𝓛 b m c o (first_long n xs o long)) $ move ! (2 ∷ []) $
       rewrite ! 0 (λ (n : ℕ). ‵ (ways τ' m n b o)) {x = suc (j + n)} (omega (arith, ew)) refl $
       fsplit ! $
-      -- The slots and the rights (`ways`) have been split. Proof context, in order: the right for
-      -- the first word; the rights for the other words; the items of the first word; the slots with
-      -- the other items.
+      -- The previous steps have split the slots and the rights (`ways`). The proof context now
+      -- holds these entries, in this order: the right (`way`) to convert memory for the items of
+      -- the first word into memory for this word; the rights (`ways`) for all later words; the
+      -- items of the first word; the slots with the items of the other words.
       move ! (2 ∷ 0 ∷ []) $ fjoin ! $ move ! (2 ∷ 1 ∷ []) $
       use2 𝓛 (‵ (runs_at (R E) N (chunks n (rest m xs)) b far) ⊛ ‵ (ways τ' m j b at))
       (to_runs n (j + n) j (rest m xs) far at (rest_long n xs o long) refl
@@ -460,9 +470,10 @@ module _ {M : Type 1} {𝓤 : Ura M} (𝓛 : Logic 𝓤) (T : RattleType) (L : L
       use2 𝓛 (‵ (places (R E) (full (rest m xs)) b far) ⊛ ‵ (ways τ' m (j + n) b far))
       (of_runs n (j + n) j (rest m xs) far at (rest_long n xs o long) refl
       (omega (arith, ea, suc-mul n u'))) $ split ! $
-      -- All words have been converted into slots. Proof context, in order: the slots of all words
-      -- except the first; the rights for these words and the next `j` words; the slots of the first
-      -- word; the right for the first word.
+      -- The previous steps have converted all words into slots. They have also produced the rights
+      -- (`ways`) to convert the slots back. The proof context now holds these entries, in this
+      -- order: the slots of all words except the first; the rights for these words and for the next
+      -- `j` words; the slots of the first word; the right for the first word.
       move ! (2 ∷ 0 ∷ []) $ use2 𝓛 (‵ (places (R E) (full c ++ full (rest m xs)) b o))
       (glue E 𝓛 b (full c) (full (rest m xs)) o far (next n xs o long)) $
       rewrite ! 0 (λ (l : List (Option X)). ‵ (places (R E) l b o)) (sym (parted xs)) refl $
@@ -493,8 +504,8 @@ module _ {M : Type 1} {𝓤 : Ura M} (𝓛 : Logic 𝓤) (T : RattleType) (L : L
         use2 𝓛 (‵ (froom (ty_array (word_of τ' m) v) b at)) (ways_in 𝓛 τ' m k b hd' v at) $
         by ! (of_raw W 𝓛 b v at)
 
-    -- Converts `v` empty words into `j` empty slots, the rights (`ways`) to convert the slots back,
-    -- and the memory after the last slot, which belongs to no slot.
+    -- Converts `v` empty words into three parts: `j` empty slots, the rights (`ways`) to convert
+    -- these slots back into words, and the memory after the last slot, which belongs to no slot.
     spare_slots : ent 𝓤 (sem 𝓛 (places (R W) (empty v) b at))
         (sep 𝓤 (sem 𝓛 (places (R E) (empty j) b at))
         (sep 𝓤 (sem 𝓛 (ways τ' m v b at)) (sem 𝓛 Spare)))
@@ -545,8 +556,8 @@ module _ {M : Type 1} {𝓤 : Ura M} (𝓛 : Logic 𝓤) (T : RattleType) (L : L
         ap (λ (x : ℕ). length xs * x) (size-raw σ) in
         let e = same_bytes in let a = at_after in omega arith
 
-    -- Groups the filled slots by word, and converts the empty slots into empty words. This requires
-    -- the right `slots_way` to convert slots into words.
+    -- Groups the filled slots by word, and converts the empty slots into empty words. This step
+    -- uses `slots_way`, the right to convert slots into words.
     pub words_in : ent 𝓤 (sep 𝓤 (sem 𝓛 (places (R E) (full xs ++ empty j) b o))
         (sem 𝓛 (slots_way τ' m w c b o)))
         (sep 𝓤 (sem 𝓛 (runs_at (R E) N (chunks n xs) b o)) (sem 𝓛 (places (R W) (empty v) b after)))
@@ -554,9 +565,11 @@ module _ {M : Type 1} {𝓤 : Ura M} (𝓛 : Logic 𝓤) (T : RattleType) (L : L
         qed 𝓛 (‵ (places (R E) (full xs ++ empty j) b o) ∷ ‵ (slots_way τ' m w c b o) ∷ []) ∵
         use1 𝓛 (‵ (places (R E) (full xs) b o) ⊛ ‵ (places (R E) (empty j) b after))
         (cut E 𝓛 b (full xs) (empty j) o after last) $ split ! $ move ! (2 ∷ []) $ fsplit ! $
-        -- The filled slots and the empty slots have been separated. Proof context, in order: the
-        -- rights (`ways`) to convert items into words; the memory after the last slot; the filled
-        -- slots; the empty slots.
+        -- The previous steps have separated the filled slots from the empty slots, and have split
+        -- `slots_way` into its two parts. The proof context now holds these entries, in this order:
+        -- the rights (`ways`) to convert memory for items into memory for words, one right for each
+        -- word; the memory after the last slot, which belongs to no slot; the filled slots; the
+        -- empty slots.
         move ! (2 ∷ 0 ∷ []) $
         use2 𝓛 (‵ (runs_at (R E) N (chunks n xs) b o) ⊛ ‵ (ways τ' m v b after))
         (to_runs n w v xs o after long total at_after) $ split ! $ move ! (3 ∷ 1 ∷ 2 ∷ []) $
@@ -567,15 +580,15 @@ module _ {M : Type 1} {𝓤 : Ura M} (𝓛 : Logic 𝓤) (T : RattleType) (L : L
     last_word = ap (λ (x : ℕ). x * type_size (R W) + o)
         (sym (length-map (words n xs) Some ∙ words_long T m n xs))
 
-    -- Joins the memory of the `n` words that hold items with the memory of the `v` empty words
-    -- directly after them.
+    -- Joins the memory of the `n` words that hold items with the memory of the `v` empty words. The
+    -- empty words must begin directly after the words that hold items.
     pub words_joined : ent 𝓤 (sep 𝓤 (sem 𝓛 (places (R W) (full (words n xs)) b o))
         (sem 𝓛 (places (R W) (empty v) b after)))
         (sem 𝓛 (places (R W) (full (words n xs) ++ empty v) b o))
     words_joined = glue W 𝓛 b (full (words n xs)) (empty v) o after last_word
 
     -- Converts the words that hold items into filled slots, and the empty words into empty slots.
-    -- The result also contains the right to convert the slots back into words (`slots_way`).
+    -- The result also contains the right (`slots_way`) to convert the slots back into words.
     pub words_back : ent 𝓤 (sem 𝓛 (places (R W) (full (words n xs) ++ empty v) b o))
         (sep 𝓤 (sem 𝓛 (places (R E) (full xs ++ empty j) b o)) (sem 𝓛 (slots_way τ' m w c b o)))
     words_back =
@@ -585,8 +598,9 @@ module _ {M : Type 1} {𝓤 : Ura M} (𝓛 : Logic 𝓤) (T : RattleType) (L : L
         use1 𝓛 (‵ (places (R E) (empty j) b after) ⊛ ‵ (ways τ' m v b after) ⊛ ‵
         (froom (ty_array τ' pad') b (o + c * size τ')))
         (spare_slots j v pad' after (o + c * size τ') whole end) $ split3 ! $
-        -- The empty words have been converted into empty slots. Proof context, in order: the empty
-        -- slots; the rights (`ways`) to convert them back; the memory after the last slot; the
+        -- The previous steps have converted the empty words into empty slots. The proof context now
+        -- holds these entries, in this order: the empty slots; the rights (`ways`) to convert these
+        -- slots back into words; the memory after the last slot, which belongs to no slot; the
         -- words that hold items.
         move ! (3 ∷ 1 ∷ []) $
         use2 𝓛 (‵ (places (R E) (full xs) b o) ⊛ ‵ (ways τ' m w b o))

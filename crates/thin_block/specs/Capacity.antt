@@ -1,5 +1,5 @@
 -- This file computes the size of a block in bytes, and defines when a block is small enough to be
--- allocated. `s` and `a` are the size and the alignment of an item in bytes.
+-- allocated. In this file, `s` and `a` are the size and the alignment of an item, in bytes.
 use Rattle.std.specs.Prelude.{◌≡◌, ℕ, ◌+◌, ◌*◌, ◌-◌, ◌^◌, ◌&&◌, ◌==◌, Bool, IsTrue, Option, if◌then◌else◌, max, nat_lt}
 use Rattle.std.specs.declared.option.Option.TheVariants.{Some, None}
 use Rattle.std.specs.Int.{next_multiple_of}
@@ -13,8 +13,8 @@ use denote.RattleType.{RattleType}
 abbrev pub IsAlign : ℕ → Type 0
 IsAlign a = (w : Width) × (a ≡ bytes w)
 
--- `items_offset a` is the offset in bytes of the first item of a block, if the items have the
--- alignment `a`. The header, and padding if necessary, precede this item.
+-- `items_offset a` is the offset in bytes of the first item in a block whose items have the
+-- alignment `a`. Two words of 8 bytes, and padding if necessary, precede the first item.
 abbrev pub items_offset : ℕ → ℕ
 items_offset a = max 16 a
 
@@ -35,7 +35,8 @@ abbrev pub is_small : ℕ → ℕ → ℕ → Bool
 is_small s a c = nat_lt c (2 ^ 63) && nat_lt (block_bytes s a c) (2 ^ 63)
 
 -- `fits s a c` is true if a block for `c` items of size `s` and alignment `a` is small enough to be
--- allocated. The prover unfolds this definition only on request.
+-- allocated. Its value is `is_small s a c`, but the prover unfolds `fits` only if a proof asks for
+-- it.
 unfoldable pub fits : ℕ → ℕ → ℕ → Bool
 fits s a c = is_small s a c
 
@@ -43,9 +44,9 @@ fits s a c = is_small s a c
 abbrev pub Fits : RattleType → ℕ → Type 0
 Fits R c = IsTrue (fits (type_size R) (type_align R) c)
 
--- `first s` is the first capacity that `Doubling` chooses for a list of items of `s` bytes, unless
--- more room is required. It is 1 if `s` exceeds `usize::MAX / 8`, and 4 otherwise, as in the Rust
--- crate thin-vec.
+-- `first s` is the capacity that the rule `Doubling` chooses for the first block of a list, unless
+-- the list needs room for more items. An item takes `s` bytes. `first s` is 1 if `s` exceeds
+-- `usize::MAX / 8`, and 4 otherwise, as in the Rust crate thin-vec.
 unfoldable pub first : ℕ → ℕ
 first s = if nat_lt (2 ^ 61 - 1) s then 1 else 4
 

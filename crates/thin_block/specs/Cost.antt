@@ -1,9 +1,10 @@
--- The record `Cost` counts requests for memory, copied items and moves of items. The counts exist
--- only in proofs, and are unbounded.
+-- The record `Cost` counts requests for memory, copies of items, and moves of items. These counts
+-- are unbounded and exist only in proofs: the program does not store them.
 use Rattle.std.specs.Prelude.{ℕ, ◌+◌, refl}
 use Rattle.std.specs.Coded.{Coded, code_by, coded×, coded_ℕ}
 
--- `Cost` counts the work that has been done on a block since the block was created.
+-- `Cost` consists of three counts of the work that has been done on a block since the block was
+-- created.
 pub record Cost : Type 0 where
   -- The number of granted requests for memory. A request allocates memory, or changes the size of
   -- an allocation.
@@ -11,8 +12,9 @@ pub record Cost : Type 0 where
   -- The number of items that reallocations have copied. Each reallocation counts every item of the
   -- block, even if the address of the block does not change.
   pub grown : ℕ
-  -- The number of times that an item was moved into the block or within the block. Inserting a
-  -- clone and exchanging two items count as one move each. Taking an item out does not count.
+  -- The number of moves of items into the block or within the block. Putting a clone into the block
+  -- counts as one move, and so does exchanging two items. Taking an item out of the block does not
+  -- count.
   pub moves : ℕ
 
 -- `cost_code` encodes a value of the type `Cost` as a tuple of its three counts. The ghost field

@@ -9,9 +9,9 @@ use denote.RattleType.{RattleType}
 use Rattle.std.specs.Int.{IsPowerOfTwo}
 use Rattle.thin_block.specs.Capacity.{fits, first, items_offset}
 
--- A growth rule is a function of the size and the alignment of an item, the old capacity, and the
--- required capacity, which is greater. It returns the new capacity, or `None` if this capacity is
--- too large.
+-- A growth rule is a function of the size of an item, the alignment of an item, the old capacity,
+-- and the required capacity. The required capacity exceeds the old capacity. The rule returns the
+-- new capacity, or `None` if the new capacity is too large.
 abbrev pub Rule : Type 0
 Rule = ℕ → ℕ → ℕ → ℕ → Option ℕ
 
@@ -22,59 +22,65 @@ pub record IsGrown (s a c w n : ℕ) : Type 0 where
   pub doubled : 2 * c ≤ n
   pub fits : IsTrue (fits s a n)
 
--- `Grows R c w n` is `IsGrown` for the size and the alignment of the type `R`.
+-- `Grows R c w n` holds if a block of capacity `c` may grow to the capacity `n` in order to hold
+-- `w` items of the type `R`.
 abbrev pub Grows : RattleType → ℕ → ℕ → ℕ → Type 0
 Grows R c w n = IsGrown (type_size R) (type_align R) c w n
 
--- `KeepsLaw rule` holds if each new capacity is at least the required capacity `w`, at least twice
--- the old capacity `c`, and not too large. The rule may assume that `c < w` and `w < 2 ^ 64`.
+-- `KeepsLaw rule` holds if each capacity that `rule` chooses is at least the required capacity `w`,
+-- at least twice the old capacity `c`, and not too large for an allocation. The rule may assume
+-- that `c < w` and `w < 2 ^ 64`.
 abbrev pub KeepsLaw : Rule → Type 0
 KeepsLaw rule = (s a c w n : ℕ) → c < w → w < 2 ^ 64 → rule s a c w ≡ Some n → IsGrown s a c w n
 
--- `fitting s a n` is `Some n` if a block for `n` items of size `s` and alignment `a` is small
--- enough to be allocated, and `None` otherwise.
+-- `fitting s a n` is `Some n` if a block of capacity `n` is small enough to be allocated, and
+-- `None` otherwise. The size and the alignment of an item are `s` and `a`.
 unfoldable pub fitting : ℕ → ℕ → ℕ → Option ℕ
 fitting s a n = if fits s a n then Some n else None
 
--- `doubling s a c w` is the maximum of `w` and `2 * c`, or `None` if this capacity is too large. If
--- `c` is 0, `first s` replaces `2 * c`. The Rust crate thin-vec uses the same rule.
+-- `doubling` is the growth rule `Doubling`. It chooses twice the old capacity, or `first_capacity`
+-- if the old capacity is 0, but never less than the required capacity. `reserve` in the Rust crate
+-- thin-vec uses the same rule.
 unfoldable pub doubling : Rule
 doubling s a c w = fitting s a (max w (if c == 0 then first s else 2 * c))
 
--- `doubled_to k n p` is the first of the numbers `p`, `2 * p`, `4 * p`, .., `2 ^ k * p` that is at
--- least `n`. If there is none, it is `2 ^ k * p`.
+-- `doubled_to k n p` doubles `p` until the result is at least `n`, but at most `k` times.
 abbrev pub doubled_to : ℕ → ℕ → ℕ → ℕ
 doubled_to zero n p = p
 doubled_to (suc more) n p = if nat_le n p then p else doubled_to more n (2 * p)
 
--- `least_power n` is the least power of two that is at least `n`. It equals the result of std's
--- `usize::next_power_of_two`, if this result fits into a `usize`.
+-- `least_power n` is the least power of two that is at least `n`. std's `usize::next_power_of_two`
+-- returns the same number if the number fits into a `usize`.
 unfoldable pub least_power : ℕ → ℕ
 least_power n = doubled_to n n 1
 
--- Let `p` be the size of the header and `max w (2 * c)` items, rounded up to a power of two. Then
--- `power_bytes s a c w` is the greatest capacity that fits into `p` bytes, or `None` if it is too
--- large. If `s` is 0, the rule is the same as `doubling`.
+-- `power_bytes s a c w` is the capacity that the rule `PowerBytes` chooses for items of size `s`
+-- and alignment `a`, if the old capacity is `c` and the required capacity is `w`. The rule rounds
+-- the total size of the header and `max w (2 * c)` items up to a power of two, and chooses the
+-- greatest capacity for which a block fits into the rounded size. If this capacity is too large,
+-- the result is `None`. If `s` is 0, the rule is the same as `doubling`.
 unfoldable pub power_bytes : Rule
 power_bytes s a c w = if s == 0 then doubling s a c w else fitting s a
     ((least_power (items_offset a + max w (2 * c) * s) - items_offset a) / s)
 
--- `FillsPower s a c` holds if, for some power of two `p`, the header and `c` items of size `s` and
--- alignment `a` fit into `p` bytes, but the header and `c + 1` items do not.
+-- `FillsPower s a c` holds if there is a power of two `p` such that `p` bytes have room for the
+-- header and `c` items, but not for one more item. The size and the alignment of an item are `s`
+-- and `a`.
 pub record FillsPower (s a c : ℕ) : Type 0 where
   pub power : ℕ
   pub is_power : IsPowerOfTwo power
   pub holds : items_offset a + c * s ≤ power
   pub is_full : power < items_offset a + (c + 1) * s
 
--- `ruled_capacity rule R c w` is the new capacity of a block of capacity `c` that has reserved room
--- for `w` items: `c` if `w ≤ c`, and otherwise the choice of `rule`, or `None` if `w` exceeds
--- `usize::MAX`.
+-- `ruled_capacity rule R c w` is the capacity of a block of capacity `c` after the block has
+-- reserved room for `w` items of the type `R` under the growth rule `rule`. It is `c` if `w ≤ c`,
+-- `None` if `w` exceeds `usize::MAX`, and the result of `rule` otherwise.
 unfoldable pub ruled_capacity : Rule → RattleType → ℕ → ℕ → Option ℕ
 ruled_capacity rule R c w = if nat_le w c then Some c else
     (if nat_lt w (2 ^ 64) then rule (type_size R) (type_align R) c w else None)
 
--- `exact_capacity R c w` is the new capacity of a block of capacity `c` that has reserved room for
--- exactly `w` items: `c` if `w ≤ c`, and otherwise `w`, or `None` if `w` is too large.
+-- `exact_capacity R c w` is the capacity of a block of capacity `c` after the block has reserved
+-- room for exactly `w` items of the type `R`. It is `c` if `w ≤ c`, `None` if a block of capacity
+-- `w` is too large to be allocated, and `w` otherwise.
 unfoldable pub exact_capacity : RattleType → ℕ → ℕ → Option ℕ
 exact_capacity R c w = if nat_le w c then Some c else fitting (type_size R) (type_align R) w

@@ -1,5 +1,7 @@
--- This file proves that the rule `doubling` satisfies the law of growth rules. It is in `specs` and
--- not in `proofs`, because the impl of `Growth` names the lemma `doubling_law`.
+-- This file proves that the rule `doubling` satisfies the law of growth rules: each new capacity is
+-- at least the required capacity, is at least twice the old capacity, and is not too large. The
+-- proof is in `specs` and not in `proofs`, because the impl of `Growth` refers to the lemma
+-- `doubling_law`.
 use Rattle.std.specs.Prelude.{◌≡◌, ℕ, ◌*◌, ◌≤◌, ◌==◌, Bool, true, false, IsTrue, if◌then◌else◌, max, refl}
 use Rattle.std.specs.declared.option.Option.TheVariants.{Some, None}
 use Rattle.std.proofs.Common.{subst, arith}
@@ -12,14 +14,14 @@ when_some : (b : Bool) (m n : ℕ) → (if b then Some m else None) ≡ Some n �
 when_some true m n e = (refl, cc)
 when_some false m n e = cc
 
--- If `fitting s a m` is `Some n`, then `m` equals `n`, and a block of capacity `m` is small enough
--- to be allocated.
+-- If `fitting s a m` is `Some n`, then `m` equals `n`, and a block for `m` items of size `s` and
+-- alignment `a` is small enough to be allocated.
 pub fitting_is : (s a m n : ℕ) → fitting s a m ≡ Some n → IsTrue (fits s a m) × (m ≡ n)
 unfolding fitting
 fitting_is s a m n e = when_some (fits s a m) m n e
 
--- The capacity that the rule `Doubling` computes from the old capacity `c` and the required
--- capacity `w` is at least `2 * c`.
+-- Let `c` be the old capacity, `w` the required capacity, and `s` the size of an item. Then the
+-- capacity that the rule `Doubling` computes is at least `2 * c`.
 twice : (s c w : ℕ) → 2 * c ≤ max w (if c == 0 then first s else 2 * c)
 twice s c w = grind (arith, nat_tests)
 

@@ -1,4 +1,5 @@
--- This file defines what a block contains after a mutable borrow of some of its items has ended.
+-- This file defines what a block contains after a mutable borrow (`&mut`) of some of its items has
+-- ended.
 use Rattle.std.specs.Prelude.{◌≡◌, ℕ, zero, suc, ◌≤◌, List, [], ◌∷◌, length, Option, slice_set}
 use Rattle.std.specs.declared.option.Option.TheVariants.{None, Some}
 use Rattle.core.specs.declared.alloc.Allocator.{Ghosts}
@@ -10,8 +11,9 @@ use Rattle.thin_block.specs.declared.block.Block.{Block}
 use Rattle.thin_block.specs.contracts.block.Block.{the_row}
 
 module _ {X : Type 0} where
-  -- `over s i ws` is the list of slots `s` after the items of `ws` have overwritten the items from
-  -- slot `i` onward, up to the first empty slot or the end of `s`.
+  -- `over s i ws` is the list of slots `s` after the items of `ws` have overwritten the items in
+  -- the slots from index `i` onward. Writing stops at the first empty slot, at the end of `s`, or
+  -- at the end of `ws`, whichever is reached first.
   abbrev pub over : List (Option X) → ℕ → List X → List (Option X)
   over [] i ws = []
   over (x ∷ s) (suc i) ws = x ∷ over s i ws
@@ -28,8 +30,8 @@ module _ {X : Type 0} where
   length-over (Some x ∷ s) zero (w ∷ ws) = ap suc (length-over s zero ws)
 
 module _ {X Z : Type 0} where
-  -- `with_slots b s` is the block `b` with the slots `s` in place of its old slots. The list `s`
-  -- must be as long as `b.slots`.
+  -- `with_slots b s` is the block `b` after its slots have been replaced with `s`. The list `s`
+  -- must have the same length as the old list of slots.
   abbrev pub with_slots : (b : Block X Z) (s : List (Option X))
       → length s ≡ length b.slots → Block X Z
   with_slots b s same =
@@ -52,14 +54,14 @@ module _ {X Z : Type 0} where
   with_items b i ws = with_slots b (over b.slots i ws) (length-over b.slots i ws)
 
 module _ (T A : RattleType) (g : Ghosts A.Denot) (b : MutBor (Block T.Denot A.Denot)) where
-  -- `b` is a mutable reference to a block. `LendsItem i r` holds if `r` is a mutable reference to
-  -- the item in slot `i`, and this slot will contain the final value of `r` after the borrow has
-  -- ended.
+  -- The parameter `b` of this module is a `&mut` to a block. `LendsItem i r` holds if `r` is a
+  -- `&mut` to the item in slot `i` of this block, and if this slot will contain the final value of
+  -- `r` after the borrow has ended.
   abbrev pub LendsItem : ℕ → MutBor T.Denot → Fml
   LendsItem i r = Lends (the_row T A g) T b r (with_item b.now i)
 
-  -- `b` is a mutable reference to a block. `LendsItems i r` holds if `r` is a mutable reference to
-  -- the items in adjacent slots from slot `i` onward, and these slots will contain the final items
-  -- of `r` after the borrow.
+  -- The parameter `b` of this module is a `&mut` to a block. `LendsItems i r` holds if `r` is a
+  -- `&mut` to the items in adjacent slots of this block, starting at slot `i`, and if these slots
+  -- will contain the final items of `r` after the borrow has ended.
   abbrev pub LendsItems : ℕ → MutBor (List T.Denot) → Fml
   LendsItems i r = Lends (the_row T A g) (Array T 0) b r (with_items b.now i)

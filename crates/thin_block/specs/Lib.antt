@@ -1,6 +1,6 @@
--- The definitions that contracts use, and proofs that the growth rules satisfy their law. The
--- module `formers` contains the type former of `Block`, which states which values of `T` a
--- `Block<T, A>` contains.
+-- These modules contain the definitions that the contracts use, the proofs that the growth rules
+-- satisfy their law, and the type former of `Block`. The type former states which values a block
+-- contains.
 pub mod Capacity
 pub mod Growth
 pub mod GrowthLaws

@@ -1,6 +1,7 @@
--- This file proves that the rule `power_bytes` satisfies the law of growth rules, and that its
--- capacities satisfy `FillsPower` if items have at least one byte. It is in `specs`, because the
--- impl of `Growth` names the lemma `power_bytes_law`.
+-- This file proves that the rule `power_bytes` satisfies the law of growth rules. It also proves
+-- that, for items of at least one byte, each capacity that the rule chooses is the greatest
+-- capacity for which a block fits into `p` bytes, for some power of two `p`. The proofs are in
+-- `specs`, because the impl of `Growth` names the lemma `power_bytes_law`.
 use Rattle.std.specs.Prelude.{◌≡◌, ℕ, zero, suc, ◌+◌, ◌-◌, ◌*◌, ◌/◌, ◌^◌, ◌<◌, ◌≤◌, ◌==◌, nat_le, Bool, true, false, IsTrue, if◌then◌else◌, max, refl}
 use Rattle.std.specs.declared.option.Option.TheVariants.{Some}
 use Rattle.std.specs.Int.{IsPowerOfTwo, IsNextPowerOfTwo}
@@ -21,16 +22,16 @@ below_power : (n : ℕ) → n < 2 ^ n
 below_power zero = omega arith
 below_power (suc n) = omega (arith, below_power n, pow_more 2 n)
 
--- Let `b` be the result of `n ≤ p`. If `p` is a power of two with `p / 2 < max 1 n`, then
--- `if b then p else next` is the least power of two that is at least `n`. For `p < n`, the lemma
--- assumes this of `next`.
+-- Suppose that `p` is a power of two with `p / 2 < max 1 n`, and that `b` is the result of the test
+-- `n <= p`. If `p < n`, suppose also that `next` is the least power of two that is at least `n`.
+-- Then `if b then p else next` is the least power of two that is at least `n`.
 one_step : (b : Bool) (n p next : ℕ) → nat_le n p ≡ b → IsPowerOfTwo p → p / 2 < max 1 n
     → (p < n → IsNextPowerOfTwo n next) → IsNextPowerOfTwo n (if b then p else next)
 one_step true n p next e power half later = (power, leb-true n p e, half)
 one_step false n p next e power half later = later (leb-false n p e)
 
--- If `p` is a power of two, `p / 2 < max 1 n` and `n ≤ 2 ^ k * p`, then `doubled_to k n p` is the
--- least power of two that is at least `n`.
+-- Suppose that `p` is a power of two with `p / 2 < max 1 n` and `n <= 2 ^ k * p`. Then
+-- `doubled_to k n p` is the least power of two that is at least `n`.
 doubled_is : (k n p : ℕ) → IsPowerOfTwo p → p / 2 < max 1 n → n ≤ 2 ^ k * p
     → IsNextPowerOfTwo n (doubled_to k n p)
 doubled_is zero n p power half enough = (power, omega (arith, enough), half)
@@ -73,15 +74,18 @@ pub powers_of_none : (s a c w : ℕ) → s ≡ 0 → power_bytes s a c w ≡ dou
 unfolding power_bytes
 powers_of_none s a c w none = let test : (s == 0) ≡ true = grind (arith, nat_tests) in rw test refl
 
--- For items of at least one byte, `power_bytes` rounds the size of the header and `max w (2 * c)`
--- items up to a power of two. It chooses the greatest capacity that fits into this size, or `None`
--- if this is too large.
+-- Suppose that the size `s` of an item is at least 1. Let `c` be the old capacity, and `w` the
+-- required capacity. Then `power_bytes` computes the total size of the header and of
+-- `max w (2 * c)` items, and rounds it up to a power of two. It chooses the greatest number of
+-- items that fit into the rounded size together with the header. If this number is too large, the
+-- result is `None`.
 pub powers_of_some : (s a c w : ℕ) → 0 < s → power_bytes s a c w ≡ fitting s a
     ((least_power (items_offset a + max w (2 * c) * s) - items_offset a) / s)
 unfolding power_bytes
 powers_of_some s a c w some = let test : (s == 0) ≡ false = grind (arith, nat_tests) in rw test refl
 
--- In this module, items have at least one byte, and `power_bytes` chooses the capacity `n`.
+-- This module assumes that the size `s` of an item is at least 1, and that `power_bytes` chooses
+-- the capacity `n` if the old capacity is `c` and the required capacity is `w`.
 module _ (s a c w n : ℕ) (some : 0 < s) (e : power_bytes s a c w ≡ Some n) where
   -- `wanted` is the total size in bytes of `max w (2 * c)` items.
   abbrev wanted : ℕ
@@ -92,17 +96,17 @@ module _ (s a c w n : ℕ) (some : 0 < s) (e : power_bytes s a c w ≡ Some n) w
   abbrev power : ℕ
   power = least_power (items_offset a + wanted)
 
-  -- The capacity `n` is the greatest number of items that fit into `power` bytes after the header,
-  -- and a block of this capacity is small enough to be allocated.
+  -- The capacity `n` is the greatest number of items that fit into `power` bytes together with the
+  -- header, and a block of this capacity is small enough to be allocated.
   named : IsTrue (fits s a ((power - items_offset a) / s)) × ((power - items_offset a) / s ≡ n)
   named = fitting_is s a ((power - items_offset a) / s) n (sym (powers_of_some s a c w some) ∙ e)
 
-  -- The header and `max w (2 * c)` items fit into `power` bytes.
+  -- The header and `max w (2 * c)` items fit into `power` bytes. These items take `wanted` bytes.
   room : items_offset a + wanted ≤ power
   room = (least_power_is (items_offset a + wanted)).1
 
-  -- The capacity `n` is at least `w` and at least `2 * c`, and a block of this capacity is small
-  -- enough to be allocated.
+  -- The capacity `n` that `power_bytes` chooses is at least `w` and at least `2 * c`, and a block
+  -- of capacity `n` is small enough to be allocated.
   pub powers_grow : IsGrown s a c w n
   powers_grow =
       let more : max w (2 * c) ≤ (power - items_offset a) / s =
@@ -113,8 +117,8 @@ module _ (s a c w n : ℕ) (some : 0 < s) (e : power_bytes s a c w ≡ Some n) w
         fits = subst (λ (k : ℕ). IsTrue (fits s a k)) named.1 named.0;
       }
 
-  -- For some power of two `p`, the header and `n` items fit into `p` bytes, but the header and
-  -- `n + 1` items do not.
+  -- For the capacity `n` that `power_bytes` chooses, there is a power of two `p` such that `p`
+  -- bytes have room for the header and `n` items, but not for one more item.
   pub powers_filled : FillsPower s a n
   powers_filled =
       let parts = div-add-mod' (power - items_offset a) s in

@@ -25,14 +25,14 @@ module _ {T : Type 0} where
   abbrev pub AreEmpty : List (Option T) → ℕ → ℕ → Type 0
   AreEmpty s i k = (j : ℕ) → i ≤ j → j < i + k → slot s j ≡ None
 
-  -- `items_in s` is the list of the items in the row `s`, in order.
+  -- `items_in s` is the list of the items in the row `s` of slots, in order.
   abbrev pub items_in : List (Option T) → List T
   items_in [] = []
   items_in (None ∷ s) = items_in s
   items_in (Some x ∷ s) = x ∷ items_in s
 
-  -- `front xs c` is a row of `c` slots. The first slots contain the items of `xs`, and the other
-  -- slots are empty. The list `xs` must have at most `c` items.
+  -- If `xs` has at most `c` items, `front xs c` is a row of `c` slots. The first slots hold the
+  -- items of `xs`, and the other slots are empty.
   abbrev pub front : List T → ℕ → List (Option T)
   front xs c = full xs ++ empty (c - length xs)
 
@@ -56,6 +56,7 @@ module _ {T : Type 0} where
   emptied i k s = laid i (empty k) s
 
   -- `moved from to k s` is the row `s` after the contents of the slots `from..from + k` have been
-  -- moved to the slots `to..to + k`. Old slots that are not among the new slots are empty.
+  -- moved to the slots `to..to + k`. The slots that are only in the first range are empty
+  -- afterwards.
   unfoldable pub moved : ℕ → ℕ → ℕ → List (Option T) → List (Option T)
   moved from to k s = laid to (run from k s) (emptied from k s)

@@ -1,5 +1,6 @@
 -- This file describes how memory for items is converted into memory for words. A word is a value of
--- the struct `Words`, and contains `M` items. No public contract uses this file.
+-- the struct `Words`, which holds `m` items of the type `T`. The const parameter `M` of the struct
+-- has the value `m`. No public contract refers to this file.
 use Rattle.std.specs.Prelude.{ℕ, ◌+◌, List, [], ◌∷◌, map}
 use base.Fraction.{full_share}
 use base.Fml.{Fml, ftrue, ffalse, fsep}
@@ -13,30 +14,34 @@ use Rattle.thin_block.specs.Slots.{full}
 use Rattle.thin_block.specs.contracts.words.Words.{the_row}
 
 module _ (T M : RattleType) where
-  -- `word xs` is the word with the items `xs`.
+  -- `word xs` is the word that holds the items `xs`.
   abbrev pub word : List T.Denot → (the_row T M).Denot
   word xs = record { items = xs; aligned = [] }
 
-  -- `run_at xs b o` consists of the items `xs` of one word, at the offset `o` of the allocation
-  -- `b`, and of the right to convert their memory into memory for the word.
+  -- `run_at xs b o` contains the items `xs` of one word in memory, at the offset `o` of the
+  -- allocation `b`. It also contains the right to convert memory for these items into memory for
+  -- the word.
   abbrev pub run_at : List T.Denot → ℕ → ℕ → Fml
   run_at xs b o = fsep (part_at (ArrayAt T M) full_share xs b o) (way (bare T) (value_of M) b o)
 
-  -- `runs_at xss b o` contains `run_at` for several adjacent words, starting at the offset `o` of
-  -- the allocation `b`. Each list in `xss` contains the items of one word.
+  -- `runs_at xss b o` contains the items of several adjacent words in memory, starting at the
+  -- offset `o` of the allocation `b`. Each list in `xss` contains the items of one word. For each
+  -- word, `runs_at xss b o` also contains the right to convert memory for the items into memory for
+  -- the word.
   abbrev pub runs_at : List (List T.Denot) → ℕ → ℕ → Fml
   runs_at [] b o = ftrue
   runs_at (xs ∷ xss) b o = fsep (run_at xs b o)
       (runs_at xss b (o + size (word_of (bare T) (value_of M))))
 
-  -- `runs_from xss p` is like `runs_at`, but the first word is at the pointer `p`. Each list in
-  -- `xss` contains the items of one word.
+  -- The formula `runs_from xss p` contains the items of several adjacent words in memory, starting
+  -- at the pointer `p`. Each list in `xss` contains the items of one word. For each word, the
+  -- formula also contains the right to convert memory for the items into memory for the word.
   abbrev pub runs_from : List (List T.Denot) → Ptr → Fml
   runs_from xss null_ptr = ffalse
   runs_from xss (block_ptr b o) = runs_at xss b o
 
-  -- `words_from xss p` describes adjacent words in memory, starting at the pointer `p`. Each word
-  -- contains the items of one list in `xss`.
+  -- `words_from xss p` describes several adjacent words in memory, starting at the pointer `p`.
+  -- Each word holds the items of one list in `xss`.
   abbrev pub words_from : List (List T.Denot) → Ptr → Fml
   words_from xss null_ptr = ffalse
   words_from xss (block_ptr b o) = places (the_row T M) (full (map word xss)) b o

@@ -1,5 +1,5 @@
-//! The type `Block`, a pointer to an allocation that contains a capacity, a length and slots for
-//! items.
+//! Defines the type `Block`, a pointer to an allocation that holds a capacity, a length and slots
+//! for items.
 ghost use Rattle.std.specs.Prelude.{◌≡◌, ℕ, ◌^◌, ◌<◌, ◌≤◌, List, [], length, Option};
 ghost use Rattle.std.specs.declared.option.Option.TheVariants.{None};
 ghost use Rattle.std.specs.Coded.{coded_list, coded_option};
@@ -18,8 +18,8 @@ static NO_BLOCK: Header = Header {
     aligned: [],
 };
 
-// The capacity and the length of a block. The empty array `aligned` takes no memory, but gives the
-// header an alignment that suffices for items of any type.
+// A header holds a capacity and a length. The empty array `aligned` takes no memory. It raises the
+// alignment of the header, so that items of any alignment can follow the header.
 struct Header {
     cap: usize,
     len: usize,
@@ -54,8 +54,9 @@ impl<T, A: Allocator> Model for Block<T, A> {
     ghost also_shares = { λ b _ κ. block_lent T.row b.at b.len b.slots b.alloc κ };
 }
 
-// A block is the only owner of its allocation, and no code writes to the static header that blocks
-// without an allocation share. So a block is `Send` if its items and its allocator are `Send`.
+// A block is the only owner of its allocation. Blocks without an allocation share the static
+// header, and no code ever writes to this header. So a block is `Send` if its items and its
+// allocator are `Send`.
 unsafe impl<T: Send, A: Allocator + Send> Send for Block<T, A> {}
 
 // A shared reference to a block is used only to read the header and the items. So a block is `Sync`
@@ -65,8 +66,8 @@ unsafe impl<T: Sync, A: Allocator + Sync> Sync for Block<T, A> {}
 impl<T, A: Allocator> Block<T, A> {
     ghost use Rattle.thin_block.specs.Block.{seen};
 
-    /// Returns a block without an allocation. It has no slots and no memory that must be freed, and
-    /// its length is 0.
+    /// Returns a block without an allocation. The block has no slots, its length is 0, and there is
+    /// no memory to free.
     pub fn none() -> Block<T, A>
         ensures new { seen result ≡ record {
           slots = [];
@@ -115,8 +116,8 @@ impl<T, A: Allocator> Block<T, A> {
         }
     }
 
-    /// Sets the stored length to `len`. The block must have an allocation. Unlike `set_len`, this
-    /// function does not test whether it has one.
+    /// Sets the stored length to `len`. Unlike `set_len`, this function does not test whether the
+    /// block has an allocation. The block must have one.
     pub fn store_len(&mut self, len: usize)
         requires block { 0 < length self.old.slots }
         requires in_bounds { len ≤ length self.old.slots }

@@ -1,6 +1,7 @@
-//! Methods that resize a block with the allocator's `grow` and `shrink`, which may leave the block
-//! at its address. The block is first converted into an array of words of 8 or 16 bytes, because
-//! these methods resize only arrays.
+//! Resizes a block with the methods `grow` and `shrink` of the allocator, which may leave the block
+//! at its address. These methods resize only arrays. So the block is converted into an array of
+//! words of 8 or 16 bytes before the call, and back into a block after the call. This is possible
+//! only if the items form whole words.
 ghost use Rattle.std.specs.Prelude.{◌≡◌, ◌+◌, ◌*◌, ◌/◌, ◌<◌, ◌≤◌, IfErr, IfOk, List, OnErr, OnOk, length};
 ghost use Rattle.std.specs.declared.option.Option.TheVariants.{Some};
 ghost use Rattle.std.specs.Int.{div_ceil};
@@ -19,12 +20,13 @@ use std::alloc::{AllocError, Allocator};
 use std::marker::PhantomData;
 use std::mem::{ManuallyDrop, replace};
 
-// The least total size of the items, in words of 8 bytes, for which `grow` or `shrink` of the
-// allocator resizes a block. For fewer words, allocating a new block is cheaper.
+// If the items of a block form at least this many words of 8 bytes, the allocator resizes the
+// block, and may leave the items at their address. For fewer words, it is cheaper to allocate a new
+// block.
 pub(crate) const LONG: usize = 32;
 
-// Resizes an allocation from `held` to `wanted` values of the type `T`, of which `len` are
-// initialized, with `alloc.grow` or `alloc.shrink`.
+// Resizes an allocation from `held` to `wanted` values of the type `T`. Calls `alloc.grow` if
+// `wanted` is greater than `held`, and `alloc.shrink` otherwise.
 unsafe fn resized<T, A: Allocator>(
     alloc: &A,
     start: *mut T,
@@ -50,9 +52,9 @@ impl<T, A: Allocator> Block<T, A> {
     ghost use Rattle.thin_block.specs.Block.{IsFrom, seen};
 
     // Resizes the block to `cap` slots, and may leave the items at their address. `M` items form a
-    // word, and `K` words are as large as the header. `len` is the length of the block, a multiple
-    // of `M` and at least `K * M`. Fails only if the allocator fails, and then leaves the block
-    // unchanged.
+    // word, and the header is as large as `K` words. `len` is the length of the block, and must be
+    // a multiple of `M` and at least `K * M`. The call fails only if the allocator fails. In this
+    // case, the block is unchanged.
     #[cold]
     pub(crate) fn remake_in_place<const M: usize, const K: usize>(
         &mut self,
@@ -103,12 +105,12 @@ impl<T, A: Allocator> Block<T, A> {
     }
 
     // Returns this block with `cap` slots and the same items, or the unchanged block if the
-    // allocator fails. `M` items form a word, and `K` words are as large as the header. The items
-    // form `count` words, and `K <= count`.
+    // allocator fails. `M` items form a word, and the header is as large as `K` words. The items
+    // form `count` words, and `count` is at least `K`.
     //
-    // The items are converted into words, and the last `K` words are stored in the header until the
-    // allocator returns. So the memory begins with an array of `count` words, which the allocator
-    // resizes from `held` to `wanted` words.
+    // The function converts the items into words, and stores the last `K` words in the header until
+    // the allocator returns. So the memory of the block begins with an array of `count` words. The
+    // allocator resizes this memory from `held` to `wanted` words.
     fn resize_words<const M: usize, const K: usize>(
         self,
         alloc: &A,

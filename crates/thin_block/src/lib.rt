@@ -1,5 +1,5 @@
-//! The type `Block`, a pointer to one allocation that contains a length, a capacity and slots for
-//! items. Of the crates that implement `ThinVec`, only this crate uses raw pointers.
+//! Defines the type `Block`, a pointer to one allocation that holds a length, a capacity and slots
+//! for items. Of the crates that implement `ThinVec`, only this crate uses raw pointers.
 #![tactic(auto)]
 
 mod block;

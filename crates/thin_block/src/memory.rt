@@ -18,7 +18,8 @@ use std::mem::{ManuallyDrop, replace};
 impl<T, A: Allocator> Block<T, A> {
     ghost use Rattle.thin_block.specs.Block.{IsFrom, seen};
 
-    /// Allocates a block of `cap` empty slots with one request for memory. Its stored length is 0.
+    /// Allocates a block of `cap` empty slots with one request for memory. The stored length of the
+    /// block is 0.
     ///
     /// # Errors
     ///
@@ -49,7 +50,7 @@ impl<T, A: Allocator> Block<T, A> {
     ///
     /// # Errors
     ///
-    /// Fails with `OutOfMemory` if the allocator fails. The block is then unchanged.
+    /// Fails with `OutOfMemory` if the allocator fails. In this case, the block is unchanged.
     #[inline(always)]
     pub fn grow(&mut self, alloc: &A, cap: usize) -> Result<(), ThinVecError>
         requires from { IsFrom self.old.alloc alloc.now }
@@ -74,16 +75,16 @@ impl<T, A: Allocator> Block<T, A> {
         self.resize(alloc, cap)
     }
 
-    // Sets the ghost counters of this block to those of the block `from`, plus one request for
-    // memory and `from.len()` copied items. At run time, this function does nothing.
+    // Sets the ghost counters of this block to the counters of the block `from`, plus one request
+    // for memory and `from.len()` copied items. At run time, this function does nothing.
     fn charge_as(&mut self, from: &Block<T, A>)
         ensures changes { seen self.new ≡ record (seen self.old) {
           cost = growing from.now.len from.now.cost;
         } }
     {}
 
-    // Allocates `cap` slots for a block that has no allocation. Fails only if the allocator fails,
-    // and then leaves the block unchanged.
+    // Allocates `cap` slots for a block that has no allocation. Nothing is copied, and nothing is
+    // freed. The call fails only if the allocator fails. In this case, the block is unchanged.
     fn begin(&mut self, alloc: &A, cap: usize) -> Result<(), ThinVecError>
         requires none { self.old.slots ≡ [] }
         requires some { 0 < cap }
@@ -108,7 +109,7 @@ impl<T, A: Allocator> Block<T, A> {
     ///
     /// # Errors
     ///
-    /// Fails with `OutOfMemory` if the allocator fails. The block is then unchanged.
+    /// Fails with `OutOfMemory` if the allocator fails. In this case, the block is unchanged.
     pub fn shrink(&mut self, alloc: &A, cap: usize) -> Result<(), ThinVecError>
         requires from { IsFrom self.old.alloc alloc.now }
         requires some { 0 < cap }
@@ -128,14 +129,14 @@ impl<T, A: Allocator> Block<T, A> {
         ensures cause { IfErr result (λ cause. cause ≡ ThinVecError.OutOfMemory) }
     {
         // This call tells the prover that a block with the current number of slots is small enough
-        // to be allocated. So a block of `cap` slots is small enough, too.
+        // to be allocated. So a block of the smaller capacity `cap` is also small enough.
         let _whole = self.cap();
         self.resize(alloc, cap)
     }
 
     // Changes the number of slots to `cap`. If there are many items and they form whole words, the
-    // block may remain at its address. Otherwise, the items are moved to a new block. Fails only if
-    // the allocator fails, and then leaves the block unchanged.
+    // allocator may leave the block at its address. Otherwise the items are moved to a new block.
+    // The call fails only if the allocator fails. In this case, the block is unchanged.
     #[inline(always)]
     fn resize(&mut self, alloc: &A, cap: usize) -> Result<(), ThinVecError>
         requires from { IsFrom self.old.alloc alloc.now }
@@ -166,8 +167,8 @@ impl<T, A: Allocator> Block<T, A> {
         }
     }
 
-    // Moves the items to a new block of `cap` slots, and frees the old block. Fails only if the
-    // allocator fails, and then leaves the block unchanged.
+    // Moves the items to a new block of `cap` slots, and frees the old block. The call fails only
+    // if the allocator fails. In this case, the block is unchanged.
     fn remake(&mut self, alloc: &A, cap: usize) -> Result<(), ThinVecError>
         requires from { IsFrom self.old.alloc alloc.now }
         requires some { 0 < cap }
@@ -220,8 +221,8 @@ impl<T, A: Allocator> Block<T, A> {
         let _none = unsafe { ManuallyDrop::new_unchecked(self) };
     }
 
-    // Allocates a block as `allocate` does. `bytes` and `align` are the size and the alignment of
-    // the block in bytes.
+    // Allocates a block as `allocate` does. `bytes` is the size of the block in bytes, and `align`
+    // is its alignment. The call fails only if the allocator fails.
     fn allocate_block(
         alloc: &A,
         cap: usize,
@@ -256,8 +257,8 @@ impl<T, A: Allocator> Block<T, A> {
         }
     }
 
-    // Frees the allocation as `release` does. The block must have an allocation, and `bytes` and
-    // `align` must be its size and its alignment in bytes.
+    // Frees the allocation of the block as `release` does. The block must have an allocation.
+    // `bytes` is the size of the block in bytes, and `align` is its alignment.
     fn free_block(self, alloc: &A, bytes: usize, align: usize)
         requires from { self.alloc ≡ Some alloc.now }
         requires empty { self.slots ≡ empty (length self.slots) }

@@ -14,7 +14,8 @@ impl<T, A: Allocator> Block<T, A> {
     ghost use Rattle.thin_block.specs.Block.{seen};
 
     /// Moves the `k` items in the slots `from..from + k` to the slots `to..to + k`. The two ranges
-    /// may overlap. Slots of the second range that are not in the first range must be empty.
+    /// of slots may overlap. The slots of the second range that are not in the first range must be
+    /// empty.
     pub fn move_run(&mut self, from: usize, to: usize, k: usize)
         requires source { from + k ≤ length self.old.slots }
         requires target { to + k ≤ length self.old.slots }
@@ -34,8 +35,9 @@ impl<T, A: Allocator> Block<T, A> {
         }
     }
 
-    /// Moves the `k` items that start at slot `to + gap` down to slot `to`. The `gap` slots below
-    /// the items must be empty. If `gap` is a constant, LLVM turns this call into a `memmove`.
+    /// Moves the `k` items that start at slot `to + gap` down by `gap` slots. The `gap` slots
+    /// directly below the items must be empty. If `gap` is a constant, LLVM turns this call into a
+    /// `memmove`.
     #[inline(always)]
     pub fn move_down(&mut self, to: usize, gap: usize, k: usize)
         requires in_bounds { to + gap + k ≤ length self.old.slots }
@@ -50,8 +52,9 @@ impl<T, A: Allocator> Block<T, A> {
         self.slide_run(to, gap, 0, k, false);
     }
 
-    /// Moves the `k` items that start at slot `from` up by `gap` slots. The `gap` slots above the
-    /// items must be empty. If `gap` is a constant, LLVM turns this call into a `memmove`.
+    /// Moves the `k` items that start at slot `from` up by `gap` slots. The `gap` slots directly
+    /// above the items must be empty. If `gap` is a constant, LLVM turns this call into a
+    /// `memmove`.
     #[inline(always)]
     pub fn move_up(&mut self, from: usize, gap: usize, k: usize)
         requires in_bounds { from + gap + k ≤ length self.old.slots }
@@ -105,8 +108,8 @@ impl<T, A: Allocator> Block<T, A> {
         block
     }
 
-    /// Moves items down as `close_gap` does. If `gap` is 1 or 2, it moves the items inline, without
-    /// calling `close_gap`.
+    /// Moves items down as `close_gap` does. If `gap` is 1 or 2, the items are moved inline,
+    /// without a call to `close_gap`.
     #[inline(always)]
     pub fn close_small_gap(self, to: usize, gap: usize, k: usize) -> Block<T, A>
         requires in_bounds { to + gap + k ≤ length self.slots }
@@ -185,10 +188,11 @@ impl<T, A: Allocator> Block<T, A> {
 
     // Moves the `k` items that start at slot `low + from` to the slots that start at `low + to`.
     // `up` says whether the items move to higher slots. All slots that the items pass or reach must
-    // be empty, except for their old slots.
+    // be empty, except for the old slots of the items.
     //
-    // Both addresses are computed from the address of the slot `low`. So if `from` and `to` are
-    // constants, LLVM sees that the distance between them is constant.
+    // Both the address of the items and the address of their new slots are computed from the
+    // address of the slot `low`. So if `from` and `to` are constants, LLVM sees that the distance
+    // between the two addresses is constant.
     #[inline(always)]
     fn slide_run(&mut self, low: usize, from: usize, to: usize, k: usize, up: bool)
         requires source { low + from + k ≤ length self.old.slots }
@@ -232,8 +236,8 @@ impl<T, A: Allocator> Block<T, A> {
         }
     }
 
-    /// Moves the `k` items that start at slot `from` to the empty slots `to..to + k` of the block
-    /// `other`.
+    /// Moves the `k` items that start at slot `from` of this block to the slots `to..to + k` of the
+    /// block `other`. These slots of `other` must be empty.
     pub fn move_run_to(&mut self, from: usize, k: usize, other: &mut Block<T, A>, to: usize)
         requires source { from + k ≤ length self.old.slots }
         requires target { to + k ≤ length other.old.slots }
@@ -250,8 +254,10 @@ impl<T, A: Allocator> Block<T, A> {
         self.move_run_charging(from, other, to, k);
     }
 
-    // Moves the `k` items that start at slot `from` to the empty slots `to..to + k` of `to_block`.
-    // The ghost parameter `cost` is the cost of `to_block` after the call.
+    // Moves the `k` items that start at slot `from` of this block to the slots `to..to + k` of
+    // `to_block`. These slots of `to_block` must be empty. The ghost parameter `cost` is the cost
+    // that `to_block` has after the call: the counts of requests for memory, copied items and
+    // moves.
     pub(crate) fn move_run_charging(
         &mut self,
         from: usize,

@@ -1,9 +1,9 @@
-//! The function `slide`, which moves a run of items within a block even if the old and the new
-//! slots overlap.
+//! Defines the function `slide`, which moves a run of adjacent items within a block. The old slots
+//! and the new slots may overlap.
 //!
-//! Unlike `std::ptr::copy`, it does not compare the two pointers. In Rattle, they can be compared
-//! only in the first half of the address space, and a block may be outside of it. So the caller
-//! says in which direction the items move.
+//! Unlike `std::ptr::copy`, `slide` does not compare the two pointers first. In Rattle, such a
+//! comparison is allowed only in the first half of the address space, and a block may be outside of
+//! this half. So the caller of `slide` says in which direction the items move.
 ghost use Rattle.std.specs.Prelude.{ℕ, ◌^◌, ◌<◌, List};
 ghost use Rattle.core.specs.Ptr.{array_size, memory_before_copy, memory_after_copy};
 ghost use types.Logic.{sem};

@@ -1,5 +1,6 @@
-//! Functions that compute the size of a block in bytes, and test whether a block of a given
-//! capacity is small enough to be allocated. They do not access any block.
+//! Computes the size of a block in bytes, and tests whether a block of a given capacity is small
+//! enough to be allocated. The functions in this file compute with numbers and do not access any
+//! block.
 ghost use Rattle.std.specs.Prelude.{◌≡◌, ◌↔◌, IsTrue};
 ghost use Rattle.std.specs.Mem.{type_size};
 ghost use Rattle.std.specs.Align.{type_align};
@@ -45,7 +46,7 @@ pub(crate) fn bytes_of_block<T>(cap: usize) -> usize
     (HEADER + cap * item_size::<T>()).next_multiple_of(align_of_block::<T>())
 }
 
-/// Returns whether a block for `cap` items is small enough to be allocated, that is, whether
+/// Returns whether a block for `cap` items is small enough to be allocated. This is the case if
 /// neither `cap` nor the size of the block in bytes exceeds `isize::MAX`.
 pub fn fits<T>(cap: usize) -> bool
     ensures value { IsTrue result ↔ Fits T.row cap }

@@ -10,7 +10,7 @@ use crate::sizes::HEADER_WORDS;
 use core::slots::Slots;
 use std::alloc::Allocator;
 
-// The greatest number of items that `copied` copies one by one.
+// The greatest number of items that the function `copied` copies one by one.
 const FEW: usize = 16;
 
 impl<T, A: Allocator> Block<T, A> {
@@ -29,8 +29,8 @@ impl<T, A: Allocator> Block<T, A> {
         unsafe { (at.add(HEADER_WORDS) as *mut T).add(i).write(value) }
     }
 
-    /// Moves `value` into slot `i`, which must be empty, and sets the stored length to `len`. The
-    /// compiled code does not have to read the block's pointer twice.
+    /// Moves `value` into slot `i`, which must be empty, and sets the stored length to `len`. Both
+    /// writes use the same pointer, so the compiled code does not have to read the pointer twice.
     pub fn put_and_store(&mut self, i: usize, value: T, len: usize)
         requires in_bounds { i < length self.old.slots }
         requires empty { slot self.old.slots i ≡ None }
@@ -81,9 +81,8 @@ impl<T, A: Allocator> Block<T, A> {
         }
     }
 
-    /// Takes the item out of slot `i`, and returns it. If `j` differs from `i`, the item in slot
-    /// `j` is also moved into slot `i`, which counts as one move. In both cases, slot `j` is then
-    /// empty.
+    /// Takes the item out of slot `i` and returns it. If `j` differs from `i`, also moves the item
+    /// in slot `j` into slot `i`, which counts as one move. Afterwards, slot `j` is empty.
     pub fn take_replacing(&mut self, i: usize, j: usize) -> T
         requires first { IsSome (slot self.old.slots i) }
         requires second { IsSome (slot self.old.slots j) }
@@ -116,7 +115,8 @@ impl<T, A: Allocator> Block<T, A> {
         unsafe { ((at.add(HEADER_WORDS) as *mut T).add(i) as *mut [T; N]).write(values) }
     }
 
-    /// Moves the `N` items out of the slots `i..i + N`, and returns them.
+    /// Moves the `N` items in the slots `i..i + N` to the caller. Afterwards, these slots are
+    /// empty.
     pub fn take_array<const N: usize>(&mut self, i: usize) -> [T; N]
         requires in_bounds { i + N ≤ length self.old.slots }
         requires filled { AreFilled self.old.slots i N }
@@ -152,8 +152,8 @@ impl<T: Copy, A: Allocator> Block<T, A> {
 
 // Fills `row` with copies of `items`, and returns `row`.
 //
-// At most `FEW` items are copied one by one. For so few items, `Slots::copy_in` would take longer,
-// because it first tests whether its source and its target overlap.
+// If there are at most `FEW` items, they are copied one by one. For so few items, `Slots::copy_in`
+// would take longer, because it first tests whether its source and its target overlap.
 fn copied<T: Copy>(mut row: Slots<T>, items: &[T]) -> Slots<T>
     requires room { slots_len row ≡ length items.now }
     ensures cap { SamePlaces row result }

@@ -1,5 +1,6 @@
-//! The type `Words`. A value of this type is one word, which consists of one or more items. If the
-//! items of a block form words, the allocator treats the block as an array of words.
+//! Defines the type `Words`. A value of this type is one word: it consists of one or more items,
+//! and has the alignment of a block. If the items of a block form words, the allocator treats the
+//! block as an array of words.
 ghost use Rattle.std.specs.Prelude.{◌≡◌, ◌*◌, ◌^◌, ◌<◌, List, length};
 ghost use Rattle.std.specs.Mem.{type_size};
 ghost use types.Logic.{sem};
@@ -12,8 +13,8 @@ pub(crate) struct Words<T, const M: usize> {
     pub(crate) aligned: [u64; 0],
 }
 
-// Converts `count` arrays of `M` items into words, in place. `items` points to the first array.
-// LLVM optimizes the loop away.
+// Converts `count` arrays of `M` items into `count` words, in place. `items` points to the first
+// array. LLVM optimizes the loop away.
 pub(crate) unsafe fn make_words<T, const M: usize>(items: *mut [T; M], count: usize)
     ghost runs: { List (List T) }
     requires count { length runs ≡ count }

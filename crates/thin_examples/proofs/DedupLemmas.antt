@@ -1,5 +1,5 @@
 -- These lemmas say which items `dedup_by` keeps if its closure first changes the later of two items
--- and then compares them.
+-- and then compares the two items.
 use Rattle.std.proofs.Common.{◌≡◌, Bool, true, false, List, [], ◌∷◌, ap, map, slice_index_or, slice_set, subst, ◌∙◌}
 use Rattle.std.specs.List.{dedup, dedup_from}
 use Rattle.std.specs.List.Retain.{DedupsFrom, DedupsAll}
@@ -8,22 +8,24 @@ use Rattle.thin_vec.proofs.EditLemmas.{deduped_deduped}
 use Rattle.thin_vec.specs.Edits.Dedup.{IsDedupedBy}
 use Rattle.thin_vec.specs.ThinVec.{Thin}
 
--- The relation `R` describes the calls of the closure. For a later item `x` and a kept item `k`, a
--- call replaces `x` with `f x`, does not change `k`, and returns `same (f x) k`.
+-- The relation `R` describes the calls of the closure. This module assumes that each call for a
+-- later item `x` and a kept item `k` replaces `x` with `f x`, does not change `k`, and returns
+-- `same (f x) k`.
 module _ {S T : Type 0} (R : S → T → T → Bool → S → T → T → Type 0) (f : T → T)
     (same : T → T → Bool)
     (says : (s : S) (x k : T) (b : Bool) (t : S) (x' k' : T) → R s x k b t x' k'
     → (b ≡ same (f x) k) × (x' ≡ f x) × (k' ≡ k)) where
   -- `Kept k xs zs` holds if `zs` is the list `k ∷ map f xs` without repeated items. An item is
-  -- repeated if `same` returns true for this item and the last kept item before it.
+  -- repeated if `same` returns true for this item and the last item that was kept before it.
   abbrev Kept : T → List T → List T → Type 0
   Kept k xs zs = zs ≡ dedup_from same k (map f xs)
 
-  -- This lemma is one step in the proof of `kept_from`. The closure has turned `x` into `x'` and
-  -- the last kept item `k` into `k'`. Then `Kept k (x ∷ xs) zs` holds in both cases:
+  -- This lemma is one step in the proof of `kept_from`. Suppose that the closure has turned the
+  -- item `x` into `x'` and the last kept item `k` into `k'`, and has returned `b`. Then
+  -- `Kept k (x ∷ xs) zs` holds in both of these cases:
   --
-  -- - The closure has returned true, and `Kept k' xs zs` holds.
-  -- - The closure has returned false, `zs` is `k' ∷ ys`, and `Kept x' xs ys` holds.
+  -- - `b` is true, and `Kept k' xs zs` holds.
+  -- - `b` is false, `zs` is `k' ∷ ys`, and `Kept x' xs ys` holds.
   one : (b : Bool) (x k x' k' : T) (xs zs : List T) → b ≡ same (f x) k → x' ≡ f x → k' ≡ k
       → MatchBool b (Kept k' xs zs) ((ys : List T) × Kept x' xs ys × (zs ≡ k' ∷ ys))
       → Kept k (x ∷ xs) zs
@@ -51,9 +53,9 @@ module _ {S T : Type 0} (R : S → T → T → Bool → S → T → T → Type 0
         | false ↦ λ m. (m.0, kept_from xs h.1 h.2 m.0 m.1, m.2)
       ]) h.5)
 
-  -- If the items of `v` are `xs`, except that the first item `x`, if there is one, has been
-  -- replaced with `f x`, then `dedup_by` turns `v` into a list with the items
-  -- `dedup same (map f xs)`.
+  -- Suppose that the items of the list `v` are `xs`, but with `f x` in place of the first item `x`,
+  -- if there is one. If `dedup_by` turns `v` into the list `w`, then the items of `w` are
+  -- `dedup same (map f xs)`, as if `f` had been applied to every item before the call.
   pub deduped_mapped : {A : Type 0} {s : S} {v w : Thin T A} (xs : List T) (x : T)
       → x ≡ slice_index_or xs 0 x → v.items ≡ slice_set xs 0 (f x) → IsDedupedBy R s v w
       → w.items ≡ dedup same (map f xs)

@@ -1,6 +1,6 @@
--- These lemmas say which items `retain_mut` keeps if its closure returns the decisions of a keeper.
--- A keeper is a value whose type implements `Keeper`: it decides for each item whether the list
--- keeps the item.
+-- A keeper is a value whose type implements the trait `Keeper`. It decides which items of a list
+-- are to be kept. These lemmas say which items `retain_mut` keeps if its closure returns the
+-- decisions of a keeper.
 use Rattle.std.proofs.Common.{◌≡◌, Bool, true, List, [], ◌∷◌, sym, ap, ◌∙◌}
 use Rattle.thin_vec.specs.Edits.Retain.{Asked, IsRetained, left_at}
 use Rattle.thin_vec.specs.ThinVec.{Thin}

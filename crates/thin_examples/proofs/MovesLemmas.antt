@@ -1,4 +1,5 @@
--- This file proves that `retain` keeps all items and moves none if its closure always returns true.
+-- This file proves that `retain` keeps every item and moves no item if its closure always returns
+-- true.
 use Rattle.std.proofs.Common.{◌≡◌, Bool, true, List, [], ◌∷◌, ap, sym, ◌∙◌}
 use Rattle.std.proofs.lemmas.List.{append-nil}
 use Rattle.thin_vec.proofs.RetainLemmas.{left_at-stay, moved_down-stay, moving-none}
@@ -8,8 +9,8 @@ use Rattle.thin_vec.specs.ThinVec.{Thin}
 
 module _ {S T : Type 0} (R : S → T → Bool → S → Type 0)
     (yes : (s : S) (x : T) (b : Bool) (t : S) → R s x b t → b ≡ true) where
-  -- If the closure always returns true, then the list `a` of its decisions about the items `xs`
-  -- equals `stay xs`, the decisions that keep all items.
+  -- If the closure always returns true, then its decisions `a` about the items `xs` say that every
+  -- item is kept.
   all-stay : (s t : S) (xs : List T) (a : Verdicts T) → Asked (Looks R) s xs a t → a ≡ stay xs
   all-stay s t [] a h = h.0
   all-stay s t (x ∷ xs) a h =
@@ -23,8 +24,8 @@ module _ {S T : Type 0} (R : S → T → Bool → S → Type 0)
       r.1.items
       ∙ (ap (left_at true) (all-stay s r.0 v.items r.1.verdicts r.1.asked) ∙ left_at-stay v.items)
 
-  -- If the closure always returns true, then `retain` moves no item, so it does not change the
-  -- field `cost`.
+  -- If the closure always returns true, then `retain` moves no item. So `retain` does not change
+  -- the field `cost`, which counts requests for memory, copied items and moves.
   pub keeps-cost : {A : Type 0} (s : S) (v w : Thin T A) → IsRetained (Looks R) s v w
       → w.cost ≡ v.cost
   keeps-cost s v w r =

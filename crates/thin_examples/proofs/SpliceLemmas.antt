@@ -1,5 +1,5 @@
--- After a splice, a list consists of its front, the items of an iterator, and its tail. This file
--- proves that the three parts can be replaced with equal ones in this statement.
+-- This file proves that a statement about the items of a list after a splice remains true if the
+-- values in this statement are replaced with equal values.
 use Rattle.std.proofs.Common.{Option, subst, ◌≡◌, List, ◌++◌}
 use Rattle.std.specs.Iterator.Runs.{WholeRun}
 use Rattle.std.specs.Prelude.{OnOk}

@@ -1,5 +1,5 @@
--- This file proves that the node count of a tree is 1 plus the sum of the node counts of the root's
--- children.
+-- This file proves that the number of nodes of a tree is 1 plus the sum of the node counts of the
+-- children of its root.
 use Rattle.std.proofs.Common.{◌≡◌, ◌+◌, map, sum}
 use Rattle.thin_examples.specs.SyntaxTree.{children_of, count_step, node_count}
 use Rattle.thin_examples.specs.declared.syntax_tree.Node.{Node}

@@ -1,5 +1,5 @@
--- The last decimal digit of a `LastDigit`. Two values of this type are equal if and only if their
--- last digits are equal.
+-- This file defines the last decimal digit of the number in a `LastDigit`. Two values of this type
+-- are equal if and only if their last digits are equal.
 use Rattle.std.specs.Prelude.{ℕ, ◌%◌}
 use Rattle.thin_examples.specs.declared.last_digits.LastDigit.{LastDigit}
 

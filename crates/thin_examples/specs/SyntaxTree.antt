@@ -1,5 +1,5 @@
--- A contract describes a node of a syntax tree by its kind, its children and its node count. This
--- file defines these three values.
+-- This file defines the kind, the children and the node count of a node in a syntax tree. The node
+-- count is the number of nodes in the tree whose root is the node. Contracts use these definitions.
 use Rattle.std.specs.Prelude.{ℕ, ◌+◌, sum}
 use Rattle.std.specs.declared.alloc.Global.{Global}
 use Rattle.thin_vec.specs.ThinVec.{Thin}
@@ -15,8 +15,8 @@ kind_of node = (out-Node node).kind
 abbrev pub children_of : Node → Thin Node Global
 children_of node = (out-Node node).children
 
--- If each child of `node` has been replaced with its node count, then `count_step node` is the node
--- count of `node` itself: the sum of these counts, plus 1.
+-- Suppose that each child of `node` has been replaced with a number, its node count. Then
+-- `count_step node` is 1 plus the sum of these numbers.
 abbrev pub count_step : Node-F ℕ → ℕ
 count_step node = 1 + sum node.children.items
 

@@ -1,9 +1,10 @@
-//! The type `Checks`, which counts comparisons of results with expected values.
+//! Defines `Checks`, which counts the comparisons in a worked example. A worked example is a
+//! function that compares the results of calls with values that were computed by hand.
 use std::alloc::Allocator;
 use thin_vec::{Growth, ThinVec};
 
-/// A counter of the comparisons in a worked example, and of those in which a result differed from
-/// the expected value.
+/// A counter of the comparisons in a worked example. It contains the number of all comparisons, and
+/// the number of comparisons in which a result differed from the expected value.
 #[derive(Clone, Copy)]
 pub struct Checks {
     compared: u32,
@@ -11,7 +12,7 @@ pub struct Checks {
 }
 
 impl Checks {
-    /// Makes a counter that has counted no comparisons.
+    /// Makes a counter that has not counted any comparisons yet.
     pub fn new() -> Checks {
         Checks {
             compared: 0,
@@ -29,7 +30,7 @@ impl Checks {
         self.compared > 0 && self.wrong == 0
     }
 
-    /// Counts one comparison. The argument `right` says whether the compared value was as expected.
+    /// Counts one comparison, and counts it as wrong if `right` is false.
     pub fn is(&mut self, right: bool) {
         self.compared = self.compared.saturating_add(1);
         if !right {
@@ -51,8 +52,8 @@ impl Checks {
         self.is(found.len() == wanted.len());
     }
 
-    /// Compares the items and the length of `list` with those of `items`, and the capacity of
-    /// `list` with `capacity`. Counts each of these comparisons.
+    /// Compares the items of `list` with `items`, the length of `list` with the length of `items`,
+    /// and the capacity of `list` with `capacity`. Each of these comparisons is counted.
     pub fn holds<T: PartialEq, A: Allocator, G: Growth>(
         &mut self,
         list: &ThinVec<T, A, G>,

@@ -13,12 +13,14 @@ use thin_runner::judge::Judge;
 use thin_runner::runner::run;
 use thin_vec::{Growth, ThinVec, ThinVecError};
 
-/// Carries out four commands on `list`: pushes of 1, 2 and 3, and a pop. If `list` is empty before
-/// the call, and the call succeeds, then `list` contains exactly 1 and 2.
+/// Carries out four commands on `list`: the first three push 1, 2 and 3, and the last one pops an
+/// item. If the list is empty before the call, and the call succeeds, then the list contains
+/// exactly 1 and 2 afterwards.
 ///
 /// # Errors
 ///
-/// Fails if a command fails, or if there is not enough memory for the commands or the replies.
+/// Fails if there is not enough memory for the commands or for the replies to them, or if one of
+/// the four commands fails.
 pub fn one_and_two<A: Allocator + Copy, J: Judge<u64>>(
     alloc: A,
     list: &mut ThinVec<u64, A>,
@@ -38,8 +40,9 @@ pub fn one_and_two<A: Allocator + Copy, J: Judge<u64>>(
 ///
 /// # Errors
 ///
-/// If a command fails, the later commands are still carried out, and the error is the cause of the
-/// first failure. If there is not enough memory for the replies, no command is carried out.
+/// If a command fails, the commands after it are still carried out, and `carry_out` returns the
+/// cause of the first failure. If there is not enough memory for the replies, `carry_out` fails and
+/// carries out no command.
 pub fn carry_out<T: Clone + Eq, A: Allocator + Copy, G: Growth, J: Judge<T>>(
     alloc: A,
     list: &mut ThinVec<T, A, G>,

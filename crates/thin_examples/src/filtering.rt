@@ -18,7 +18,7 @@ pub fn keep_even<A: Allocator, G: Growth>(list: &mut ThinVec<u32, A, G>)
     list.retain(|number| number % 2 == 0);
 }
 
-/// Removes the repeated numbers from a sorted list. Afterwards, each number is less than the next
+/// Removes adjacent duplicates from a sorted list. Afterwards, each number is less than the next
 /// one.
 pub fn keep_distinct<A: Allocator, G: Growth>(list: &mut ThinVec<u32, A, G>)
     requires sorted { IsSorted nat_cmp list.old.items }
@@ -29,7 +29,7 @@ pub fn keep_distinct<A: Allocator, G: Growth>(list: &mut ThinVec<u32, A, G>)
 }
 
 /// If adjacent numbers have the same value of `number / 10`, keeps only the first of them. For
-/// example, 12, 17, 23 becomes 12, 23.
+/// example, the list 12, 17, 23 becomes the list 12, 23.
 pub fn keep_tens<A: Allocator, G: Growth>(list: &mut ThinVec<u32, A, G>)
     ensures items { list.new.items ≡ dedup (λ later kept. later / 10 == kept / 10) list.old.items }
     ensures capacity { list.new.capacity ≡ list.old.capacity }
@@ -65,17 +65,17 @@ pub fn halve_each<A: Allocator, G: Growth>(list: &mut ThinVec<u32, A, G>)
 /// A keeper decides for each item of a list whether to keep it. Each decision may change the state
 /// of the keeper.
 pub trait Keeper<T>: Copy {
-    /// Maps a keeper and an item to three values: the decision, the item after the decision, and
-    /// the keeper after the decision.
+    /// Maps a keeper and an item to the decision, the value of the item after the decision, and the
+    /// keeper after the decision.
     ghost keeps: { Self → T → Bool × (T × Self) };
 
-    /// Returns whether `item` is kept. The keeper may write to `item`.
+    /// Returns whether `item` is to be kept. The keeper may write to `item`.
     fn keep(&mut self, item: &mut T) -> bool
         ensures { keeps self.old item.old ≡ (result, (item.new, self.new)) };
 }
 
-/// Calls `keep` on a copy of `keeper` for each item, and removes the items for which `keep` returns
-/// false. The calls may write to the items.
+/// Asks a copy of `keeper` about each item, and removes the items for which `keep` returns false.
+/// The copy may write to the items. The call does not change `keeper` itself.
 pub fn keep_by<T: Copy, A: Allocator, G: Growth, J: Keeper<T>>(
     list: &mut ThinVec<T, A, G>,
     keeper: &J,

@@ -1,13 +1,13 @@
-//! Example functions that make a list, add items, or change an item. The prover proves their
-//! contracts by itself. Only `room_for_eight` has a handwritten proof.
+//! Example functions that make a list, add items to a list, or change an item. The contract of
+//! `room_for_eight` has a handwritten proof. The prover proves the other contracts by itself.
 ghost use Rattle.std.specs.Prelude.{◌≡◌, ◌+◌, ◌/◌, ◌≤◌, ◌++◌, [], IfErr, IfOk, IfSome, IsErrOf, IsOk, IsSome, IsTrue, None, filter, length, map, nat_lt, OnErr, OnOk, ◌-◌, ◌<◌, replicate, slice_index, slice_set, take};
 ghost use Rattle.thin_vec.specs.ThinVec.{HasRoomFor, IsCause, capacity_for};
 
 use std::alloc::{AllocError, Allocator};
 use thin_vec::{Growth, ThinVec, ThinVecError};
 
-/// Returns a list of the halves of `numbers`, rounded down, or `None` if there is not enough memory
-/// for the list.
+/// Halves each number, rounding down, and returns a list of the results in the same order. Returns
+/// `None` if there is not enough memory for the list.
 pub fn halves<A: Allocator>(alloc: A, numbers: &[u32]) -> Option<ThinVec<u32, A>>
     ensures succeeds_empty { length numbers.now ≡ 0 → IsSome result }
     ensures items { IfSome result (λ list. list.items ≡ map (λ number. number / 2) numbers.now) }
@@ -18,8 +18,8 @@ pub fn halves<A: Allocator>(alloc: A, numbers: &[u32]) -> Option<ThinVec<u32, A>
     }
 }
 
-/// Appends the items of `numbers` that are less than `limit`, in order. Returns whether there was
-/// room for all of them. The old items are kept in every case.
+/// Appends the items of `numbers` that are less than `limit`, in order. Returns whether all of
+/// these items were appended. The list keeps its old items in every case.
 pub fn extend_below<A: Allocator, G: Growth>(
     list: &mut ThinVec<u32, A, G>,
     numbers: &[u32],
@@ -55,8 +55,8 @@ pub fn room_for_eight<A: Allocator>(alloc: A) -> Result<ThinVec<u64, A>, ThinVec
 ///
 /// # Errors
 ///
-/// Fails only if the allocator fails, because the capacity of such a short list cannot overflow. On
-/// failure, the list is unchanged.
+/// Fails only if the allocator fails. On failure, the list is unchanged. The lemma `few_more` shows
+/// that the capacity of such a short list cannot overflow.
 #[tactic(auto, using(thin_vec::proofs::FewLemmas::few_more))]
 pub fn reserve_eight<A: Allocator>(list: &mut ThinVec<u64, A>) -> Result<(), ThinVecError>
     requires few { length list.old.items < 1000 }
@@ -104,8 +104,8 @@ pub fn continued<A: Allocator, G: Growth>(
     Ok(copy)
 }
 
-/// Appends the items of `numbers` in order, until there is no room for the next item. Returns how
-/// many items were appended. The list keeps its old items in every case.
+/// Appends the items of `numbers` in order, until there is no room for the next item. Returns the
+/// number of appended items. The list keeps its old items in every case.
 pub fn extend_by_number<A: Allocator, G: Growth>(
     list: &mut ThinVec<u32, A, G>,
     numbers: &[u32],
@@ -160,11 +160,11 @@ pub fn append_line<A: Allocator, G: Growth>(
     Ok(())
 }
 
-/// Moves all items of `other` to the end of `list`. If `other` is empty, requests no memory.
+/// Moves all items of `other` to the end of `list`. If `other` is empty, no memory is requested.
 ///
 /// # Errors
 ///
-/// Fails with `CapacityOverflow` if the growth rule of `list` allows no capacity for the items of
+/// Fails with `CapacityOverflow` if the growth rule of `list` provides no capacity for the items of
 /// both lists, and with `OutOfMemory` if the allocator fails. On failure, both lists are unchanged.
 pub fn take_all<T, A: Allocator, G: Growth>(
     list: &mut ThinVec<T, A, G>,

@@ -34,8 +34,8 @@ pub fn hand_over<T: Drop, A: Allocator, G: Growth>(
     Ok(())
 }
 
-/// Moves the items of `list` at the indices `start..end` to the end of `other`, with explicit calls
-/// to `next`.
+/// Moves the items of `list` at the indices `start..end` to the end of `other`. Unlike `hand_over`,
+/// this function calls `next` explicitly in a loop.
 ///
 /// # Errors
 ///
@@ -95,8 +95,8 @@ pub fn hand_over_odd<A: Allocator, G: Growth>(
 ///
 /// # Errors
 ///
-/// Fails if `odd` or `even` cannot reserve room for `list.len()` numbers. On failure, nothing is
-/// appended, and `list` is dropped.
+/// Fails if `odd` or `even` cannot reserve room for `list.len()` numbers. On failure, all numbers
+/// of `list` are dropped, and none of them is appended.
 pub fn divide<A: Allocator, G: Growth>(
     list: ThinVec<u32, A, G>,
     odd: &mut ThinVec<u32, A, G>,
@@ -121,7 +121,8 @@ pub fn divide<A: Allocator, G: Growth>(
     Ok(())
 }
 
-/// Appends the doubles of `numbers` to `list`, in order. Requests memory at most once.
+/// Doubles each number of `numbers`, and appends the results to `list`, in order. Requests memory
+/// at most once.
 ///
 /// # Errors
 ///

@@ -7,8 +7,9 @@ ghost use Rattle.thin_vec.specs.ThinVec.{IsWithin};
 use std::alloc::Allocator;
 use thin_vec::{Growth, Rejected, ThinVec};
 
-/// Returns the index directly after the `count` items that begin at `start`. The sum cannot
-/// overflow, because the length of a list is at most `isize::MAX` (precondition `within`).
+/// Returns `start + count`, the index directly after the `count` items that begin at the index
+/// `start`. The sum cannot overflow: it is at most the length of the list, and the precondition
+/// `within` says that this length is at most `isize::MAX`.
 pub fn run_end<T, A: Allocator, G: Growth>(
     list: &ThinVec<T, A, G>,
     start: usize,
@@ -55,8 +56,8 @@ pub fn set_to_zero<A: Allocator, G: Growth>(list: &mut ThinVec<u32, A, G>)
     list.as_mut_slice().fill(0);
 }
 
-/// Inserts `value` at `index`, removes it again, and returns it. The items of the list are then the
-/// same as before the call.
+/// Inserts `value` at `index`, removes it from the list again, and returns it. The lemma `undone`
+/// shows that the list then has the same items as before the call.
 ///
 /// # Errors
 ///

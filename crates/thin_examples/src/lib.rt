@@ -1,5 +1,6 @@
 //! Example functions that use `ThinVec`. You can copy them into your own programs. The crate also
-//! contains the worked examples that the program `thin_bench` runs.
+//! contains the worked examples, which the program `thin_bench` runs. A worked example is a
+//! function that compares the results of calls with values that were computed by hand.
 #![tactic(auto)]
 
 pub mod checks;

@@ -4,8 +4,8 @@ ghost use Rattle.std.specs.Prelude.{◌≡◌, ◌%◌, ◌==◌, filter, length
 use std::alloc::Allocator;
 use thin_vec::{Growth, ThinVec};
 
-/// Returns the number of even numbers in `list`. The loop iterates over a slice, so that the loop
-/// invariant can refer to the current index.
+/// Returns the number of even numbers in `list`. The loop iterates over `list.as_slice()`, so the
+/// loop invariant can refer to the index of the current number.
 pub fn count_even<A: Allocator, G: Growth>(list: &ThinVec<u32, A, G>) -> usize
     ensures value { result ≡ length (filter (λ number. number % 2 == 0) list.now.items) }
 {

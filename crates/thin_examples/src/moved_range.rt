@@ -1,5 +1,5 @@
-//! An example function that moves a range of items from one list to another. Its contract says
-//! which items both lists have afterwards.
+//! An example function that moves a range of items from one list to the end of another list. Its
+//! contract says which items each of the two lists contains afterwards.
 ghost use Rattle.std.specs.Prelude.{◌≡◌, ◌-◌, ◌≤◌, ◌++◌, IsOk, OnErr, OnOk, drop, length, slice_range, take};
 ghost use Rattle.thin_vec.specs.ThinVec.{HasRoomFor};
 
@@ -8,8 +8,9 @@ use thin_vec::{Growth, ThinVec};
 
 /// Moves the numbers of `list` at the indices `start..end` to the end of `other`.
 ///
-/// The numbers are copied from a `Drain`. If the `Drain` itself were passed to a method of `other`,
-/// no contract would say which items are left in `list`.
+/// The function makes a `Drain` of this range, and appends copies of its numbers to `other`. The
+/// function does not pass the `Drain` itself to a method of `other`, because then no contract would
+/// say which items are left in `list`.
 ///
 /// # Errors
 ///

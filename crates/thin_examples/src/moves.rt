@@ -5,7 +5,8 @@ use std::alloc::{AllocError, Allocator};
 use std::iter::once;
 use thin_vec::{Growth, ThinVec, thin_vec};
 
-/// Inserts `value` after the first of three items. This moves `value` and the two items after it.
+/// Inserts `value` after the first of three items. This moves three items: `value`, and the two
+/// items after it.
 ///
 /// # Errors
 ///
@@ -31,8 +32,8 @@ pub fn removed_first<T, A: Allocator, G: Growth>(list: &mut ThinVec<T, A, G>) ->
     list.remove(0)
 }
 
-/// Drains the four middle items of a list of six items. Two of them are yielded, and the other two
-/// are dropped with the `Drain`. Only the last item of the list is moved.
+/// Drains the four middle items of a list of six items. Calls to `next` and `next_back` yield two
+/// of them, and the other two are dropped. Only the last item of the list is moved.
 pub fn drained_middle<T: Drop, A: Allocator, G: Growth>(list: &mut ThinVec<T, A, G>)
     requires six { length list.old.items ≡ 6 }
     ensures one_move { list.new.cost.moves ≡ list.old.cost.moves + 1 }
@@ -62,8 +63,8 @@ pub fn kept_all<T: Drop, A: Allocator, G: Growth>(list: &mut ThinVec<T, A, G>)
     list.retain(|_item: &T| true);
 }
 
-/// Extracts 2, the first even number at the indices `1..5`, from the list 1, 2, 3, 4, 5, 6. This
-/// moves the four numbers after it.
+/// Extracts the first even number at the indices `1..5` from the list 1, 2, 3, 4, 5, 6. This number
+/// is 2. The four numbers after it are moved without being tested.
 pub fn extracted_first<A: Allocator, G: Growth>(list: &mut ThinVec<u32, A, G>) -> Option<u32>
     requires to_six { list.old.items ≡ 1 ∷ 2 ∷ 3 ∷ 4 ∷ 5 ∷ 6 ∷ [] }
     ensures value { result ≡ Some 2 }
@@ -75,8 +76,8 @@ pub fn extracted_first<A: Allocator, G: Growth>(list: &mut ThinVec<u32, A, G>) -
         .next()
 }
 
-/// Replaces the third and the fourth of five items with three new items. There are at most five
-/// moves: one for each new item, and two for the fifth item.
+/// Replaces the third and the fourth of five items with three new items. Each new item is moved
+/// once, and the fifth item is moved at most twice. So there are at most five moves.
 ///
 /// # Errors
 ///
@@ -96,7 +97,7 @@ pub fn spliced_middle<A: Allocator + Copy, G: Growth>(
 }
 
 /// Makes a list, appends six items, replaces two of them with one item, extracts two items, and
-/// pops one item. There are at most 14 moves.
+/// pops one item. Two items remain. In total, these calls make at most 14 moves of items.
 ///
 /// # Errors
 ///
@@ -114,8 +115,9 @@ pub fn edited<A: Allocator + Copy>(alloc: A) -> Result<ThinVec<u32, A>, AllocErr
     Ok(list)
 }
 
-// Replaces the items 2 and 3 of the list 1, 2, 3, 4, 5, 6 with the item 9. There are at most seven
-// moves: one for 9, and two for each of 4, 5 and 6.
+// Replaces the items 2 and 3 of the list 1, 2, 3, 4, 5, 6 with the single item 9. The item 9 is
+// moved once, and each of the items 4, 5 and 6 is moved at most twice. So there are at most seven
+// moves.
 fn nine_for_two<A: Allocator>(list: &mut ThinVec<u32, A>, alloc: A) -> Result<(), AllocError>
     requires to_six { list.old.items ≡ 1 ∷ 2 ∷ 3 ∷ 4 ∷ 5 ∷ 6 ∷ [] }
     ensures items { OnOk result (list.new.items ≡ 1 ∷ 9 ∷ 4 ∷ 5 ∷ 6 ∷ []) }
@@ -125,8 +127,8 @@ fn nine_for_two<A: Allocator>(list: &mut ThinVec<u32, A>, alloc: A) -> Result<()
     Ok(())
 }
 
-// Extracts the even numbers from the list 1, 9, 4, 5, 6. The list is then 1, 9, 5, and only the
-// number 5 has been moved.
+// Extracts the even numbers 4 and 6 from the list 1, 9, 4, 5, 6. The list is then 1, 9, 5, and only
+// the number 5 has been moved.
 fn even_out<A: Allocator>(list: &mut ThinVec<u32, A>)
     requires five { list.old.items ≡ 1 ∷ 9 ∷ 4 ∷ 5 ∷ 6 ∷ [] }
     ensures items { list.new.items ≡ 1 ∷ 9 ∷ 5 ∷ [] }

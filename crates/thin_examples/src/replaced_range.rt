@@ -28,8 +28,8 @@ pub fn replace_word<A: Allocator, G: Growth>(
     text.replace_range_from_copies(start, end, word)
 }
 
-/// Replaces the bytes at the indices `start..end` with `word`. The call cannot fail, because `word`
-/// is not longer than this range.
+/// Replaces the bytes at the indices `start..end` with `word`. The call cannot fail, because the
+/// precondition `shorter` says that `word` is not longer than this range.
 pub fn shorten_to<A: Allocator, G: Growth>(
     text: &mut ThinVec<u8, A, G>,
     start: usize,
@@ -68,7 +68,8 @@ pub fn replace_lines<T: Drop, A: Allocator, G: Growth>(
     lines.replace_range_from_list(start, end, newer)
 }
 
-/// Inserts clones of `names` at the index `at`.
+/// Inserts clones of `names` at the index `at`. If `at` is the length of the list, the clones are
+/// appended.
 ///
 /// # Errors
 ///

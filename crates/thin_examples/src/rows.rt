@@ -1,5 +1,6 @@
-//! The worked examples: functions such as `row_1`, which compare the results of calls with values
-//! that were computed by hand. They return an error only if a call fails unexpectedly.
+//! This module contains the worked examples. Each of them is a function whose name is `row_`
+//! followed by a number. The function makes several calls, and compares their results with values
+//! that were computed by hand. It returns an error only if one of its calls fails unexpectedly.
 ghost use Rattle.std.specs.Prelude.{◌≡◌, IfOk};
 
 mod bulk;
@@ -30,16 +31,16 @@ pub const ROWS: [u32; 35] = [
     30, 31, 32, 33, 34, 35, 36, 40, 41,
 ];
 
-/// The result of a worked example: the counter of its comparisons, or the error of a call that
-/// failed unexpectedly.
+/// The result of a worked example. `Ok` contains the counter of its comparisons, and `Err` contains
+/// the error of a call that failed unexpectedly.
 pub type Outcome = Result<Checks, ThinVecError>;
 
-/// Runs the worked example `number`. If there is none, returns a counter that has counted no
-/// comparisons.
+/// Runs worked example number `number`. If there is no such example, returns a counter that has
+/// counted no comparisons.
 ///
 /// # Errors
 ///
-/// Fails if a call in the example fails unexpectedly.
+/// Fails if one of the calls in the example fails unexpectedly.
 pub fn row<A: Allocator + Copy>(alloc: A, number: u32) -> Outcome {
     match number {
         1 => row_1(alloc),

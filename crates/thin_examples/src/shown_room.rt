@@ -6,11 +6,11 @@ ghost use Rattle.thin_vec.specs.ThinVec.{HasRoomFor};
 use std::alloc::Allocator;
 use thin_vec::{Growth, ThinVec, ThinVecError};
 
-/// Appends `line` and a newline to the text, or appends nothing. Requests memory at most once.
+/// Appends `line` and then a newline to `text`. Requests memory at most once.
 ///
 /// # Errors
 ///
-/// Fails if there is no room for the bytes. On failure, the text is unchanged.
+/// Fails if there is no room for these bytes. On failure, `text` is unchanged.
 pub fn append_line<A: Allocator, G: Growth>(
     text: &mut ThinVec<u8, A, G>,
     line: &[u8],

@@ -1,5 +1,5 @@
-//! Example functions that store counts in a sparse table. A column without an entry has the count
-//! 0. A row without entries owns no allocation.
+//! Example functions that store counts in a sparse table. If a row has no entry for a column, the
+//! count there is 0. A row without entries owns no allocation.
 ghost use Rattle.std.specs.FinMap as columns;
 ghost use Rattle.std.specs.Option.{unwrap_or};
 ghost use Rattle.std.specs.Prelude.{◌≡◌, ◌↔◌, ◌+◌, ◌-◌, ◌^◌, ◌<◌, ◌/◌, IfErr, IfOk, IfSome, IsNone, IsOk, IsSome, IsTrue, OnErr, OnOk, Some, length, min, replicate};
@@ -13,8 +13,8 @@ use thin_vec::ThinVecError;
 ///
 /// # Errors
 ///
-/// Fails only if the allocator fails. A capacity of seven rows cannot overflow, as the lemma
-/// `few_items` shows.
+/// Fails only if the allocator fails. The lemma `few_items` shows that a capacity of seven rows
+/// cannot overflow.
 pub fn for_a_week(alloc: Global) -> Result<Rows<u32>, ThinVecError>
     ensures table { IfOk result (λ counts. counts ≡ replicate 7 columns.empty) }
     ensures cause { IfErr result (λ cause. cause ≡ ThinVecError.OutOfMemory) }
@@ -46,8 +46,8 @@ pub fn add<A: Allocator>(
     Ok(())
 }
 
-/// Sets the count at `row` and `column` to `count`, reads it from the table, and returns it. The
-/// result is `Some(count)`, as the lemma `written` shows.
+/// Sets the count at `row` and `column` to `count`. Then reads the entry at the same place, and
+/// returns the result. The lemma `written` shows that this result is `Some(count)`.
 ///
 /// # Errors
 ///

@@ -8,13 +8,14 @@ use thin_vec::{Growth, SpliceRefused, ThinVec};
 
 /// Replaces the items at the indices `range.0..range.1` with the items that `iter` yields.
 ///
-/// The generic type `I` helps the prover with callers whose iterator borrows a value, such as a
-/// slice.
+/// The type `I` of the iterator is generic. Some iterators borrow a value: for example, an iterator
+/// over a slice borrows the slice. A caller can prove a splice with such an iterator by calling a
+/// generic function like this one.
 ///
 /// # Errors
 ///
 /// Fails if there is no room for the items. The error contains the items that were taken from the
-/// iterator but not inserted, and the iterator, which yields the remaining items.
+/// iterator but were not inserted. It also contains the iterator, which yields the remaining items.
 pub fn splice_by<T: Drop, A: Allocator, G: Growth, I: Iterator<Item = T>>(
     list: &mut ThinVec<T, A, G>,
     range: (usize, usize),
@@ -36,8 +37,9 @@ pub fn splice_by<T: Drop, A: Allocator, G: Growth, I: Iterator<Item = T>>(
 ///
 /// # Errors
 ///
-/// Fails if there is no room for the numbers. On failure, the old items are removed. Some of the
-/// first numbers, or none of them, are inserted in their place. The other numbers are dropped.
+/// Fails if there is no room for the numbers. On failure, the items at the indices `start..end` are
+/// removed. Some of the first numbers, or none of them, are inserted in their place. The other
+/// numbers are dropped.
 pub fn splice_numbers<A: Allocator, G: Growth>(
     list: &mut ThinVec<u32, A, G>,
     start: usize,

@@ -22,12 +22,12 @@ pub fn doubled<A: Allocator>(alloc: A, numbers: &[u32]) -> Result<ThinVec<u64, A
         .collect(alloc)
 }
 
-/// Appends `line` and a newline to `bytes`.
+/// Appends `line` and then a newline to `bytes`.
 ///
 /// # Errors
 ///
-/// Fails if there is no room for the bytes. On failure, `bytes` keeps its old bytes, but `line` may
-/// have been appended without the newline.
+/// Fails if there is no room for the new bytes. On failure, `bytes` keeps its old bytes, but `line`
+/// may have been appended without the newline.
 pub fn write_line<A: Allocator, G: Growth>(
     bytes: &mut ThinVec<u8, A, G>,
     line: &[u8],

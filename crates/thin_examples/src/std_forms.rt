@@ -1,6 +1,6 @@
-//! Example functions that call `thin_vec!` with the syntax of `vec!`, or use two traits of Rattle's
-//! std. `Emptied` makes an empty replacement for a value, and `MadeWith` makes a value from an
-//! allocator.
+//! Example functions that call the macro `thin_vec!`, or use the traits `Emptied` and `MadeWith` of
+//! Rattle's std. `Emptied` makes an empty value that can replace a given value, and `MadeWith`
+//! makes a value from an allocator.
 ghost use Rattle.std.specs.Prelude.{◌≡◌, [], ◌∷◌, IfOk, OnErr, OnOk, replicate};
 
 use std::alloc::{AllocError, Allocator};
@@ -47,7 +47,7 @@ pub fn take_list<T, A: Allocator + Clone, G: Growth>(
     mem::try_take(list)
 }
 
-/// Makes an empty list from the allocator `alloc`, with the trait `MadeWith` of Rattle's std. The
+/// Makes an empty list with the allocator `alloc`, using the trait `MadeWith` of Rattle's std. The
 /// method `or_default` of a map uses the same trait to make a missing value.
 pub fn made<A: Allocator, G: Growth>(alloc: A) -> ThinVec<u32, A, G>
     ensures items { result.items ≡ [] }
@@ -55,12 +55,12 @@ pub fn made<A: Allocator, G: Growth>(alloc: A) -> ThinVec<u32, A, G>
     MadeWith::made_with(alloc)
 }
 
-/// Appends `number` to the list for `key` in the map `lists`. If there is no such list, inserts a
-/// new list first.
+/// Appends `number` to the list that the map `lists` contains for `key`. If there is no such list,
+/// a new list is first inserted into the map.
 ///
 /// # Errors
 ///
-/// Fails if the map has no room for a new list, or the list has no room for `number`.
+/// Fails if the map has no room for a new list, or if the list has no room for `number`.
 pub fn append_to(
     lists: &mut HashMap<u32, ThinVec<u32>>,
     key: u32,

@@ -51,7 +51,8 @@ pub fn set_length<A: Allocator, G: Growth>(
     list.resize_with(len, || 0)
 }
 
-/// Appends copies of the numbers at the indices `start..end` to the same list.
+/// Copies the numbers at the indices `start..end` of the list, and appends the copies to the same
+/// list.
 ///
 /// # Errors
 ///

@@ -1,5 +1,5 @@
-//! Example functions that compare and hash lists. The results depend only on the items, and not on
-//! the capacities.
+//! Example functions that compare and hash lists. The results depend only on the items of the
+//! lists, and not on their capacities.
 ghost use Rattle.std.specs.Prelude.{◌≡◌, ◌↔◌, IsTrue, fold};
 ghost use Rattle.std.specs.Hash as fed;
 ghost use Rattle.std.specs.Hash.DefaultHasher as sip;
@@ -8,8 +8,8 @@ use std::alloc::Allocator;
 use std::hash::{DefaultHasher, Hash, Hasher};
 use thin_vec::{Growth, ThinVec};
 
-/// Returns whether the two styles, which are lists of rules, have the same rules in the same order.
-/// The capacities are not compared.
+/// Returns whether the two styles have the same rules in the same order. A style is a list of
+/// rules, and each rule is a number. The capacities of the lists are not compared.
 pub fn same_style<A: Allocator, G: Growth>(
     one: &ThinVec<u32, A, G>,
     other: &ThinVec<u32, A, G>,
@@ -20,7 +20,7 @@ pub fn same_style<A: Allocator, G: Growth>(
 }
 
 /// Returns the hash that std's `DefaultHasher` computes for the list `style`. The hash depends only
-/// on the items, so equal styles have equal hashes.
+/// on the items of this list, so equal lists have equal hashes.
 pub fn style_hash<A: Allocator, G: Growth>(style: &ThinVec<u32, A, G>) -> u64
     ensures value { result ≡ sip.finish
         (fold sip.write sip.initial (fed.slice fed.u32 style.now.items)) }

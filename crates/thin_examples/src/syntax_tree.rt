@@ -7,7 +7,7 @@ ghost use Rattle.thin_examples.specs.SyntaxTree.{children_of, kind_of, node_coun
 use std::alloc::Global;
 use thin_vec::{Rejected, ThinVec};
 
-/// A node of a syntax tree. It contains its kind, and the list of its children in order.
+/// A node of a syntax tree: the kind of the node, and the list of its children in order.
 #[derive(Drop)]
 pub struct Node {
     pub kind: u32,

@@ -50,7 +50,8 @@ pub fn reversed(list: ThinVec<u32, Global>, alloc: Global) -> Result<Vec<u32>, A
     list.into_iter().rev().collect(alloc)
 }
 
-/// Moves the items of `list` into a `Vec` one by one, in reverse order.
+/// Moves the items of `list` into a `Vec` one by one, in reverse order. The list may have any
+/// allocator and any growth rule.
 ///
 /// # Errors
 ///

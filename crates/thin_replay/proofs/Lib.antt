@@ -1,4 +1,4 @@
--- Lemmas about carrying out a single command (`RunLemmas`), and about parsing words one by one
--- (`WordsLemmas`).
+-- These modules contain lemmas. `RunLemmas` is about carrying out a single command, and
+-- `WordsLemmas` is about parsing the words of a line one by one.
 mod RunLemmas
 mod WordsLemmas

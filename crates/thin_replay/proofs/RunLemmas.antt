@@ -16,9 +16,11 @@ alone : {X : Type 0} (front : List X) (x : X) → length (front ++ x ∷ []) ≡
 alone [] x one = refl
 alone (y ∷ front) x one = absurd (omega (arith, length-append front (x ∷ [])))
 
--- In this module, a run with the single command `command` turns the list `old` into `new`, and the
--- main theorem (`Headline`) holds for this run. The list `before` of earlier replies is empty, and
--- `after` contains the reply of the run.
+-- This module is about a run that carries out only `command`. The run turns the list `old` into
+-- `new`. The setting `here` contains the values that all commands of a run share, such as the
+-- allocator. The list `before` of the replies before the run is empty, and `after` is the list of
+-- the replies after the run. The module assumes that the main theorem (`Headline`) holds for the
+-- run.
 module _ {T A G J : Type 0} (here : Setting T A J) (old new : Thin T A)
     (command : Command T A G) (commands : List (Command T A G)) (before after : List (Reply T A G))
     (one : commands ≡ command ∷ []) (none : before ≡ [])
@@ -38,8 +40,9 @@ module _ {T A G J : Type 0} (here : Setting T A J) (old new : Thin T A)
       ∙ has_one headline.replies
       (subst (λ cs. Runs here old cs headline.replies new) one headline.allowed)
 
-  -- If `pop` is called on the list `after` of replies and returns `Some reply`, then the main
-  -- theorem (`Headline`) holds for a run that carries out only `command` and produces only `reply`.
+  -- Suppose that `pop` is called on the list `after` of replies. The call leaves the list `left`,
+  -- and its result `popped` is `Some reply`. Then the main theorem (`Headline`) holds for a run
+  -- that carries out only `command`, produces only `reply`, and turns the list `old` into `new`.
   pub headline-one : (left : List (Reply T A G)) (popped : Option (Reply T A G))
       (reply : Reply T A G) → after ≡ left ++ option_to_list popped → popped ≡ Some reply
       → Headline here old (command ∷ []) [] (reply ∷ []) new

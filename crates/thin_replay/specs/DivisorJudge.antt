@@ -1,16 +1,16 @@
--- The decisions of a `DivisorJudge`, and the values that it writes to items. A judge makes
+-- This file defines what a `DivisorJudge` decides, and what it writes to the items. A judge makes
 -- decisions in place of a closure: for example, it decides which items `retain` keeps.
 use Rattle.std.specs.Prelude.{◌≡◌, ℕ, List, Bool, ◌+◌, ◌/◌, ◌%◌, ◌^◌, ◌==◌}
 use Rattle.thin_runner.specs.Judge.{Judging}
 use Rattle.thin_replay.specs.Words.{Spells}
 use Rattle.thin_replay.specs.declared.divisor_judge.DivisorJudge.{DivisorJudge}
 
--- `number_for judge x` is the number that the judge computes for the item `x`, and divides by its
--- divisor to make a decision.
+-- `number_for judge x` is the number that the judge computes for the item `x`. To make a decision,
+-- the judge divides this number by its divisor.
 abbrev pub number_for : DivisorJudge → ℕ → ℕ
 number_for judge x = (x + judge.offset) % 2 ^ 64
 
--- `counted judge` is the judge `judge` after one more decision.
+-- `counted judge` is the state of `judge` after one more decision.
 abbrev pub counted : DivisorJudge → DivisorJudge
 counted judge = record judge { offset = (judge.offset + judge.stride) % 2 ^ 64 }
 
@@ -18,14 +18,14 @@ counted judge = record judge { offset = (judge.offset + judge.stride) % 2 ^ 64 }
 abbrev pub written : DivisorJudge → ℕ → ℕ
 written judge x = (x + judge.added) % 2 ^ 64
 
--- `chooses judge x` is true if and only if `number_for judge x` is divisible by the divisor of the
--- judge. The judge then chooses the item `x`.
+-- `chooses judge x` says whether the judge chooses the item `x`. It is true if and only if the
+-- number `number_for judge x` is divisible by the divisor of the judge.
 abbrev pub chooses : DivisorJudge → ℕ → Bool
 chooses judge x = number_for judge x % judge.divisor == 0
 
--- `judging` describes how a `DivisorJudge` implements the methods of the trait `Judge`. Each
--- function maps the judge and the items before a call to the result, the items and the judge after
--- it. For `look`, the unchanged item is left out.
+-- `judging` specifies how a `DivisorJudge` implements the trait `Judge`. For each method of the
+-- trait, `judging` contains a function that says what the method returns, what the method writes to
+-- the items, and how the judge changes.
 abbrev pub judging : Judging ℕ DivisorJudge
 judging = record {
   look = λ judge x. (chooses judge x, counted judge);
@@ -40,8 +40,9 @@ judging = record {
   take = λ judge x. (chooses judge x, written judge x, counted judge);
 }
 
--- `SpellsJudge divisor stride added judge` holds if the three texts spell the fields of `judge`
--- with these names, and `judge` has made no decisions yet.
+-- `SpellsJudge divisor stride added judge` holds if two conditions are met. First, the texts
+-- `divisor`, `stride` and `added` spell the numbers in the fields of `judge` that have these names.
+-- Second, `judge` has made no decisions yet.
 pub record SpellsJudge (divisor stride added : List ℕ) (judge : DivisorJudge) : Type 0 where
   pub divisor_is : Spells divisor judge.divisor
   pub stride_is : Spells stride judge.stride

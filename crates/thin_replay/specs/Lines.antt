@@ -1,5 +1,6 @@
--- The words of an input line that describe a command, and those that describe its judge. A judge
--- makes decisions in place of a closure.
+-- This file defines which words of an input line describe a command, and which words describe the
+-- judge of the command. A judge makes decisions in place of a closure: for example, it decides
+-- which items `retain` keeps.
 use Rattle.std.specs.Prelude.{◌≡◌, ℕ, ◌≤◌, List, codes, drop, length, ⊤}
 use Rattle.std.specs.Iterator.{DrainsIf}
 use Rattle.std.specs.Str.Iter.{split_whitespace_rest, split_whitespace_steps}
@@ -18,8 +19,9 @@ use Rattle.thin_replay.specs.declared.line.Line.TheVariants.{Carry, Help, New}
 abbrev pub BeginsForm : Words → List ℕ → ℕ → Type 0
 BeginsForm words name count = (count ≤ length words) × (word words 0 ≡ name)
 
--- `Says words command` holds if the words have the form of a line for `command` and spell its
--- arguments. The words that describe a judge can be any text.
+-- `Says words command` holds if the words have the form of a line for `command`, and spell the
+-- arguments of `command`. On some lines, the last three words describe a judge, which makes
+-- decisions in place of a closure. `Says` allows any text in these three words.
 abbrev pub Says : {A G : Type 0} → Words → Command ℕ A G → Type 0
 Says words (Push item) = HasForm words (codes "push") 2 × Spells (word words 1) item
 Says words Pop = HasForm words (codes "pop") 1
@@ -61,8 +63,10 @@ Says words (Splice start end steps items lower) = BeginsForm words (codes "splic
     × (SpellsSteps (word words 3) steps.items
     × (Spells (word words 4) lower × SpellAll (drop 5 words) items.items))))
 
--- `SaysJudge words command judge` holds if the last three words describe `judge`, and `judge` has
--- made no decisions yet. If the command needs no judge, it holds for any `judge`.
+-- If `command` calls methods of a judge, `SaysJudge words command judge` holds if the last three
+-- words spell the divisor, the stride and the addend of `judge`, and `judge` has made no decisions
+-- yet. For every other command, the predicate holds for any `judge`. A judge makes decisions in
+-- place of a closure.
 abbrev pub SaysJudge : {A G : Type 0} → Words → Command ℕ A G → DivisorJudge → Type 0
 SaysJudge words Retain judge = SpellsJudge (word words 1) (word words 2) (word words 3) judge
 SaysJudge words RetainMut judge = SpellsJudge (word words 1) (word words 2) (word words 3) judge
@@ -72,7 +76,7 @@ SaysJudge words (ExtractIf start end calls) judge =
     SpellsJudge (word words 4) (word words 5) (word words 6) judge
 SaysJudge words command judge = Unit {0}
 
--- `AsksNone command` holds if the command calls no method of a judge, which makes decisions in
+-- `AsksNone command` holds if the command calls no method of a judge. A judge makes decisions in
 -- place of a closure.
 abbrev pub AsksNone : {A G : Type 0} → Command ℕ A G → Type 0
 AsksNone Retain = ⊥
@@ -83,12 +87,12 @@ AsksNone (ExtractIf start end calls) = ⊥
 AsksNone command = Unit {0}
 
 -- `SaysUnjudged words command` holds if the words describe the command, and the command calls no
--- method of a judge.
+-- method of a judge. A judge makes decisions in place of a closure.
 abbrev pub SaysUnjudged : {A G : Type 0} → Words → Command ℕ A G → Type 0
 SaysUnjudged words command = Says words command × AsksNone command
 
 -- `IsFilter name command` holds if `command` is `Retain`, `RetainMut`, `DedupBy` or `DedupByKey`,
--- and `name` is its name on an input line.
+-- and `name` is the name of this command on an input line.
 abbrev pub IsFilter : {A G : Type 0} → List ℕ → Command ℕ A G → Type 0
 IsFilter name Retain = name ≡ codes "retain"
 IsFilter name RetainMut = name ≡ codes "retain_mut"
@@ -96,13 +100,15 @@ IsFilter name DedupBy = name ≡ codes "dedup_by"
 IsFilter name DedupByKey = name ≡ codes "dedup_by_key"
 IsFilter name command = ⊥
 
--- `IsCall words call` holds if the words describe the command of `call` and, if this command needs
--- a judge, also the judge of `call`.
+-- `IsCall words call` holds if the words describe the command of `call`. If this command calls
+-- methods of a judge, the last three words must also describe the judge of `call`. A judge makes
+-- decisions in place of a closure.
 abbrev pub IsCall : Words → Call → Type 0
 IsCall words call = Says words call.command × SaysJudge words call.command call.judge
 
--- `IsLine words line` holds if the words describe the line. The word `help` describes `Help`, and
--- the word `new` describes `New`. The words of any other line describe a call.
+-- `IsLine words line` holds if the words describe the line. The single word `help` describes the
+-- line `Help`, and the single word `new` describes the line `New`. Any other line contains a call,
+-- and the words must describe this call.
 abbrev pub IsLine : Words → Line → Type 0
 IsLine words Help = HasForm words (codes "help") 1
 IsLine words New = HasForm words (codes "new") 1

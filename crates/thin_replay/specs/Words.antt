@@ -1,5 +1,5 @@
--- The meaning of the words of a line: the name of a command, numbers, and steps, which are calls to
--- `next` or `next_back`.
+-- This file defines the meaning of the words of a line. The first word is the name of a command.
+-- Every other word denotes a number or a list of steps. A step is a call to `next` or `next_back`.
 use Rattle.std.specs.Prelude.{◌≡◌, ℕ, ◌⊎◌, List, [], codes, length, slice_index_or}
 use Rattle.std.specs.Borrow.{Bor}
 use Rattle.std.specs.List.{AllZip}
@@ -7,8 +7,8 @@ use Rattle.std.specs.Str.Parse.{IsNumeral, digits_value, without_leading_plus}
 use Rattle.thin_runner.specs.declared.command.Step.{Step}
 use Rattle.thin_runner.specs.declared.command.Step.TheVariants.{Back, Front}
 
--- A value of the type `Words` is the list of the words of a line. It is the view of a `&[&str]`
--- that contracts use.
+-- A value of the type `Words` is the list of the words of a line. In contracts, such a list
+-- describes the contents of a `&[&str]`.
 abbrev pub Words : Type 0
 Words = List (Bor (List ℕ))
 
@@ -33,13 +33,14 @@ Spells text n =
 abbrev pub SpellAll : Words → List ℕ → Type 0
 SpellAll words ns = AllZip (λ w n. Spells w.now n) words ns
 
--- `IsStep letter step` holds if the letter denotes the step: `f` denotes a call to `next`, and `b`
--- denotes a call to `next_back`.
+-- `IsStep letter step` holds if the letter denotes the step. The letter `f` denotes `Front`, which
+-- is a call to `next`. The letter `b` denotes `Back`, which is a call to `next_back`.
 abbrev pub IsStep : ℕ → Step → Type 0
 IsStep letter Front = letter ≡ 102
 IsStep letter Back = letter ≡ 98
 
--- `SpellsSteps text steps` holds if the text has one letter for each step, in the same order. The
--- text `-` also denotes no steps.
+-- `SpellsSteps text steps` holds in two cases. In the first case, the text is `-`, and there are no
+-- steps. In the second case, the text has exactly one letter for each step, in the same order, and
+-- each letter denotes its step.
 abbrev pub SpellsSteps : List ℕ → List Step → Type 0
 SpellsSteps text steps = ((text ≡ codes "-") × (steps ≡ [])) ⊎ AllZip IsStep text steps

@@ -7,8 +7,8 @@ use thin_runner::command::Reply;
 use thin_runner::hinted::Hinted;
 use thin_vec::{ThinVec, ThinVecError};
 
-/// Writes the text for the line `help`: the forms that a line can have, and notes on the words in
-/// capital letters in these forms.
+/// Writes the text that the program prints for the line `help`. The text lists the forms that a
+/// line can have, and then explains the words in capital letters in these forms.
 pub fn write_help(out: &mut impl Write) -> io::Result<()> {
     for form in &FORMS {
         writeln!(out, "{form}")?;
@@ -56,8 +56,8 @@ pub fn write_reply(out: &mut impl Write, reply: Reply<u64>) -> io::Result<()> {
     }
 }
 
-// Writes the list `other`, which was passed to `append`, and its capacity. If `append` failed,
-// writes the cause first.
+// Writes the items and the capacity of the list `other`, which was passed to `append`. If the call
+// to `append` failed, first writes the cause of the failure.
 fn write_other(
     out: &mut impl Write,
     other: &ThinVec<u64>,

@@ -1,4 +1,4 @@
-//! The parser for lines that describe a command.
+//! This module contains the parser for input lines that describe a command, such as `push 5`.
 
 ghost use Rattle.std.specs.Prelude.{IfOk, IfSome};
 ghost use Rattle.thin_replay.specs.Lines.{SaysUnjudged};
@@ -14,8 +14,9 @@ use crate::line_error::LineError;
 use std::alloc::Global;
 use thin_runner::command::Command;
 
-/// A command and a judge, which makes decisions in place of a closure. If the command calls no
-/// method of a judge, the field `judge` is not used.
+/// A command and a judge. The judge makes decisions in place of a closure: for example, it decides
+/// which items `retain` keeps. If the command calls no method of a judge, the field `judge` is not
+/// used and may have any value.
 #[derive(Drop)]
 pub struct Call {
     pub command: Command<u64>,
@@ -26,9 +27,10 @@ impl Call {
     ghost use Rattle.std.specs.Prelude.{◌≡◌, IfOk, IfSome};
     ghost use Rattle.thin_replay.specs.Lines.{IsCall};
 
-    /// Parses the words of a line as a command and, if the command needs one, a judge. Returns
-    /// `None` if the words do not have the form of a command. Fails if a word cannot be parsed, or
-    /// if there is not enough memory.
+    /// Parses the words of a line as a command. If the command calls methods of a judge, also
+    /// parses the judge. Returns `None` if the words do not have the form of a command. Fails if
+    /// the words have this form but one of them cannot be parsed, or if there is not enough memory
+    /// for the command.
     pub fn parse(alloc: Global, words: &[&str]) -> Result<Option<Call>, LineError>
         ensures says { IfOk result (λ found. IfSome found (IsCall words.now)) }
     {
@@ -50,7 +52,7 @@ impl Call {
 }
 
 // Parses the words of a line as a command that calls no method of a judge. Returns `None` if the
-// words do not have this form.
+// words do not have the form of such a command.
 fn parse_command(alloc: Global, words: &[&str]) -> Result<Option<Command<u64>>, LineError>
     ensures says { IfOk result (λ found. IfSome found (SaysUnjudged words.now)) }
 {

@@ -1,17 +1,18 @@
-//! A judge that bases its decisions on a division. A judge makes decisions in place of a closure:
-//! for example, it decides which items `retain` keeps.
+//! A judge that bases its decisions on the remainder or the quotient of a division. A judge is a
+//! value that decides, for example, which items `retain` keeps. It takes the place of a closure.
 ghost use Rattle.std.specs.Prelude.{◌≡◌, ◌<◌};
 
 use crate::line_error::LineError;
 use crate::words::number_of;
 use thin_runner::judge::Judge;
 
-/// A judge that computes a number for each item and divides it by `divisor`. The number is
-/// `item + stride * n`, where `n` is the number of earlier decisions.
+/// A judge that computes a number for each item, and divides this number by `divisor`. The number
+/// is `item + stride * n`, where `n` is the number of earlier decisions of the judge.
 ///
 /// - The judge chooses an item if the number is divisible by `divisor`.
 /// - The key of an item is the quotient, rounded down.
-/// - A later item is a duplicate if its number and the kept item itself have the same remainder.
+/// - A later item is a duplicate of a kept item if the number for the later item and the kept item
+///   itself have the same remainder modulo `divisor`.
 ///
 /// After each decision, the judge adds `added` to the items that it may change. All sums and
 /// products are modulo 2^64.
@@ -38,8 +39,8 @@ impl DivisorJudge {
         }
     }
 
-    /// Parses the three words that describe a judge. Fails if a word is not a number, or if the
-    /// divisor is 0.
+    /// Parses the three words that describe a judge. Fails if one of these words is not a number,
+    /// or if the divisor is 0.
     pub fn parse(divisor: &str, stride: &str, added: &str) -> Result<DivisorJudge, LineError>
         ensures says { IfOk result (SpellsJudge divisor.now stride.now added.now) }
     {
@@ -57,8 +58,9 @@ impl DivisorJudge {
         })
     }
 
-    // Returns the number for `item`, which the caller divides by `divisor` to make a decision. Each
-    // call counts as one decision.
+    // Returns the number that the judge computes for `item`. The caller makes a decision by
+    // dividing this number by `divisor`. Each call to this method counts as one decision of the
+    // judge.
     fn number(&mut self, item: u64) -> u64
         ensures value { result ≡ number_for self.old item }
         ensures counted { self.new ≡ counted self.old }
@@ -68,8 +70,8 @@ impl DivisorJudge {
         number
     }
 
-    // Returns whether the number for `item` is divisible by `divisor`. Each call counts as one
-    // decision.
+    // Returns whether the number that the judge computes for `item` is divisible by `divisor`. Each
+    // call to this method counts as one decision of the judge.
     fn divides(&mut self, item: u64) -> bool
         ensures value { result ≡ chooses self.old item }
         ensures counted { self.new ≡ counted self.old }

@@ -3,25 +3,27 @@
 use std::alloc::AllocError;
 use thiserror::Error;
 
-/// The reason why a line of the input is invalid. The error messages use the same placeholders as
-/// the text for `help`, such as `INDEX`.
+/// The reason why a line of the input is invalid. The error messages contain placeholders in
+/// capital letters, such as `INDEX`. The text that the program prints for the line `help` contains
+/// the same placeholders.
 #[derive(Debug, Drop, Error)]
 pub enum LineError {
     /// The first word is not the name of a command.
     #[error("no command has this name (`help` lists the commands)")]
     UnknownCommand,
-    /// The first word is the name of a command, but the number of words is wrong. The field
-    /// contains the correct form of the line.
+    /// The first word is the name of a command, but the line has too few or too many words. The
+    /// field contains the form that the line should have.
     #[error("the form is `{0}`")]
     WrongForm(&'static str),
-    /// A word is not a number, or is greater than 2^64 - 1. The field contains the name of this
-    /// word in the forms that `help` prints, such as `INDEX`.
+    /// A word is not a number from 0 to 2^64 - 1. The field is the placeholder for this word in the
+    /// forms that `help` prints, such as `INDEX`.
     #[error("{0} is not a number from 0 to 18446744073709551615")]
     NotANumber(&'static str),
     /// The divisor of a judge is 0.
     #[error("DIVISOR is 0")]
     ZeroDivisor,
-    /// The word for the steps is not `-`, and contains a letter other than `f` and `b`.
+    /// The word for the steps is invalid: it is not `-`, and it contains a letter other than `f`
+    /// and `b`.
     #[error("STEPS is neither `-` nor a word of the letters `f` and `b`")]
     BadSteps,
     /// There is not enough memory for the parsed line.

@@ -1,5 +1,5 @@
-//! Reads commands from standard input, one per line, and carries them out on a `ThinVec`. Prints
-//! the reply, the items and the capacity after each command.
+//! Reads commands from standard input, one per line, and carries them out on a `ThinVec`. After
+//! each command, prints the reply, the items and the capacity.
 #![tactic(auto)]
 
 mod answer;

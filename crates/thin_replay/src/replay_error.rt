@@ -11,7 +11,7 @@ pub enum ReplayError {
     /// A line of the input is invalid, so no command was carried out.
     #[error("line {number}: {cause}")]
     BadLine {
-        /// The number of the invalid line. The first line has the number 1.
+        /// The number of the invalid line. Line numbers start at 1.
         number: usize,
         /// The reason why the line is invalid.
         cause: LineError,

@@ -15,8 +15,8 @@ pub fn item_of(word: &str) -> Result<u64, LineError>
     number_of(word, "ITEM")
 }
 
-/// Parses a word as a number. Fails if the word is not a number. The error contains `name`, for
-/// example `ITEM`.
+/// Parses a word as a number. Fails if the word is not a number. The error refers to the word as
+/// `name`, for example `ITEM`.
 pub fn number_of(word: &str, name: &'static str) -> Result<u64, LineError>
     ensures parses { ParsesUnsigned 64 10 word.now result }
 {
@@ -26,8 +26,8 @@ pub fn number_of(word: &str, name: &'static str) -> Result<u64, LineError>
     }
 }
 
-/// Parses a word as an index or a count. Fails if the word is not a number. The error contains
-/// `name`, for example `INDEX`.
+/// Parses a word as an index or a count. Fails if the word is not a number. The error refers to the
+/// word as `name`, for example `INDEX`.
 pub fn count_of(word: &str, name: &'static str) -> Result<usize, LineError>
     ensures parses { ParsesUnsigned 64 10 word.now result }
 {
@@ -59,8 +59,8 @@ pub fn list_of(alloc: Global, words: &[&str]) -> Result<ThinVec<u64>, LineError>
     Ok(list)
 }
 
-/// Parses a word as steps, which are calls to `next` or `next_back`. Each letter stands for one
-/// step, and the word `-` for none.
+/// Parses a word as steps, which are calls to `next` or `next_back`. The word `-` stands for no
+/// steps. In any other word, each letter stands for one step.
 pub fn steps_of(alloc: Global, word: &str) -> Result<Vec<Step>, LineError>
     ensures steps { IfOk result (λ steps. SpellsSteps word.now steps.items) }
 {

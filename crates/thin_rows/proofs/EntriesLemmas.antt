@@ -1,5 +1,6 @@
--- Lemmas about binary search in a row of a sparse table, and about writing or removing the entry
--- that it finds. A row is a list of entries, sorted by column.
+-- A row of a sparse table stores its entries in a list, which is sorted by column. These lemmas say
+-- what a binary search for a column returns, and how an edit of the list at the returned index
+-- changes the entries.
 use Rattle.std.proofs.Common.{◌≡◌, ℕ, zero, suc, ◌+◌, ◌<◌, ◌≤◌, ◌≢◌, Bool, true, false, cond, not, ◌&&◌, T, List, [], ◌∷◌, length, map, get_or, set, Some, None, Result, Ok, Err, IfOk, IfErr, refl, sym, ap, ◌∙◌, nat_cmp, is_lt, is_eq, Less, Equal, Greater, insert, remove, arith}
 use Rattle.std.specs.FinMap.{find, put}
 use Rattle.std.specs.FinMap.Entries.{below_all, by_order, where_key}
@@ -15,7 +16,7 @@ both_hold : (a b : Bool) → T (a && b) → T a × T b
 both_hold true b h = (tt, h)
 both_hold false b h = absurd h
 
--- If `c < k`, then `nat_cmp c k` is `Less`. The next two lemmas are about the cases `c ≡ k` and
+-- If `c < k`, then `nat_cmp c k` is `Less`. The next two lemmas cover the cases `c ≡ k` and
 -- `k < c`.
 is_less : (c k : ℕ) → c < k → nat_cmp c k ≡ Less
 is_less c k less = grind (arith, nat_tests)
@@ -29,8 +30,8 @@ is_more c k more = grind (arith, nat_tests)
 less_from : (c k : ℕ) → T (is_lt (nat_cmp c k)) → c < k
 less_from c k h = grind (arith, nat_tests)
 
--- `stays c k` is true if and only if the columns `c` and `k` differ. Removing column `c` from a row
--- keeps only the other columns `k`.
+-- `stays c k` is true if the columns `c` and `k` differ. If the entry of column `c` is removed, an
+-- entry of column `k` is kept if and only if `stays c k` is true.
 abbrev pub stays : ℕ → ℕ → Bool
 stays c k = not (eq_by_cmp nat_cmp c k)
 
@@ -50,8 +51,9 @@ module _ {V : Type 0} where
   all_above c (e ∷ entries) h (suc k) d inside =
       all_above c entries (both_hold _ _ h).1 k d (omega arith)
 
-  -- If the columns of the entries are strictly increasing and `i < k`, then the column at index `i`
-  -- is less than the column at index `k`. The default `d` is never used.
+  -- If the columns of the entries are strictly increasing, then the column at an index `i` is less
+  -- than the column at any later index `k`. The default entry `d` is never used, because both
+  -- indices are in bounds.
   pub columns_rise : (entries : List (ℕ × V)) → IsRising entries → (i k : ℕ) (d : ℕ × V) → i < k
       → k < length entries → column_at entries i d < column_at entries k d
   columns_rise [] h i k d before inside = absurd (omega arith)
@@ -62,8 +64,8 @@ module _ {V : Type 0} where
   columns_rise (e ∷ entries) h (suc i) (suc k) d before inside =
       columns_rise entries (both_hold _ _ h).1 i k d (omega arith) (omega arith)
 
-  -- If the columns of the entries are strictly increasing (`IsRising`), then the list of these
-  -- columns satisfies std's `IsStrictlyIncreasing`.
+  -- If the entries satisfy `IsRising`, then the list of their columns satisfies std's
+  -- `IsStrictlyIncreasing`. Both predicates say that the columns are strictly increasing.
   pub columns_increase : (entries : List (ℕ × V)) → IsRising entries
       → IsStrictlyIncreasing (map (λ entry. entry.0) entries)
   columns_increase (e ∷ entries) h k inside =
@@ -76,9 +78,9 @@ module _ {V : Type 0} where
   columns_increase [] h k inside = absurd (omega arith)
 
   module _ (c : ℕ) where
-    -- If the entry of column `c` is at index `at + 1` of `e ∷ entries`, then it is at index `at` of
-    -- `entries`. The lemma `gap_after` says the same about the index at which a missing entry would
-    -- be inserted.
+    -- If the entry of column `c` is at index `at + 1` of the list `e ∷ entries`, then it is at
+    -- index `at` of the list `entries`. The next lemma says the same about the index at which an
+    -- entry of column `c` would be inserted.
     place_after : (e : ℕ × V) (entries : List (ℕ × V)) (at : ℕ)
         → IsPlaceOf (e ∷ entries) c (suc at) → IsPlaceOf entries c at
     place_after e entries at p = record { in_bounds = omega (arith, p.in_bounds); same = p.same }
@@ -175,8 +177,9 @@ module _ {V : Type 0} where
         (e ∷ put nat_cmp c v entries)) (is_more c e.0 (g.smaller 0 e (omega arith)))
         ∙ ap (λ rest. e ∷ rest) (put_gap entries at v (gap_after e entries at g))
 
-    -- If the columns of the entries are strictly increasing, then comparing them with `c` yields
-    -- the results in the order that a binary search requires: `Less`, `Equal`, `Greater`.
+    -- If the columns of the entries are strictly increasing and are compared with `c`, then the
+    -- results are in the order that a binary search requires: first `Less`, then `Equal`, and then
+    -- `Greater`.
     comparisons_rise : (entries : List (ℕ × V)) → IsRising entries
         → IsNonDecreasingBy (λ e. ordering_index (nat_cmp e.0 c)) entries
     comparisons_rise entries h i k d before inside =
@@ -188,8 +191,9 @@ module _ {V : Type 0} where
         ) in
         grind (arith, nat_tests)
 
-    -- If the columns of the entries are strictly increasing, then a binary search for column `c`
-    -- returns `Ok` with the index of its entry, or `Err` with the index at which this entry would
+    -- Suppose that the columns of the entries are strictly increasing, and that `r` is the result
+    -- of a binary search for column `c`. If there is an entry of this column, then `r` is `Ok` with
+    -- the index of this entry. Otherwise, `r` is `Err` with the index at which such an entry would
     -- be inserted.
     pub searched : (entries : List (ℕ × V)) → IsRising entries → (r : Result ℕ ℕ)
         → IsSearchInRange r (length entries)

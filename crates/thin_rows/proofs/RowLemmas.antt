@@ -10,8 +10,8 @@ use Rattle.std.specs.Ordering.{eq_by_cmp}
 use Rattle.thin_rows.specs.Entries.{IsGapFor, IsPlaceOf, IsRising}
 use Rattle.thin_rows.proofs.EntriesLemmas.{find_at, find_gap, put_at, put_gap, stays, without_at, without_gap}
 
--- If `nat_cmp` says that the columns `q` and `k` are equal, then `stays c k` equals `stays c q`:
--- removing column `c` keeps both columns or neither.
+-- `stays c k` says whether an entry of column `k` is kept when the entry of column `c` is removed.
+-- If `nat_cmp q k` is `Equal`, then `stays c k` equals `stays c q`.
 alike : (c q k : ℕ) → nat_cmp q k ≡ Equal → stays c k ≡ stays c q
 alike c q k e = ap (stays c) (sym (ranked q k Equal (sym e)))
 
@@ -22,8 +22,8 @@ module _ {V : Type 0} (es : List (ℕ × V)) (rising : IsRising es) where
   abbrev row : map.FinMap nat_cmp V
   row = from_sorted es
 
-  -- If the columns of the list `es` are strictly increasing, then the map `row` that `es`
-  -- represents has as many entries as `es`.
+  -- If the columns of the list `es` of entries are strictly increasing, then the map `row`, which
+  -- `es` represents, has as many entries as `es`.
   pub len_is : map.len row ≡ length es
   len_is = len-entries row ∙ ap length (entries-from_sorted nat_cmp es rising)
 
@@ -38,8 +38,8 @@ module _ {V : Type 0} (es : List (ℕ × V)) (rising : IsRising es) where
           ∙ (sym is_put ∙ (ap (put nat_cmp c v) (sym (entries-from_sorted nat_cmp es rising))
           ∙ sym (entries-insert nat_cmp_total row c v))))
 
-    -- In this module, `new` is the list `es` after the entry of column `c`, if there is one, has
-    -- been removed.
+    -- In this module, the list `new` contains all entries of the list `es`, except the entry of
+    -- column `c`. If `es` has no such entry, `new` equals `es`.
     module _ (new : List (ℕ × V)) (is_left : where_key nat_cmp (stays c) es ≡ new) where
       left_rises : IsRising new
       left_rises = subst IsRising is_left (is_sorted-where_key nat_cmp (stays c) es rising)

@@ -1,6 +1,6 @@
--- The capacity that a list chooses depends only on the size and the alignment of its item type.
--- These lemmas transfer statements about capacities to another item type of the same size and
--- alignment.
+-- The capacity that a list chooses depends on the size and the alignment of its item type, but on
+-- no other property of this type. So a statement about capacities for one item type also holds for
+-- every other item type of the same size and alignment.
 use Rattle.std.proofs.Common.{◌≡◌, ◌↔◌, ℕ, IsErrOf, None, Option, Result, Ok, Err, ap, refl, sym, ◌∙◌}
 use Rattle.std.specs.Borrow.{RattleType}
 use Rattle.std.specs.Mem.{type_size}
@@ -12,14 +12,15 @@ use Rattle.thin_vec.specs.List.Capacity.{TellsOverflow, TellsOverflowOf}
 use Rattle.thin_vec.specs.Growth.{Rule, exact_capacity, ruled_capacity}
 
 -- If the types `R` and `S` have the same size and alignment, then `exact_capacity` returns the same
--- capacity for both types.
+-- capacity for both types. Here, `c` is the old capacity, and `w` is the required capacity.
 pub exact_of_same : (R S : RattleType) (c w : ℕ) → type_size R ≡ type_size S
     → type_align R ≡ type_align S → exact_capacity R c w ≡ exact_capacity S c w
 unfolding exact_capacity
 exact_of_same R S c w size align = rw (size, align) refl
 
--- If the item types `R` and `S` have the same size and alignment, then a growth rule chooses the
--- same capacity for both. The old capacities and the required capacities must also be equal.
+-- Suppose that the item types `R` and `S` have the same size and alignment, that the old capacities
+-- `c` and `d` are equal, and that the required capacities `v` and `w` are equal. Then the growth
+-- rule `rule` chooses the same capacity for both types.
 pub ruled_of_same : (rule : Rule) (R S : RattleType) (c d v w : ℕ) → type_size R ≡ type_size S
     → type_align R ≡ type_align S → c ≡ d → v ≡ w
     → ruled_capacity rule R c v ≡ ruled_capacity rule S d w
@@ -31,12 +32,14 @@ ruled_of_same rule R S c d v w size align capacity want = rw (size, align, capac
 no_error : {X E P : Type 0} {x : X} {e : E} → IsErrOf (Ok x) e → P
 no_error same = cc
 
--- If the result `Err d` is the error `e`, then `d` equals `e`.
+-- `IsErrOf (Err d) e` says that the result `Err d` contains the error `e`. If it holds, then `d`
+-- equals `e`.
 pub same_cause : {X E : Type 0} {d e : E} → IsErrOf {T = X} (Err d) e → d ≡ e
 same_cause same = cc
 
--- If the error `cause` says correctly whether the capacity for `w` items of the type `R` is too
--- large (`TellsOverflowOf`), then it does so for a type `S` of the same size and alignment, too.
+-- Suppose that `result` is the error `cause`, and that the types `R` and `S` have the same size and
+-- alignment. Suppose also that `cause` is `CapacityOverflow` if and only if a block for `w` items
+-- of the type `R` is too large. Then the same holds for a block for `w` items of the type `S`.
 pub error_tells : {X Y : Type 0} (R S : RattleType) (w : ℕ) (cause : ThinVecError)
     (result : Result Y ThinVecError) → type_size S ≡ type_size R → type_align S ≡ type_align R
     → IsErrAnd result (λ e. e ≡ cause) → TellsOverflowOf {X = X} R w (Err cause)
@@ -50,8 +53,9 @@ error_tells R S w cause (Err e) size align passed told = record {
   );
 }
 
--- If `cause` is `CapacityOverflow` if and only if the capacity `b` is `None`, and `a` equals `b`,
--- then the same is true of `a` (`TellsOverflow`).
+-- `TellsOverflow a r` says that the result `r` is the error `CapacityOverflow` if and only if the
+-- capacity `a` is `None`. If `a` equals `b`, and `cause` is `CapacityOverflow` if and only if `b`
+-- is `None`, then `TellsOverflow a (Err cause)` holds.
 pub failure_tells : {X Y : Type 0} {a b : Option ℕ} {cause : ThinVecError} → a ≡ b
     → IsErrOf {T = X} (Err cause) CapacityOverflow ↔ (b ≡ None)
     → TellsOverflow a (let r : Result Y ThinVecError = Err cause in r)
@@ -62,9 +66,11 @@ failure_tells same told = record {
   );
 }
 
--- If the result `Ok x` says correctly that the capacity for `w` items of the type `R` is not too
--- large (`TellsOverflowOf`), then `Ok y` says this correctly for a type `S` of the same size and
--- alignment.
+-- `TellsOverflowOf R w r` says that the result `r` is the error `CapacityOverflow` if and only if
+-- the capacity for `w` items of the type `R` is too large. Suppose that the types `R` and `S` have
+-- the same size and alignment. If `TellsOverflowOf R w` holds for `Ok x`, then
+-- `TellsOverflowOf S w` holds for `Ok y`. Since `Ok x` and `Ok y` are not errors, both statements
+-- say that the capacity is not too large.
 pub made_tells : {X Y : Type 0} (R S : RattleType) (w : ℕ) (x : X) (y : Y)
     → type_size S ≡ type_size R → type_align S ≡ type_align R
     → TellsOverflowOf R w (Ok x) → TellsOverflowOf S w (Ok y)

@@ -1,5 +1,5 @@
--- These lemmas say which values a table contains after a call. Callers use them in their own
--- proofs.
+-- These lemmas say which values a table contains after a call to a method of the table. Other
+-- crates use these lemmas in their own proofs.
 use Rattle.std.proofs.Common.{◌≡◌, ◌≢◌, ℕ, suc, ◌<◌, ◌≤◌, List, [], ◌∷◌, Some, None, true, false, inl, inr, length, length-set, set, ap, refl, sym, ◌∙◌, nat_cmp, is_eq, Less, Equal, Greater, arith, cond}
 use Rattle.std.specs.FinMap as map
 use Rattle.std.specs.FinMap.{entries_sorted, find, get-empty, get-entries, get-insert, get-remove}
@@ -51,8 +51,8 @@ module _ {V : Type 0} where
   pub outside : (t : Table V) (i j : ℕ) → length t ≤ i → value_at t i j ≡ None
   outside t i j past = ap (λ r. map.get r j) (get_or_past t i map.empty past) ∙ get-empty nat_cmp j
 
-  -- If row `i` of the table `t` is replaced with a row that has the same value at column `l`, then
-  -- no value at column `l` of the table changes.
+  -- Suppose that row `i` of the table `t` is replaced with `row`. If `row` and the old row have the
+  -- same value at column `l`, then the value at column `l` of each row `k` does not change.
   other_columns : (t : Table V) (i k l : ℕ) (row : Columns V)
       → map.get row l ≡ value_at t i l → value_at (set t i row) k l ≡ value_at t k l
   other_columns t i k l row same = elim (cases_eq k i) [
@@ -75,8 +75,8 @@ module _ {V : Type 0} where
     | inr past ↦ outside (set t i row) i l (omega (arith, past, length-set t i row))
   ]
 
-  -- If the table `t` has a row `i`, and the value `v` is written at row `i` and column `j`, then
-  -- the new table has the value `v` there.
+  -- If the table `t` has a row `i`, then writing the value `v` at row `i` and column `j` makes `v`
+  -- the value there.
   pub written : (t : Table V) (i j : ℕ) (v : V) → i < length t
       → value_at (with_value t i j v) i j ≡ Some v
   written t i j v inside =
@@ -84,16 +84,16 @@ module _ {V : Type 0} where
       ∙ (get-insert nat_cmp_total (row_of t i) j v j
       ∙ ap (λ b. cond b (Some v) (map.get (row_of t i) j)) (same_column j))
 
-  -- Writing the value `v` at row `i` and column `j` does not change the value at any row `k` and
-  -- any other column `l`.
+  -- If the columns `j` and `l` differ, then writing the value `v` at row `i` and column `j` does
+  -- not change the value at row `k` and column `l`.
   pub columns_unchanged : (t : Table V) (i j k l : ℕ) (v : V) → l ≢ j
       → value_at (with_value t i j v) k l ≡ value_at t k l
   columns_unchanged t i j k l v other = other_columns t i k l (map.insert (row_of t i) j v)
       (get-insert nat_cmp_total (row_of t i) j v l
       ∙ ap (λ b. cond b (Some v) (map.get (row_of t i) l)) (other_column j l other))
 
-  -- Writing the value `v` at row `i` and column `j` does not change the value at any other row `k`
-  -- and any column `l`.
+  -- If the rows `i` and `k` differ, then writing the value `v` at row `i` and column `j` does not
+  -- change the value at row `k` and column `l`.
   pub rows_unchanged : (t : Table V) (i j k l : ℕ) (v : V) → k ≢ i
       → value_at (with_value t i j v) k l ≡ value_at t k l
   rows_unchanged t i j k l v other = ap (λ r. map.get r l)
@@ -106,16 +106,16 @@ module _ {V : Type 0} where
       (get-remove nat_cmp_total (row_of t i) j j
       ∙ ap (λ b. cond b None (map.get (row_of t i) j)) (same_column j))
 
-  -- Removing the entry at row `i` and column `j` does not change the value at any row `k` and any
-  -- other column `l`.
+  -- If the columns `j` and `l` differ, then removing the entry at row `i` and column `j` does not
+  -- change the value at row `k` and column `l`.
   pub columns_left : (t : Table V) (i j k l : ℕ) → l ≢ j
       → value_at (without_value t i j) k l ≡ value_at t k l
   columns_left t i j k l other = other_columns t i k l (map.remove (row_of t i) j)
       (get-remove nat_cmp_total (row_of t i) j l
       ∙ ap (λ b. cond b None (map.get (row_of t i) l)) (other_column j l other))
 
-  -- Removing the entry at row `i` and column `j` does not change the value at any other row `k` and
-  -- any column `l`.
+  -- If the rows `i` and `k` differ, then removing the entry at row `i` and column `j` does not
+  -- change the value at row `k` and column `l`.
   pub rows_left : (t : Table V) (i j k l : ℕ) → k ≢ i
       → value_at (without_value t i j) k l ≡ value_at t k l
   rows_left t i j k l other = ap (λ r. map.get r l)
@@ -125,8 +125,8 @@ module _ {V : Type 0} where
   pub cleared : (t : Table V) (i j : ℕ) → value_at (with_empty_row t i) i j ≡ None
   cleared t i j = no_value t i j map.empty (get-empty nat_cmp j)
 
-  -- Removing all entries of row `i` does not change the value at any other row `k` and any column
-  -- `l`.
+  -- If the rows `i` and `k` differ, then removing all entries of row `i` does not change the value
+  -- at row `k` and column `l`.
   pub rows_kept : (t : Table V) (i k l : ℕ) → k ≢ i
       → value_at (with_empty_row t i) k l ≡ value_at t k l
   rows_kept t i k l other = ap (λ r. map.get r l)
@@ -141,8 +141,9 @@ module _ {V : Type 0} where
         (omega (arith, past, length-replicate n (map.empty {X = V} {R = nat_cmp})))
   ]
 
-  -- The entry at index `k` of `row` consists of a column and the value that `row` has at this
-  -- column. The default `d` is never used.
+  -- The entry at index `k` in the list of the entries of `row` consists of a column and a value.
+  -- The row has this value at this column. The default entry `d` is never used, because the index
+  -- `k` is in bounds.
   pub listed : (row : Columns V) (k : ℕ) (d : ℕ × V) → k < length (map.entries row)
       → map.get row (slice_index_or (map.entries row) k d).0
       ≡ Some (slice_index_or (map.entries row) k d).1
@@ -160,8 +161,9 @@ module _ {V : Type 0} where
       → IsAmong (map.entries row) (j, v)
   is_listed row j v there = found_at j v (map.entries row) (sym (get-entries row j) ∙ there)
 
-  -- The columns of the entries of `row` are strictly increasing: if `k < m`, then the column at
-  -- index `k` is less than the column at index `m`. The default `d` is never used.
+  -- The columns of the entries of `row` are strictly increasing: if `k < m`, then the column of the
+  -- entry at index `k` is less than the column of the entry at index `m`. The default entry `d` is
+  -- never used, because both indices are in bounds.
   pub in_order : (row : Columns V) (k m : ℕ) (d : ℕ × V) → k < m → m < length (map.entries row)
       → (slice_index_or (map.entries row) k d).0 < (slice_index_or (map.entries row) m d).0
   in_order row k m d before inside =

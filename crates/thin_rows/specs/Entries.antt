@@ -1,5 +1,5 @@
 -- A row stores its entries in a list, in increasing order of their columns. The list owns a block
--- only if it has an entry.
+-- of memory only if it has an entry.
 use Rattle.std.specs.Prelude.{◌≡◌, ◌↔◌, ℕ, ◌<◌, ◌≤◌, List, T, length, slice_index_or}
 use Rattle.std.specs.Ordering.{nat_cmp}
 use Rattle.std.specs.FinMap.{from_sorted, is_sorted}
@@ -11,13 +11,15 @@ module _ {V : Type 0} where
   abbrev pub IsRising : List (ℕ × V) → Type 0
   IsRising entries = T (is_sorted nat_cmp entries)
 
-  -- `IsPlaceOf entries column i` holds if the entry at index `i` has the column `column`.
+  -- `IsPlaceOf entries column i` holds if the entry at index `i` of the list `entries` has the
+  -- column `column`.
   pub record IsPlaceOf (entries : List (ℕ × V)) (column i : ℕ) : Type 0 where
     pub in_bounds : i < length entries
     pub same : (d : ℕ × V) → (slice_index_or entries i d).0 ≡ column
 
-  -- `IsGapFor entries column i` holds if an entry of this column would be inserted at index `i`:
-  -- the entries before index `i` have smaller columns, and all other entries have greater columns.
+  -- `IsGapFor entries column i` holds if the entries before index `i` have columns less than
+  -- `column`, and all other entries have columns greater than `column`. So no entry has the column
+  -- `column`, and such an entry would be inserted at index `i`.
   pub record IsGapFor (entries : List (ℕ × V)) (column i : ℕ) : Type 0 where
     pub in_bounds : i ≤ length entries
     pub smaller : (k : ℕ) (d : ℕ × V) → k < i → (slice_index_or entries k d).0 < column
@@ -26,7 +28,7 @@ module _ {V : Type 0} where
 
 module _ {V A : Type 0} where
   -- `IsRow list` holds if the columns of the entries are strictly increasing, and the list owns a
-  -- block if and only if it has an entry.
+  -- block of memory if and only if it has an entry.
   pub record IsRow (list : Thin (ℕ × V) A) : Type 0 where
     pub rising : IsRising list.items
     pub block : (0 < list.capacity) ↔ (0 < length list.items)

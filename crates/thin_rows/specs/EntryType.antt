@@ -1,5 +1,5 @@
--- The type of an entry. Its size and alignment determine how many entries fit into the block of a
--- row.
+-- This file defines the type of an entry. The number of entries that fit into the block of a row
+-- depends on the size and the alignment of this type.
 use Rattle.std.specs.Prelude.{[], ◌∷◌}
 use Rattle.std.specs.Borrow.{RattleType, usize}
 use denote.Struct.Tuple.{Tuple}

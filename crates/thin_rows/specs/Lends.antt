@@ -1,5 +1,5 @@
--- Mutable references to the values of a row or a table, and what the row or the table contains
--- after such a borrow has ended.
+-- A row or a table can lend one of its values to a caller as a mutable reference. This file defines
+-- what the row or the table contains after the borrow has ended.
 use Rattle.std.specs.Prelude.{ℕ, Option}
 use Rattle.std.specs.Borrow.{Lends, LendsIf, Fml, RattleType, MutBor}
 use Rattle.std.specs.FinMap.{insert}
@@ -9,19 +9,22 @@ use Rattle.thin_rows.specs.contracts.row.Row.{the_row}
 use Rattle.thin_rows.specs.contracts.table.Rows.{the_row as table_row}
 
 module _ (V A : RattleType) (allocator : AllocatorGhosts A.Denot) where
-  -- `LendsColumn row column r` says that `r` mutably borrows the value of `row` at `column`.
-  -- Writing through `r` changes nothing else in `row`.
+  -- `LendsColumn row column r` says that `r` is a `&mut` to the value of `row` at `column`. It also
+  -- says that, after the borrow has ended, this value is the final value of `r`, and nothing else
+  -- in the row has changed.
   abbrev pub LendsColumn : MutBor (Columns V.Denot) → ℕ → MutBor V.Denot → Fml
   LendsColumn row column r = Lends (the_row V A allocator) V row r (insert row.now column)
 
-  -- `LendsIfThere row column r` says that `r` mutably borrows the value of `row` at `column`, or is
-  -- `None` if there is no such value. Nothing else in `row` changes.
+  -- `LendsIfThere row column r` says that `r` is a `&mut` to the value of `row` at `column`, or
+  -- `None` if there is no such value. It also says that, after the borrow has ended, this value is
+  -- the final value of the reference, and nothing else in the row has changed.
   abbrev pub LendsIfThere : MutBor (Columns V.Denot) → ℕ → Option (MutBor V.Denot) → Fml
   LendsIfThere row column r = LendsIf (the_row V A allocator) V row r
       (insert row.now column) row.now
 
-  -- `LendsValue table i column r` says that `r` mutably borrows the value of `table` at row `i` and
-  -- column `column`, or is `None` if there is no such value. Nothing else in `table` changes.
+  -- `LendsValue table i column r` says that `r` is a `&mut` to the value in row `i` of `table` at
+  -- `column`, or `None` if there is no such value. It also says that, after the borrow has ended,
+  -- this value is the final value of the reference, and nothing else in the table has changed.
   abbrev pub LendsValue : MutBor (Table V.Denot) → ℕ → ℕ → Option (MutBor V.Denot) → Fml
   LendsValue table i column r = LendsIf (table_row V A allocator) V table r
       (with_value table.now i column) table.now

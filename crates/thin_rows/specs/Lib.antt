@@ -1,9 +1,6 @@
--- Definitions that the contracts of this crate use:
---
--- - `Table`: tables and their rows
--- - `Entries`: the list of entries of a row
--- - `RowType` and `EntryType`: the types of rows and entries
--- - `Lends`: mutable references to the values of a row or a table
+-- The contracts of this crate use the definitions in these modules. `Table` describes a table.
+-- `Entries` describes how a row stores its entries. `RowType` and `EntryType` define the types of
+-- rows and entries. `Lends` says what a row or a table contains after a borrow has ended.
 pub mod Table
 pub mod Entries
 pub mod RowType

@@ -8,7 +8,7 @@ use Rattle.std.specs.FinMap as map
 abbrev pub Columns : Type 0 → Type 0
 Columns V = map.FinMap nat_cmp V
 
--- `Table V` is the type of a table: the list of its rows. The values have the type `V`.
+-- `Table V` is the type of a table with values of the type `V`. A table is the list of its rows.
 abbrev pub Table : Type 0 → Type 0
 Table V = List (Columns V)
 

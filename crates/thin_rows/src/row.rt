@@ -1,5 +1,5 @@
-//! The type `Row`. A row of a table stores its entries in a list, in increasing order of their
-//! columns.
+//! Defines the type `Row`. A row of a table stores its entries in a list, in increasing order of
+//! their columns.
 ghost use Rattle.std.specs.Prelude.{◌≡◌, ◌↔◌, ◌+◌, ◌<◌, IfErr, IfOk, IsOk, IsSome, IsTrue, OnErr, OnOk, Some, length};
 ghost use Rattle.std.specs.FinMap as map;
 ghost use Rattle.std.specs.Option.{option_copied};
@@ -10,8 +10,8 @@ use std::marker::Model;
 use std::{fmt, mem};
 use thin_vec::{Rejected, ThinVec};
 
-// A row, which is a finite map from columns to values. The row owns a block only if it has an
-// entry.
+// A row, which is a finite map from columns to values. The row owns a block of memory only if it
+// has an entry.
 #[derive(Drop)]
 pub(crate) struct Row<V, A: Allocator> {
     entries: ThinVec<(usize, V), A>,
@@ -41,7 +41,7 @@ impl<V, A: Allocator> Row<V, A> {
     ghost use Rattle.thin_rows.specs.EntryType.{entry_type};
     ghost use Rattle.thin_rows.specs.Lends.{LendsColumn, LendsIfThere};
 
-    // Returns a row without entries. Allocates no memory.
+    // Returns a row without entries. No memory is allocated.
     pub(crate) fn new(alloc: A) -> Row<V, A>
         ensures new { result ≡ map.empty }
     {
@@ -65,7 +65,8 @@ impl<V, A: Allocator> Row<V, A> {
         self.entries.len()
     }
 
-    // Returns whether the row owns a block. This is the case if and only if the row has an entry.
+    // Returns whether the row owns a block of memory. This is the case if and only if the row has
+    // an entry.
     pub(crate) fn owns_block(&self) -> bool
         ensures value { IsTrue result ↔ (0 < map.len self.now) }
     {
@@ -106,8 +107,9 @@ impl<V, A: Allocator> Row<V, A> {
         &mut self.entries[at].1
     }
 
-    // Writes `value` at `column`, and returns the old value, if there was one. Fails only if the
-    // column has no entry and there is no room for one. The error contains `value`.
+    // Writes `value` at `column`, and returns the old value, if there was one. The call fails only
+    // if the column has no entry and there is no room for a new entry. In this case, the error
+    // contains `value`.
     pub(crate) fn set(&mut self, column: usize, value: V) -> Result<Option<V>, Rejected<V>>
         ensures succeeds { IsSome (map.get self.old column) → IsOk result }
         ensures value { IfOk result (λ old. old ≡ map.get self.old column) }
@@ -135,7 +137,7 @@ impl<V, A: Allocator> Row<V, A> {
     }
 
     // Removes the entry at `column`, if there is one, and returns its value. If the row then has no
-    // entries, frees its block.
+    // entries, frees the block of the row.
     pub(crate) fn remove(&mut self, column: usize) -> Option<V>
         ensures value { result ≡ map.get self.old column }
         ensures columns { self.new ≡ map.remove self.old column }
@@ -184,8 +186,8 @@ fn give_block_back<T, A: Allocator>(list: &mut ThinVec<T, A>)
     }
 }
 
-// Returns the index of the entry at `column`. If there is none, returns `Err` with the index at
-// which it would be inserted.
+// Returns the index of the entry at `column`. If there is no such entry, returns an `Err` with the
+// index at which the entry would be inserted.
 fn place<V>(entries: &[(usize, V)], column: usize) -> Result<usize, usize>
     requires rising { IsRising entries.now }
     ensures found { IfOk result (IsPlaceOf entries.now column) }

@@ -1,4 +1,4 @@
-//! The type `Rows`, a sparse table, and its methods. The view of a table that contracts use is the
+//! Defines the type `Rows`, which is a sparse table, and its methods. In contracts, a table is the
 //! list of its rows.
 ghost use Rattle.std.specs.Prelude.{◌≡◌, ◌↔◌, ◌+◌, ◌-◌, ◌^◌, ◌<◌, IfErr, IfOk, IsOk, IsSome, IsTrue, OnErr, OnOk, length, map, min, replicate, sum};
 ghost use Rattle.std.specs.FinMap as columns;
@@ -100,7 +100,8 @@ impl<V, A: Allocator> Rows<V, A> {
     }
 
     /// Returns a mutable reference to the value at the given row and column, or `None` if there is
-    /// no entry.
+    /// no entry. If the caller writes a new value through the reference, this value replaces the
+    /// old value in the table.
     pub fn get_mut(&mut self, row: usize, column: usize) -> Option<&mut V>
         requires in_bounds { row < length self.old }
         ensures* writes_back { sem 𝓛
@@ -111,12 +112,14 @@ impl<V, A: Allocator> Rows<V, A> {
     }
 
     /// Writes `value` at the given row and column, and returns the old value, if there was one.
+    /// Afterwards, the table owns `value`, and the caller owns the returned value.
     ///
     /// # Errors
     ///
-    /// Fails only if there is no entry at this row and column, and no room for one. The cause is
+    /// Fails only if a new entry is needed and the row cannot get room for it. The cause is
     /// `OutOfMemory` if the allocator fails, and `CapacityOverflow` if the new capacity of the row
-    /// would be too large. On failure, the table is unchanged, and the error contains `value`.
+    /// would be too large. The error returns `value` to the caller. The table is unchanged, and a
+    /// row that owned no block before the call owns no block after it.
     pub fn set(&mut self, row: usize, column: usize, value: V) -> Result<Option<V>, Rejected<V>>
         requires in_bounds { row < length self.old }
 
@@ -139,7 +142,7 @@ impl<V, A: Allocator> Rows<V, A> {
     }
 
     /// Removes the entry at the given row and column, if there is one, and returns its value. If
-    /// the row then has no entries, frees its block. Requests no memory.
+    /// the row then has no entries, frees the block of the row. Requests no memory.
     pub fn remove(&mut self, row: usize, column: usize) -> Option<V>
         requires in_bounds { row < length self.old }
         ensures value { result ≡ value_at self.old row column }
@@ -159,7 +162,8 @@ impl<V, A: Allocator> Rows<V, A> {
         self.rows[row].entries()
     }
 
-    /// Returns whether a row owns a block. This is the case if and only if the row has an entry.
+    /// Returns whether a row owns a block of memory. This is the case if and only if the row has an
+    /// entry.
     pub fn owns_block(&self, row: usize) -> bool
         requires in_bounds { row < length self.now }
         ensures value { IsTrue result ↔ (0 < columns.len (row_of self.now row)) }
@@ -169,8 +173,8 @@ impl<V, A: Allocator> Rows<V, A> {
 }
 
 impl<V: Drop, A: Allocator> Rows<V, A> {
-    /// Removes all entries of a row, drops their values, and frees the block of the row. Requests
-    /// no memory.
+    /// Removes all entries of a row and drops their values. The call requests no memory, and frees
+    /// the block of the row.
     pub fn clear_row(&mut self, row: usize)
         requires in_bounds { row < length self.old }
         ensures table { self.new ≡ with_empty_row self.old row }

@@ -20,8 +20,13 @@ use Rattle.thin_runner.specs.declared.command.Reply.{Reply}
 use Rattle.thin_runner.specs.declared.command.Reply.TheVariants.{Done, Item, Returned, OutOfRange}
 use Rattle.thin_runner.proofs.PaidLemmas.{step-paid}
 
--- `IsAmortised m v` holds if the list `v` is cheap (`IsCheap`), its length is at most `m` and at
--- most its capacity, and growing it has copied fewer than `2 * m` items or none.
+-- `IsAmortised m v` holds if the list `v` meets four conditions:
+--
+-- - The number of items that were copied when the list grew, and the number of its allocations, are
+--   small compared with its capacity (`IsCheap`).
+-- - The length of the list is at most its capacity.
+-- - The length of the list is at most `m`.
+-- - Growing the list has copied fewer than `2 * m` items, or no items at all.
 pub record IsAmortised {T A : Type 0} (m : ℕ) (v : Thin T A) : Type 0 where
   pub cheap : IsCheap v
   pub room : length v.items ≤ v.capacity
@@ -29,8 +34,8 @@ pub record IsAmortised {T A : Type 0} (m : ℕ) (v : Thin T A) : Type 0 where
   pub copied : (v.cost.grown < 2 * m) ⊎ (v.cost.grown ≡ 0)
 
 module _ {T A : Type 0} where
-  -- A new list `v` is cheap (`IsCheap v`), because it has no allocation and growing it has copied
-  -- no items.
+  -- `IsCheap v` says that growing the list `v` has cost little compared with its capacity. It holds
+  -- for every new list `v`, because growing a new list has cost nothing so far.
   new-cheap : (v : Thin T A) → IsNew v v.alloc → IsCheap v
   new-cheap v new =
       let blocks : v.cost.blocks ≡ 0 = ap (λ c. c.blocks) new.cost in
@@ -51,8 +56,10 @@ module _ {T A : Type 0} where
     copied = inr (ap (λ c. c.grown) new.cost);
   }
 
-  -- If `IsAmortised m w` holds and `m` is not 0, then growing the list `w` has copied fewer than
-  -- `2 * m` items.
+  -- Among other facts, `IsAmortised m w` says that growing the list `w` has copied fewer than
+  -- `2 * m` items, or no items at all. If `IsAmortised m w` holds, and `m` is not 0, then the
+  -- number of copied items is less than `2 * m` in both cases. The field `amortised` of the main
+  -- theorem states this bound.
   pub copied-run : (w : Thin T A) (m : ℕ) → IsAmortised (0 + m) w → 0 < m → w.cost.grown < 2 * m
   copied-run w m a some = below a.copied
     where
@@ -63,23 +70,25 @@ module _ {T A : Type 0} where
   same-amortised : (m : ℕ) (v w : Thin T A) → IsAmortised m v → w ≡ v → IsAmortised (m + 0) w
   same-amortised m v w a same = let e : m + 0 ≡ m = omega arith in rw (same, e) a
 
--- If a list with the capacity `c` and the cost `k` is cheap (`IsCheapAt`), and `c ≤ m`, then
--- `k.grown + c < 2 * (m + 1)`. Growing the list has copied `k.grown` items.
+-- Let `c` be the capacity of a list, and `k` its cost. Growing the list has copied `k.grown` items.
+-- If the list is cheap (`IsCheapAt c k`), and `c ≤ m`, then `k.grown + c < 2 * (m + 1)`.
 copied-growing : (c m : ℕ) (k : Cost) → IsCheapAt c k → c ≤ m → k.grown + c < 2 * (m + 1)
 copied-growing zero m k h few = let z = h.none refl in omega (arith, z.1)
 copied-growing (suc c) m k h few =
     let copied : k.grown < suc c = h.grown (omega arith) in omega (arith, copied, few)
 
--- If growing a list has copied `g` items, `g` is 0 or less than `2 * m`, and a command copies no
--- items (`g' ≡ g`), then `g'` is 0 or less than `2 * (m + more)`.
+-- If `g` is 0 or less than `2 * m`, and `g'` equals `g`, then `g'` is 0 or less than
+-- `2 * (m + more)`.
 copied-kept : (m more : ℕ) {g g' : ℕ} → (g < 2 * m) ⊎ (g ≡ 0) → g' ≡ g
     → (g' < 2 * (m + more)) ⊎ (g' ≡ 0)
 copied-kept m more (inl few) same = inl (omega (arith, few, same))
 copied-kept m more (inr none) same = inr (same ∙ none)
 
 module _ {T A G J : Type 0} (here : Setting T A J) (law : KeepsLaw here.rule) where
-  -- If `IsAmortised m v` holds, and a push or a pop turns the list `v` into `w`, then
-  -- `IsAmortised n w` holds. Here, `n` is `m + 1` for a successful push, and `m` otherwise.
+  -- `IsAmortised m v` says that growing the list `v` has copied few items compared with `m`.
+  -- Suppose that it holds, and that `command`, which is a push or a pop, turns `v` into `w`. If
+  -- `command` is a successful push, then `IsAmortised (m + 1) w` holds. Otherwise,
+  -- `IsAmortised m w` holds.
   step-amortised : (m : ℕ) (v w : Thin T A) (command : Command T A G) (reply : Reply T A G)
       → IsPushOrPop command → IsAmortised m v → Steps here v command reply w
       → IsAmortised (m + accepted (command ∷ []) (reply ∷ [])) w
@@ -131,7 +140,8 @@ module _ {T A G J : Type 0} (here : Setting T A J) (law : KeepsLaw here.rule) wh
       omega (arith, accepted-counted commands replies)
   accepted-counted commands replies = refl
 
-  -- If `IsAmortised 0 v` holds, and a run of pushes and pops turns the list `v` into `w`, then
+  -- `IsAmortised n w` says that growing the list `w` has copied few items compared with `n`. If
+  -- `IsAmortised 0 v` holds, and a run of pushes and pops turns the list `v` into `w`, then
   -- `IsAmortised n w` holds, where `n` is the number of successful pushes.
   pub runs-amortised : (v w : Thin T A) (commands : List (Command T A G))
       (replies : List (Reply T A G)) → All IsPushOrPop commands → IsAmortised 0 v

@@ -1,5 +1,6 @@
--- The file `specs/Steps` states how each command may change the list. These lemmas help to prove
--- that the methods that the commands call do what this file states.
+-- Each command calls a method of a list. The file `specs/Steps` states how each command may change
+-- the list. The following lemmas help to prove that the methods change the list in this way. The
+-- proofs use the contracts of the methods.
 use Rattle.std.proofs.Common.{◌≡◌, ℕ, ◌<◌, ◌⊎◌, List, [], ◌∷◌, Some, refl, length, inl, inr, arith}
 use Rattle.std.specs.Borrow.{RattleType}
 use Rattle.std.specs.Prelude.{HoldsAt}
@@ -15,13 +16,14 @@ some-items (x ∷ xs) none = omega arith
 
 module _ {T A : Type 0} where
   -- `grown v c xs m` is the list `v` after a call that sets its items to `xs` and its capacity to
-  -- `c`, and adds `m` moves to its cost. If the capacity changes, the call also adds a
-  -- reallocation.
+  -- `c`, and adds `m` moves to its cost. If the capacity changes, the call also adds one
+  -- reallocation to the cost.
   abbrev pub grown : Thin T A → ℕ → List T → ℕ → Thin T A
   grown v c xs m = record v { items = xs; capacity = c; cost = moving m (cost_at v c) }
 
-  -- If the list `w` differs from the list `v` only in its items `xs`, its capacity, and the cost of
-  -- this change and of `m` moves, then `w` equals `grown v w.capacity xs m`.
+  -- Suppose that the list `w` has the items `xs` and the allocator of the list `v`. If the cost of
+  -- `w` is the cost of `v`, plus the cost of the change of capacity, plus `m` moves, then `w` is
+  -- `grown v w.capacity xs m`: the list `v` after these changes.
   pub is-grown : (v w : Thin T A) (xs : List T) (m : ℕ) → w.items ≡ xs → w.cost
       ≡ moving m (cost_at v w.capacity) → w.alloc ≡ v.alloc → w ≡ grown v w.capacity xs m
   is-grown v w xs m items cost alloc = λ i. record {
@@ -32,9 +34,10 @@ module _ {T A : Type 0} where
   }
 
   module _ (rule : Rule) where
-    -- If a call that clones the items `sources` fails, then the list does not change, or the call
-    -- reserves room for `k` more items and fails to clone the item at an index `at`. Each of the
-    -- `at` clones before it counts as one move.
+    -- Suppose that a call that clones the items `sources` fails. Then either the list does not
+    -- change at all, or the call reserves room for `k` more items and then fails to clone an item,
+    -- for which `infallible` does not hold. Each item that is cloned before the failure counts as
+    -- one move.
     pub refuses-clone : (R : RattleType) (k : ℕ) {infallible : T → Type 0} {sources : List T}
         {v w : Thin T A} → w.items ≡ v.items → w.alloc ≡ v.alloc
         → (w ≡ v) ⊎ (capacity_for rule R v k ≡ Some w.capacity)

@@ -14,15 +14,15 @@ module _ {T A : Type 0} where
   yields-items s t [] e = ap hinted_items e
   yields-items s t (x ∷ xs) e = e.1.0 ∙ ap (λ l. x ∷ l) (yields-items e.0 t xs e.2)
 
-  -- If calls to `next` change the iterator `s` into `t`, then the lower bound of the size hint is
-  -- the same in both states.
+  -- If calls to `next` change the iterator `s` into `t`, then the size hints of `s` and `t` have
+  -- the same lower bound.
   pub yields-claim : (s t : Hinted T A) (xs : List T) → Yields (HintedSteps {T = T} {A = A}) s xs t
       → hinted_claim t ≡ hinted_claim s
   yields-claim s t [] e = ap hinted_claim (sym e)
   yields-claim s t (x ∷ xs) e = yields-claim e.0 t xs e.2 ∙ e.1.1
 
-  -- If calls to `next` yield the items `xs` until `next` returns `None`, then `xs` contains exactly
-  -- the items that were left in the iterator `s`, in order.
+  -- Suppose that `next` is called on the iterator `s` until it returns `None`, and that the calls
+  -- yield the items `xs`. Then `xs` contains exactly the items that were left in `s`, in order.
   pub drains-items : (s : Hinted T A) (xs : List T) → Drains (HintedSteps {T = T} {A = A}) s xs
       → xs ≡ hinted_items s
   drains-items s xs d = sym (yields-items s d.1.0 xs d.1.1

@@ -1,5 +1,5 @@
--- Lemmas about an `ExtractIf` whose closure asks a judge which items to remove. They state what the
--- calls to `next` return, and which items the list has afterwards.
+-- A judge decides which items to remove. These lemmas are about an `ExtractIf` whose closure asks a
+-- judge. They state what the calls to `next` return, and which items the list has afterwards.
 use Rattle.std.proofs.Common.{◌≡◌, ℕ, zero, suc, ◌+◌, ◌-◌, ◌≤◌, ◌==◌, Bool, true, false, List, [], ◌∷◌, ◌++◌, Option, None, Some, length, take, drop, refl, arith, ap, subst, sym, ◌∙◌, append_assoc}
 use Rattle.std.proofs.Math.Dec.{eqb-suc-zero}
 use Rattle.std.proofs.lemmas.List.{append-nil, length-append, length-drop, length-map, length-take}
@@ -16,8 +16,9 @@ use Rattle.thin_runner.specs.commands.Ranges.{walked}
 use Rattle.thin_runner.specs.declared.command.Step.TheVariants.{Front}
 
 module _ {T : Type 0} where
-  -- The verdicts on the result of a call to `next`: `goes (Some x)` contains one verdict, which
-  -- says that `x` is not kept, and `goes None` is empty.
+  -- `goes item` is the list of the verdicts on `item`, which is the result of a call to `next`. For
+  -- `Some x`, the list contains one verdict, which says that `x` is removed. For `None`, the list
+  -- is empty.
   abbrev pub goes : Option T → Verdicts T
   goes None = []
   goes (Some x) = (false, x) ∷ []
@@ -59,8 +60,9 @@ module _ {T : Type 0} where
   few-goes None = refl
   few-goes (Some x) = refl
 
-  -- If the verdicts `a` remove no item, then `a ++ b` causes the moves for `a` plus the moves for
-  -- `b`. Otherwise, it causes the moves for `a`, plus one for each item that `b` keeps.
+  -- A kept item is moved if an item before it is removed. So if the verdicts `a` remove no item,
+  -- then `a ++ b` causes the moves for `a` plus the moves for `b`. Otherwise, `a ++ b` causes the
+  -- moves for `a`, plus one move for each item that `b` keeps.
   pub moves-append : (a b : Verdicts T) → moved_down (flags_of (a ++ b))
       ≡ moved_down (flags_of a) + (if length (left_at false a) == 0 then moved_down
       (flags_of b) else trues (flags_of b))
@@ -78,12 +80,17 @@ module _ {S T J : Type 0} (R : S → T → Bool → S → T → Type 0) (judge_o
   none-left j zero = refl
   none-left j (suc k) = refl
 
-  -- In this module, the first of `k + 1` calls to `next` on an `ExtractIf` returns `item`. After
-  -- this call, the closure is in the state `t`, and the items `rest` are untested.
+  -- The lemmas of this module are about `k + 1` calls to `next` on an `ExtractIf`. The first call
+  -- returns `item`. After the first call, the closure of the iterator is in the state `t`, and the
+  -- items `rest` have not been tested yet.
   module _ (t : S) (k : ℕ) (item : Option T) (rest : List T) where
-    -- The verdicts of `k + 1` calls to `next` are the verdicts of the first call, followed by those
-    -- of `k` calls on the untested items `rest`. The first call keeps the items `kept`, and removes
-    -- the item that it returns, if any.
+    -- Suppose that the items `xs` are untested, and that a call to `next` keeps the items `kept`,
+    -- returns `item`, and leaves the items `rest` untested. Then the verdicts of this call and of
+    -- `k` more calls are, in this order:
+    --
+    -- - the verdicts that keep the items `kept`
+    -- - the verdict that removes `item`, if it is not `None`
+    -- - the verdicts of the `k` calls
     pub extracts-by : (s : S) (xs kept : List T) → ExtractsNext R s xs item t kept rest
         → extracting ask (judge_of s) (suc k) xs
         ≡ stay kept ++ (goes item ++ extracting ask (judge_of t) k rest)
@@ -123,8 +130,9 @@ module _ {S T J : Type 0} (R : S → T → Bool → S → T → Type 0) (judge_o
         answered true by m = let wrong = m.0 in absurd (none-some (sym none ∙ wrong))
         answered false by m = by m.0 m.1
 
-    -- The results of `k + 1` calls to `next` (`handed_out`) are the result `item` of the first
-    -- call, followed by the results of `k` later calls.
+    -- `handed_out` computes the list of the results of calls to `next`. If a call to `next` returns
+    -- `item`, then the results of this call and of `k` more calls are `item`, followed by the
+    -- results of the `k` calls.
     pub handed-by : (s : S) (xs kept : List T) → ExtractsNext R s xs item t kept rest
         → handed_out (suc k) (left_at false (extracting ask (judge_of s) (suc k) xs))
         ≡ item ∷ handed_out k (left_at false (extracting ask (judge_of t) k rest))
@@ -144,8 +152,8 @@ module _ {S T J : Type 0} (R : S → T → Bool → S → T → Type 0) (judge_o
             ∙ ap (left_at false) (none-left (judge_of t) k) in
             subst (λ l. handed_out (suc k) l ≡ None ∷ handed_out k l) (sym empty) refl
 
--- Adding `m` moves to the cost `c`, and then `k` more moves if `gone` is not 0, is the same as
--- adding all these moves at once.
+-- Suppose that `m` moves are added to the cost `c`, and that `k` more moves are then added if
+-- `gone` is not 0. The result is the same as if all these moves were added at once.
 charged : (gone m k : ℕ) (c : Cost)
     → (if gone == 0 then moving m c else moving k (moving m c))
     ≡ moving (m + (if gone == 0 then 0 else k)) c
@@ -158,8 +166,8 @@ charged (suc gone) m k c =
 -- The state of an `ExtractIf` between two calls to `next`. An `ExtractIf` is an iterator that
 -- removes and yields some items of a range.
 pub record Stand (T : Type 0) : Type 0 where
-  -- The verdicts on the untested items of the range, which say whether each item is kept. Proofs
-  -- can refer to them before the items are tested.
+  -- The verdicts on the items of the range that have not been tested yet. A verdict says whether an
+  -- item is kept. Proofs can refer to these verdicts before the items are tested.
   pub left : Verdicts T
   -- The items before the range, followed by the items of the range that have been kept so far.
   pub front : List T
@@ -168,12 +176,12 @@ pub record Stand (T : Type 0) : Type 0 where
   -- The cost of the list so far.
   pub paid : Cost
 
--- In this module, `asked` contains the verdicts of an `ExtractIf` on the items of its range.
--- `start` contains the items before the range. `before` is the cost before the first call to
--- `next`.
+-- In this module, `asked` contains the verdicts of an `ExtractIf`. They say for each item of the
+-- range whether the item is kept. `start` contains the items before the range. `before` is the cost
+-- of the list before the first call to `next`.
 module _ {T : Type 0} (asked : Verdicts T) (start : List T) (before : Cost) where
-  -- `IsExtracting at` holds if the verdicts `done` of the calls to `next` so far have led to the
-  -- state `at`.
+  -- `IsExtracting at` holds if `at` is the state of the extraction after some number of calls to
+  -- `next`. The field `done` contains the verdicts of these calls.
   pub record IsExtracting (at : Stand T) : Type 0 where
     pub done : Verdicts T
     pub split : asked ≡ done ++ at.left
@@ -181,9 +189,9 @@ module _ {T : Type 0} (asked : Verdicts T) (start : List T) (before : Cost) wher
     pub out : at.out ≡ length (left_at false done)
     pub paid : at.paid ≡ moving (moved_down (flags_of done)) before
 
-  -- Suppose that the verdicts `now` keep `k` items, and remove no item before a kept one. If an
-  -- item has been extracted before, they add `k` moves to the cost. The cost is then `before` plus
-  -- the moves for all verdicts so far.
+  -- Suppose that the next verdicts, `now`, first keep `k` items and then only remove items. These
+  -- verdicts add `k` moves to the cost if an item was extracted before, and no moves otherwise. The
+  -- new cost is `before`, plus the moves for all verdicts so far, including `now`.
   paid-next : (at : Stand T) (h : IsExtracting at) (now : Verdicts T) (k : ℕ)
       → moved_down (flags_of now) ≡ 0 → trues (flags_of now) ≡ k
       → (if at.out == 0 then at.paid else moving k at.paid)
@@ -210,8 +218,9 @@ module _ {T : Type 0} (asked : Verdicts T) (start : List T) (before : Cost) wher
       }
 
   module _ (at next : Stand T) where
-    -- If `IsExtracting at` holds, and one more call keeps the items `kept`, returns `item`, and
-    -- changes the state from `at` to `next`, then `IsExtracting next` holds.
+    -- `IsExtracting at` says that `at` is the state of an extraction after some number of calls. If
+    -- it holds, and one more call keeps the items `kept`, returns `item`, and changes the state
+    -- from `at` to `next`, then `IsExtracting next` holds.
     pub extracting-step : (kept : List T) (item : Option T) → IsExtracting at
         → at.left ≡ stay kept ++ (goes item ++ next.left) → next.front ≡ at.front ++ kept
         → next.out ≡ at.out + length (option_to_list item)
@@ -248,12 +257,17 @@ module _ {T : Type 0} (asked : Verdicts T) (start : List T) (before : Cost) wher
           paid = charge ∙ paid-next at h now (length kept) still moved;
         }
 
--- In this module, an `ExtractIf` on the range `a..b` turns the list `v` into `w`. `asked` contains
--- a verdict on each item of the range.
+-- In this module, an `ExtractIf` tests items in the range `a..b` of the list `v`, and `w` is the
+-- list after the extraction. `asked` contains a verdict for each item of the range, which says
+-- whether the item is kept.
 module _ {T A : Type 0} (v w : Thin T A) (a b : ℕ) (asked : Verdicts T) where
   -- `IsLeft at rest tail` describes the list `w` after an extraction that ended in the state `at`:
-  -- it contains `at.front`, then the untested items `rest`, and then the items `tail` after the
-  -- range.
+  --
+  -- - The items of `w` are `at.front`, then the untested items `rest` of the range, and then the
+  --   items `tail` after the range.
+  -- - The cost of `w` is `at.paid`. If an item was extracted, one move for each item of `rest` and
+  --   `tail` is added.
+  -- - The capacity and the allocator are unchanged.
   pub record IsLeft (at : Stand T) (rest tail : List T) : Type 0 where
     pub items : w.items ≡ at.front ++ (rest ++ tail)
     pub cost : w.cost ≡ (if at.out == 0 then at.paid else moving (length rest
@@ -261,8 +275,9 @@ module _ {T A : Type 0} (v w : Thin T A) (a b : ℕ) (asked : Verdicts T) where
     pub capacity : w.capacity ≡ v.capacity
     pub alloc : w.alloc ≡ v.alloc
 
-  -- If the extraction ended in the state `at`, and the untested items `rest` were kept, then `w` is
-  -- the list `v` without the items that the verdicts `asked` remove (`sifted`).
+  -- Suppose that an extraction ended in the state `at`, and kept the untested items `rest` of the
+  -- range and the items `tail` after the range. Then the list `w` is the list `v` without the items
+  -- that the verdicts `asked` remove. The function `sifted` computes `w`.
   pub extracting-ends : (at : Stand T) (rest tail : List T)
       → IsExtracting asked (take a v.items) v.cost at → at.left ≡ stay rest → tail ≡ drop b v.items
       → IsLeft at rest tail → w ≡ sifted v (around v.items a b asked)
@@ -302,8 +317,8 @@ module _ {T A : Type 0} (v w : Thin T A) (a b : ℕ) (asked : Verdicts T) where
         cost = paid i;
       }
 
--- In this module, the method `ask` of a judge decides whether an item is extracted. An extraction
--- does not increase the number of items in the list.
+-- In this module, `ask` is the method of a judge that decides for each item whether it is
+-- extracted. The lemmas show that an extraction does not increase the number of items in the list.
 module _ {T J : Type 0} (ask : J → T → Bool × T × J) where
   stay-length : (xs : List T) → length (stay xs) ≡ length xs
   stay-length xs = length-map xs (λ (x : T). (true, x))
@@ -314,8 +329,9 @@ module _ {T J : Type 0} (ask : J → T → Bool × T × J) where
   extracting-length j (suc k) (x ∷ xs) =
       ap suc (extracting-length (ask j x).2 (if (ask j x).0 then k else suc k) xs)
 
-  -- If `k` calls to `next` extract items from the range `a..b` of the list `xs`, then at most
-  -- `length xs` items are left. The judge is in the state `j` before the calls.
+  -- Suppose that `k` calls to `next` extract items from the range `a..b` of the list `xs`, and that
+  -- the judge is in the state `j` before the first call. Then at most `length xs` items are left in
+  -- the list.
   pub few-extracted : (j : J) (k : ℕ) (xs : List T) (a b : ℕ) → a ≤ b → b ≤ length xs
       → length (left_at true (around xs a b (extracting ask j k (slice_range xs a b)))) ≤ length xs
   few-extracted j k xs a b order within =

@@ -1,5 +1,6 @@
--- Lemmas about closures that return the decisions of a judge. If a method such as `retain` calls
--- such a closure, then the judge determines which items remain in the list.
+-- A judge decides which items are kept. These lemmas are about closures that return the decisions
+-- of a judge. If a method such as `retain` calls such a closure, then the judge determines which
+-- items remain in the list.
 use Rattle.std.proofs.Common.{◌≡◌, ℕ, suc, ◌≤◌, ◌==◌, length, refl, arith, List, [], ◌∷◌, Bool, true, false, ap, subst, ◌∙◌}
 use denote.MutBor.{MutBor}
 use denote.Param.Members.{Mut}
@@ -22,8 +23,9 @@ module _ {S T J : Type 0} (R : S → T → Bool → S → T → Type 0) (judge_o
 
 module _ {S T J : Type 0} (R : S → T → Bool → S → T → Type 0) (judge_of : S → J)
     (ask : J → T → Bool × T × J) (told : AsksJudge R judge_of ask) where
-  -- If a closure returns the decisions of the judge in its state, and is called for each item of
-  -- `xs`, then `verdicts` contains the decisions of the judge on these items.
+  -- Suppose that a closure returns the decisions of the judge in its state. If calls to the closure
+  -- for the items of `xs` result in the list `verdicts`, and change the state from `s` to `t`, then
+  -- `verdicts` contains the decisions of this judge on the items.
   pub asked-by : (s t : S) (xs : List T) (verdicts : Verdicts T) → Asked R s xs verdicts t
       → verdicts ≡ asked ask (judge_of s) xs
   asked-by s t [] verdicts a = a.0
@@ -31,8 +33,9 @@ module _ {S T J : Type 0} (R : S → T → Bool → S → T → Type 0) (judge_o
       a.6 ∙ (ap (λ l. (a.0, a.1) ∷ l) (asked-by a.2 t xs a.3 a.5)
       ∙ ap (λ l. (l.0, l.1) ∷ asked ask l.2 xs) (told s x a.0 a.2 a.1 a.4))
 
-  -- If `retain` or `retain_mut` turns the list `v` into `w`, and its closure returns the decisions
-  -- of a judge, then `w` contains exactly the items of `v` that the judge keeps (`sifted`).
+  -- Suppose that `retain` or `retain_mut` turned the list `v` into `w`, and that its closure
+  -- returned the decisions of a judge. Then `w` contains exactly the items of `v` that the judge
+  -- keeps. The function `sifted` computes `w` from `v` and the decisions.
   pub retained-by : {A : Type 0} (s : S) (v w : Thin T A) → IsRetained R s v w
       → w.capacity ≡ v.capacity → w.alloc ≡ v.alloc
       → w ≡ sifted v (asked ask (judge_of s) v.items)
@@ -45,20 +48,21 @@ module _ {S T J : Type 0} (R : S → T → Bool → S → T → Type 0) (judge_o
 -- This module is about methods such as `dedup_by`, which compare each item with the last item kept
 -- before it.
 module _ {T : Type 0} where
-  -- A method such as `dedup_by` keeps the first item of a list. The pair `b` contains this item and
-  -- the verdicts on the later items. `Leaves flags ys b` says that `flags` are the flags of these
-  -- verdicts, and `ys` the kept items.
+  -- The pair `b` consists of a first item and the verdicts on the later items. `Leaves flags ys b`
+  -- holds if `flags` says for each later item whether its verdict keeps it, and `ys` is the first
+  -- item, followed by the later items that are kept.
   abbrev pub Leaves : List Bool → List T → T × Verdicts T → Type 0
   Leaves flags ys b = (flags ≡ flags_of b.1) × (ys ≡ b.0 ∷ left_at true b.1)
 
--- In this module, a closure compares two items, and returns the decision of the judge in its state.
+-- In this module, `R` describes a closure that compares two items, and returns the decision of a
+-- judge. If the closure is in the state `s`, this judge is `judge_of s`.
 module _ {S T J : Type 0} (R : S → T → T → Bool → S → T → T → Type 0) (judge_of : S → J)
     (same : J → T → T → Bool × T × T × J)
     (told : (s : S) (x k : T) (b : Bool) (u : S) (x' k' : T) → R s x k b u x' k'
     → (b, x', k', judge_of u) ≡ same (judge_of s) x k) where
-  -- If a closure returns the decisions of a judge, and compares each item of `xs` with the last
-  -- item kept before it, beginning with `k`, then `flags` and the kept items `ys` agree with the
-  -- decisions of the judge.
+  -- Suppose that a closure returns the decisions of a judge, and compares each item of `xs` with
+  -- the last item kept before that item, beginning with `k`. Then `flags` says which items of `xs`
+  -- the judge keeps, and `ys` contains `k` and these items, as they are after the comparisons.
   pub asked-last-by : (s t : S) (k : T) (xs : List T) (flags : List Bool) (ys : List T)
       → AskedLast R s k xs flags ys t → Leaves flags ys (asked_last same (judge_of s) k xs)
   asked-last-by s t k [] flags ys a = (a.0, a.1)
@@ -78,9 +82,9 @@ module _ {S T J : Type 0} (R : S → T → T → Bool → S → T → T → Type
       answered by false m e = let h =
           by a.1 m.0 m.1 in (e ∙ ap (λ l. true ∷ l) h.0, m.2 ∙ ap (λ l. a.2 ∷ l) h.1)
 
-  -- If the closure of a method such as `dedup_by` returns the decisions of a judge, then `ys`
-  -- contains exactly the items of `xs` that the judge keeps. `flags` and the decisions cause the
-  -- same number of moves.
+  -- Suppose that a closure returns the decisions of a judge, and compares each item of `xs`, except
+  -- the first one, with the last item kept before that item. Then `ys` contains exactly the items
+  -- that the judge keeps, and `flags` causes as many moves as the decisions of the judge.
   pub asked-pairs-by : (s t : S) (xs : List T) (flags : List Bool) (ys : List T)
       → AskedPairs R s xs flags ys t
       → (moved_down flags ≡ moved_down (flags_of (asked_pairs same (judge_of s) xs)))
@@ -89,8 +93,9 @@ module _ {S T J : Type 0} (R : S → T → T → Bool → S → T → T → Type
   asked-pairs-by s t (x ∷ xs) flags ys a = let h = asked-last-by s t x xs flags ys a
       in (ap moved_down h.0, h.1)
 
-  -- If `dedup_by` turns the list `v` into `w`, and its closure returns the decisions of a judge,
-  -- then `w` contains exactly the items of `v` that the judge keeps (`sifted`).
+  -- Suppose that `dedup_by` turned the list `v` into `w`, and that its closure returned the
+  -- decisions of a judge. Then `w` contains exactly the items of `v` that the judge keeps. The
+  -- function `sifted` computes `w` from `v` and the decisions.
   pub deduped-by : {A : Type 0} (s : S) (v w : Thin T A) → IsDedupedBy R s v w
       → w.capacity ≡ v.capacity → w.alloc ≡ v.alloc
       → w ≡ sifted v (asked_pairs same (judge_of s) v.items)
@@ -99,14 +104,15 @@ module _ {S T J : Type 0} (R : S → T → T → Bool → S → T → T → Type
       let cost = r.1.cost ∙ ap (λ m. moving m v.cost) by.0 in
       λ i. record { items = by.1 i; capacity = capacity i; alloc = alloc i; cost = cost i }
 
--- In this module, a closure returns the key that the judge in its state computes for an item.
+-- In this module, `g` describes a closure that maps an item to a key. The state of the closure
+-- contains a judge, which computes the key.
 module _ {F T A J : Type 0} (g : Mut F (MutBor T × Unit {0}) (ℕ × (MutBor T × Unit {0})))
     (judge_of : F → J) (key : J → T → ℕ × T × J)
     (told : (f : F) (x : T) (k : ℕ) (f' : F) (x' : T) → CalledAtMut g f x k f' x'
     → (k, x', judge_of f') ≡ key (judge_of f) x) where
-  -- If the closure of `dedup_by_key` returns keys that a judge computes, then the new list `w`
-  -- contains exactly the items of `v` that the judge keeps (`sifted`). The judge computes the key
-  -- of the later item first.
+  -- Suppose that `dedup_by_key` turned the list `v` into `w`, and that its closure returned keys
+  -- that a judge computed. Then `w` contains exactly the items of `v` that the judge keeps. For
+  -- each comparison of two items, the judge computes the key of the later item first.
   pub deduped-by-keys : (f : F) (v w : Thin T A)
       → IsDedupedBy (ComparesKeys g (λ a b. a == b)) f v w → w.capacity ≡ v.capacity
       → w.alloc ≡ v.alloc → w ≡ sifted v (asked_pairs (same_key key) (judge_of f) v.items)
@@ -143,21 +149,22 @@ module _ {T : Type 0} where
   few-left ((true, x) ∷ verdicts) = omega (arith, few-left verdicts)
   few-left ((false, x) ∷ verdicts) = omega (arith, few-left verdicts)
 
-  -- `next b x k a` adds the verdict on the item `x` to the pair `a`, which describes the
-  -- comparisons of the items after `x`. If `b` is true, `x` is removed. Otherwise, `x` is kept
-  -- after `k`, the last kept item.
+  -- Suppose that the item `x` was compared with `k`, the last kept item. The pair `a` describes the
+  -- comparisons of the items after `x`. `next b x k a` adds the verdict on `x` to the verdicts in
+  -- `a`: if `b` is true, `x` is removed, and otherwise, `x` is kept.
   abbrev next : Bool → T → T → T × Verdicts T → T × Verdicts T
   next b x k a = if b then (a.0, (false, x) ∷ a.1) else (k, (true, a.0) ∷ a.1)
 
-  -- The function `next` adds exactly one verdict to the pair `a`: the verdict on the item `x`.
+  -- The function `next` adds the verdict on the item `x` to the verdicts in the pair `a`. So its
+  -- result contains exactly one verdict more than `a`.
   one-answer : (b : Bool) (x k : T) (a : T × Verdicts T)
       → length (next b x k a).1 ≡ suc (length a.1)
   one-answer true x k a = refl
   one-answer false x k a = refl
 
 module _ {T J : Type 0} where
-  -- If a judge in the state `j` tests each item of `xs`, then there are exactly `length xs`
-  -- verdicts.
+  -- If a judge in the state `j` tests each item of `xs`, then there is one verdict for each item.
+  -- So the number of verdicts is `length xs`.
   pub asked-length : (ask : J → T → Bool × T × J) (j : J) (xs : List T) → length (asked ask j xs)
       ≡ length xs
   asked-length ask j [] = refl
@@ -168,9 +175,9 @@ module _ {T J : Type 0} where
       → length (left_at true (asked ask j xs)) ≤ length xs
   few-asked ask j xs = omega (arith, few-left (asked ask j xs), asked-length ask j xs)
 
-  -- If each item of `xs` is compared with the last item kept before it, beginning with `k`, then
-  -- there are `length xs` verdicts. The lemma `pairs-length` is about a list whose first item is
-  -- kept without a comparison.
+  -- Suppose that a judge in the state `j` compares each item of `xs` with the last item kept before
+  -- that item, beginning with `k`. Then there are exactly `length xs` verdicts. The lemma
+  -- `pairs-length` is about a list whose first item is kept without a comparison.
   last-length : (same : J → T → T → Bool × T × T × J) (j : J) (k : T) (xs : List T)
       → length (asked_last same j k xs).1 ≡ length xs
   last-length same j k [] = refl
@@ -193,14 +200,14 @@ module _ {T J : Type 0} where
 -- The lemmas of this module show that `dedup` with the equality test `E` keeps the same items as
 -- `dedup_by` with a judge that returns the results of `E`.
 module _ {T J : Type 0} (E : T → T → Bool) (j : J) where
-  -- `tells` is a method of a judge that compares two items with the equality test `E`, and changes
-  -- neither the items nor the state `j`.
+  -- `tells` is the method of a judge that compares two items with the equality test `E`. It returns
+  -- the result of `E`, and changes neither the items nor the state `j` of the judge.
   abbrev pub tells : J → T → T → Bool × T × T × J
   tells j later kept = (E later kept, later, kept, j)
 
-  -- If `k` is the last item kept before `xs`, then `dedup` with the equality test `E` keeps the
-  -- same items of `xs` as a judge that compares items with `E`. The flags `unlike_from E k xs` say
-  -- which items are kept.
+  -- Suppose that `k` is the last item kept before the items `xs`, and that a judge compares items
+  -- with the equality test `E`. Then `dedup_from E k xs` is `k`, followed by the items of `xs` that
+  -- the judge keeps. The flags `unlike_from E k xs` say which items these are.
   dedup-last : (k : T) (xs : List T) → Leaves (unlike_from E k xs) (dedup_from E k xs)
       (asked_last tells j k xs)
   dedup-last k [] = (refl, refl)
@@ -223,8 +230,9 @@ module _ {T J : Type 0} (E : T → T → Bool) (j : J) where
   dedup-pairs [] = (refl, refl)
   dedup-pairs (x ∷ xs) = let h = dedup-last x xs in (ap moved_down h.0, h.1)
 
-  -- If `dedup` with the equality test `E` turns the list `v` into `w`, then `w` contains exactly
-  -- the items of `v` that are kept by a judge that compares items with `E` (`sifted`).
+  -- Suppose that `dedup` with the equality test `E` turned the list `v` into `w`. Then `w` contains
+  -- exactly the items of `v` that a judge keeps if it compares items with `E`. The function
+  -- `sifted` computes `w` from `v` and the decisions of this judge.
   pub deduped-alike : {A : Type 0} (v w : Thin T A) → w.items ≡ dedup E v.items → w.cost
       ≡ moving (moved_down (unlike E v.items)) v.cost
       → w.capacity ≡ v.capacity → w.alloc ≡ v.alloc → w ≡ sifted v (asked_pairs tells j v.items)

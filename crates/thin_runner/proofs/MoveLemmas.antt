@@ -30,27 +30,31 @@ few-repeats : {T : Type 0} (k : ℕ) (x : T) → length (replicate (k - 1) x) �
 few-repeats k x = omega (arith, length-replicate (k - 1) x)
 
 module _ {T A : Type 0} (v w : Thin T A) where
-  -- If `w` equals `u`, and the costs of `u` and `v` count the same number of moves, then the cost
-  -- of `w` counts at most `k` more moves than the cost of `v`.
+  -- If the lists `w` and `u` are equal, and the costs of `u` and `v` count the same number of
+  -- moves, then the cost of `w` counts at most `k` more moves than the cost of `v`, for every
+  -- number `k`.
   same-moves : (u : Thin T A) (k : ℕ) → w ≡ u → u.cost.moves ≡ v.cost.moves
       → w.cost.moves ≤ v.cost.moves + k
   same-moves u k e same = omega (arith, ap (λ z. z.cost.moves) e, same)
 
-  -- If `w` is the list `v` after a call that made `m` moves (`edited`), then the cost of `w` counts
-  -- at most `m` more moves than the cost of `v`.
+  -- `edited v xs m` is the list `v` after a call that set its items to `xs` and added `m` moves to
+  -- its cost. If `w` is this list, then the cost of `w` counts at most `m` more moves than the cost
+  -- of `v`.
   edited-moves : (xs : List T) (m : ℕ) → w ≡ edited v xs m → w.cost.moves ≤ v.cost.moves + m
   edited-moves xs m e = omega (arith, ap (λ z. z.cost.moves) e)
 
-  -- If `w` is the list `v` after a call that made `m` moves and may have changed the capacity
-  -- (`grown`), then the cost of `w` counts at most `m` more moves. A reallocation is not a move.
+  -- `grown v c xs m` is the list `v` after a call that set its items to `xs` and its capacity to
+  -- `c`, and added `m` moves to its cost. If `w` is such a list, then the cost of `w` counts at
+  -- most `m` more moves than the cost of `v`. A change of the capacity does not count as a move.
   grown-moves : (xs : List T) (m : ℕ) → w ≡ grown v w.capacity xs m
       → w.cost.moves ≤ v.cost.moves + m
   grown-moves xs m e = omega (arith, ap (λ z. z.cost.moves) e, cost_at-moves v w.capacity)
 
   module _ (rule : Rule) (R : RattleType) (a b : ℕ) where
-    -- If a splice replaces the items `a..b` of the list `v` with at most `k` items, `placed`, then
-    -- it adds at most `k` moves, plus two for each item after the range. The iterator could yield
-    -- at most `most` items.
+    -- Suppose that a splice replaced the items `a..b` of the list `v` with the items `placed` of an
+    -- iterator, and that `placed` contains at most `k` items. Then the splice added at most `k`
+    -- moves to the cost of the list, plus at most two moves for each item after the range. The
+    -- number `most` is an upper bound on the number of items that the iterator could yield.
     spliced-moves : (placed : List T) (most k : ℕ) → Replaces rule R v a b placed most w
         → length placed ≤ k → w.cost.moves ≤ v.cost.moves + (2 * (length v.items - b) + k)
     spliced-moves placed most k f few =
@@ -64,8 +68,10 @@ module _ {T A : Type 0} (v w : Thin T A) where
           few,
         )
 
-    -- If a splice of the range `a..b` fails partway, and its iterator contained the items `xs`,
-    -- then it adds at most one move for each item of `xs`, plus two for each item after the range.
+    -- Suppose that a splice of the range `a..b` fails with the error `cause`, and that its iterator
+    -- contained the items `xs`. Then the splice adds at most `length xs` moves to the cost of the
+    -- list, plus at most two moves for each item after the range. The items `held` and `in_hand`
+    -- were taken from the iterator, but were not inserted.
     stopped-moves : (xs held : List T) (lower : ℕ) (cause : ThinVecError) (in_hand : Option T)
         (rest : Hinted T A) → StopsBetween rule R v a b xs held lower cause in_hand rest w
         → w.cost.moves ≤ v.cost.moves + (2 * (length v.items - b) + length xs)
@@ -86,8 +92,8 @@ shrunk-moves v = go (length v.items == v.capacity) (length v.items == 0)
     go false false = omega arith
 
 module _ {T A J : Type 0} (here : Setting T A J) (v w : Thin T A) where
-  -- If a call that clones the items `sources` fails, and `length sources ≤ k`, then the call adds
-  -- at most `k` moves to the cost of the list.
+  -- Suppose that a call that clones the items `sources` fails, and that `sources` contains at most
+  -- `k` items. Then the call adds at most `k` moves to the cost of the list.
   refused-moves : (k : ℕ) (sources : List T) (cause : ThinVecError) → length sources ≤ k
       → RefusesClone here v k sources cause w → w.cost.moves ≤ v.cost.moves + k
   refused-moves k sources cause few r = stopped r.2
@@ -99,9 +105,9 @@ module _ {T A J : Type 0} (here : Setting T A J) (v w : Thin T A) where
       stopped (inr s) = omega (arith, few, s.1, grown-moves v w v.items s.0 s.3.1)
 
 module _ {T A G J : Type 0} (here : Setting T A J) where
-  -- If `command` turns the list `v` into `w` and gets the reply `reply`, then it adds at most
-  -- `may_move` moves to the cost. This bound depends on the items of `v`, the command and the
-  -- reply.
+  -- Suppose that `command` turns the list `v` into `w`, and gets the reply `reply`. Then the
+  -- command adds at most `may_move` moves to the cost of the list. This bound depends on the items
+  -- of `v`, the command and the reply.
   pub step-moves : (v w : Thin T A) (command : Command T A G) (reply : Reply T A G)
       → Steps here v command reply w
       → w.cost.moves ≤ v.cost.moves + may_move here v.items command reply
@@ -163,8 +169,9 @@ module _ {T A G J : Type 0} (here : Setting T A J) where
   step-moves v w (Splice a b steps xs lower) (Refused cause) s = same-moves v w v 0 s.1.2 refl
   step-moves v w command reply s = absurd s.1
 
-  -- If a run of the commands turns the list `v` into `w`, then it adds at most `run_may_move` moves
-  -- to the cost: the sum of the bounds for the individual commands.
+  -- Suppose that a run of the commands `commands` turns the list `v` into `w`. Then the run adds at
+  -- most `run_may_move` moves to the cost of the list. This bound is the sum of the bounds for the
+  -- individual commands.
   pub runs-moves : (v w : Thin T A) (commands : List (Command T A G))
       (replies : List (Reply T A G)) (run : Runs here v commands replies w)
       → w.cost.moves ≤ v.cost.moves + run_may_move here v w commands replies run

@@ -1,5 +1,6 @@
--- Lemmas about the commands other than `ReserveExact` and `ShrinkToFit`. A cheap list (`IsCheap`)
--- stays cheap, and the number of items that growth copies is at most the increase of the capacity.
+-- A list is cheap (`IsCheap`) if growing it has cost little. A cheap list is still cheap after a
+-- sequence of commands that contains neither `ReserveExact` nor `ShrinkToFit`. The number of items
+-- that growth copies during these commands is at most the increase of the capacity.
 use Rattle.std.proofs.Common.{◌≡◌, ℕ, suc, ◌+◌, ◌-◌, ◌^◌, ◌<◌, ◌≤◌, List, [], ◌∷◌, ◌++◌, Some, None, length, arith, ap, sym, subst, ◌∙◌, refl, inl, inr}
 use Rattle.std.proofs.lemmas.Bool.{cases_lt}
 use Rattle.std.proofs.lemmas.List.{length-append, length-set, length_push, length-drop, length-take}
@@ -41,20 +42,22 @@ cheap-same c k k' blocks grown h = record {
       omega (arith, same, b);
 }
 
--- `IsPaid v w` states three facts about a list that was `v` and is now `w`. A cheap list is still
--- cheap, growth copied at most `w.capacity - v.capacity` items, and the items of `w` fit into its
--- capacity.
+-- `IsPaid v w` states three facts about a list that was `v` before some calls and is `w` after
+-- them. If `v` is cheap (`IsCheap`), then `w` is also cheap. Growth copied at most
+-- `w.capacity - v.capacity` items during these calls. The items of `w` fit into its capacity.
 pub record IsPaid {T A : Type 0} (v w : Thin T A) : Type 0 where
   pub cheap : IsCheap v → IsCheap w
   pub copied : w.cost.grown + v.capacity ≤ v.cost.grown + w.capacity
   pub room : length w.items ≤ w.capacity
 
 module _ {T A : Type 0} where
-  -- `IsPaid v v` holds if the items of `v` fit into its capacity.
+  -- `IsPaid v w` bounds the cost of turning the list `v` into the list `w`. If the items of `v` fit
+  -- into its capacity, then `IsPaid v v` holds.
   pub none-paid : (v : Thin T A) → length v.items ≤ v.capacity → IsPaid v v
   none-paid v room = record { cheap = λ c. c; copied = omega arith; room = room }
 
-  -- `IsPaid` is transitive: if `IsPaid v u` and `IsPaid u w` hold, then `IsPaid v w` holds.
+  -- `IsPaid v w` bounds the cost of turning the list `v` into the list `w`. If `IsPaid v u` and
+  -- `IsPaid u w` hold, then `IsPaid v w` also holds.
   pub join-paid : {v u w : Thin T A} → IsPaid v u → IsPaid u w → IsPaid v w
   join-paid p q = record {
     cheap = λ c. q.cheap (p.cheap c);
@@ -63,12 +66,15 @@ module _ {T A : Type 0} where
   }
 
 module _ {T A : Type 0} (v w : Thin T A) (room : length v.items ≤ v.capacity) where
-  -- If `w` equals `v`, and the items of `v` fit into its capacity, then `IsPaid v w` holds.
+  -- `IsPaid v w` bounds the cost of turning the list `v` into the list `w`. If `w` equals `v`, and
+  -- the items of `v` fit into its capacity, then `IsPaid v w` holds.
   same-paid : w ≡ v → IsPaid v w
   same-paid e = subst (IsPaid v) (sym e) (none-paid v room)
 
-  -- If `w` equals a list `u` with the capacity, the `blocks` and the `grown` of `v`, and `u` has at
-  -- most as many items as `v`, then `IsPaid v w` holds.
+  -- `IsPaid v w` bounds the cost of turning the list `v` into the list `w`. Suppose that `w` equals
+  -- `u`, that `u` and `v` have the same capacity and the same counters `blocks` and `grown`, and
+  -- that `u` has at most as many items as `v`. If the items of `v` fit into its capacity, then
+  -- `IsPaid v w` holds.
   kept-paid : (u : Thin T A) → w ≡ u → u.capacity ≡ v.capacity
       → u.cost.blocks ≡ v.cost.blocks → u.cost.grown ≡ v.cost.grown
       → length u.items ≤ length v.items → IsPaid v w
@@ -83,8 +89,9 @@ module _ {T A : Type 0} (v w : Thin T A) (room : length v.items ≤ v.capacity) 
 
 module _ {T A J : Type 0} (here : Setting T A J) (law : KeepsLaw here.rule) (v w : Thin T A)
     (room : length v.items ≤ v.capacity) where
-  -- If the items of `v` fit into its capacity, and a call reserves room for `n` more items and adds
-  -- at most `n`, then `IsPaid v w` holds for the resulting list `w`.
+  -- `IsPaid v w` bounds the cost of turning the list `v` into the list `w`. Suppose that a call
+  -- turns `v` into `w` by reserving room for `n` more items and adding at most `n` items. If the
+  -- items of `v` fit into its capacity, then `IsPaid v w` holds.
   ruled-paid : (u : Thin T A) (n : ℕ) → capacity_for here.rule here.R v n ≡ Some w.capacity
       → w ≡ u → u.cost.blocks ≡ (cost_at v w.capacity).blocks
       → u.cost.grown ≡ (cost_at v w.capacity).grown
@@ -107,8 +114,9 @@ module _ {T A J : Type 0} (here : Setting T A J) (law : KeepsLaw here.rule) (v w
         ];
       }
 
-  -- If the items of `v` fit into its capacity, and a call that clones items fails and turns `v`
-  -- into `w`, then `IsPaid v w` holds. The list may have grown before the failure.
+  -- Suppose that the items of `v` fit into its capacity. If a call that clones items fails and
+  -- turns the list `v` into `w`, then `IsPaid v w` holds. Such a call fails if there is no room for
+  -- `n` more items, or if an item cannot be cloned.
   refused-paid : (n : ℕ) (sources : List T) (cause : ThinVecError)
       → RefusesClone here v n sources cause w → IsPaid v w
   refused-paid n sources cause r = stopped r.2
@@ -164,8 +172,9 @@ module _ {T : Type 0} where
       omega (arith, ap length a.1, length-append xs a.0, count)
 
 module _ {T A G J : Type 0} (here : Setting T A J) (law : KeepsLaw here.rule) where
-  -- If a command other than `ReserveExact` and `ShrinkToFit` turns the list `v` into `w`, and the
-  -- items of `v` fit into its capacity, then `IsPaid v w` holds.
+  -- `IsPaid v w` bounds the cost of a command that turns the list `v` into `w`. If the command is
+  -- neither `ReserveExact` nor `ShrinkToFit`, and the items of `v` fit into its capacity, then
+  -- `IsPaid v w` holds.
   pub step-paid : (v w : Thin T A) (command : Command T A G) (reply : Reply T A G)
       → KeepsCheap command → length v.items ≤ v.capacity → Steps here v command reply w
       → IsPaid v w

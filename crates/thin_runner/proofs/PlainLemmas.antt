@@ -1,5 +1,7 @@
--- If each clone equals its source, and no command of a run fails, then `items_after` and `reply_to`
--- compute the items and the replies of the run.
+-- A run is a sequence of commands with their replies. Suppose that each clone equals its source,
+-- and that no command of a run fails. Then two functions on plain lists of items predict the run.
+-- For each command, `items_after` computes the items after the command, and `reply_to` computes the
+-- reply.
 use Rattle.std.proofs.Common.{◌≡◌, ℕ, ◌+◌, ◌-◌, ◌&&◌, ◌<◌, ◌≤◌, ◌↔◌, List, [], ◌∷◌, ◌++◌, All, Decides, IsSome, Option, Some, None, length, map, take, drop, true, arith, ap, nat_le, refl, slice_get, sym, take_all, ◌∙◌, inl, inr, append_assoc, length-append}
 use Rattle.std.proofs.lemmas.Bool.{and_from, and_parts, cases_lt, cond-false, cond-true, false_from_ne_true, false≢true, le-leb, leb-true, lt-ltb, ltb-true}
 use Rattle.std.proofs.lemmas.List.{append-nil, replicate-append-replicate}
@@ -27,13 +29,14 @@ use Rattle.thin_runner.proofs.JudgedLemmas.{dedup-pairs}
 use Rattle.thin_runner.proofs.WalkLemmas.{last-of}
 use Rattle.thin_runner.proofs.WeakerClonesLemmas.{zip-weaker}
 
--- `Some x ≡ None` is false, so it implies every statement `B`. The proofs use this lemma to exclude
--- the replies of failed calls.
+-- `Some x ≡ None` is false, so it implies every statement `B`. The proofs use this lemma for the
+-- reply to a failed call, which contains a cause of failure `x`. If no call failed, there is no
+-- such reply.
 refused : {X B : Type 0} (x : X) → Some x ≡ None → B
 refused x e = cc
 
--- The Boolean test `nat_le a b && nat_le b n` is true if and only if the range `a..b` is in bounds
--- for `n` items.
+-- The Boolean expression `nat_le a b && nat_le b n` is true if and only if the range `a..b` is in
+-- bounds for `n` items.
 range-decides : (a b n : ℕ) → Decides (nat_le a b && nat_le b n) ((a ≤ b) × (b ≤ n))
 range-decides a b n = (
   (λ e. let both = and_parts (nat_le a b) (nat_le b n) e in
@@ -42,7 +45,9 @@ range-decides a b n = (
 )
 
 module _ {T A G : Type 0} where
-  -- `in_range xs command` is true if and only if `IsInRange xs command` holds.
+  -- `IsInRange xs command` holds if the index or the range of `command` is in bounds for the items
+  -- `xs`, or if `command` has neither. The Boolean `in_range xs command` is true if and only if
+  -- `IsInRange xs command` holds.
   in_range-decides : (xs : List T) (command : Command T A G)
       → Decides (in_range xs command) (IsInRange xs command)
   in_range-decides xs (Insert i v) = (leb-true i (length xs), le-leb i (length xs))
@@ -56,8 +61,9 @@ module _ {T A G : Type 0} where
   in_range-decides xs command = ((λ e. tt), (λ e. refl))
 
 module _ {T : Type 0} where
-  -- If `pop` turns the list `xs` into `ys` and returns `o`, then `o` is the last item of `xs`, and
-  -- `ys` is `xs` without it. If `xs` is empty, `o` is `None`.
+  -- If a call to `pop` turns the list `xs` into `ys` and returns `o`, then `o` is the last item of
+  -- `xs`, and `ys` contains the items before the last one. If `xs` is empty, then `o` is `None`,
+  -- and `ys` is empty, too.
   popped : (xs ys : List T) (o : Option T) → (IsSome o ↔ (0 < length xs))
       → xs ≡ ys ++ option_to_list o
       → (o ≡ slice_get xs (length xs - 1)) × (ys ≡ take (length xs - 1) xs)
@@ -114,8 +120,10 @@ module _ {T : Type 0} where
       ap (λ (t : List T). (t ++ ys) ++ drop (length xs) xs) (take-length xs)
       ∙ (ap (λ (t : List T). (xs ++ ys) ++ t) (drop-length xs) ∙ append-nil (xs ++ ys))
 
-  -- If only the items `a..b` of the list `xs` are tested, then the result is `take a xs`, the kept
-  -- items of the range, and `drop b xs`, in this order.
+  -- Suppose that a command tests only the items `a..b` of the list `xs`, and removes some of them.
+  -- The list `verdicts` says which of the tested items are kept. Then the list after the command
+  -- contains the items of `xs` before the index `a`, the kept items, and the items of `xs` from the
+  -- index `b` on.
   left-around : (xs : List T) (a b : ℕ) (verdicts : Verdicts T)
       → left_at true (around xs a b verdicts) ≡ replace_range xs a b (left_at true verdicts)
   left-around xs a b verdicts =
@@ -127,8 +135,9 @@ module _ {T : Type 0} where
       ∙ ((λ i. before ++ (kept ++ left_at-stay after i)) ∙ sym (append_assoc before kept after)))
 
 module _ {T A G J : Type 0} (here : Setting T A J) (equal : ClonesEqual here.clones) where
-  -- If each clone equals its source, and a command is in bounds and does not fail, then `granted`
-  -- computes the items after the command and the reply, as the value `seen reply`.
+  -- Suppose that each clone equals its source. If `command` is in bounds and turns the list `v`
+  -- into `w` without failing, then `granted` computes the items of `w` and the part of the reply
+  -- that `seen` extracts.
   does-granted : (v w : Thin T A) (command : Command T A G) (reply : Reply T A G)
       → IsGranted reply → Does here v command reply w
       → (seen reply, w.items) ≡ granted here v.items command
@@ -188,8 +197,9 @@ module _ {T A G J : Type 0} (here : Setting T A J) (equal : ClonesEqual here.clo
       λ j. (yields (d.0 j), d.1.items j)
   does-granted v w command reply ok d = absurd d
 
-  -- If each clone equals its source, and a command does not fail, then `plain_step` computes the
-  -- items after the command and the reply, as the value `seen reply`.
+  -- Suppose that each clone equals its source. If `command` turns the list `v` into `w` without
+  -- failing, then `plain_step` computes the items of `w` and the part of the reply that `seen`
+  -- extracts. If `command` is out of bounds, its reply is `OutOfRange`, which is not a failure.
   step-plain : (v w : Thin T A) (command : Command T A G) (reply : Reply T A G)
       → IsGranted reply → Steps here v command reply w
       → (seen reply, w.items) ≡ plain_step here v.items command
@@ -205,8 +215,9 @@ module _ {T A G J : Type 0} (here : Setting T A J) (equal : ClonesEqual here.clo
       ∙ sym (cond-true (in_range v.items command) (granted here v.items command)
       (says (OutOfRange command), v.items) inside)
 
-  -- If each clone equals its source, and no command of a run fails, then `items_after` computes the
-  -- final items, and `reply_to` computes the part of each reply that `seen` extracts.
+  -- Suppose that each clone equals its source, and that no command of a run fails. Then the final
+  -- items of the list are the result of applying `items_after` for each command, in order. The
+  -- function `reply_to` computes the part of each reply that `seen` extracts.
   pub run-plain : (v w : Thin T A) (commands : List (Command T A G)) (replies : List (Reply T A G))
       → All IsGranted replies → Runs here v commands replies w
       → (w.items ≡ fold (items_after here) v.items commands)

@@ -1,5 +1,6 @@
--- Lemmas about runs, which are sequences of commands with their replies: how to extend a run, how
--- to join two runs, and which properties of a list a run preserves.
+-- These lemmas are about runs, which are sequences of commands with their replies. A run can be
+-- extended by a command, and two runs can be joined. If each command of a run preserves a property
+-- of the list, then the whole run preserves this property.
 use Rattle.std.proofs.Common.{◌≡◌, ℕ, ◌+◌, List, [], ◌∷◌, ◌++◌, append_assoc, ap, arith, refl, subst, sym, ◌∙◌}
 use Rattle.std.proofs.lemmas.List.{append-nil}
 use Rattle.std.proofs.lemmas.List.Elements.{All-head, All-tail}
@@ -12,14 +13,16 @@ use Rattle.thin_runner.specs.declared.command.Command.{Command}
 use Rattle.thin_runner.specs.declared.command.Reply.{Reply}
 
 module _ {T A G : Type 0} (count : Command T A G → Reply T A G → ℕ) where
-  -- `counted commands replies` is the sum of `count command reply` over all commands of a run.
+  -- The function `count` assigns a number to each command and its reply. `counted commands replies`
+  -- is the sum of these numbers over all commands of a run.
   abbrev pub counted : List (Command T A G) → List (Reply T A G) → ℕ
   counted (command ∷ commands) (reply ∷ replies) = count command reply + counted commands replies
   counted commands replies = 0
 
 module _ {T A G J : Type 0} (here : Setting T A J) where
-  -- `HasRun` describes a run that is not yet complete. The commands before `left` have turned the
-  -- list `old` into `new`, and their replies were appended to `before`, which gave `after`.
+  -- `HasRun` describes the state in the middle of a run of `commands`. The commands in `left` have
+  -- not been carried out yet. The other commands have turned the list `old` into `new`. Their
+  -- replies were appended to the list `before`, which became `after`.
   pub record HasRun (old : Thin T A) (commands left : List (Command T A G))
       (before after : List (Reply T A G)) (new : Thin T A) : Type 0 where
     pub done : List (Command T A G)
@@ -28,8 +31,8 @@ module _ {T A G J : Type 0} (here : Setting T A J) where
     pub appended : after ≡ before ++ replies
     pub ran : Runs here old done replies new
 
-  -- `HasRun` holds at the start of a run, when all commands are left, the list is still `old`, and
-  -- there are no new replies.
+  -- `HasRun` holds at the start of a run. At this point, `left` contains all commands, the list is
+  -- still `old`, and `after` equals `before`, because there are no replies yet.
   pub HasRun-none : (old : Thin T A) (commands left : List (Command T A G))
       (before after : List (Reply T A G)) → left ≡ commands → after ≡ before
       → HasRun old commands left before after old
@@ -75,16 +78,18 @@ module _ {T A G J : Type 0} (here : Setting T A J) where
               (new, (stepped, refl));
         }
 
-  -- In this module, `Holds n v` is a statement about a number and a list. If a command that
-  -- satisfies `Only` turns `v` into `w`, then `Holds n v` implies
-  -- `Holds (n + count command reply) w`.
+  -- In this module, `Holds n v` is a statement about a number `n` and a list `v`, and `Only` is a
+  -- condition on commands. The module assumes the following about each command. Suppose that
+  -- `Holds n v` is true, and that a command turns `v` into `w` and gets the reply `reply`. If the
+  -- command satisfies `Only`, then `Holds (n + count command reply) w` is true.
   module _ (Holds : ℕ → Thin T A → Type 0) (Only : Command T A G → Type 0)
       (count : Command T A G → Reply T A G → ℕ)
       (step : (n : ℕ) (v w : Thin T A) (command : Command T A G) (reply : Reply T A G)
       → Only command → Holds n v → Steps here v command reply w
       → Holds (n + count command reply) w) where
-    -- If all commands of a run satisfy `Only`, and the run turns the list `v` into `w`, then
-    -- `Holds n v` implies `Holds (n + m) w`, where `m` is the sum of `count` over the run.
+    -- Suppose that all commands of a run satisfy `Only`, and that the run turns the list `v` into
+    -- `w`. If `Holds n v` is true, then `Holds (n + m) w` is true, where `m` is the sum of
+    -- `count command reply` over all commands of the run.
     pub runs-keep : (n : ℕ) (v w : Thin T A) (commands : List (Command T A G))
         (replies : List (Reply T A G)) → All Only commands → Holds n v
         → Runs here v commands replies w → Holds (n + counted count commands replies) w

@@ -16,8 +16,10 @@ use Rattle.thin_runner.specs.declared.command.Command.TheVariants.{Push, Pop}
 use Rattle.thin_runner.specs.declared.command.Reply.{Reply}
 use Rattle.thin_runner.specs.declared.command.Reply.TheVariants.{Done, Item, Returned, OutOfRange}
 
--- A bound on the capacity after the first step (`mid`) and a bound for the other steps imply a
--- bound for the whole run, from the capacity `before` to the capacity `after`.
+-- This lemma joins a bound for the first step of a run with a bound for the other steps, and so
+-- bounds the capacity after the whole run. The capacity is `before` at the start, `mid` after the
+-- first step, and `after` at the end. The length is `len` at the start, `long` after the first
+-- step, and at most `rest` from then on.
 slack-join : (before mid after len long rest : ℕ) → mid ≤ max before (max 4 (2 * long))
     → after ≤ max mid (max 4 (2 * rest)) → long ≤ rest
     → after ≤ max before (max 4 (2 * max len rest))

@@ -1,5 +1,7 @@
--- Lemmas that prove `Replaces` after a splice or an `extend` that succeeds, and `StopsBetween`
--- after one that fails. A call to `extend` is treated as a splice at the end of the list.
+-- The predicate `Replaces` describes a splice that succeeds, and `StopsBetween` describes a splice
+-- that fails. These lemmas help to prove one of the two predicates for each call to
+-- `Splice::finish` or `ThinVec::extend`. A call to `extend` is described as a splice at the end of
+-- the list.
 use Rattle.std.proofs.Common.{◌≡◌, ℕ, ◌-◌, ◌*◌, ◌<◌, List, [], ◌∷◌, ◌++◌, None, Option, Some, ap, append_assoc, arith, drop, inl, inr, length, refl, subst, sym, take, ◌∙◌}
 use Rattle.std.proofs.lemmas.Bool.{false≢true}
 use Rattle.std.proofs.Math.Seq.{drop-length, take-length}
@@ -26,13 +28,15 @@ use Rattle.thin_runner.proofs.HintedLemmas.{yields-claim, yields-items}
 some-none : {T : Type 0} {x : T} → Some x ≡ None → ⊥
 some-none e = cc
 
--- If the option `o` is `Some`, then `MatchOption o P (λ _. Q)` implies `Q`.
+-- `MatchOption o P (λ _. Q)` means `P` if the option `o` is `None`, and `Q` if `o` is `Some`. So if
+-- `o` is `Some`, this statement implies `Q`.
 pub at-some-in-hand : {X : Type 0} (P Q : Type 0) (o : Option X) → MatchOption o P (λ _. Q)
     → IsSome o → Q
 at-some-in-hand P Q (Some x) q some = q
 at-some-in-hand P Q None p some = absurd (false≢true some)
 
--- If the option `o` is `None`, then `MatchOption o P (λ _. Q)` implies `P`.
+-- `MatchOption o P (λ _. Q)` means `P` if the option `o` is `None`, and `Q` if `o` is `Some`. So if
+-- `o` is `None`, this statement implies `P`.
 pub at-no-in-hand : {X : Type 0} (P Q : Type 0) (o : Option X) → MatchOption o P (λ _. Q)
     → o ≡ None → P
 at-no-in-hand P Q (Some x) q none = absurd (some-none none)
@@ -45,8 +49,9 @@ no-items (x ∷ xs) none = absurd (omega (arith, none))
 
 module _ {T A : Type 0} (s : Hinted T A) (placed : List T)
     (error : SpliceRefused T (Hinted T A) A) where
-  -- `Broke` states that `finish` on a `Splice` with the iterator `s` failed with `error`, after it
-  -- had moved the items `placed` from `s` into the list.
+  -- `Broke` states that a call to `finish` on a `Splice` failed with `error`. The iterator of the
+  -- splice was `s` before the call. Before the failure, the call moved the items `placed` from this
+  -- iterator into the list.
   abbrev pub Broke : Type 0
   Broke = Stopped (HintedSteps {T = T} {A = A}) (can_next-default (Hinted T A) T) hinted_count s
       placed error
@@ -91,8 +96,9 @@ module _ {T A : Type 0} (s : Hinted T A) (placed : List T)
 
 module _ {T A : Type 0} (old : Thin T A) (a b : ℕ) where
   -- `IsOpened block alloc` states that `block` is the open block of a splice that replaces the
-  -- items `a..b` of the list `old`. The items before the range are in its front, and the items
-  -- after it are in its tail.
+  -- items `a..b` of the list `old`, and that `alloc` is the allocator of `old`. The front of
+  -- `block` contains the items of `old` before the range, and the tail contains the items after the
+  -- range.
   pub record IsOpened (block : Open T A) (alloc : A) : Type 0 where
     pub front : block.front ≡ take a old.items
     pub tail : block.tail ≡ drop b old.items
@@ -101,8 +107,8 @@ module _ {T A : Type 0} (old : Thin T A) (a b : ℕ) where
     pub cost : block.cost ≡ old.cost
 
   module _ (block : Open T A) (alloc : A) (is : IsOpened block alloc) where
-    -- The front and the tail of the open block `block` together form the list `cut old a b`, which
-    -- is `old` without the items `a..b`.
+    -- `left_of block alloc` is the list of the items in the front and in the tail of the open
+    -- block. It equals `cut old a b`, which is the list `old` without the items `a..b`.
     pub left-is : left_of block alloc ≡ cut old a b
     left-is = λ i. record {
       items = is.front i ++ is.tail i;
@@ -126,8 +132,10 @@ module _ {T A : Type 0} (old : Thin T A) (a b : ℕ) where
         subst (λ (v : Thin T A). CostsAdding v new (2 * (length old.items - b))) left-is
         (subst (λ (n : ℕ). CostsAdding (left_of block alloc) new (2 * n)) tail-count cost)
 
-    -- If `IsExtended` holds for the list `left_of block alloc`, then it also holds for the list
-    -- `cut old a b`, which is equal to it.
+    -- `IsExtended` states which capacity a list may have after items were added to it. The lists
+    -- `left_of block alloc` and `cut old a b` are equal, and so are the limits `left` and
+    -- `at_most most`. So if `IsExtended` holds for the first list and the first limit, then it also
+    -- holds for the second list and the second limit.
     pub ruled : (rule : Rule) (R : RattleType) (new : Thin T A) (most : ℕ) (left : Count)
         → left ≡ at_most most
         → IsExtended rule R (left_of block alloc) new.capacity (length new.items) left
@@ -138,25 +146,27 @@ module _ {T A : Type 0} (old : Thin T A) (a b : ℕ) where
         subst (λ (n : Count). of (cut old a b) n) count
         (subst (λ (v : Thin T A). of v left) left-is is_ruled)
 
-    -- If the list `cut old a b` has room for `most` more items, then the list
-    -- `left_of block alloc`, which is equal to it, also has this room.
+    -- Suppose that the list `cut old a b` has room for `most` more items, and that `size` equals
+    -- `most`. Then the list `left_of block alloc`, which equals `cut old a b`, has room for `size`
+    -- more items.
     pub room-left : (most size : ℕ) → size ≡ most → HasRoomFor (cut old a b) most
         → HasRoomFor (left_of block alloc) size
     room-left most size count room =
         subst (λ (n : ℕ). HasRoomFor (left_of block alloc) n) (sym count)
         (subst (λ (v : Thin T A). HasRoomFor v most) (sym left-is) room)
 
--- If `Replaces` or `StopsBetween` holds for the resulting list `v`, and `v` equals `w`, then it
--- also holds for `w`.
+-- If `Replaces` or `StopsBetween` holds for the resulting list `v`, and `v` equals `w`, then the
+-- same predicate also holds for `w`.
 module _ {T A : Type 0} {rule : Rule} {R : RattleType} {old v w : Thin T A} {a b : ℕ} where
-  -- If `Replaces` holds for the resulting list `v`, and `v` equals `w`, then `Replaces` holds for
-  -- `w`.
+  -- `Replaces` states that a splice turned the list `old` into another list. If `Replaces` holds
+  -- for the resulting list `v`, and `v` equals `w`, then `Replaces` also holds for `w`.
   pub replaces-of : {placed : List T} {most : ℕ} → v ≡ w → Replaces rule R old a b placed most v
       → Replaces rule R old a b placed most w
   replaces-of {placed} {most} same =
       subst (λ (u : Thin T A). Replaces rule R old a b placed most u) same
 
-  -- If `StopsBetween` holds for the resulting list `v`, and `v` equals `w`, then `StopsBetween`
+  -- `StopsBetween` states that a splice failed and turned the list `old` into another list. If
+  -- `StopsBetween` holds for the resulting list `v`, and `v` equals `w`, then `StopsBetween` also
   -- holds for `w`.
   pub stops-of : {xs held : List T} {lower : ℕ} {cause : ThinVecError} {in_hand : Option T}
       {rest : Hinted T A} → v ≡ w
@@ -171,14 +181,15 @@ module _ {T A : Type 0} (old : Thin T A) where
   pub cut-end : cut old (length old.items) (length old.items) ≡ old
   cut-end = λ i. record old { items = take-append-drop (length old.items) old.items i }
 
-  -- If the list `old` without the empty range at its end has room for `most` more items, then `old`
-  -- has room for `most` more items.
+  -- Suppose that the empty range at the end of the list `old` is removed. If the resulting list has
+  -- room for `most` more items, then `old` has room for `most` more items.
   room-end : (most : ℕ) → HasRoomFor (cut old (length old.items) (length old.items)) most
       → HasRoomFor old most
   room-end most = subst (λ (v : Thin T A). HasRoomFor v most) cut-end
 
-  -- If `most` items can be put at the end of the list `old` without new memory, then `most` is 0,
-  -- or `old` has room for `most` more items. So `P` holds if it holds in both cases.
+  -- Suppose that `most` items can replace the empty range at the end of the list `old` without new
+  -- memory (`HasPlacesFor`). Then `most` is 0, or `old` has room for `most` more items. So if a
+  -- statement `P` holds in each of these two cases, then `P` holds.
   pub places-end : (P : Type 0) (most : ℕ) → (most ≡ 0 → P) → (HasRoomFor old most → P)
       → HasPlacesFor old (length old.items) (length old.items) most → P
   places-end P most none fits (inl few) = none (omega (arith, few))
@@ -187,8 +198,9 @@ module _ {T A : Type 0} (old : Thin T A) where
 -- The lemmas of this module show that appending items to a list is the same as replacing the empty
 -- range at its end.
 module _ {T A : Type 0} (rule : Rule) (R : RattleType) (old new : Thin T A) where
-  -- `IsFilled placed most` states what the contract of `extend` says if the call succeeds and
-  -- appends the items `placed`. The iterator could yield at most `most` items.
+  -- `IsFilled placed most` describes a successful call to `extend`, which turned the list `old`
+  -- into `new`. The call appended the items `placed`, and the iterator could yield at most `most`
+  -- items. The fields are clauses of the contract of `extend`.
   pub record IsFilled (placed : List T) (most : ℕ) : Type 0 where
     pub items : new.items ≡ old.items ++ placed
     pub capacity : IsLoose rule R old.capacity new.capacity
@@ -199,8 +211,8 @@ module _ {T A : Type 0} (rule : Rule) (R : RattleType) (old new : Thin T A) wher
     pub cheap : IsCheap old → IsCheap new
     pub alloc : new.alloc ≡ old.alloc
 
-  -- If `extend` appended the items `placed` (`IsFilled`), then `Replaces` holds for the empty range
-  -- at the end of the list.
+  -- If `IsFilled` holds, that is, if `extend` appended the items `placed`, then `Replaces` holds:
+  -- the items `placed` replaced the empty range at the end of the list.
   pub replaces-end : {placed : List T} {most : ℕ} → IsFilled placed most
       → Replaces rule R old (length old.items) (length old.items) placed most new
   replaces-end {placed} {most} f =

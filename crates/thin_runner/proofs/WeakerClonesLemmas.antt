@@ -1,6 +1,7 @@
--- Every run that is possible with a clone relation is also possible with a weaker one, which allows
--- at least the same clones. So if each clone equals its source, then equality can be used as the
--- clone relation.
+-- The clone relation says which values may be clones of an item. A relation is weaker if it allows
+-- at least the same clones. Every run that is possible with a clone relation is also possible with
+-- a weaker relation. So if each clone equals its source, then every possible run is also possible
+-- with equality as the clone relation.
 use Rattle.std.proofs.Common.{◌≡◌, ℕ, List, [], ◌∷◌}
 use Rattle.std.specs.List.{AllZip}
 use Rattle.thin_vec.specs.List.Clones.{ClonesEqual, IsResized}
@@ -22,8 +23,10 @@ module _ {T : Type 0} (clones like : T → T → Type 0)
   zip-weaker (x ∷ xs) (y ∷ ys) z = (weaker x y z.0, zip-weaker xs ys z.1)
   zip-weaker xs ys z = absurd z
 
-  -- If the relation `like` allows every clone that `clones` allows, then every result of `resize`
-  -- that is possible with `clones` is also possible with `like`.
+  -- Suppose that the relation `like` is weaker than `clones`: every clone that `clones` allows is
+  -- also allowed by `like`. Suppose also that resizing the list `xs` to the length `n` with clones
+  -- of `x` may result in `ys` according to `clones`. Then `ys` is also a possible result according
+  -- to `like`.
   resized-weaker : (xs ys : List T) (n : ℕ) (x : T) → IsResized clones xs n x ys
       → IsResized like xs n x ys
   resized-weaker xs ys n x r = record {
@@ -34,8 +37,9 @@ module _ {T : Type 0} (clones like : T → T → Type 0)
 
 module _ {T A G J : Type 0} (here : Setting T A J) (like : T → T → Type 0)
     (weaker : (x y : T) → here.clones x y → like x y) where
-  -- If the relation `like` allows every clone that `here.clones` allows, then every step that is
-  -- possible with `here.clones` is also possible with `like`.
+  -- The clone relation says which values may be clones of an item. If the relation `like` allows
+  -- every clone that `here.clones` allows, then every step that is possible with `here.clones` is
+  -- also possible with `like`.
   pub step-weaker : (old new : Thin T A) (command : Command T A G) (reply : Reply T A G)
       → Steps here old command reply new
       → Steps (record here { clones = like }) old command reply new
@@ -48,8 +52,9 @@ module _ {T A G J : Type 0} (here : Setting T A J) (like : T → T → Type 0)
       (s.0, (zip-weaker here.clones like weaker old.items copy.items s.1.0, s.1.1, s.1.2))
   step-weaker old new command reply s = s
 
-  -- If the relation `like` allows every clone that `here.clones` allows, then every run that is
-  -- possible with `here.clones` is also possible with `like`.
+  -- The clone relation says which values may be clones of an item. If the relation `like` allows
+  -- every clone that `here.clones` allows, then every run that is possible with `here.clones` is
+  -- also possible with `like`.
   pub run-weaker : (old new : Thin T A) (commands : List (Command T A G))
       (replies : List (Reply T A G)) → Runs here old commands replies new
       → Runs (record here { clones = like }) old commands replies new
@@ -62,7 +67,7 @@ module _ {T A G J : Type 0} (here : Setting T A J) (like : T → T → Type 0)
 -- In this module, each clone equals its source.
 module _ {T A G J : Type 0} (here : Setting T A J) (equal : ClonesEqual here.clones) where
   -- Every run that is possible with the clone relation of `here` is also possible with equality as
-  -- the clone relation.
+  -- the clone relation. The lists and the replies of the run are the same with both relations.
   pub run-equal : (old new : Thin T A) (commands : List (Command T A G))
       (replies : List (Reply T A G)) → Runs here old commands replies new
       → Runs (record here { clones = λ x y. y ≡ x }) old commands replies new

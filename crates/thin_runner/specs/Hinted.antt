@@ -15,14 +15,14 @@ module _ {T A : Type 0} where
   abbrev pub hinted_claim : Hinted T A → ℕ
   hinted_claim h = h.lower
 
-  -- `hinted_count` is an upper bound on the number of items that the iterator may still yield: the
-  -- number of remaining items plus the lower bound of the size hint.
+  -- `hinted_count` is an upper bound on the number of items that the iterator may still yield. It
+  -- is the number of the remaining items plus the lower bound of the size hint.
   abbrev pub hinted_count : Hinted T A → Count
   hinted_count h = at_most (hinted_claim h + length (hinted_items h))
 
-  -- `HintedSteps old item new` holds if `next` may turn the iterator `old` into `new` and return
-  -- `item`: the first of the remaining items, or `None`. The lower bound of the size hint does not
-  -- change.
+  -- `HintedSteps old item new` holds if a call to `next` may turn the iterator `old` into `new` and
+  -- return `item`. If `old` has remaining items, then `item` is the first of them. Otherwise,
+  -- `item` is `None`. The lower bound of the size hint does not change.
   abbrev pub HintedSteps : Hinted T A → Option T → Hinted T A → Type 0
   HintedSteps old item new =
       YieldsFirst hinted_items old item new × (hinted_claim new ≡ hinted_claim old)

@@ -2,9 +2,11 @@
 -- for each method of the trait `Judge`.
 use Rattle.std.specs.Prelude.{ℕ, Bool}
 
--- Each field takes the state of the judge and one or two items. It returns the decision (or the
--- key), the items after the call, and the next state. `look` returns no item, because it only reads
--- its item.
+-- Each field is a function that describes one method of a judge. The function takes the state of
+-- the judge, of type `J`, and one or two items, of type `T`. It returns the decision, the items
+-- after the call, and the new state of the judge. The function `key` returns a key instead of a
+-- decision. The function `look` returns no item, because the method `look` cannot write to its
+-- item.
 pub record Judging (T J : Type 0) : Type 0 where
   pub look : J → T → Bool × J
   pub keep : J → T → Bool × T × J

@@ -14,21 +14,24 @@ use Rattle.thin_runner.specs.declared.command.Reply.{Reply}
 use Rattle.thin_runner.specs.declared.command.Reply.TheVariants.{Answers, Done, Item, List as Made, Other, OutOfRange}
 use Rattle.thin_runner.specs.declared.command.Step.TheVariants.{Front}
 
--- `Seen` is the type of the part of a reply that the main theorem determines. For `Answers`, this
--- part is the list of the results. For any other reply, it is the whole reply.
+-- `Seen T A G` is the type of the part of a reply that the main theorem determines. For the reply
+-- `Answers`, this part is the list of the results in the vector of the reply. For any other reply,
+-- this part is the whole reply. `T` is the item type, `A` is the allocator type, and `G` is the
+-- growth rule.
 pub data Seen (T A G : Type 0) : Type 0 where
   says : Reply T A G → Seen T A G
   yields : List (Option T) → Seen T A G
 
 module _ {T A G : Type 0} where
-  -- `seen reply` is the part of the reply that the main theorem determines. For `Answers`, it is
-  -- the list of the results. For any other reply, it is the whole reply.
+  -- `seen reply` is the part of the reply that the main theorem determines. For the reply
+  -- `Answers`, this part is the list of the results. For any other reply, this part is the whole
+  -- reply.
   abbrev pub seen : Reply T A G → Seen T A G
   seen (Answers answers) = yields answers.items
   seen reply = says reply
 
-  -- `in_range xs command` is true if the index or the range of the command, if it has one, is in
-  -- bounds for the items `xs`.
+  -- `in_range xs command` is true if the index or the range of the command is in bounds for the
+  -- items `xs`. It is also true if the command has neither an index nor a range.
   abbrev pub in_range : List T → Command T A G → Bool
   in_range xs (Insert i v) = nat_le i (length xs)
   in_range xs (Remove i) = nat_lt i (length xs)
@@ -41,8 +44,9 @@ module _ {T A G : Type 0} where
   in_range xs command = true
 
 module _ {T A G J : Type 0} (here : Setting T A J) where
-  -- `granted xs command` is the pair of the reply and the resulting items. The command must be in
-  -- bounds for the items `xs`, and must not fail.
+  -- Suppose that a command runs on a list with the items `xs` and does not fail, and that its index
+  -- or range is in bounds. Then `granted xs command` is a pair. It contains the reply, as a value
+  -- of the type `Seen`, and the items after the command.
   abbrev pub granted : List T → Command T A G → Seen T A G × List T
   granted xs (Push v) = (says Done, xs ++ v ∷ [])
   granted xs Pop = let last = length xs - 1 in (says (Item (slice_get xs last)), take last xs)
@@ -77,19 +81,20 @@ module _ {T A G J : Type 0} (here : Setting T A J) where
   -- remove some of them.
   granted xs command = (says Done, left_at true (unwrap_or (answered here xs command) []))
 
-  -- `plain_step xs command` is the pair of the reply and the resulting items if the command does
-  -- not fail. If the command is out of bounds, the reply is `OutOfRange`, and the items do not
-  -- change.
+  -- Suppose that a command runs on a list with the items `xs` and does not fail. Then
+  -- `plain_step xs command` is a pair. It contains the reply, as a value of the type `Seen`, and
+  -- the items after the command. If the index or the range of the command is out of bounds, the
+  -- reply is `OutOfRange`, and the items do not change.
   abbrev pub plain_step : List T → Command T A G → Seen T A G × List T
   plain_step xs command =
       if in_range xs command then granted xs command else (says (OutOfRange command), xs)
 
-  -- `reply_to xs command` is the reply if `command` runs on a list with the items `xs` and does not
-  -- fail.
+  -- If `command` runs on a list with the items `xs` and does not fail, then `reply_to xs command`
+  -- is its reply.
   abbrev pub reply_to : List T → Command T A G → Seen T A G
   reply_to xs command = (plain_step xs command).0
 
-  -- `items_after xs command` is the list of the resulting items if `command` runs on a list with
-  -- the items `xs` and does not fail.
+  -- If `command` runs on a list with the items `xs` and does not fail, then
+  -- `items_after xs command` is the list of the items after the command.
   abbrev pub items_after : List T → Command T A G → List T
   items_after xs command = (plain_step xs command).1

@@ -1,12 +1,13 @@
--- These definitions determine from a reply whether the call failed, and why it failed.
+-- These definitions take a reply, and state whether the call failed, and why it failed.
 use Rattle.std.specs.Prelude.{◌≡◌, None, Option, Some}
 use Rattle.thin_vec.specs.declared.ThinVecError.{ThinVecError}
 use Rattle.thin_runner.specs.declared.command.Reply.{Reply}
 use Rattle.thin_runner.specs.declared.command.Reply.TheVariants.{Other, Returned, Refused, Stopped}
 
 module _ {T A G : Type 0} where
-  -- `refusal_of reply` is the cause of the failure if the call failed, and `None` if it succeeded.
-  -- It is also `None` if no call was made because the command was out of bounds.
+  -- `refusal_of reply` is the cause of the failure if the call failed, and `None` if the call
+  -- succeeded. If the command was out of bounds, no call was made, and `refusal_of reply` is also
+  -- `None`.
   abbrev pub refusal_of : Reply T A G → Option ThinVecError
   refusal_of (Other back refused) = refused
   refusal_of (Returned v cause) = Some cause
@@ -14,7 +15,7 @@ module _ {T A G : Type 0} where
   refusal_of (Stopped answers cause held in_hand rest) = Some cause
   refusal_of reply = None
 
-  -- `IsGranted reply` holds if no call failed: the command succeeded, or its index or range was out
-  -- of bounds.
+  -- `IsGranted reply` holds if no call failed. This means that the command either succeeded, or was
+  -- not carried out because its index or range was out of bounds.
   abbrev pub IsGranted : Reply T A G → Type 0
   IsGranted reply = refusal_of reply ≡ None

@@ -1,5 +1,5 @@
--- These definitions state how a sequence of commands may change a list, which replies it may get,
--- and how many items it may move.
+-- These definitions state how a sequence of commands may change a list, which replies the commands
+-- may get, and how many items they may move.
 use Rattle.std.specs.Prelude.{◌≡◌, ℕ, ◌+◌, ◌-◌, ◌*◌, ◌==◌, List, [], ◌∷◌, None, if◌then◌else◌, length, max, slice_range}
 use Rattle.std.specs.Option.{unwrap_or}
 use Rattle.thin_vec.specs.ThinVec.{Thin}
@@ -13,7 +13,8 @@ use Rattle.thin_runner.specs.declared.command.Reply.{Reply}
 use Rattle.thin_runner.specs.declared.command.Reply.TheVariants.{Answers, Done, Item, OutOfRange, Other, Refused}
 
 module _ {T A G : Type 0} where
-  -- `accepted commands replies` is the number of pushes that succeeded.
+  -- `accepted commands replies` is the number of pushes in `commands` that succeeded. The list
+  -- `replies` contains the reply to each command.
   abbrev pub accepted : List (Command T A G) → List (Reply T A G) → ℕ
   accepted (Push v ∷ commands) (Done ∷ replies) = 1 + accepted commands replies
   accepted (command ∷ commands) (reply ∷ replies) = accepted commands replies
@@ -25,25 +26,26 @@ module _ {T A G : Type 0} where
   IsPushOrPop Pop = Unit {0}
   IsPushOrPop command = ⊥
 
-  -- `KeepsCheap` holds for every command except `ReserveExact` and `ShrinkToFit`. Such a command
-  -- keeps a cheap list cheap.
+  -- `KeepsCheap` holds for every command except `ReserveExact` and `ShrinkToFit`. If a list is
+  -- cheap (`IsCheap`), then it is still cheap after a command that satisfies `KeepsCheap`.
   abbrev pub KeepsCheap : Command T A G → Type 0
   KeepsCheap (ReserveExact k) = ⊥
   KeepsCheap ShrinkToFit = ⊥
   KeepsCheap command = Unit {0}
 
 module _ {T A G J : Type 0} (here : Setting T A J) where
-  -- `Runs old commands replies new` holds if the commands, in order, may turn the list `old` into
-  -- `new` and get these replies. In the definition, `mid` is the list after the first command.
+  -- `Runs old commands replies new` holds if the commands, carried out in order, may turn the list
+  -- `old` into `new` and get these replies, one for each command. In the definition, `mid` is the
+  -- list after the first command.
   abbrev pub Runs : Thin T A → List (Command T A G) → List (Reply T A G) → Thin T A → Type 0
   Runs old [] [] new = new ≡ old
   Runs old (command ∷ commands) (reply ∷ replies) new =
       (mid : Thin T A) × (Steps here old command reply mid × Runs mid commands replies new)
   Runs old commands replies new = ⊥
 
-  -- `may_move xs command reply` is an upper bound on the number of items that the command moves in
-  -- a list with the items `xs`. Items that growth copies are not counted. A command that fails
-  -- partway may move fewer items.
+  -- `may_move xs command reply` is an upper bound on the number of items that the command moves.
+  -- The command runs on a list with the items `xs`, and its reply is `reply`. Items that growth
+  -- copies are not counted.
   abbrev pub may_move : List T → Command T A G → Reply T A G → ℕ
   may_move xs command (OutOfRange back) = 0
   may_move xs (Push v) Done = 1
@@ -62,7 +64,9 @@ module _ {T A G J : Type 0} (here : Setting T A J) where
   may_move xs (Splice a b steps ys lower) reply = 2 * (length xs - b) + length ys.items
   may_move xs command reply = moved_down (flags_of (unwrap_or (answered here xs command) []))
 
-  -- `run_may_move` is the sum of the bounds `may_move` over all commands of a run.
+  -- For each command, `may_move` is an upper bound on the number of items that the command moves.
+  -- `run_may_move` is the sum of these bounds over all commands of a run. The bound for a command
+  -- depends on its reply, and on the items that the list has before the command.
   abbrev pub run_may_move : (old new : Thin T A) (commands : List (Command T A G))
       (replies : List (Reply T A G)) → Runs old commands replies new → ℕ
   run_may_move old new (command ∷ commands) (reply ∷ replies) run =

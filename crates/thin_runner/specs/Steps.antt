@@ -21,8 +21,8 @@ use Rattle.thin_runner.specs.declared.command.Reply.TheVariants.{Answers, Done, 
 use Rattle.thin_runner.specs.declared.command.Step.TheVariants.{Front}
 
 module _ {T A G : Type 0} where
-  -- `IsInRange xs command` holds if the index or the range of the command, if it has one, is in
-  -- bounds for the items `xs`.
+  -- `IsInRange xs command` holds if the index or the range of the command is in bounds for the
+  -- items `xs`. It also holds if the command has neither an index nor a range.
   abbrev pub IsInRange : List T → Command T A G → Type 0
   IsInRange xs (Insert i v) = i ≤ length xs
   IsInRange xs (Remove i) = i < length xs
@@ -36,7 +36,7 @@ module _ {T A G : Type 0} where
 
 module _ {T A G J : Type 0} (here : Setting T A J) where
   -- `Does old command reply new` holds if the command may turn the list `old` into `new` and get
-  -- this reply. The index or range of the command must be in bounds.
+  -- this reply. The definition assumes that the index or the range of the command is in bounds.
   abbrev pub Does : Thin T A → Command T A G → Reply T A G → Thin T A → Type 0
   Does old (Push v) Done new = Grows here old 1 (old.items ++ v ∷ []) 1 new
   Does old (Push v) (Returned w cause) new =
@@ -116,15 +116,16 @@ module _ {T A G J : Type 0} (here : Setting T A J) where
       × StopsBetween here.rule here.R old a b xs.items held.items lower cause in_hand rest new
   Does old (Splice a b steps xs lower) (Refused cause) new =
       (0 < length steps.items) × (cause ≡ OutOfMemory) × (new ≡ old)
-  -- After `Retain`, `RetainMut`, `Dedup`, `DedupBy` or `DedupByKey`, the list contains only the
-  -- items that the verdicts keep.
+  -- This case is about `Retain`, `RetainMut`, `Dedup`, `DedupBy` and `DedupByKey`. Such a command
+  -- tests the items. The verdict of each test says whether the item is kept. After the command, the
+  -- list contains only the kept items.
   Does old command Done new =
       MatchOption (answered here old.items command) ⊥ (λ verdicts. new ≡ sifted old verdicts)
   Does old command reply new = ⊥
 
   -- `Steps old command reply new` holds if the command may turn the list `old` into `new` and get
-  -- this reply. A command that is out of bounds is returned in `OutOfRange`, and the list does not
-  -- change.
+  -- this reply. If the index or the range of the command is out of bounds, the reply is
+  -- `OutOfRange` and contains the command, and the list does not change.
   abbrev pub Steps : Thin T A → Command T A G → Reply T A G → Thin T A → Type 0
   Steps old command (OutOfRange back) new =
       (back ≡ command) × ¬ (IsInRange old.items command) × (new ≡ old)

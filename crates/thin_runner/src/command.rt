@@ -1,5 +1,5 @@
-//! The types `Command` and `Reply`. A command describes a call to a method of a list, and a reply
-//! describes its result.
+//! Defines the types `Command` and `Reply`. A command is a value that describes a call to a method
+//! of a list. A reply is a value that describes the result of a command.
 ghost use Rattle.std.specs.Prelude.{◌≡◌};
 
 use crate::hinted::Hinted;
@@ -18,8 +18,9 @@ pub enum Step {
 
 /// A value that describes a call to a method of a list.
 ///
-/// Each variant names the method and the possible replies. If the index or the range is out of
-/// bounds, no method is called, and the reply is `OutOfRange`.
+/// The comment of each variant names the method that is called and the possible replies. If the
+/// index or the range of a command is out of bounds, no method is called, and the reply is
+/// `OutOfRange`.
 #[derive(Drop)]
 pub enum Command<T, A: Allocator = Global, G: Growth = Doubling> {
     /// Calls `push`. The reply is `Done`, or `Returned` on failure.
@@ -50,7 +51,7 @@ pub enum Command<T, A: Allocator = Global, G: Growth = Doubling> {
     /// Calls `extend_from_slice`. The reply is `Done`, or `Refused` on failure.
     ExtendFromSlice(Vec<T, A>),
     /// Calls `extend` with an iterator over the items of the vector. The number is the lower bound
-    /// of the iterator's size hint. The reply is `Done`, or `Stopped` on failure.
+    /// of the size hint of this iterator. The reply is `Done`, or `Stopped` on failure.
     Extend(Vec<T, A>, usize),
     /// Calls `append`. The reply is `Other`.
     Append(ThinVec<T, A, G>),
@@ -72,19 +73,21 @@ pub enum Command<T, A: Allocator = Global, G: Growth = Doubling> {
     /// Calls `dedup_by_key` with a closure that calls the method `key` of the judge. The reply is
     /// `Done`.
     DedupByKey,
-    /// Calls `drain` with the two indices, carries out the steps in order, and drops the `Drain`.
-    /// The reply is `Answers`, or `Refused` if there is not enough memory for the results.
+    /// Calls `drain` on the range from the first index up to, but not including, the second. Then
+    /// carries out the steps in order, and drops the `Drain`. The reply is `Answers`, or `Refused`
+    /// if there is not enough memory for the results of the steps.
     Drain(usize, usize, Vec<Step, A>),
-    /// Calls `extract_if` with the two indices and the method `take` of the judge. The last number
-    /// says how often `next` is called. The reply is `Answers`, or `Refused` if there is not enough
-    /// memory for the results.
+    /// Calls `extract_if` on the range from the first index up to, but not including, the second.
+    /// The closure calls the method `take` of the judge. The third number says how many times
+    /// `next` is called before the `ExtractIf` is dropped. The reply is `Answers`, or `Refused` if
+    /// there is not enough memory for the results of these calls.
     ExtractIf(usize, usize, usize),
-    /// Calls `splice` with the two indices and an iterator over the second vector, carries out the
-    /// steps in order, and calls `finish`. The last number is the lower bound of the iterator's
-    /// size hint.
+    /// Calls `splice` on the range from the first index up to, but not including, the second. The
+    /// new items come from an iterator over the second vector. The last number is the lower bound
+    /// of the size hint of this iterator. Then carries out the steps in order, and calls `finish`.
     ///
     /// The reply is `Answers`, `Stopped` if `finish` fails, or `Refused` if there is not enough
-    /// memory for the results.
+    /// memory for the results of the steps.
     Splice(usize, usize, Vec<Step, A>, Vec<T, A>, usize),
 }
 
@@ -99,8 +102,8 @@ pub enum Reply<T, A: Allocator = Global, G: Growth = Doubling> {
     Answers(Vec<Option<T>, A>),
     /// The list that the call made.
     List(ThinVec<T, A, G>),
-    /// The list that was passed to `append`, and the cause if `append` failed. The list is empty on
-    /// success, and unchanged on failure.
+    /// The list that was passed to `append`, and the cause of the failure if `append` failed. On
+    /// success, this list is empty. On failure, it is unchanged.
     Other(ThinVec<T, A, G>, Option<ThinVecError>),
     /// The value that was passed to a call that failed, and the cause of the failure.
     Returned(T, ThinVecError),
@@ -129,8 +132,8 @@ pub enum Reply<T, A: Allocator = Global, G: Growth = Doubling> {
 impl<T, A: Allocator, G: Growth> Reply<T, A, G> {
     ghost use Rattle.thin_runner.specs.Replies.{refusal_of};
 
-    /// Returns the cause of the failure if the call failed. Returns `None` if it succeeded, or if
-    /// no call was made because the command was out of bounds.
+    /// Returns the cause of the failure if the call failed. Returns `None` if the call succeeded,
+    /// or if no call was made because the command was out of bounds.
     pub fn refusal(&self) -> Option<ThinVecError>
         ensures value { result ≡ refusal_of self.now }
     {

@@ -1,5 +1,5 @@
-//! The iterator `Hinted`. The lower bound of its size hint may be greater or less than the number
-//! of remaining items.
+//! Defines the iterator `Hinted`. The lower bound of its size hint need not be correct: it may be
+//! greater or less than the number of items that the iterator yields.
 ghost use Rattle.std.specs.Prelude.{◌≡◌, IfSome, None};
 ghost use Rattle.std.specs.Iterator.{UpTo};
 ghost use Rattle.std.specs.Iterator.Runs.{YieldsInOrder};
@@ -8,10 +8,11 @@ ghost use Rattle.std.specs.Iterator.SizeHint.{IsWithinCount};
 use std::alloc::{Allocator, Global};
 use std::vec::IntoIter;
 
-/// An iterator that yields its items in order, and then always returns `None`.
+/// An iterator that yields its items in order, and then always returns `None`. The lower bound of
+/// its size hint never changes, and may exceed the number of remaining items.
 ///
-/// The lower bound of its size hint never changes, and may exceed the number of remaining items. To
-/// satisfy the contract of `size_hint`, `remaining` is the sum of both numbers.
+/// The contract of `size_hint` requires a lower bound that is at most the ghost value `remaining`.
+/// For this reason, `remaining` is the sum of the lower bound and the number of remaining items.
 #[derive(Drop)]
 pub struct Hinted<T, A: Allocator = Global> {
     items: IntoIter<T, A>,

@@ -1,11 +1,12 @@
-//! The trait `Judge`. Commands such as `Retain` call the methods of a judge instead of a closure.
+//! Defines the trait `Judge`. A judge is a value that makes decisions about items. Commands such as
+//! `Retain` call the methods of a judge instead of a closure.
 ghost use Rattle.std.specs.Prelude.{◌≡◌};
 
 /// A value that makes decisions about items, such as which items `retain` keeps. Commands use a
-/// judge instead of a closure.
+/// judge instead of the closures that methods such as `retain` take.
 ///
-/// Each command gets its own copy of the judge that was passed to `run` or `step`. So changes of
-/// its state do not affect the next command.
+/// Each command that uses a judge gets its own copy of the judge that was passed to `run` or
+/// `step`. So a change of the judge's state does not affect the next command.
 pub trait Judge<T>: Copy {
     ghost use Rattle.thin_runner.specs.Judge.{Judging};
 

@@ -1,4 +1,4 @@
-//! The functions `step` and `run`, which carry out commands on a list.
+//! Defines the functions `step` and `run`, which carry out commands on a list.
 ghost use Rattle.std.specs.Prelude.{◌≡◌, ◌<◌, ◌+◌, ◌≤◌, ◌↔◌, IsTrue, IfErr, IsOk, OnErr, OnOk, vec_capacity, vec_len};
 ghost use Rattle.thin_runner.specs.Headline.{Headline};
 ghost use Rattle.thin_runner.specs.Setting.{setting};
@@ -11,7 +11,8 @@ use std::alloc::Allocator;
 use std::marker::PhantomData;
 use thin_vec::{Growth, ThinVec, ThinVecError};
 
-// Returns whether the index or the range of `command`, if it has one, is in bounds.
+// Returns whether the index or the range of `command` is in bounds. Also returns true if `command`
+// has neither an index nor a range.
 fn is_in_range<T, A: Allocator, G: Growth>(
     list: &ThinVec<T, A, G>,
     command: &Command<T, A, G>,
@@ -31,11 +32,12 @@ fn is_in_range<T, A: Allocator, G: Growth>(
     }
 }
 
-/// Carries out one command, and returns the reply.
+/// Carries out one command, and returns the reply. The reply owns the values that the call
+/// returned.
 ///
-/// If the index or the range is out of bounds, the list does not change, and the command is
-/// returned in the reply `OutOfRange`. New lists and vectors use `alloc`. A command that asks the
-/// judge gets a copy of `judge`.
+/// If the index or the range of the command is out of bounds, the list does not change, and the
+/// reply is `OutOfRange`, which contains the command. The lists and vectors that the command makes
+/// use the allocator `alloc`. A command that asks the judge gets its own copy of `judge`.
 pub fn step<T: Clone + Eq, A: Allocator + Copy, G: Growth, J: Judge<T>>(
     alloc: A,
     list: &mut ThinVec<T, A, G>,
@@ -85,16 +87,16 @@ pub fn step<T: Clone + Eq, A: Allocator + Copy, G: Growth, J: Judge<T>>(
     }
 }
 
-/// Carries out the commands in order, and appends the replies to `replies`.
+/// Carries out the commands in order, and appends their replies to `replies`.
 ///
-/// New lists and vectors use the allocator `alloc`. Each command that asks the judge gets its own
-/// copy of `judge`.
+/// The lists and vectors that the commands make use the allocator `alloc`. Each command that asks
+/// the judge gets its own copy of `judge`.
 ///
 /// # Errors
 ///
-/// Fails with `OutOfMemory` if there is not enough memory for the replies. Then no command is
-/// carried out, and all commands are dropped. A failed command does not make `run` fail: its reply
-/// contains the cause.
+/// Fails with `OutOfMemory` if there is not enough memory for the replies. In this case, no command
+/// is carried out, and all commands are dropped. A command that fails does not make `run` fail: its
+/// reply contains the cause.
 pub fn run<T: Clone + Eq, A: Allocator + Copy, G: Growth, J: Judge<T>>(
     alloc: A,
     list: &mut ThinVec<T, A, G>,

@@ -1,4 +1,4 @@
-//! The implementation of the commands, with one method for each command.
+//! Implements the commands. There is one method for each command.
 mod filters;
 mod items;
 mod many;
@@ -9,8 +9,8 @@ mod splices;
 use std::marker::PhantomData;
 
 /// The values that a command may need in addition to its list: the allocator for new lists and
-/// vectors, and the judge. The record `Setting`, which contracts use, has two fields with the same
-/// values.
+/// vectors, and the judge. Contracts use another type of the same name, the record `Setting` in the
+/// folder `specs`. This record contains these two values and others.
 #[derive(Drop)]
 pub(crate) struct Setting<T, A, G, J> {
     pub(crate) alloc: A,

@@ -1,5 +1,5 @@
-//! The traits through which the workloads use lists. A workload is a task whose running time is
-//! measured.
+//! Defines the traits through which the workloads access lists. A workload is a task whose running
+//! time is measured.
 //!
 //! Each method calls the list's method of the same name, unless its comment says otherwise. A
 //! method that returns a `Result` fails if there is no room for the items.
@@ -12,8 +12,9 @@ use std::alloc::{AllocError, Global};
 use std::io::Write;
 pub use thin::Thin;
 
-/// A kind of list: `ThinVec`, or the `Vec` of Rattle's library. Each associated type is a list of
-/// this kind, except `Cells`, which is a table.
+/// A kind of list: either `ThinVec`, or the `Vec` of Rattle's library. Each associated type is a
+/// list of this kind. For example, `Numbers` is a list of `u64`. The only exception is `Cells`,
+/// which is a table.
 pub trait Family {
     type Numbers: Numbers;
 
@@ -39,8 +40,8 @@ pub trait Family {
 
     type Cells: Table;
 
-    /// Builds a tree of depth `depth` with `width` children in each inner node. Returns the sum of
-    /// the depths of all nodes. A leaf has depth 0.
+    /// Builds a tree of depth `depth`. Each node that is not a leaf has `width` children. Returns
+    /// the sum of the depths of all nodes, where a leaf has depth 0.
     ///
     /// # Errors
     ///
@@ -92,8 +93,9 @@ pub trait Numbers: List<u64> {
     /// numbers.
     fn extend_filtered(&mut self, items: &[u64]) -> Result<(), AllocError>;
 
-    /// Appends the two halves of `items` with two calls to `extend`. The two iterators have the
-    /// same type, so both calls run the same compiled code of `extend`.
+    /// Appends the first half of `items`, and then the second half, using two calls to `extend`.
+    /// The two iterators have the same type, so both calls run the same instance of the generic
+    /// method `extend`.
     fn extend_twice(&mut self, items: &[u64]) -> Result<(), AllocError>;
 
     /// Appends copies of `items`.
@@ -110,12 +112,12 @@ pub trait Numbers: List<u64> {
     /// half.
     fn split_and_append(&mut self, alloc: Global) -> Result<(), AllocError>;
 
-    /// Drains the items `start..end`. Mixes each drained item into `sum`, and returns the new sum.
-    /// Does nothing if this range is out of bounds.
+    /// Drains the items `start..end`. Mixes each drained item into `sum` with the function `mixed`,
+    /// and returns the new sum. Drains nothing if the range is out of bounds.
     fn drain_range(&mut self, start: usize, end: usize, sum: u64) -> u64;
 
     /// Replaces the items `start..end` with `C::count()` consecutive numbers, beginning with
-    /// `first`, using `splice`. The size hint of the iterator is exact. Does nothing if the range
+    /// `first`. Calls `splice` with an iterator whose size hint is exact. Does nothing if the range
     /// is out of bounds.
     fn splice_few<C: Count>(
         &mut self,
@@ -155,7 +157,7 @@ pub trait Numbers: List<u64> {
 /// A sparse table of numbers. Each number has a row and a column. The table is a `Rows` of the
 /// crate `thin_rows`, or a `BTreeMap`.
 pub trait Table: Drop {
-    /// Makes an empty table with at least `rows` rows.
+    /// Makes a table that has at least `rows` rows and no entries.
     fn with_rows(alloc: Global, rows: usize) -> Result<Self, AllocError>;
 
     /// Writes `value` at row `row` and column `column`. Does nothing if the table is a `Rows`

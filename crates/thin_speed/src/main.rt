@@ -1,5 +1,7 @@
-//! Runs the workload that each line of the input names, and prints the sum that it computes. Prints
-//! `refused` if the workload fails, and `no workload` if the line is invalid.
+//! Runs workloads, which are tasks whose running time is measured. Each line of the input names a
+//! workload. For each line, the program runs the workload, and prints the sum that the workload
+//! computes. The program prints `refused` if the workload fails, and `no workload` if the line is
+//! invalid.
 #![tactic(auto)]
 
 mod lists;
@@ -23,12 +25,12 @@ fn main(rt: HostRuntime) -> io::Result<()> {
 }
 
 // Runs the workload that `line` names, and returns its result. Returns `None` if one of the first
-// four words of the line is missing or invalid:
+// four words of the line is missing or invalid. These words are:
 //
-// - the kind of list: `thin` or `kit`
+// - the kind of list: `thin` for `ThinVec`, or `kit` for the `Vec` of Rattle's library
 // - the name of the workload
-// - the size, such as the length of a list
-// - how many times the workload does its work
+// - the size, such as the number of items, or the depth of a tree
+// - the number of times that the workload does its work
 fn asked(alloc: Global, line: &str) -> Option<Outcome> {
     let mut words = line.split_whitespace();
     let list = words.next()?;

@@ -1,23 +1,24 @@
-//! The items that the workloads put into lists, and the sums that the workloads compute from these
-//! items.
+//! Defines the items that the workloads put into lists, and the sums that the workloads compute
+//! from these items.
 ghost use Rattle.std.specs.Prelude.{◌-◌};
 ghost use Rattle.std.specs.Iterator.{at_most};
 
 use std::alloc::{AllocError, Global};
 
-/// The sum that a workload computes, or the error of the call that failed. Equal sums for two kinds
-/// of lists show that the workload most likely did the same work with both.
+/// The sum that a workload computes, or the error of the call that failed. If a workload computes
+/// equal sums with two kinds of lists, then it most likely did the same work with both kinds.
 pub type Outcome = Result<u64, AllocError>;
 
-/// Mixes `number` into `sum`, and returns the new sum, which depends on the order of the mixed
-/// numbers.
+/// Mixes `number` into `sum`, and returns the new sum. The result depends on the order in which
+/// numbers are mixed into a sum.
 pub fn mixed(sum: u64, number: u64) -> u64 {
     sum.wrapping_mul(31).wrapping_add(number)
 }
 
 /// An item of a list. Workloads mix the result of its method `number` into their sums.
 pub trait Item: Drop {
-    /// Computes a number from the item, such as the length of a string.
+    /// Computes a number from the item. For example, the number of a `u64` is the `u64` itself, and
+    /// the number of a string is its length.
     fn number(&self) -> u64;
 }
 
@@ -102,7 +103,7 @@ impl Item for String {
     }
 }
 
-/// A rule that makes the items of a list. It makes each item from the index of the item.
+/// A rule for making the items of a list. Each item is made from its index.
 pub trait Source<T: Drop> {
     /// Makes the item at index `number` of a list.
     ///
@@ -112,8 +113,8 @@ pub trait Source<T: Drop> {
     fn item(alloc: Global, number: usize) -> Result<T, AllocError>;
 }
 
-/// A rule (`Source`) that makes the items 0, 1, 2 and so on. Each number is truncated to the width
-/// of the item type.
+/// A `Source` that makes the items 0, 1, 2 and so on. Each number is truncated to the width of the
+/// item type.
 pub struct InTurn;
 
 impl Source<u8> for InTurn {
@@ -151,8 +152,7 @@ impl Source<u64> for InTurn {
     }
 }
 
-/// A rule (`Source`) that makes the item `i ^ 5` at each index `i`. Here, `^` is the bitwise
-/// exclusive or.
+/// A `Source` that makes the item `i ^ 5` at each index `i`. Here, `^` is the bitwise exclusive or.
 pub struct Turned;
 
 impl Source<u64> for Turned {
@@ -162,7 +162,7 @@ impl Source<u64> for Turned {
     }
 }
 
-/// A rule (`Source`) that makes each number twice: 0, 0, 1, 1, 2, 2 and so on.
+/// A `Source` that makes each number twice: 0, 0, 1, 1, 2, 2 and so on.
 pub struct Pairs;
 
 impl Source<u64> for Pairs {
@@ -172,7 +172,7 @@ impl Source<u64> for Pairs {
     }
 }
 
-/// A rule (`Source`) that makes items of 24 bytes.
+/// A `Source` that makes items of 24 bytes each.
 pub struct Triples;
 
 impl Source<Triple> for Triples {
@@ -183,7 +183,7 @@ impl Source<Triple> for Triples {
     }
 }
 
-/// A rule (`Source`) that makes items of 320 bytes.
+/// A `Source` that makes items of 320 bytes each.
 pub struct Wides;
 
 impl Source<Wide> for Wides {
@@ -197,7 +197,7 @@ impl Source<Wide> for Wides {
     }
 }
 
-/// A rule (`Source`) that makes a new string for each item. All these strings have the same text.
+/// A `Source` that makes a new string for each item. All these strings have the same text.
 pub struct Words;
 
 impl Source<String> for Words {
@@ -279,13 +279,13 @@ impl Count for Three {
     }
 }
 
-/// A test that either picks or rejects a number.
+/// A predicate that either picks or rejects a number.
 pub trait Pick {
-    /// Returns whether the test picks `number`.
+    /// Returns whether the predicate picks `number`.
     fn picks(number: u64) -> bool;
 }
 
-/// A test that picks the even numbers.
+/// A predicate that picks the even numbers.
 pub struct Even;
 
 impl Pick for Even {
@@ -295,8 +295,8 @@ impl Pick for Even {
     }
 }
 
-/// A test that picks a number if the highest bit of its hash is 0. It picks about half of the
-/// numbers, in an irregular pattern.
+/// A predicate that picks a number if the highest bit of the number's hash is 0. Of the numbers 0,
+/// 1, 2 and so on, it picks about half, in an irregular pattern.
 pub struct Random;
 
 impl Pick for Random {
@@ -306,7 +306,7 @@ impl Pick for Random {
     }
 }
 
-/// A test that picks all numbers except 1.
+/// A predicate that picks all numbers except 1.
 pub struct NotOne;
 
 impl Pick for NotOne {
@@ -316,8 +316,8 @@ impl Pick for NotOne {
     }
 }
 
-/// A test that picks the numbers that are not multiples of 4. Of the numbers 0, 1, 2 and so on, it
-/// picks three out of four.
+/// A predicate that picks the numbers that are not multiples of 4. Of the numbers 0, 1, 2 and so
+/// on, it picks three out of four.
 pub struct ThreeOfFour;
 
 impl Pick for ThreeOfFour {
@@ -327,8 +327,8 @@ impl Pick for ThreeOfFour {
     }
 }
 
-/// A test that picks the numbers below a million. All items of the workloads are below a million,
-/// so every item is picked.
+/// A predicate that picks the numbers below a million. All numbers in the lists of the workloads
+/// are below a million, so every item is picked.
 pub struct All;
 
 impl Pick for All {
@@ -338,8 +338,8 @@ impl Pick for All {
     }
 }
 
-/// A test that picks the numbers above a million. All items of the workloads are below a million,
-/// so no item is picked.
+/// A predicate that picks the numbers above a million. All numbers in the lists of the workloads
+/// are below a million, so no item is picked.
 pub struct Nothing;
 
 impl Pick for Nothing {
@@ -349,8 +349,8 @@ impl Pick for Nothing {
     }
 }
 
-/// A test that picks the numbers whose last four bits are not all 1. Of the numbers 0, 1, 2 and so
-/// on, it picks fifteen in a row, skips one, and so on.
+/// A predicate that picks the numbers whose last four bits are not all 1. Of the numbers 0, 1, 2
+/// and so on, it picks fifteen in a row, skips one, picks the next fifteen, and so on.
 pub struct InARun;
 
 impl Pick for InARun {

@@ -1,5 +1,5 @@
-//! The workloads, which are tasks whose running time is measured. Each workload can run on any kind
-//! of list.
+//! Defines the workloads, which are tasks whose running time is measured. Each workload can run on
+//! any kind of list.
 mod editing;
 mod filtering;
 mod growing;
@@ -19,8 +19,9 @@ pub use crate::workloads::names::named;
 use crate::workloads::tables::run_tables;
 use std::alloc::Global;
 
-/// Runs `workload` on lists of the kind `F`, and returns the sum that it computes. The workload
-/// does its work `times` times. `size` is, for example, the length of a list.
+/// Runs `workload` on lists of the kind `F`, and returns the sum that the workload computes. The
+/// workload does its work `times` times. The meaning of `size` depends on the workload. For
+/// example, it is the number of items of a list, or the depth of a tree.
 ///
 /// # Errors
 ///

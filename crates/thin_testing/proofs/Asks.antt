@@ -29,9 +29,10 @@ module _ {M : Type 1} {𝓤 : Ura M} (𝓛 : Logic 𝓤) (at_mem : Memory → SP
   abbrev pub Asks : Contract 𝓤
   Asks = triple_of 𝓛 RF.signature (RF.spec 𝓛 at_mem run)
 
-  -- `at_asks κ q c k` contains the ghost arguments for a call to `refuses`. `κ` is the lifetime of
-  -- the shared reference to the counts, and `q` is a share of the token of `κ`. The counts have the
-  -- address `c` and the value `k`.
+  -- `at_asks κ q c k` contains the ghost arguments for a call to `refuses`. Ghost arguments exist
+  -- only in the proof. The call passes a shared reference to the counts. Here, `κ` is the lifetime
+  -- of the reference, `c` is the address of the counts, and `k` is their value. The caller has a
+  -- share `q` of a token, which proves that `κ` has not ended.
   abbrev pub at_asks : Lft → Share → ℕ × ℕ → Row.Denot → Asks.Ghost
   at_asks κ q c k = (
     (

@@ -35,9 +35,11 @@ module _ {M : Type 1} {𝓤 : Ura M} (𝓛 : Logic 𝓤) (at_mem : Memory → SP
   abbrev pub Returned : Contract 𝓤
   Returned = triple_of 𝓛 RE.signature (RE.spec 𝓛 at_mem run)
 
-  -- `at_granted κ q c k y v` contains the ghost arguments for a call to `granted` with the answer
-  -- `y`, whose machine value is `v`. The counts have the address `c` and the value `k`, and `q` is
-  -- a share of the token of the lifetime `κ`.
+  -- `at_granted κ q c k y v` contains the ghost arguments for a call to `granted`. Ghost arguments
+  -- exist only in the proof. Here, `κ` is the lifetime of the shared reference to the counts, `c`
+  -- is the address of the counts, and `k` is their value. `y` is the answer of the inner allocator,
+  -- and `v` is the machine value of this answer. The caller has a share `q` of a token, which
+  -- proves that `κ` has not ended.
   abbrev pub at_granted : Lft → Share → ℕ × ℕ → Row.Denot → Answer.Denot → Val → Granted.Ghost
   at_granted κ q c k y v = (
     (
@@ -50,9 +52,10 @@ module _ {M : Type 1} {𝓤 : Ura M} (𝓛 : Logic 𝓤) (at_mem : Memory → SP
     tt,
   )
 
-  -- `at_returned κ q c k` contains the ghost arguments for a call to `returned`. `κ` is the
-  -- lifetime of the shared reference to the counts, and `q` is a share of the token of `κ`. The
-  -- counts have the address `c` and the value `k`.
+  -- `at_returned κ q c k` contains the ghost arguments for a call to `returned`. Ghost arguments
+  -- exist only in the proof. The call passes a shared reference to the counts. Here, `κ` is the
+  -- lifetime of the reference, `c` is the address of the counts, and `k` is their value. The caller
+  -- has a share `q` of a token, which proves that `κ` has not ended.
   abbrev pub at_returned : Lft → Share → ℕ × ℕ → Row.Denot → Returned.Ghost
   at_returned κ q c k =
       (((κ, tt), (q, tt), tt, (record { ref_ptr = c; now = k }, tt), (vptr c.0 c.1 ∷ [], tt)), tt)
@@ -61,8 +64,10 @@ module _ {M : Type 1} {𝓤 : Ura M} (𝓛 : Logic 𝓤) (at_mem : Memory → SP
     (κ : Lft) (q : Share) (c : ℕ × ℕ) (k : Row.Denot) where
   open 𝓛 use {H, A}
 
-  -- If the counts are shared for the lifetime `κ`, and a token proves that `κ` has not ended, then
-  -- the precondition of `granted` holds for every answer `y`.
+  -- Suppose that the caller has a shared reference to the counts with the lifetime `κ`, and a token
+  -- that proves that `κ` has not ended. Let `y` be an answer of the inner allocator to a request,
+  -- and let `v` be its machine value. Then the precondition of `granted` holds for a call with this
+  -- answer.
   pub Granted-goes : (y : Answer.Denot) (v : Val)
       → ent 𝓤 (emp 𝓤) (sem 𝓛 (Answer.own_val y (v ∷ [])))
       → ent 𝓤 (sep 𝓤 (sem 𝓛 (hidden_shr Row κ k c.0 c.1)) (A.lft κ q))

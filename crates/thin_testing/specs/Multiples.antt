@@ -1,5 +1,6 @@
--- This file defines growth rules that multiply the capacity, and proves that they keep the law
--- `KeepsLaw`. The proofs are in `specs` because the implementations of `Growth` refer to them.
+-- This file defines growth rules that multiply the capacity. It also proves that these rules
+-- satisfy `KeepsLaw`, the law that every growth rule must satisfy. The proofs are in the folder
+-- `specs` and not in `proofs`, because the implementations of `Growth` refer to them.
 use Rattle.std.specs.Prelude.{◌≡◌, ℕ, ◌*◌, ◌≤◌, Bool, true, false, IsTrue, if◌then◌else◌, max, refl}
 use Rattle.std.specs.declared.option.Option.TheVariants.{Some, None}
 use Rattle.std.proofs.Common.{mul-le-mul_right, subst, arith}
@@ -7,7 +8,7 @@ use Rattle.thin_vec.specs.Capacity.{fits}
 use Rattle.thin_vec.specs.Growth.{Rule, KeepsLaw, fitting}
 
 -- The growth rule `multiple k` chooses `k` times the old capacity, or the required capacity if that
--- is greater. It returns `None` if this capacity is too large to be allocated.
+-- is greater. It returns `None` if a block of the chosen capacity is too large to be allocated.
 unfoldable pub multiple : ℕ → Rule
 multiple k s a c w = fitting s a (max w (k * c))
 
@@ -26,13 +27,15 @@ when_some : (b : Bool) (m n : ℕ) → (if b then Some m else None) ≡ Some n �
 when_some true m n e = (refl, cc)
 when_some false m n e = cc
 
--- If `fitting s a m` is `Some n`, then `m` equals `n`, and a block of capacity `m` is small enough
--- to be allocated.
+-- `fitting s a m` is `Some m` if a block of capacity `m` is small enough to be allocated.
+-- Otherwise, it is `None`. Here, the items have the size `s` and the alignment `a`. So if
+-- `fitting s a m` equals `Some n`, then the block is small enough, and `m` equals `n`.
 fitting_is : (s a m n : ℕ) → fitting s a m ≡ Some n → IsTrue (fits s a m) × (m ≡ n)
 unfolding fitting
 fitting_is s a m n e = when_some (fits s a m) m n e
 
--- If `2 <= k`, then the growth rule `multiple k` satisfies the law of growth rules, `KeepsLaw`.
+-- If `2 <= k`, then the growth rule `multiple k` satisfies `KeepsLaw`, the law that every growth
+-- rule must satisfy.
 multiple_law : (k : ℕ) → 2 ≤ k → KeepsLaw (multiple k)
 unfolding multiple
 multiple_law k least s a c w n more word e =
@@ -45,10 +48,10 @@ multiple_law k least s a c w n more word e =
           subst (λ (m : ℕ). IsTrue (fits s a m)) told.1 told.0;
     }
 
--- The growth rule `fourfold` satisfies the law of growth rules, `KeepsLaw`.
+-- The growth rule `fourfold` satisfies `KeepsLaw`, the law that every growth rule must satisfy.
 pub fourfold_law : KeepsLaw fourfold
 fourfold_law = multiple_law 4 (omega arith)
 
--- The growth rule `threefold` satisfies the law of growth rules, `KeepsLaw`.
+-- The growth rule `threefold` satisfies `KeepsLaw`, the law that every growth rule must satisfy.
 pub threefold_law : KeepsLaw threefold
 threefold_law = multiple_law 3 (omega arith)

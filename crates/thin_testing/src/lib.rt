@@ -1,5 +1,6 @@
-//! Types that several test crates use: the allocator `Refusing`, the growth rules `Fourfold` and
-//! `Threefold`, and the trait `Ruled`, which computes the expected capacities.
+//! Provides tools for the tests of several crates. The allocator `Refusing` refuses one request,
+//! which the test chooses. `Fourfold` and `Threefold` are growth rules that only tests use. The
+//! trait `Ruled` computes the capacities that tests expect.
 #![tactic(auto)]
 
 mod multiples;

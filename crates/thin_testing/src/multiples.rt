@@ -1,5 +1,6 @@
-//! Two growth rules that only tests use. They show that lists satisfy their contracts even with
-//! growth rules that `thin_vec` does not define.
+//! Defines two growth rules that only tests use. The crate `thin_vec` does not define these rules.
+//! So tests with these rules check that lists satisfy their contracts even if a program defines its
+//! own growth rule.
 ghost use Rattle.std.specs.Prelude.{◌≡◌};
 ghost use Rattle.std.specs.Mem.{type_size};
 ghost use Rattle.std.specs.Align.{type_align};
@@ -39,8 +40,9 @@ impl Growth for Threefold {
     ghost law = { threefold_law };
 }
 
-// Returns `cap * times`, or `want` if that is greater. Returns `None` if a block of this capacity
-// is too large to be allocated.
+// Returns the capacity to which a list of capacity `cap` grows if it needs room for `want` items.
+// This capacity is `cap * times`, or `want` if `want` is greater. Returns `None` if a block of this
+// capacity is too large to be allocated.
 fn next_multiple<T>(times: usize, cap: usize, want: usize) -> Option<usize>
     ensures value { result ≡ multiple times (type_size T.row) (type_align T.row) cap want }
 {

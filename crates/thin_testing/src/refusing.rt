@@ -1,21 +1,23 @@
-//! `Refusing` is an allocator for tests. It passes requests on to an allocator `inner`, but refuses
-//! one request, which the test chooses. Each call to `allocate`, `grow` or `shrink` is a request.
+//! Defines `Refusing`, an allocator for tests. It wraps another allocator, `inner`. It refuses one
+//! request, which the test chooses, and passes all other requests on to `inner`. A request is a
+//! call to `allocate`, `grow` or `shrink`.
 //!
-//! Pass it by reference, as `&Refusing<Global>`. A reference to an allocator is itself an
-//! allocator, and it is `Copy`.
+//! Pass the allocator by reference, as `&Refusing<Global>`. A reference to an allocator is itself
+//! an allocator, and it is `Copy`.
 //!
-//! The method `blocks` returns the number of allocated blocks, so that a test can detect a leak.
-//! The sizes of blocks are not counted.
+//! The method `blocks` returns the number of blocks that are allocated and have not been freed yet.
+//! So a test can detect a leak. The sizes of the blocks are not counted.
 //!
-//! Contracts cannot mention the contents of a `Cell`. So it is only tested, and not proved, which
-//! request is refused and what `requests` and `blocks` return. It is proved that every block comes
-//! from `inner` and is returned to `inner`.
+//! Contracts cannot mention the contents of a `Cell`. So only tests show which request is refused,
+//! and what `requests` and `blocks` return. It is proved that every block comes from `inner`, and
+//! that a block that is freed is returned to `inner`.
 use std::alloc::{AllocError, Allocator};
 use std::cell::Cell;
 
-// The counters of a `Refusing`. `requests` counts the requests since the creation or the last call
-// to `refuse`, and `blocks` counts the allocated blocks. `refused` is the number of the refused
-// request, or 0 if there is none.
+// The counters of an allocator `Refusing`, and the number of the request that it refuses.
+// `requests` is the number of requests since the allocator was created or since the last call to
+// `refuse`. `blocks` is the number of blocks that are allocated and have not been freed yet.
+// `refused` is the number of the refused request, or 0 if no request is refused.
 #[derive(Drop)]
 struct Counts {
     requests: Cell<u64>,
@@ -49,8 +51,8 @@ pub struct Refusing<B: Allocator> {
 }
 
 impl<B: Allocator> Refusing<B> {
-    /// Returns an allocator that owns `inner` and refuses the request with the number `refused`.
-    /// The first request has the number 1. If `refused` is 0, no request is refused.
+    /// Returns an allocator that owns `inner` and refuses request number `refused`. The first
+    /// request has the number 1. If `refused` is 0, no request is refused.
     pub fn new(inner: B, refused: u64) -> Refusing<B> {
         Refusing {
             inner,
@@ -62,20 +64,21 @@ impl<B: Allocator> Refusing<B> {
         }
     }
 
-    /// Sets the count of requests to 0. After that, the request with the number `refused` is
-    /// refused, or no request if `refused` is 0.
+    /// Sets the number of requests to 0. So the next request has the number 1. The allocator will
+    /// refuse request number `refused`. If `refused` is 0, it will refuse no request.
     pub fn refuse(&self, refused: u64) {
         self.counts.requests.set(0);
         self.counts.refused.set(refused);
     }
 
-    /// Returns the number of requests since the creation of the allocator or the last call to
-    /// `refuse`. Refused requests count, too.
+    /// Returns the number of requests since the allocator was created or since the last call to
+    /// `refuse`. A refused request counts, too.
     pub fn requests(&self) -> u64 {
         self.counts.requests.get()
     }
 
-    /// Returns the number of allocated blocks. A call to `refuse` does not change this number.
+    /// Returns the number of blocks that are allocated and have not been freed yet. A call to
+    /// `refuse` does not change this number.
     pub fn blocks(&self) -> u64 {
         self.counts.blocks.get()
     }

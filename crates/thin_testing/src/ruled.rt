@@ -1,12 +1,13 @@
-//! For each growth rule, a function that computes the capacities that tests expect. Unlike the
-//! rule, it also returns capacities that are too large to be allocated.
+//! For each growth rule, defines a function that computes the capacities that tests expect. If a
+//! capacity is too large to be allocated, the rule returns `None`, but the function still returns
+//! this capacity.
 use crate::multiples::{Fourfold, Threefold};
 use thin_vec::{Doubling, Growth, PowerBytes};
 
 /// A growth rule, together with a function that computes the expected capacities.
 pub trait Ruled: Growth {
-    /// Returns the capacity of a list that grows from `capacity` because it needs room for `want`
-    /// items of `size` bytes. `want` must be greater than `capacity`.
+    /// Returns the capacity to which a list of capacity `capacity` grows if it needs room for
+    /// `want` items of `size` bytes each. `want` must be greater than `capacity`.
     fn expected_capacity(size: usize, capacity: usize, want: usize) -> usize;
 }
 
@@ -21,9 +22,9 @@ impl Ruled for Doubling {
 }
 
 impl Ruled for PowerBytes {
-    // Computes the smallest power of two that has room, in bytes, for a header of 16 bytes and
-    // `max(want, 2 * capacity)` items. Returns how many items fit into such an allocation. If
-    // `size` is 0, the result is the same as for `Doubling`.
+    // Computes the size of the allocation, and returns how many items fit into it after a header of
+    // 16 bytes. The size in bytes is the smallest power of two with room for the header and for
+    // `max(want, 2 * capacity)` items. If `size` is 0, the result is the same as for `Doubling`.
     fn expected_capacity(size: usize, capacity: usize, want: usize) -> usize {
         if size == 0 {
             return Doubling::expected_capacity(size, capacity, want);

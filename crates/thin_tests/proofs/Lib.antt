@@ -1,2 +1,2 @@
--- The lemmas of this crate are about two splices of a list, of which the second undoes the first.
+-- The lemmas of this crate are about two splices of a list. The second splice undoes the first one.
 mod SpliceLemmas

@@ -1,5 +1,6 @@
--- If a splice replaces a range of a list, and a second splice puts the old items back, then the
--- list has its old items again.
+-- This file is about two splices of a list. The first splice replaces the items of a range. The
+-- second splice puts the old items back. The file proves that the list then has all its old items
+-- again.
 use Rattle.std.proofs.Common.{◌≡◌, ℕ, ◌+◌, ◌≤◌, List, ◌++◌, ◌∙◌, ap, append_assoc, arith, drop, length, length-append, sym, take}
 use Rattle.std.proofs.lemmas.List.{drop_at, length-take-le, take_at}
 use Rattle.std.proofs.lemmas.List.Edits.{split_between}
@@ -8,8 +9,8 @@ use Rattle.std.specs.declared.result.Result.{Result}
 use Rattle.std.specs.declared.result.Result.TheVariants.{Ok, Err}
 
 module _ {T : Type 0} (old numbers : List T) (start stop : ℕ) where
-  -- If replacing the items `start..stop` of the list `old` with `numbers` results in `new`, then
-  -- putting the removed items back results in `old` again.
+  -- Suppose that replacing the items `start..stop` of the list `old` with `numbers` results in
+  -- `new`. Then replacing these numbers in `new` with the removed items results in `old` again.
   pub put_back : (new : List T) → start ≤ stop → stop ≤ length old
       → new ≡ (take start old ++ numbers) ++ drop stop old
       → (take start new ++ slice_range old start stop) ++ drop (start + length numbers) new ≡ old
@@ -29,8 +30,8 @@ module _ {T : Type 0} (old numbers : List T) (start stop : ℕ) where
       (λ i. (front i ++ gone) ++ back i)
       ∙ (append_assoc pre gone post ∙ sym (split_between old start stop order))
 
--- If `P` implies `Q`, then `OnOk r P` implies `OnOk r Q`. (`OnOk r P` states that `P` holds if `r`
--- is `Ok`.)
+-- `OnOk r P` states that `P` holds if the result `r` is `Ok`. So if `P` implies `Q`, then
+-- `OnOk r P` implies `OnOk r Q`.
 pub on_ok : {X E P Q : Type 0} (r : Result X E) → (P → Q) → OnOk r P → OnOk r Q
 on_ok (Ok _) h p = h p
 on_ok (Err _) h p = p

@@ -1,7 +1,8 @@
-//! Tests of `ThinVec`, `Block`, `Rows`, `Refusing`, and of the crate `thin_examples`.
+//! Tests of `ThinVec`, of `Block`, of the table `Rows`, of the example functions and worked
+//! examples in `thin_examples`, and of the allocator `Refusing`.
 //!
-//! The checker proves the contracts of a crate twice if the crate contains tests. For this reason,
-//! the tests are in a crate of their own.
+//! The tests are in a crate of their own, because the checker proves the contracts of a crate twice
+//! if the crate contains tests. So the contracts of the tested crates are proved only once.
 #![tactic(auto)]
 
 #[cfg(test)]

@@ -1,5 +1,5 @@
-//! Tests of behavior that no contract states. Some submodules also contain functions whose
-//! contracts show what a caller can prove about `ThinVec`.
+//! Tests of behavior that no contract states. Some submodules also contain functions with
+//! contracts. These contracts show what a caller can prove from the contracts of `ThinVec`.
 mod allocators;
 mod arguments;
 mod capacities;

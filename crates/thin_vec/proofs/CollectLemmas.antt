@@ -1,4 +1,4 @@
--- These lemmas are for proofs about code that collects the items of an iterator in a `ThinVec`.
+-- These lemmas are for proofs about code that collects the items of an iterator into a `ThinVec`.
 -- They state which items the new list contains.
 use Rattle.std.proofs.Common.{◌≡◌, Err, IfOk, List, Ok, Option, Result}
 use Rattle.std.proofs.lemmas.Iterator.{YieldsList}
@@ -17,8 +17,9 @@ module _ {T A E : Type 0} where
   if_ok (Ok v) implies p = implies v p
   if_ok (Err e) implies p = p
 
-  -- If `collect` returns a `ThinVec`, then it contains exactly the items `all` that the iterator
-  -- yields. This lemma corresponds to std's `items_from_collect`.
+  -- If the iterator yields exactly the items `all`, and `collect` returns a `ThinVec`, then this
+  -- `ThinVec` contains exactly the items `all`. This lemma corresponds to std's
+  -- `items_from_collect`.
   pub items_from_collect : {S : Type 0} {steps : S → Option T → S → Type 0} {s : S} {all : List T}
       (R : RattleType) (r : Result (Thin T A) E)
       → IfOk r (λ v. (xs : List T) × DrainsIf steps ⊤ s xs × IsMadeOf R xs v)

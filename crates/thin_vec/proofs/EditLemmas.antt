@@ -1,5 +1,6 @@
--- These lemmas are for proofs about code that calls `dedup_by`, `dedup_by_key` or `extract_if`. In
--- most of them, the closure changes no item, and its result depends only on the items.
+-- These lemmas are for proofs about code that calls `dedup_by`, `dedup_by_key` or `extract_if`.
+-- Most of them require that the closure changes no item, and that its result depends only on the
+-- items passed to it.
 use Rattle.std.proofs.Common.{◌≡◌, ◌+◌, ◌≤◌, Bool, true, false, List, [], ◌∷◌, ◌++◌, Option, None, Some, ap, append_assoc, arith, length, refl, sym, ◌∙◌}
 use Rattle.std.proofs.lemmas.Fn.{dedup_same}
 use Rattle.std.proofs.lemmas.List.{append-nil, length-append}
@@ -18,11 +19,14 @@ use Rattle.thin_vec.specs.declared.edits.holder.Holds.{Ghosts as HoldsGhosts}
 
 -- The following lemmas are about `dedup_by` and `dedup_by_key`.
 
--- In this module, `R` describes calls to a closure that compares two items. Its arguments are the
--- old state of the closure, both items, the result, the new state, and both items after the call.
+-- In this module, `R` describes the calls to a closure that compares two items. `R` has seven
+-- arguments: the state of the closure before the call, the two items, the result of the call, the
+-- state after the call, and the two items as the call left them.
 module _ {S T : Type 0} (R : S → T → T → Bool → S → T → T → Type 0) where
-  -- If `AskedLast` holds, then std's `DedupsFrom` also holds. Both state that removing the
-  -- duplicates from `k ∷ xs` leaves `ys`.
+  -- Suppose that a closure compared each item of the list `xs`, in order, with the last item kept
+  -- before it. (The first item of `xs` was compared with the item `k`.) If `ys` is the list of `k`
+  -- and the kept items of `xs`, then std's `DedupsFrom` holds: removing the duplicates from
+  -- `k ∷ xs` leaves `ys`.
   dedups_from : (xs : List T) (s : S) (k : T) (stays : List Bool) (ys : List T) (t : S)
       → AskedLast R s k xs stays ys t → DedupsFrom R s k xs ys
   dedups_from [] s k stays ys t h = h.1
@@ -42,22 +46,25 @@ module _ {S T : Type 0} (R : S → T → T → Bool → S → T → T → Type 0
         ]) h.7,
   )
 
-  -- If `AskedPairs` holds, then std's `DedupsAll` also holds. Both state that removing the
-  -- duplicates from `xs` leaves `ys`.
+  -- Suppose that a closure compared each item of the list `xs`, except the first, with the last
+  -- item kept before it. If `ys` is the list of all kept items, including the first item, then
+  -- std's `DedupsAll` holds: removing the duplicates from `xs` leaves `ys`.
   dedups_all : (xs : List T) (s : S) (stays : List Bool) (ys : List T) (t : S)
       → AskedPairs R s xs stays ys t → DedupsAll R s xs ys
   dedups_all [] s stays ys t h = h.1
   dedups_all (x ∷ xs) s stays ys t h = dedups_from xs s x stays ys t h
 
-  -- If `dedup_by` or `dedup_by_key` turned the list `v` into `w`, then std's `IsDeduped` holds for
-  -- their items. Lemmas about `IsDeduped` are in the file `lemmas/Fn` of std's proofs.
+  -- If `dedup_by` or `dedup_by_key` turned the list `v` into the list `w`, then std's `IsDeduped`
+  -- holds: removing the duplicates from `v.items` leaves `w.items`. Lemmas about `IsDeduped` are in
+  -- the file `lemmas/Fn` of std's proofs.
   pub deduped_deduped : {A : Type 0} (s : S) (v w : Thin T A) → IsDedupedBy R s v w
       → IsDeduped R s v.items w.items
   deduped_deduped s v w h =
       record { told = dedups_all v.items s h.1.stays w.items h.0 h.1.asked }
 
-  -- If the closure changes neither an item nor its state, and returns `same x y` for each pair of
-  -- items, then `dedup_by` turns `v.items` into `dedup same v.items`.
+  -- Suppose that a closure changes neither an item nor its own state, and returns `same x y` when
+  -- it compares the item `x` with the last kept item `y`. If `dedup_by` with this closure turned
+  -- the list `v` into the list `w`, then `w.items` is `dedup same v.items`.
   pub deduped_dedup : {A : Type 0} (same : T → T → Bool) {s : S} {v w : Thin T A}
       → ((x y : T) (b : Bool) (t : S) (x' y' : T) → R s x y b t x' y'
       → (b ≡ same x y) × (t ≡ s) × (x' ≡ x) × (y' ≡ y))
@@ -72,8 +79,9 @@ module _ {T : Type 0} (test : T → Bool) where
   abbrev pub others : List T → List T
   others xs = filter (λ x. not (test x)) xs
 
-  -- `Parts xs item kept rest` describes a search in `xs` for the first item that passes `test`.
-  -- `item` is this item, or `None`. The items `kept` did not pass, and the items `rest` were not
+  -- `Parts xs item kept rest` describes a call to `next` on an `ExtractIf`. The call tests the
+  -- items of the list `xs`, in order, until an item passes the test. `item` is this item, or `None`
+  -- if no item passes. The items `kept` were tested and did not pass, and the items `rest` were not
   -- tested.
   pub record Parts (xs : List T) (item : Option T) (kept rest : List T) : Type 0 where
     pub gone : filter test xs ≡ option_to_list item ++ filter test rest
@@ -113,8 +121,9 @@ module _ {T : Type 0} (test : T → Bool) where
           ended = then.ended;
         }
 
-    -- If the closure changes no item and always returns the result of `test`, then `Parts`
-    -- describes the call to `next`: `item` is the first item of `xs` that passes `test`, or `None`.
+    -- Suppose that a closure changes no item and always returns the result of `test`. If `next` is
+    -- called on an `ExtractIf` whose untested items are `xs`, then `Parts` describes this call:
+    -- `item` is the first item of `xs` that passes `test`, or `None` if no item passes.
     pub parts : (s : S) (xs : List T) (item : Option T) (t : S) (kept rest : List T)
         → ExtractsNext R s xs item t kept rest → Parts xs item kept rest
     parts s [] item t kept rest e = record {
@@ -131,9 +140,9 @@ module _ {T : Type 0} (test : T → Bool) where
 -- returns. The predicate `test` says which items the `ExtractIf` extracts.
 module _ {T F A G : Type 0} {g : Ghosts G}
     {h : HoldsGhosts (Holder (Extracting T F A)) (Extracting T F A)} (test : T → Bool) where
-  -- `IsExtracting start now old held` is the invariant of a loop that appends the items of an
-  -- `ExtractIf` to a list. At first, the `ExtractIf` is `start` and the list is `old`. At present,
-  -- they are `now` and `held`.
+  -- `IsExtracting` is the invariant of a loop that appends each item yielded by an `ExtractIf` to a
+  -- list. When the loop began, the `ExtractIf` was `start` and the list was `old`. Now the
+  -- `ExtractIf` is `now` and the list is `held`.
   pub record IsExtracting (start now : ExtractIf T F A G (Holder (Extracting T F A)) g h)
       (old held : List T) : Type 0 where
     pub gone : held ++ filter test (extract_rest now) ≡ old ++ filter test (extract_rest start)
@@ -144,8 +153,8 @@ module _ {T F A G : Type 0} {g : Ghosts G}
     pub count : length held + length (extract_rest now)
         ≤ length old + length (extract_rest start)
 
-  -- `IsExtracting`, the invariant of a loop over an `ExtractIf`, holds at the start of the loop,
-  -- before any item has been yielded.
+  -- `IsExtracting` is the invariant of a loop that appends each item yielded by an `ExtractIf` to a
+  -- list. It holds at the start of the loop, before any item has been yielded.
   pub extract_start : (e : ExtractIf T F A G (Holder (Extracting T F A)) g h) (old : List T)
       → IsExtracting e e old old
   extract_start e old =
@@ -182,9 +191,10 @@ module _ {T F A G : Type 0} {g : Ghosts G}
           );
         }
 
-    -- If `IsExtracting` holds and `next` returns `None`, then the loop has appended exactly the
-    -- items of the range that pass `test`. Dropping the `ExtractIf` leaves all other items in the
-    -- `ThinVec`.
+    -- Suppose that `IsExtracting` holds for a loop over an `ExtractIf`, and that `next` returns
+    -- `None`. Then the loop has appended exactly the items of the range that pass `test`. After the
+    -- `ExtractIf` is dropped, the `ThinVec` contains the other items of the range and the items
+    -- outside the range.
     pub extract_end : {start now new : ExtractIf T F A G (Holder (Extracting T F A)) g h}
         {old held : List T} {item : Option T} → IsExtracting start now old held
         → ExtractSteps R now item new → item ≡ None

@@ -15,8 +15,8 @@ use Rattle.thin_block.proofs.Outcomes.{some-same}
 use Rattle.thin_vec.specs.List.Capacity.{Reserves, TellsOverflowOf}
 use Rattle.thin_vec.specs.ThinVec.{IsCause, Thin}
 
--- If `n` and the size of an item in bytes are less than `2 ^ 31`, then the exact capacity of a new
--- list for `n` items is `n`.
+-- If `n` and the size of an item in bytes are less than `2 ^ 31`, then `exact_capacity` returns the
+-- capacity `n` for a new list that needs room for `n` items.
 pub exact-few : (R : RattleType) (n : ℕ) → n < 2 ^ 31 → type_size R < 2 ^ 31
     → exact_capacity R 0 n ≡ Some n
 exact-few R zero few small = exact-same R 0 0 (omega arith)
@@ -27,15 +27,16 @@ exact-few R (suc n) few small =
 none_some : {A B : Type 0} (x : A) → None ≡ Some x → B
 none_some x e = cc
 
--- `named` is the capacity that a failed call needed, or `None` if it was too large. If `named` is
--- `Some n`, then the error `cause` of the call is `OutOfMemory`.
+-- Suppose that a call fails with the error `cause`. Here, `named` is the capacity that the call
+-- needed, or `None` if this capacity was too large. If `named` is `Some n`, then `cause` is
+-- `OutOfMemory`.
 cause-named : (named : Option ℕ) (n : ℕ) (cause : ThinVecError) → named ≡ Some n
     → IsCause named cause → cause ≡ OutOfMemory
 cause-named named n OutOfMemory here told = refl
 cause-named named n CapacityOverflow here told = none_some n (sym (told refl) ∙ here)
 
--- If `n` and the size of an item in bytes are less than `2 ^ 31`, then creating a list with room
--- for exactly `n` items can fail only with `OutOfMemory`.
+-- Suppose that a call creates a list with room for exactly `n` items. If `n` and the size of an
+-- item in bytes are less than `2 ^ 31`, then the call can fail only with `OutOfMemory`.
 pub few_items : {X : Type 0} (R : RattleType) (n : ℕ) (result : Result X ThinVecError)
     → n < 2 ^ 31 → type_size R < 2 ^ 31 → TellsOverflowOf R n result
     → IfErr result (λ cause. cause ≡ OutOfMemory)
@@ -44,19 +45,21 @@ few_items R n (Err cause) few small told =
     cause-named (exact_capacity R 0 n) n cause (exact-few R n few small)
     (λ over. told.overflow.0 (ap Err over))
 
--- If `m` and `n` are less than `2 ^ 31`, then `if b then m else n` is also less than `2 ^ 31`.
+-- If `m` and `n` are less than `2 ^ 31`, then the number `if b then m else n` is also less than
+-- `2 ^ 31`.
 either_few : (b : Bool) (m n : ℕ) → m < 2 ^ 31 → n < 2 ^ 31 → (if b then m else n) < 2 ^ 31
 either_few true m n few less = few
 either_few false m n few less = less
 
--- If an item takes `s` bytes and a list of capacity 0 grows under `doubling`, then its new capacity
--- is at least `first s`, which is less than `2 ^ 31`.
+-- `first s` is the least capacity that the growth rule `doubling` chooses for the first block of a
+-- list with items of `s` bytes. It is less than `2 ^ 31`.
 first_few : (s : ℕ) → first s < 2 ^ 31
 unfolding first
 first_few s = either_few (nat_lt (2 ^ 61 - 1) s) 1 4 (omega arith) (omega arith)
 
--- If a list needs room for fewer than `2 ^ 30` items, and an item takes less than `2 ^ 31` bytes,
--- then the growth rule `doubling` chooses a capacity.
+-- Suppose that a list of capacity `c` needs room for `w` items. If `w` is less than `2 ^ 30`, and
+-- the size of an item in bytes is less than `2 ^ 31`, then the growth rule `doubling` chooses a
+-- capacity.
 pub doubling-few : (R : RattleType) (c w : ℕ) → w < 2 ^ 30 → type_size R < 2 ^ 31
     → (n : ℕ) × (ruled_capacity doubling R c w ≡ Some n)
 unfolding doubling fitting
@@ -71,8 +74,9 @@ doubling-few R c w few small = elim (cases_lt c w) [
   | inr enough ↦ (c, ruled-same doubling R c w enough)
 ]
 
--- If `length v.items + k < 2 ^ 30`, and an item takes less than `2 ^ 31` bytes, then reserving room
--- for `k` more items under `doubling` can fail only with `OutOfMemory`.
+-- Suppose that a call reserves room for `k` more items in the list `v` under the growth rule
+-- `doubling`. If `length v.items + k` is less than `2 ^ 30`, and the size of an item in bytes is
+-- less than `2 ^ 31`, then the call can fail only with `OutOfMemory`.
 pub few_more : {X T A : Type 0} (R : RattleType) (k : ℕ) (v w : Thin T A)
     (result : Result X ThinVecError) → length v.items + k < 2 ^ 30 → type_size R < 2 ^ 31
     → Reserves doubling R k v w result → IfErr result (λ cause. cause ≡ OutOfMemory)
@@ -92,20 +96,21 @@ either_most : (b : Bool) → (if b then 1 else 4) ≤ 4
 either_most true = omega arith
 either_most false = omega arith
 
--- If an item takes `s` bytes and a list of capacity 0 grows under `doubling`, then its new capacity
--- is at least `first s`, which is at most 4.
+-- `first s` is the least capacity that the growth rule `doubling` chooses for the first block of a
+-- list with items of `s` bytes. It is at most 4.
 first_most : (s : ℕ) → first s ≤ 4
 unfolding first
 first_most s = either_most (nat_lt (2 ^ 61 - 1) s)
 
--- If a list of capacity `c` grows under `doubling`, then its new capacity is at least `2 * c`, or
--- `first s` if `c` is 0. If `c < w`, then both numbers are at most `max 4 (2 * w)`.
+-- Suppose that a list of capacity `c` needs room for `w` items, and that `c < w`. Then both `2 * c`
+-- and `first s` are at most `max 4 (2 * w)`. Here, `first s` is the least capacity of the first
+-- block of a list with items of `s` bytes.
 twice-most : (b : Bool) (s c w : ℕ) → c < w → (if b then first s else 2 * c) ≤ max 4 (2 * w)
 twice-most true s c w more = omega (arith, first_most s)
 twice-most false s c w more = omega (arith, more)
 
--- If a list of capacity `c < w` needs room for `w` items, and the growth rule `doubling` chooses
--- the capacity `n`, then `n ≤ max 4 (2 * w)`.
+-- Suppose that a list of capacity `c` needs room for `w` items, and that `c < w`. If the growth
+-- rule `doubling` chooses the capacity `n` for this list, then `n ≤ max 4 (2 * w)`.
 pub doubling-most : (R : RattleType) (c w n : ℕ) → c < w → ruled_capacity doubling R c w ≡ Some n
     → n ≤ max 4 (2 * w)
 unfolding doubling fitting

@@ -14,8 +14,9 @@ use Rattle.thin_vec.proofs.list.InsertRemoveLemmas.{full-set}
 use Rattle.thin_vec.proofs.ListLemmas.{IsWritten, Settled, settle-front, thin-room}
 
 module _ {T : Type 0} where
-  -- Writing the items `ws` over the slots `full xs ++ empty k` replaces the first items of `xs`.
-  -- The empty slots stay empty, even if `ws` is longer than `xs`.
+  -- The slots `full xs ++ empty k` hold the items `xs`, followed by `k` empty slots. Writing the
+  -- items `ws` over these slots, from slot 0 onward, replaces the first items of `xs`. The empty
+  -- slots stay empty, even if `ws` is longer than `xs`.
   pub over-front : (xs : List T) (k : ℕ) (ws : List T) → over (full xs ++ empty k) 0 ws ≡ full
       (refill (length xs) xs ws) ++ empty k
   over-front [] zero ws = refl
@@ -24,8 +25,9 @@ module _ {T : Type 0} where
   over-front (x ∷ xs) k (w ∷ ws) = ap (λ l. Some w ∷ l) (over-front xs k ws)
 
 module _ {T A : Type 0} where
-  -- If `ws` replaces the first items in the block `b` of a list, then the new block `b'` is the
-  -- block of a list of the same length and capacity.
+  -- Suppose that the items `ws` are written over the first items in the block `b` of a list. Then
+  -- the new block `b'` is the block of a list with the same length and the same items, except that
+  -- `ws` replaces the first items.
   pub settle-over : {b : Block T A} {a : A} → IsThin b a → (b' : Block T A) (ws : List T)
       {k : Cost} → IsWritten b b' (over b.slots 0 ws) b.len k
       → Settled b' a (refill (length (items_in b.slots)) (items_in b.slots) ws) (length b.slots)
@@ -38,16 +40,17 @@ module _ {T A : Type 0} where
       ∙ ap (λ n. full (refill (length xs) xs ws) ++ empty (length b.slots - n)) (sym same)))
       (t.packed.len ∙ sym same) (omega (arith, same, thin-room b a t))
 
-  -- Writing the items `ws` over the first items of a list changes only these items in the view of
-  -- the list that contracts use.
+  -- If the items `ws` are written over the first items in the block `b` of a list, then contracts
+  -- see the same list as before, except that `ws` replaces the first items.
   pub view-with_items : (b : Block T A) (a : A) (ws : List T) → IsThin b a
       → thin_of (block_with_items b 0 ws) a ≡ with_items (thin_of b a) ws
   view-with_items b a ws t =
       let f = settle-over t (block_with_items b 0 ws) ws refl in
       λ i. record { items = f.items i; capacity = f.cap i; alloc = a; cost = b.cost }
 
-  -- If `v` replaces the item at index `i` in the block `b` of a list, then the new block `b'` is
-  -- the block of a list of the same length and capacity.
+  -- Suppose that `v` is written into the slot of the item at index `i` in the block `b` of a list.
+  -- Then the new block `b'` is the block of a list with the same items, except that `v` is the item
+  -- at index `i`.
   pub settle-set : {b : Block T A} {a : A} → IsThin b a → (b' : Block T A) (i : ℕ) (v : T)
       {k : Cost} → i < length (items_in b.slots) → IsWritten b b' (set b.slots i (Some v)) b.len k
       → Settled b' a (set (items_in b.slots) i v) (length b.slots)
@@ -60,8 +63,9 @@ module _ {T A : Type 0} where
       ∙ ap (λ n. full (set xs i v) ++ empty (length b.slots - n)) (sym same)))
       (t.packed.len ∙ sym same) (omega (arith, same, thin-room b a t))
 
-  -- Writing `w` over the item at index `i` of a list changes only this item in the view of the list
-  -- that contracts use.
+  -- Suppose that `i` is less than the length of a list. If the item `w` is written into slot `i` of
+  -- the block `b` of this list, then contracts see the same list as before, except that `w` is the
+  -- item at index `i`.
   pub view-with_item : (b : Block T A) (a : A) (i : ℕ) (w : T) → IsThin b a
       → i < length (items_in b.slots) → thin_of (block_with_item b i w)
       a ≡ with_item (thin_of b a) i w

@@ -1,5 +1,6 @@
 -- This file lists the modules of lemmas. The modules marked `pub` are for the proofs of other
--- crates. Of these, only `ThinVecLemmas` and `RetainLemmas` are also for this crate.
+-- crates. Two of these modules, `ThinVecLemmas` and `RetainLemmas`, are also for the proofs of this
+-- crate.
 mod ListLemmas
 pub mod ThinVecLemmas
 pub mod UndoLemmas

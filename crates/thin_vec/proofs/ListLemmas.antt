@@ -1,5 +1,6 @@
--- The items of a list fill its block from slot 0 onward without a gap, and all later slots are
--- empty. These lemmas state what the block contains after each operation.
+-- The block of a list contains slots, and each slot holds an item or is empty. The items of the
+-- list fill the slots from slot 0 onward, without a gap. All later slots are empty. These lemmas
+-- state what the block contains after each operation on it.
 use Rattle.std.proofs.Common.{◌≡◌, ◌≢◌, ℕ, zero, suc, ◌+◌, ◌-◌, ◌<◌, ◌≤◌, List, [], ◌∷◌, ◌++◌, length, take, drop, Option, Some, None, refl, sym, ap, ◌∙◌, arith, get_or, length-append, append_assoc}
 use Rattle.std.proofs.lemmas.List.{length-replicate, length-map, take-append-drop, replicate-append-replicate, set_at, get_or_append_left, get_or-map, map_push, append-nil, length-take-le, drop_more, length_push, get_or-set_other}
 use Rattle.std.proofs.Math.Seq.{drop-length, take-append_seam}
@@ -21,7 +22,8 @@ module _ {T : Type 0} where
   items-empty zero = refl
   items-empty (suc k) = items-empty k
 
-  -- The slots `full xs ++ s` hold the items `xs`, followed by the items in the slots `s`.
+  -- `full xs` is a list of slots that hold the items `xs`. The slots `full xs ++ s` contain the
+  -- items `xs`, followed by the items in the slots `s`.
   pub items-full : (xs : List T) (s : List (Option T)) → items_in (full xs ++ s) ≡ xs ++ items_in s
   items-full [] s = refl
   items-full (x ∷ xs) s = ap (λ (ys : List T). x ∷ ys) (items-full xs s)
@@ -31,8 +33,8 @@ module _ {T : Type 0} where
   items-full-alone [] = refl
   items-full-alone (x ∷ xs) = ap (λ (ys : List T). x ∷ ys) (items-full-alone xs)
 
-  -- `front xs c` consists of the slots of the items `xs`, followed by empty slots up to the
-  -- capacity `c`. It contains only the items `xs`.
+  -- `front xs c` is a list of slots that hold the items `xs`, followed by empty slots up to the
+  -- capacity `c`. It contains exactly the items `xs`.
   pub items-front : (xs : List T) (c : ℕ) → items_in (front xs c) ≡ xs
   items-front xs c = items-full xs (replicate (c - length xs) None)
       ∙ (ap (λ (ys : List T). xs ++ ys) (items-empty (c - length xs)) ∙ append-nil xs)
@@ -41,7 +43,8 @@ module _ {T : Type 0} where
   pub length-full : (xs : List T) → length (full xs) ≡ length xs
   length-full xs = length-map xs (λ (x : T). Some x)
 
-  -- If the list `xs` has at most `c` items, then `front xs c` has exactly `c` slots.
+  -- `front xs c` is a list of slots: the slots of the items `xs`, followed by empty slots up to the
+  -- capacity `c`. If `xs` has at most `c` items, then `front xs c` has exactly `c` slots.
   pub length-front : (xs : List T) (c : ℕ) → length xs ≤ c → length (front xs c) ≡ c
   length-front xs c h =
       let e : List (Option T) = replicate (c - length xs) None in
@@ -56,16 +59,18 @@ module _ {T : Type 0} where
   pub full-same : (xs ys : List T) → full xs ≡ full ys → xs ≡ ys
   full-same xs ys e = sym (items-full-alone xs) ∙ (ap items_in e ∙ items-full-alone ys)
 
-  -- If `i < length xs`, then slot `i` of `full xs ++ s` holds the item at index `i` of `xs`. The
-  -- default `d` is never used.
+  -- If `i` is less than the length of `xs`, then slot `i` of `full xs ++ s` holds the item at index
+  -- `i` of `xs`, which is `get_or xs i d`. (The default `d` is used only for an index beyond the
+  -- end of `xs`.)
   pub slot-full : (xs : List T) (s : List (Option T)) (i : ℕ) (d : T) → i < length xs
       → slot (full xs ++ s) i ≡ Some (get_or xs i d)
   slot-full xs s i d h =
       let n : i < length (full xs) = omega (arith, length-full xs) in
       get_or_append_left (full xs) s None i n ∙ get_or-map (λ (x : T). Some x) xs i d None h
 
-  -- If `length xs < c`, then writing `v` into the first empty slot of `front xs c` appends `v` to
-  -- the items.
+  -- Suppose that a list of `c` slots begins with the items `xs`, and that all other slots are
+  -- empty. If there is at least one empty slot, then writing `v` into the first empty slot appends
+  -- `v` to the items.
   pub front-push : (xs : List T) (c : ℕ) (v : T) → length xs < c → set (front xs c) (length xs)
       (Some v) ≡ front (xs ++ v ∷ []) c
   front-push xs c v h =
@@ -87,8 +92,8 @@ module _ {T : Type 0} where
   full-take (x ∷ xs) s (suc i) d h = let l : i < length xs = omega arith in
       ap (λ (r : List (Option T)). Some x ∷ r) (full-take xs s i d l)
 
-  -- If `xs ++ v ∷ []` has at most `c` items, then emptying the slot of `v` in
-  -- `front (xs ++ v ∷ []) c` yields `front xs c`.
+  -- Suppose that a list of `c` slots begins with the items `xs` and then `v`, and that its other
+  -- slots are empty. Then emptying the slot of `v` removes `v` from the items.
   pub front-pop : (xs : List T) (c : ℕ) (v : T) → length (xs ++ v ∷ []) ≤ c
       → set (front (xs ++ v ∷ []) c) (length xs) None ≡ front xs c
   front-pop xs c v h =
@@ -102,8 +107,9 @@ module _ {T : Type 0} where
       ∙ (set_at (full xs) (Some v) (replicate k None) None (length xs) (length-full xs)
       ∙ ap (λ (q : ℕ). full xs ++ replicate q None) m))
 
-  -- If `length xs ≤ c` and `c ≤ d`, then appending `d - c` empty slots to `front xs c` yields
-  -- `front xs d`.
+  -- `front xs c` is a list of slots: the slots of the items `xs`, followed by empty slots up to the
+  -- capacity `c`. If `xs` has at most `c` items and `c ≤ d`, then appending `d - c` empty slots to
+  -- `front xs c` yields `front xs d`.
   pub front-grow : (xs : List T) (c d : ℕ) → length xs ≤ c → c ≤ d
       → front xs c ++ replicate (d - c) None ≡ front xs d
   front-grow xs c d h l =
@@ -134,8 +140,9 @@ module _ {T A : Type 0} where
     pub items : items_in b.slots ≡ xs
     pub cap : length b.slots ≡ c
 
-  -- Suppose that the block `b` has the slots `front xs c`, the stored length `length xs ≤ c`, and
-  -- memory from the allocator `a`. Then it is the block of a list with the items `xs`.
+  -- Suppose that the block `b` has the slots `front xs c` (the slots of the items `xs`, followed by
+  -- empty slots up to the capacity `c`), the stored length `length xs ≤ c`, and memory from the
+  -- allocator `a`. Then `b` is the block of a list with the items `xs` and the capacity `c`.
   pub settled : (b : Block T A) (a : A) (xs : List T) (c : ℕ) → b.slots ≡ front xs c
       → b.len ≡ length xs → length xs ≤ c → IsFrom b.alloc a → Settled b a xs c
   settled b a xs c e n h f =
@@ -154,8 +161,9 @@ module _ {T A : Type 0} where
         cap = l;
       }
 
-  -- If the block of a list is replaced with `b'`, then only the capacity, the items and the cost
-  -- change in the view `v` of the list that contracts use.
+  -- Suppose that `w` and `v` are the same list, and that a new block `b'` replaces the block of
+  -- this list. If `b'` has `c` slots, the items `xs` and the cost `k`, then contracts see the new
+  -- list as `v` with the items `xs`, the capacity `c` and the cost `k`.
   pub thin_of-becomes : {w v : Thin T A} → w ≡ v → (b' : Block T A) {xs : List T} {c : ℕ} {k : Cost}
       → length b'.slots ≡ c → items_in b'.slots ≡ xs → b'.cost ≡ k
       → thin_of b' w.alloc ≡ record v { items = xs; capacity = c; cost = k }
@@ -166,8 +174,9 @@ module _ {T A : Type 0} where
     cost = cost i;
   }
 
-  -- If the block of a list is replaced with a block `b'` of the same capacity, then only the items
-  -- and the cost change in the view `v` of the list that contracts use.
+  -- Suppose that `w` and `v` are the same list, and that a new block `b'` replaces the block of
+  -- this list. If `b'` has as many slots as the old block, the items `xs` and the cost `k`, then
+  -- contracts see the new list as `v` with the items `xs` and the cost `k`.
   pub thin_of-keeps : {w v : Thin T A} → w ≡ v → (b' : Block T A) {xs : List T} {k : Cost}
       → length b'.slots ≡ w.capacity → items_in b'.slots ≡ xs → b'.cost ≡ k
       → thin_of b' w.alloc ≡ record v { items = xs; cost = k }
@@ -193,13 +202,15 @@ module _ {T A : Type 0} where
       → IsFrom b'.alloc a
   from-same b b' a f e = λ x h. f x (sym e ∙ h)
 
-  -- `IsWritten b b' s n k` holds if the block `b'` is the block `b` with the slots `s`, the stored
-  -- length `n` and the cost `k`.
+  -- `IsWritten b b' s n k` holds if the block `b'` is the block `b` with the new slots `s`, the new
+  -- stored length `n` and the new cost `k`. (The cost counts requests for memory, copied items and
+  -- moves.)
   abbrev pub IsWritten : Block T A → Block T A → List (Option T) → ℕ → Cost → Type 0
   IsWritten b b' s n k = seen b' ≡ record (seen b) { slots = s; len = n; cost = k }
 
-  -- If the block `b'` has the allocator of `b`, the slots `front xs c`, and the stored length
-  -- `length xs ≤ c`, then it is the block of a list with the items `xs`.
+  -- Suppose that an operation turns the block `b` of a list into the block `b'`. If the slots of
+  -- `b'` are `front xs c`, and the stored length of `b'` is the length of `xs`, then `b'` is the
+  -- block of a list with the items `xs` and the capacity `c`.
   pub settle-front : {b : Block T A} {a : A} → IsThin b a → (b' : Block T A) (xs : List T) (c : ℕ)
       {s : List (Option T)} {n : ℕ} {k : Cost} → IsWritten b b' s n k → s ≡ front xs c
       → n ≡ length xs → length xs ≤ c → Settled b' a xs c
@@ -222,8 +233,8 @@ module _ {T A : Type 0} where
       ∙ front-push xs c v l))
       (omega (arith, t.packed.len, length_push xs v)) (omega (arith, length_push xs v))
 
-  -- If the last filled slot `j` in the block of a list holds `v`, then the list consists of its
-  -- first `j` items, followed by `v`.
+  -- If slot `j` is the last filled slot in the block of a list and holds `v`, then the list
+  -- consists of its first `j` items, followed by `v`.
   pub last-item : (b : Block T A) (a : A) (v : T) (j : ℕ) → IsThin b a → j + 1 ≡ b.len
       → slot b.slots j ≡ Some v → items_in b.slots ≡ take j (items_in b.slots) ++ v ∷ []
   last-item b a v j t o w =
@@ -274,8 +285,8 @@ module _ {T A : Type 0} where
       → IsSome (slot b.slots i)
   thin-filled b a i t h = rw (thin-slot b a i t h) (get-some (items_in b.slots) i h)
 
-  -- If `n` is the stored length of the block `b` of a list, and its first `n` slots hold exactly
-  -- the items `xs`, then `xs` is the list of all items in `b`.
+  -- Suppose that `n` is the length that the block `b` of a list stores. If the first `n` slots of
+  -- `b` hold exactly the items `xs`, then `xs` is the list of the items in `b`.
   pub thin-run : (b : Block T A) (a : A) (xs : List T) (n : ℕ) → IsThin b a → n ≡ b.len
       → full xs ≡ slice_range b.slots 0 n → xs ≡ items_in b.slots
   thin-run b a xs n t len run =

@@ -1,5 +1,6 @@
 -- An open block is the block of a list during an edit. It holds front items, middle items and tail
--- items, with gaps between them. These lemmas state what it contains after each operation.
+-- items, with gaps of empty slots between these groups. These lemmas state what an open block
+-- contains after each operation on it.
 use Rattle.std.proofs.Common.{◌≡◌, ℕ, suc, ◌+◌, ◌-◌, ◌<◌, ◌≤◌, List, [], ◌∷◌, ◌++◌, Option, Some, None, length, take, drop, refl, sym, ap, ◌∙◌, subst, arith, length-append, append_assoc}
 use Rattle.std.proofs.lemmas.List.{drop_at, get_or-append_right, get_or-replicate, get_or_append_left, get_or_at, length-drop, length-take, length-take-le, length_push, map_push, replicate-append-replicate, set_at, take_at}
 use Rattle.std.proofs.lemmas.List.Edits.{split_between}
@@ -50,22 +51,26 @@ module _ {T : Type 0} where
       ∙ (get_or_append_left (empty k) post None (j - length pre) (omega (arith, length-empty T k))
       ∙ get_or-replicate k (j - length pre) None None n)
 
-  -- A list of `g` empty slots, followed by one more empty slot, is a list of `g + 1` empty slots.
+  -- `empty g` is a list of `g` empty slots. If one more empty slot and the slots `z` follow
+  -- `empty g`, then the result is the same as `empty (g + 1)`, followed by `z`.
   pub empty-more : (g : ℕ) (z : List (Option T)) → empty g ++ (None ∷ z) ≡ empty (g + 1) ++ z
   empty-more g z = sym (append_assoc (empty g) (None ∷ []) z) ∙ ap (λ (e : List (Option T)). e ++ z)
       (replicate-append-replicate g 1 None)
 
 module _ {T A : Type 0} where
-  -- `Found h v` holds if `h` is a valid open block, and `v` is the view of `h` that contracts use.
+  -- `Found h v` holds if `h` is a valid open block (the block of a list during an edit), and `v` is
+  -- how contracts see `h`.
   pub record Found (h : Inside T A) (v : Open T A) : Type 0 where
     pub lies : IsOpen h
     pub view : open_of h ≡ v
 
-  -- `to_rest v` is the list of the slots before the middle items of the open block `v`.
+  -- `to_rest v` is the list of the slots before the middle items of the open block `v`: the slots
+  -- of its front items, and the empty slots of its first gap.
   abbrev pub to_rest : Open T A → List (Option T)
   to_rest v = full v.front ++ empty v.gap
 
-  -- `to_after v` is the list of the slots of the open block `v` up to the end of the middle items.
+  -- `to_after v` is the list of the slots of the open block `v` up to the end of the middle items:
+  -- `to_rest v`, followed by the slots of the middle items.
   abbrev to_after : Open T A → List (Option T)
   to_after v = to_rest v ++ full v.rest
 
@@ -82,7 +87,8 @@ module _ {T A : Type 0} where
   abbrev pub past_after : Open T A → List (Option T)
   past_after v = full v.tail ++ past_tail v
 
-  -- `past_rest v` is the list of the slots after the middle items of the open block `v`.
+  -- `past_rest v` is the list of the slots after the middle items of the open block `v`: its second
+  -- gap, the slots of its tail items, and the empty slots at the end.
   abbrev pub past_rest : Open T A → List (Option T)
   past_rest v = empty v.gap_after ++ past_after v
 
@@ -93,18 +99,20 @@ module _ {T A : Type 0} where
     by_rest = s.row ∙ sym
         (append_assoc (full v.front) (empty v.gap) (full v.rest ++ past_rest v))
 
-    -- If `v` describes the layout of the open block `h`, then the slots of `h` are `to_after v` (up
-    -- to the end of the middle items), followed by `past_rest v` (after the middle items).
+    -- Suppose that `v` describes the layout of the open block `h`. Then the slots of `h` are
+    -- `to_after v` (the slots up to the end of the middle items), followed by `past_rest v` (the
+    -- slots after the middle items).
     by_after : h.block.slots ≡ to_after v ++ past_rest v
     by_after = by_rest ∙ sym (append_assoc (to_rest v) (full v.rest) (past_rest v))
 
-    -- If `v` describes the layout of the open block `h`, then the slots of `h` are `to_tail v`
-    -- (before the tail items), followed by `past_after v` (from the first tail item onward).
+    -- Suppose that `v` describes the layout of the open block `h`. Then the slots of `h` are
+    -- `to_tail v` (the slots before the tail items), followed by `past_after v` (the slots from the
+    -- first tail item onward).
     by_tail : h.block.slots ≡ to_tail v ++ past_after v
     by_tail = by_after ∙ sym (append_assoc (to_after v) (empty v.gap_after) (past_after v))
 
-    -- If `v` describes the layout of the open block `h`, then `h.rest_start` is the number of slots
-    -- before the middle items.
+    -- Suppose that `v` describes the layout of the open block `h`. Then `to_rest v`, the list of
+    -- the slots before the middle items, has the length `h.rest_start`.
     pub at_rest : length (to_rest v) ≡ h.rest_start
     at_rest = omega (
       arith,
@@ -115,8 +123,8 @@ module _ {T A : Type 0} where
       s.gap,
     )
 
-    -- If `v` describes the layout of the open block `h`, then `h.rest_end` is the number of slots
-    -- up to the end of the middle items.
+    -- Suppose that `v` describes the layout of the open block `h`. Then `to_after v`, the list of
+    -- the slots up to the end of the middle items, has the length `h.rest_end`.
     at_after : length (to_after v) ≡ h.rest_end
     at_after = omega (
       arith,
@@ -126,8 +134,9 @@ module _ {T A : Type 0} where
       s.rest,
     )
 
-    -- If `v` describes the layout of the open block `h`, then `h.tail_start` is the number of slots
-    -- before the tail items.
+    -- Suppose that `v` describes the layout of the open block `h`. Then `to_tail v`, the list of
+    -- the slots before the tail items, has the length `h.tail_start`. (The tail items are the items
+    -- after the edited range.)
     at_tail : length (to_tail v) ≡ h.tail_start
     at_tail = omega (
       arith,
@@ -191,8 +200,9 @@ module _ {T A : Type 0} where
         ∙ ap (λ (k : ℕ). full v.tail ++ empty k) (sym some)))
         ∙ items-front v.tail (length v.tail + (v.capacity - reach v))
 
-    -- If `v` describes the layout of `h`, and `v` and `h` have the same allocator and cost, then
-    -- `h` is a valid open block, and `v` is the view of `h` that contracts use.
+    -- Suppose that the slots and the indices of the open block `h` have the layout that `v`
+    -- describes. If `h` and `v` also have the same allocator and the same cost, then `Found h v`
+    -- holds: `h` is a valid open block, and `v` is how contracts see `h`.
     pub found : h.block.alloc ≡ v.alloc → h.block.cost ≡ v.cost → Found h v
     found alloc cost =
         let gap : h.rest_start - h.front_end ≡ v.gap = omega (arith, s.gap) in
@@ -211,21 +221,23 @@ module _ {T A : Type 0} where
         } in
         record { lies = subst (Shows h) (sym view) s; view = view }
 
-    -- Each slot in the range `rest_start..rest_end` is filled: it holds one of the middle items.
+    -- Each slot in the range `rest_start..rest_end` of the open block `h` is filled: it holds one
+    -- of the middle items.
     pub rest-filled : (j : ℕ) → h.rest_start ≤ j → j < h.rest_end → IsSome (slot h.block.slots j)
     rest-filled j low high =
         rw (ap (λ (r : List (Option T)). slot r j) by_rest)
         (slot-in-full (to_rest v) v.rest (past_rest v) j (omega (arith, at_rest))
         (omega (arith, at_rest, s.rest)))
 
-    -- Each slot in the range `tail_start..len` is filled: it holds one of the tail items.
+    -- Each slot in the range `tail_start..len` of the open block `h` is filled: it holds one of the
+    -- tail items.
     pub tail-filled : (j : ℕ) → h.tail_start ≤ j → j < h.len → IsSome (slot h.block.slots j)
     tail-filled j low high =
         rw (ap (λ (r : List (Option T)). slot r j) by_tail)
         (slot-in-full (to_tail v) v.tail (past_tail v) j (omega (arith, at_tail))
         (omega (arith, at_tail, s.tail)))
 
-    -- Each slot between the front items and the middle items is empty.
+    -- Each slot between the front items and the middle items of the open block `h` is empty.
     pub before-empty : (j : ℕ) → h.front_end ≤ j → j < h.rest_start → slot h.block.slots j ≡ None
     before-empty j low high =
         ap (λ (r : List (Option T)). slot r j) s.row
@@ -240,14 +252,14 @@ module _ {T A : Type 0} where
       → xs ≡ (open_of h).rest
   rest-run h xs e = sym (items-full-alone xs) ∙ ap items_in e
 
-  -- The following definitions and lemmas are about the steps of an edit. Most steps have two
-  -- definitions (the open block after the step, and the view of it that contracts use) and a lemma
-  -- that connects them.
+  -- The following definitions and lemmas are about the steps of an edit, such as the removal of one
+  -- item. Most steps have two definitions and one lemma. The first definition is the open block
+  -- after the step. The second definition is how contracts see this open block. The lemma states
+  -- that both definitions agree.
 
   module _ (h : Inside T A) (o : IsOpen h) (b : Block T A)
       (some : 0 < length (open_of h).rest) where
-    -- `v` is the view of the open block `h` that contracts use, before one of its middle items is
-    -- removed.
+    -- `v` is how contracts see the open block `h` before one of the middle items of `h` is removed.
     abbrev v : Open T A
     v = open_of h
 
@@ -262,8 +274,8 @@ module _ {T A : Type 0} where
       len = h.len;
     }
 
-    -- `first-seen ys` is the view of the open block `first-left` that contracts use. Its middle
-    -- items are `ys`, and the gap before them is one slot longer than in `h`.
+    -- `first-seen ys` is how contracts see the open block `first-left` if `ys` is the list of the
+    -- remaining middle items. The gap before these items is one slot longer than in `h`.
     abbrev pub first-seen : List T → Open T A
     first-seen ys = record {
       front = v.front;
@@ -276,8 +288,9 @@ module _ {T A : Type 0} where
       cost = v.cost;
     }
 
-    -- If the first middle item `x` was removed and the middle items `ys` remain, then
-    -- `first-seen ys` is the view of the new open block that contracts use.
+    -- Suppose that `x`, the first middle item of the open block `h`, was removed. Then the middle
+    -- items of `h` were `x ∷ ys` for some list `ys`, and `first-seen ys` is how contracts see the
+    -- new open block.
     pub first-step : (x : T) → slot h.block.slots h.rest_start ≡ Some x
         → seen b ≡ record (seen h.block) { slots = set h.block.slots h.rest_start None }
         → (ys : List T) × (v.rest ≡ x ∷ ys) × Found first-left (first-seen ys)
@@ -330,8 +343,8 @@ module _ {T A : Type 0} where
       len = h.len;
     }
 
-    -- `last-seen ys` is the view of the open block `last-left` that contracts use. Its middle items
-    -- are `ys`, and the gap after them is one slot longer than in `h`.
+    -- `last-seen ys` is how contracts see the open block `last-left` if `ys` is the list of the
+    -- remaining middle items. The gap after these items is one slot longer than in `h`.
     abbrev pub last-seen : List T → Open T A
     last-seen ys = record {
       front = v.front;
@@ -344,8 +357,9 @@ module _ {T A : Type 0} where
       cost = v.cost;
     }
 
-    -- If the last middle item `x` was removed and the middle items `ys` remain, then `last-seen ys`
-    -- is the view of the new open block that contracts use.
+    -- Suppose that `x`, the last middle item of the open block `h`, was removed. Then the middle
+    -- items of `h` were `ys ++ x ∷ []` for some list `ys`, and `last-seen ys` is how contracts see
+    -- the new open block.
     pub last-step : (x : T) → slot h.block.slots (h.rest_end - 1) ≡ Some x
         → seen b ≡ record (seen h.block) { slots = set h.block.slots (h.rest_end - 1) None }
         → (ys : List T) × (v.rest ≡ ys ++ x ∷ []) × Found last-left (last-seen ys)
@@ -403,8 +417,9 @@ module _ {T A : Type 0} where
               (ap (λ (z : Seen T A). z.cost) now),
         )
 
-  -- This module is about two steps: joining the two gaps of an open block without middle items, and
-  -- moving the items to the first slots if there is no gap before the tail items.
+  -- This module is about two steps of an edit of the open block `h`. If `h` has no middle items,
+  -- then its two gaps can be joined. If `h` has no gap before its tail items, then `h` can be
+  -- closed: the items are moved to the first slots of the block.
   module _ (h : Inside T A) (o : IsOpen h) where
     -- `joined` is the open block `h` after its two gaps have been joined. The joined gap lies
     -- between the front items and the tail items.
@@ -418,8 +433,8 @@ module _ {T A : Type 0} where
       len = h.len;
     }
 
-    -- `joined-seen` is the view of the open block `joined` that contracts use. Its first gap
-    -- contains the slots of both gaps of `h`.
+    -- `joined-seen` is how contracts see the open block `joined`. The first gap of `joined`
+    -- contains the slots of both gaps of `h`, and the second gap of `joined` is empty.
     abbrev pub joined-seen : Open T A
     joined-seen = let w : Open T A = open_of h in
         record {
@@ -434,7 +449,7 @@ module _ {T A : Type 0} where
         }
 
     -- If the open block `h` has no middle items, then `joined` is a valid open block, and
-    -- `joined-seen` is the view of `joined` that contracts use.
+    -- `joined-seen` is its description in contracts.
     pub join-step : (open_of h).rest ≡ [] → Found joined joined-seen
     join-step none =
         let w : Open T A = open_of h in
@@ -465,8 +480,9 @@ module _ {T A : Type 0} where
     abbrev all-after : List T
     all-after = (open_of h).rest ++ (open_of h).tail
 
-    -- If there is no gap before the tail items, then the slots of the block are, in order: the
-    -- front items, one gap, all other items, and empty slots.
+    -- Suppose that there is no gap before the tail items. Then the slots of the block are, in this
+    -- order: the slots of the front items, the empty slots of the first gap, the slots of
+    -- `all-after` (the middle items and the tail items), and the empty slots at the end.
     side-by-side : (open_of h).gap_after ≡ 0 → h.block.slots ≡ full (open_of h).front
         ++ (empty (open_of h).gap ++ (full all-after ++ past_tail (open_of h)))
     side-by-side none =
@@ -477,14 +493,14 @@ module _ {T A : Type 0} where
         (sym (append_assoc (full w.rest) (full w.tail) (past_tail w))
         ∙ ap (λ (r : List (Option T)). r ++ past_tail w) (sym (full-append w.rest w.tail))))
 
-    -- If there is no gap before the tail items, then `len - rest_start` is the number of middle
-    -- items and tail items together.
+    -- If there is no gap before the tail items of the open block `h`, then `all-after`, the list of
+    -- its middle items and tail items, has the length `h.len - h.rest_start`.
     count-after : (open_of h).gap_after ≡ 0 → length all-after ≡ h.len - h.rest_start
     count-after none =
         omega (arith, length-append (open_of h).rest (open_of h).tail, o.rest, o.gap_after, o.tail)
 
-    -- If there is no gap before the tail items, then each slot in the range `rest_start..len` holds
-    -- a middle item or a tail item.
+    -- If there is no gap before the tail items, then each slot in the range `rest_start..len` is
+    -- filled: it holds a middle item or a tail item.
     pub after-filled : (open_of h).gap_after ≡ 0 → (j : ℕ) → h.rest_start ≤ j → j < h.len
         → IsSome (slot h.block.slots j)
     after-filled none j low high =
@@ -497,13 +513,14 @@ module _ {T A : Type 0} where
         (slot-in-full pre all-after (past_tail w) j (omega (arith, start))
         (omega (arith, start, count-after none)))
 
-    -- The number of all items is the number of front items plus the number of middle items and tail
-    -- items.
+    -- The number of all items is the number of front items plus the length of `all-after`, the list
+    -- of the middle items and the tail items.
     count-all : length (items_of (open_of h)) ≡ h.front_end + length all-after
     count-all = omega (arith, length-append (open_of h).front all-after, o.front)
 
-    -- If there is no gap before the tail items, then moving the middle items and tail items
-    -- directly after the front items leaves all items in the first slots, without a gap.
+    -- Suppose that there is no gap before the tail items. If the middle items and the tail items
+    -- are moved to the slots directly after the front items, then the items occupy the first slots
+    -- of the block without a gap, and all other slots are empty.
     pub close-row : (open_of h).gap_after ≡ 0
         → moved h.rest_start h.front_end (h.len - h.rest_start) h.block.slots ≡ front
         (items_of (open_of h)) (length h.block.slots)
@@ -533,8 +550,8 @@ module _ {T A : Type 0} where
         (replicate-append-replicate w.gap (w.capacity - reach w) None
         ∙ ap (λ (k : ℕ). empty k) left))))
 
-    -- If there is no gap before the middle items and no gap before the tail items, then the slots
-    -- of the block are the slots of all items, followed by empty slots.
+    -- Suppose that there is no gap before the middle items and no gap before the tail items. Then
+    -- the slots of the open block are the slots of all its items, followed by empty slots.
     pub closed-row : (open_of h).gap_after ≡ 0 → h.front_end ≡ h.rest_start
         → h.block.slots ≡ front (items_of (open_of h)) (length h.block.slots)
     closed-row none here =
@@ -558,8 +575,9 @@ module _ {T A : Type 0} where
         ∙ (ap (λ (r : List (Option T)). r ++ past_tail w) (sym (full-append w.front all-after))
         ∙ ap (λ (k : ℕ). full (items_of w) ++ empty k) left)))
 
-  -- In this module, the block `b` of a list becomes an open block. Its middle items are the items
-  -- `start..end` of the list.
+  -- An open block is the block of a list during an edit. In this module, the block `b` of a list
+  -- becomes an open block. The items `start..end` of the list become the middle items of this open
+  -- block.
   module _ (b : Block T A) (a : A) (start end : ℕ) (t : IsThin b a) (order : start ≤ end)
       (within : end ≤ length (items_in b.slots)) where
     -- `opened len` is the block `b` as an open block without gaps. Its middle items are in the
@@ -575,8 +593,9 @@ module _ {T A : Type 0} where
           len = len;
         }
 
-    -- `opened-seen` is the view of the open block `opened len` that contracts use. Its middle items
-    -- are the items `start..end` of the list.
+    -- `opened-seen` is how contracts see the open block `opened len`. The items of the list before
+    -- index `start` are the front items of this open block. The items `start..end` are its middle
+    -- items, and the items from index `end` onward are its tail items.
     abbrev pub opened-seen : Open T A
     opened-seen = let xs : List T = items_in b.slots in
         record {
@@ -591,7 +610,7 @@ module _ {T A : Type 0} where
         }
 
     -- If `len` is the number of items in the block `b`, then `opened len` is a valid open block,
-    -- and `opened-seen` is the view of it that contracts use.
+    -- and `opened-seen` is how contracts see this open block.
     pub open-step : (len : ℕ) → len ≡ length (items_in b.slots) → Found (opened len) opened-seen
     open-step len all =
         let xs : List T = items_in b.slots in
@@ -625,8 +644,8 @@ module _ {T A : Type 0} where
               omega (arith, all, thin-room b a t);
         }) refl refl
 
-  -- In this module, the items `xs` are written directly after the front items of the open block
-  -- `h`. The slot directly after `xs` has the index `end`.
+  -- In this module, the items `xs` are written into the gap after the front items of the open block
+  -- `h`. `end` is the index of the slot directly after these items.
   module _ (h : Inside T A) (o : IsOpen h) (b : Block T A) (xs : List T) (end : ℕ)
       (ends : end ≡ h.front_end + length xs) (fits : end ≤ h.rest_start) where
     -- `filled` is the open block `h` after the items `xs` have been written into the gap after its
@@ -642,8 +661,9 @@ module _ {T A : Type 0} where
           len = h.len;
         }
 
-    -- `filled-seen` is the view of the open block `filled` that contracts use. Its front items end
-    -- with `xs`, and its first gap is `length xs` slots shorter than in `h`.
+    -- `filled-seen` is how contracts see the open block `filled`. The front items of `filled` are
+    -- the front items of `h`, followed by the items `xs`. The first gap of `filled` is `length xs`
+    -- slots shorter than the first gap of `h`.
     abbrev pub filled-seen : Open T A
     filled-seen =
         let v : Open T A = open_of h in
@@ -658,8 +678,8 @@ module _ {T A : Type 0} where
           cost = b.cost;
         }
 
-    -- If the items `xs` were written directly after the front items, then `filled` is a valid open
-    -- block, and `filled-seen` is the view of it that contracts use.
+    -- If the items `xs` were written into the slots directly after the front items, then `filled`
+    -- is a valid open block, and `filled-seen` is how contracts see this open block.
     pub fill-step : b.slots ≡ laid h.front_end (full xs) h.block.slots → Found filled filled-seen
     fill-step now =
         let v : Open T A = open_of h in
@@ -703,7 +723,7 @@ module _ {T A : Type 0} where
         found filled filled-seen shows refl refl
 
   -- In this module, the tail items of the open block `h` are moved up by `count` slots. Before the
-  -- move, at least `count` empty slots follow them.
+  -- move, at least `count` empty slots follow the tail items.
   module _ (h : Inside T A) (o : IsOpen h) (b : Block T A) (count : ℕ)
       (room : h.len + count ≤ (open_of h).capacity) where
     -- `widened` is the open block `h` after its tail items have been moved up by `count` slots.
@@ -717,8 +737,8 @@ module _ {T A : Type 0} where
       len = h.len + count;
     }
 
-    -- `widened-seen` is the view of the open block `widened` that contracts use. The gap before its
-    -- tail items is `count` slots longer than in `h`.
+    -- `widened-seen` is how contracts see the open block `widened`. The gap before the tail items
+    -- of `widened` is `count` slots longer than the gap before the tail items of `h`.
     abbrev pub widened-seen : Open T A
     widened-seen =
         let v : Open T A = open_of h in
@@ -765,7 +785,7 @@ module _ {T A : Type 0} where
         ∙ slot-in-empty before count end j (omega (arith, long)) (omega (arith, long))
 
     -- If the tail items were moved up by `count` slots, then `widened` is a valid open block, and
-    -- `widened-seen` is the view of it that contracts use.
+    -- `widened-seen` is how contracts see this open block.
     pub widen-step : b.slots ≡ moved h.tail_start (h.tail_start + count)
         (h.len - h.tail_start) h.block.slots
         → Found widened widened-seen

@@ -1,5 +1,7 @@
--- These lemmas are about loops that move items into the empty slots of a block. The items come from
--- an iterator or, in the last lemmas, from a `Vec`, beginning with the last item.
+-- These lemmas are about loops that put items into the empty slots of a block. The first lemmas
+-- bound the number of items that such a loop takes from an iterator. The other lemmas state what
+-- the slots contain while a loop moves the items of a `Vec` into these slots, beginning with the
+-- last item.
 use Rattle.std.proofs.Common.{◌≡◌, ℕ, ◌+◌, ◌<◌, ◌≤◌, List, [], ◌∷◌, ◌++◌, length, take, drop, Option, Some, None, sym, ap, ◌∙◌, append_assoc, arith, get_or, length-append}
 use Rattle.std.proofs.lemmas.List.{append-nil, length-take-le, length_push, set_at, take_more}
 use lib.ListN.{set}
@@ -23,8 +25,7 @@ module _ {S X : Type 0} {steps : S → Option X → S → Type 0} {can : S → T
       go true full short = omega (arith, short refl)
       go false full short = omega (arith, full refl)
 
-  -- If `IsFilledBy` holds for a loop that fills `m` empty slots, and `m` is equal to `n`, then it
-  -- also holds for `n` slots.
+  -- If `m` equals `n`, and `IsFilledBy` holds for `m` slots, then it also holds for `n` slots.
   abbrev pub filled-room : {m n : ℕ} → m ≡ n → IsFilledBy steps can remaining m s f
       → IsFilledBy steps can remaining n s f
   filled-room same by = record {
@@ -37,8 +38,9 @@ module _ {S X : Type 0} {steps : S → Option X → S → Type 0} {can : S → T
   }
 
 module _ {T : Type 0} where
-  -- If `k` is `i + 1`, then writing `ys` from slot `k` onward and `y` into slot `i` has the same
-  -- result as writing `y ∷ ys` from slot `i` onward.
+  -- Suppose that `i` is the index of a slot in `s`, and that `k` is `i + 1`. Writing the slots `ys`
+  -- from index `k` onward, and then the slot `y` at index `i`, has the same result as writing the
+  -- slots `y ∷ ys` from index `i` onward.
   laid-before : (i k : ℕ) (y : Option T) (ys s : List (Option T)) → k ≡ i + 1 → i < length s
       → set (laid k ys s) i y ≡ laid i (y ∷ ys) s
   laid-before i k y ys s next low =
@@ -52,9 +54,9 @@ module _ {T : Type 0} where
       ∙ (set_at (take i s) (get_or s i None) (ys ++ rest) y i (length-take-le i s (omega arith))
       ∙ ap (λ (n : ℕ). take i s ++ (y ∷ (ys ++ drop n s))) past))
 
-  -- `IsMoving` is the invariant of a loop that moves the items `xs` into slots from index `start`
-  -- onward, beginning with the last item. The items `left` remain to be moved. The slots were `r`,
-  -- and are now `s`.
+  -- `IsMoving` is the invariant of a loop that moves the items `xs` into the slots from index
+  -- `start` onward, beginning with the last item. The items `left` have not been moved yet. The
+  -- slots were `r` before the loop, and they are `s` at present.
   pub record IsMoving (xs left : List T) (start : ℕ) (r s : List (Option T)) : Type 0 where
     pub rest : List T
     pub parts : xs ≡ left ++ rest
@@ -70,8 +72,10 @@ module _ {T : Type 0} where
         row = sym (laid-none (start + length xs) s);
       }
 
-  -- Suppose that there are enough slots for the items `xs`. If the loop invariant `IsMoving` holds
-  -- and the next item `v` is moved into slot `i`, then the invariant still holds.
+  -- `IsMoving` is the invariant of a loop that moves the items `xs` into slots, beginning with the
+  -- last item. Suppose that it holds, that `v` is the next item to be moved, and that there are
+  -- enough slots. If `v` is moved into its slot, which is slot `i`, then `IsMoving` holds again,
+  -- and only the items `left` remain to be moved.
   pub moving-next : {xs : List T} (left : List T) {start : ℕ} (i : ℕ) (v : T)
       {r s : List (Option T)} → IsMoving xs (left ++ v ∷ []) start r s → i ≡ start + length left
       → start + length xs ≤ length r → IsMoving xs left start r (set s i (Some v))

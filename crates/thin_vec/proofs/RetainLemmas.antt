@@ -1,5 +1,7 @@
--- These lemmas state which items are kept when a closure tests the items of a list. In this file,
--- `R` describes the calls to the closure, and `s`, `t` and `u` are its states.
+-- These lemmas state which items are kept when a closure tests the items of a list, and how the
+-- results of consecutive tests combine. In this file, `R` describes the calls to the closure, and
+-- `s`, `t` and `u` are states of the closure. To test an item is to call the closure with this
+-- item.
 use Rattle.std.proofs.Common.{◌≡◌, ℕ, zero, suc, ◌+◌, ◌<◌, ◌≤◌, Bool, true, false, List, [], ◌∷◌, ◌++◌, length, take, drop, refl, sym, ap, subst, ◌∙◌, arith, length-append, append_assoc}
 use Rattle.std.proofs.lemmas.Bool.{ne_eqb}
 use Rattle.std.proofs.lemmas.List.{append-nil, drop_at, length-drop, length-take-le, map-append, map_push, nil_from_length, take-append-drop, take_at}
@@ -13,12 +15,14 @@ use Rattle.thin_vec.specs.Open.{Open}
 use Rattle.thin_vec.specs.ThinVec.{Thin}
 use Rattle.thin_vec.specs.OpenBlock.Sift.{Advances, IsAskedAt, IsSifted, AskedUpTo, Sifts, Stops}
 
--- Adding `b` moves and then `a` moves of items to a cost is the same as adding `b + a` moves.
+-- A cost counts moves of items, among other things. Adding `b` moves and then `a` moves to a cost
+-- is the same as adding `b + a` moves.
 pub moving-more : (a b : ℕ) (c : Cost) → moving a (moving b c) ≡ moving (b + a) c
 moving-more a b c = let e : c.moves + b + a ≡ c.moves + (b + a) = omega arith in
     λ i. record { blocks = c.blocks; grown = c.grown; moves = e i }
 
--- Adding zero moves of items to a cost does not change the cost.
+-- A cost counts moves of items, among other things. Adding zero moves to a cost does not change the
+-- cost.
 pub moving-none : (c : Cost) → moving 0 c ≡ c
 moving-none c = let e : c.moves + 0 ≡ c.moves = omega arith in
     λ i. record { blocks = c.blocks; grown = c.grown; moves = e i }
@@ -45,7 +49,7 @@ cons-head e = cc
 pub cons-tail : {X : Type 0} {x y : X} {xs ys : List X} → x ∷ xs ≡ y ∷ ys → xs ≡ ys
 cons-tail e = ap (drop 1) e
 
--- A list that begins with an item is not empty.
+-- The list `x ∷ xs` is not empty.
 pub cons-not-nil : {X : Type 0} {x : X} {xs : List X} → x ∷ xs ≡ [] → ⊥
 cons-not-nil e = let n = ap length e in omega (arith, n)
 
@@ -61,35 +65,36 @@ none-left [] none = refl
 none-left (x ∷ xs) none = absurd (none (omega arith))
 
 module _ {T : Type 0} where
-  -- Verdicts say which items are kept. The verdicts `a ++ b` keep the items that `a` keeps,
+  -- A verdict says whether an item is kept, and `left_at true a` is the list of the items that the
+  -- verdicts `a` keep. The items that the verdicts `a ++ b` keep are the items that `a` keeps,
   -- followed by the items that `b` keeps.
   pub left_at-append : (a b : Verdicts T) → left_at true (a ++ b) ≡ left_at true a ++ left_at true b
   left_at-append [] b = refl
   left_at-append ((true, x) ∷ a) b = ap (λ (l : List T). x ∷ l) (left_at-append a b)
   left_at-append ((false, x) ∷ a) b = left_at-append a b
 
-  -- Verdicts say which items are kept. The verdicts `a ++ b` keep as many items as `a` and `b`
-  -- together.
+  -- A verdict says whether an item is kept. The number of items that the verdicts `a ++ b` keep is
+  -- the number of items that `a` keeps, plus the number of items that `b` keeps.
   pub trues-append : (a b : Verdicts T) → trues (flags_of (a ++ b)) ≡ trues
       (flags_of a) + trues (flags_of b)
   trues-append [] b = omega arith
   trues-append ((true, x) ∷ a) b = let e = trues-append a b in omega arith
   trues-append ((false, x) ∷ a) b = trues-append a b
 
-  -- `stay xs` is a list of verdicts that keep every item and leave the items as `xs`. So the kept
-  -- items are exactly `xs`.
+  -- If the tests keep all items and leave them as `xs`, then the list of the kept items is `xs`.
   pub left_at-stay : (xs : List T) → left_at true (stay xs) ≡ xs
   left_at-stay [] = refl
   left_at-stay (x ∷ xs) = ap (λ (l : List T). x ∷ l) (left_at-stay xs)
 
-  -- `stay xs` is a list of verdicts that keep every item and leave the items as `xs`. So
-  -- `length xs` items are kept.
+  -- `stay xs` is a list of verdicts that keep all items `xs`. So the number of items that these
+  -- verdicts keep is the length of `xs`.
   pub trues-stay : (xs : List T) → trues (flags_of (stay xs)) ≡ length xs
   trues-stay [] = refl
   trues-stay (x ∷ xs) = ap suc (trues-stay xs)
 
-  -- `moved_down` counts the kept items after the first removed item. The verdicts `stay xs` keep
-  -- every item, so putting them before `a` does not change this count.
+  -- `moved_down` counts the kept items after the first removed item, because these items are moved
+  -- down. The verdicts `stay xs` keep all items `xs`, so none of these items is moved down. The
+  -- count for `stay xs ++ a` is therefore the count for `a` alone.
   pub moved_down-stay : (xs : List T) (a : Verdicts T) → moved_down (flags_of (stay xs ++ a))
       ≡ moved_down (flags_of a)
   moved_down-stay [] a = refl
@@ -116,15 +121,16 @@ module _ {S T : Type 0} (R : S → T → Bool → S → T → Type 0) where
       ap (λ (c : Verdicts T). c ++ b) h.6,
     )
 
-  -- If the closure returned `b` for the item `x` and left it as `y`, then `Asked` holds for the
-  -- list `x ∷ []` and the verdict `(b, y)`.
+  -- `Asked` states that all items of a list were tested. It holds for the list `x ∷ []` if the item
+  -- `x` was tested with the result `b` and was left as `y`.
   pub asked-one : (s t : S) (x y : T) (b : Bool) → R s x b t y → Asked R s (x ∷ []) ((b, y) ∷ []) t
   asked-one s t x y b h = (b, y, t, [], h, (refl, refl), refl)
 
   -- The following definitions and lemmas are about adjacent items that a closure tests and keeps.
 
-  -- `Stays` states that the items `k..m` of the list `xs` were tested and kept. The tests changed
-  -- the list from `xs` to `ys`, and the state of the closure from `s` to `t`.
+  -- `Stays` states that the items `k..m` of the list `xs` were tested, and that all of them were
+  -- kept. The tests changed the list from `xs` to `ys`, and the state of the closure from `s` to
+  -- `t`.
   pub record Stays (k m : ℕ) (s : S) (xs : List T) (t : S) (ys : List T) : Type 0 where
     pub before : List T
     pub run : List T
@@ -136,8 +142,8 @@ module _ {S T : Type 0} (R : S → T → Bool → S → T → Type 0) where
     pub asked : Asked R s run (stay left) t
     pub now : ys ≡ before ++ (left ++ more)
 
-  -- `Stays` holds before the first test, for the empty range `k..k`: the state of the closure and
-  -- the items are unchanged.
+  -- `Stays` states that a range of items was tested and kept. Before the first test, it holds for
+  -- the empty range `k..k`: the state `s` and the list `xs` have not changed.
   pub stays-start : (k : ℕ) (s : S) (xs : List T) → k ≤ length xs → Stays k k s xs s xs
   stays-start k s xs low =
       record {
@@ -153,8 +159,8 @@ module _ {S T : Type 0} (R : S → T → Bool → S → T → Type 0) where
       }
 
   module _ (k m : ℕ) (s : S) (xs : List T) (t : S) (ys : List T) (h : Stays k m s xs t ys) where
-    -- `asked-part` is the list of all items before index `m`: the untested items before index `k`,
-    -- and the items `k..m` as the tests left them.
+    -- `asked-part` is the list of all items before index `m`. It consists of the items before index
+    -- `k`, which were not tested, followed by the items `k..m` as the tests left them.
     abbrev asked-part : List T
     asked-part = h.before ++ h.left
 
@@ -166,8 +172,9 @@ module _ {S T : Type 0} (R : S → T → Bool → S → T → Type 0) where
     parted : ys ≡ asked-part ++ h.more
     parted = h.now ∙ sym (append_assoc h.before h.left h.more)
 
-    -- If `a` tests the item at index `m`, then `asked-part` contains the items before it, and
-    -- `h.more` is this item, followed by `a.after`.
+    -- Suppose that `a` is the test of the item at index `m`. Then `asked-part` is the list of the
+    -- items before this item. The list `h.more` consists of the item that `a` tests, followed by
+    -- the items `a.after`.
     next-parts : (b : Bool) (u : S) (zs : List T) (a : IsAskedAt R m t ys b u zs)
         → (a.before ≡ asked-part) × (h.more ≡ a.item ∷ a.after)
     next-parts b u zs a =
@@ -184,8 +191,8 @@ module _ {S T : Type 0} (R : S → T → Bool → S → T → Type 0) where
     next-now b u zs a = a.now ∙ (ap (λ (l : List T). l ++ a.left ∷ a.after) (next-parts b u zs a).0
         ∙ append_assoc h.before h.left (a.left ∷ a.after))
 
-    -- If `Stays` holds for the items `k..m`, and the closure keeps the item at index `m`, then
-    -- `Stays` holds for the items `k..m + 1`.
+    -- If `Stays` holds for the items `k..m`, and the test of the item at index `m` decides to keep
+    -- this item, then `Stays` holds for the items `k..m + 1`.
     pub stays-more : (u : S) (zs : List T) → IsAskedAt R m t ys true u zs
         → Stays k (m + 1) s xs u zs
     stays-more u zs a =
@@ -228,8 +235,8 @@ module _ {S T : Type 0} (R : S → T → Bool → S → T → Type 0) where
           now = next-now false u zs a;
         }
 
-    -- If the items `k..m` were kept, and the list has no item at index `m`, then `AskedUpTo` holds:
-    -- the tests stopped at the end of the list.
+    -- Suppose that the items `k..m` were tested and kept. If the list has no item at index `m`,
+    -- then `AskedUpTo` holds: the tests stopped at the end of the list.
     pub stays-end : length ys ≤ m → AskedUpTo R k m s xs t ys
     stays-end short =
         let none : h.more ≡ [] =
@@ -273,14 +280,16 @@ module _ {S T : Type 0} (R : S → T → Bool → S → T → Type 0) where
       ap suc (stay-count xs h.2 t ys
       (subst (λ (a : Verdicts T). Asked R h.2 xs a t) (sym (cons-tail h.6)) h.5))
 
-  -- `Stops` states that the first item of `b`, if there is one, was tested and is to be removed.
-  -- This test turned `b` into `e`. Both lists have the same length.
+  -- `Stops` describes the end of a sequence of tests: if any items `b` follow the kept items, then
+  -- the first of them was tested, and is to be removed. The list `e` is `b` as this test left it.
+  -- Both lists have the same length.
   stop-count : (u : S) (b : List T) (t : S) (e : List T) → Stops R u b t e → length e ≡ length b
   stop-count u [] t e h = ap length h.0
   stop-count u (x ∷ b) t e h = ap length h.2
 
-  -- If a closure tested items of `xs` and stopped at the first item to be removed, then the list
-  -- `ys` after the tests has the same length as `xs`.
+  -- Suppose that a closure tested the items of the list `xs` from index `k` onward, up to the first
+  -- item to be removed. Then the list `ys` of the items after the tests has the same length as
+  -- `xs`.
   pub runs-count : (k m : ℕ) (s : S) (xs : List T) (t : S) (ys : List T) → AskedUpTo R k m s xs t ys
       → length ys ≡ length xs
   runs-count k m s xs t ys r =
@@ -296,7 +305,7 @@ module _ {S T : Type 0} (R : S → T → Bool → S → T → Type 0) where
         stop-count r.between r.after t r.end r.stops,
       )
 
-  -- If the first item was tested and kept, then `Stays` holds for the range `0..1`.
+  -- If the first item was tested and kept, then `Stays` holds for this one item.
   pub one-stays : (s : S) (xs : List T) (t : S) (ys : List T)
       → IsAskedAt R 0 s xs true t ys → Stays 0 1 s xs t ys
   one-stays s xs t ys a = stays-more 0 0 s xs s xs (stays-start 0 s xs (omega arith)) t ys a
@@ -307,8 +316,9 @@ module _ {S T : Type 0} (R : S → T → Bool → S → T → Type 0) where
   two-stay s xs t ys u zs a b = stays-more 0 1 s xs t ys (one-stays s xs t ys a) u zs b
 
   module _ (m n : ℕ) where
-    -- If the items before index `m` were kept, and the tests from index `m` onward stopped at index
-    -- `n`, then the tests from index 0 onward also stopped at index `n`.
+    -- Suppose that all items before index `m` were tested and kept. If the tests from index `m`
+    -- onward kept all items before index `n` and stopped at `n`, then the tests from index 0 onward
+    -- also kept all items before index `n` and stopped at `n`.
     pub runs-join : (s : S) (xs : List T) (t : S) (ys : List T) (u : S) (zs : List T)
         → Stays 0 m s xs t ys → AskedUpTo R m n t ys u zs → AskedUpTo R 0 n s xs u zs
     runs-join s xs t ys u zs h r =
@@ -343,10 +353,11 @@ module _ {S T : Type 0} (R : S → T → Bool → S → T → Type 0) where
         }
 
   -- The following definition and lemmas are about tests that stop at the first item to be removed.
-  -- They state which items were kept before it.
+  -- They state which items were kept before this item.
 
-  -- `Part` states that the items of `xs` before `rest` were tested. The `m` kept items are `kept`,
-  -- as the closure left them. The state of the closure changed from `s` to `t`.
+  -- `Part` states that the items of the list `xs` before `rest` were tested, and that `m` of them
+  -- were kept. `kept` contains the kept items as the closure left them. The tests changed the state
+  -- of the closure from `s` to `t`.
   pub record Part (m : ℕ) (s : S) (xs : List T) (t : S) (kept rest : List T) : Type 0 where
     pub done : List T
     pub verdicts : Verdicts T
@@ -366,8 +377,8 @@ module _ {S T : Type 0} (R : S → T → Bool → S → T → Type 0) where
     run-long : length r.left ≡ m
     run-long = omega (arith, r.reached)
 
-    -- After the tests, the list `ys` consists of the kept items `r.left`, followed by `r.end`: the
-    -- item to be removed, if there is one, and the untested items.
+    -- After the tests, the list `ys` consists of the kept items `r.left`, followed by `r.end`. The
+    -- list `r.end` contains the item to be removed, if there is one, and the untested items.
     run-now : ys ≡ r.left ++ r.end
     run-now = r.now ∙ ap (λ (l : List T). l ++ (r.left ++ r.end)) run-none
 
@@ -380,13 +391,14 @@ module _ {S T : Type 0} (R : S → T → Bool → S → T → Type 0) where
     pub run-kept : take m ys ≡ r.left
     run-kept = ap (take m) run-now ∙ take_at r.left r.end m run-long
 
-    -- From index `m` onward, the list `ys` consists of the item to be removed, if there is one, and
-    -- the untested items.
+    -- From index `m` onward, the list `ys` consists of the items `r.end`: the item to be removed,
+    -- if there is one, and the untested items.
     pub run-end : drop m ys ≡ r.end
     run-end = ap (drop m) run-now ∙ drop_at r.left r.end m run-long
 
-    -- If the test that stopped at an item to be removed turned the list `b` into `v ∷ rest`, then
-    -- `b` was `x ∷ rest`, and the closure returned false for `x`.
+    -- Suppose that the last test found an item to be removed, and that this test turned the list
+    -- `b` of the remaining items into `v ∷ rest`. Then `b` was `x ∷ rest` for some item `x`, and
+    -- the closure returned false for `x`.
     pub stop-goes : (u : S) (b e : List T) (v : T) (rest : List T) → Stops R u b t e → e ≡ v ∷ rest
         → (x : T) × (b ≡ x ∷ rest) × R u x false t v
     stop-goes u [] e v rest h k = absurd (cons-not-nil (sym k ∙ h.0))
@@ -421,13 +433,15 @@ module _ {S T : Type 0} (R : S → T → Bool → S → T → Type 0) where
               );
         }
 
-    -- `Stops` describes the test of the first item of `b`, if there is one. If the resulting list
-    -- `e` is empty, then `b` is empty, and the state is unchanged.
+    -- `Stops` describes the end of a sequence of tests: if any items `b` follow the kept items,
+    -- then the first of them was tested, and is to be removed. The list `e` is `b` as this test
+    -- left it. If `e` is empty, then `b` is also empty, and the state of the closure did not
+    -- change: `t` is equal to `u`.
     pub stop-ends : (u : S) (b e : List T) → Stops R u b t e → e ≡ [] → (b ≡ []) × (t ≡ u)
     stop-ends u [] e h k = (refl, h.1)
     stop-ends u (x ∷ b) e h k = absurd (cons-not-nil (sym h.2 ∙ k))
 
-    -- If no item follows the `m` kept items in the list `ys`, then all items were tested and kept.
+    -- If no item follows the kept items, then all items were tested and kept.
     pub part-ends : drop m ys ≡ [] → Part m s xs t (take m ys) []
     part-ends k =
         let g = stop-ends r.between r.after r.end r.stops (sym run-end ∙ k) in
@@ -444,8 +458,10 @@ module _ {S T : Type 0} (R : S → T → Bool → S → T → Type 0) where
   -- list during an edit.
 
   module _ {A : Type 0} (v w : Open T A) where
-    -- `Sifts` relates the open block `v` to `w` if middle items were tested, the `m` kept items
-    -- were moved to the front, and the others were removed. The block `w` must have a gap.
+    -- `Sifts` relates an open block before some tests and removals to the open block after them.
+    -- Suppose that middle items of the open block `v` are tested in order. The `m` kept items are
+    -- moved to the end of the front items, at the cost of one move each, and the other tested items
+    -- are removed. If the resulting open block `w` has a gap, then `Sifts` relates `v` to `w`.
     pub sifts-of : (m : ℕ) (s t : S) (kept : List T) → Part m s v.rest t kept w.rest
         → 0 < w.gap → w ≡ record v {
           front = v.front ++ kept;
@@ -468,8 +484,9 @@ module _ {S T : Type 0} (R : S → T → Bool → S → T → Type 0) where
           });
         }
 
-  -- In this module, the open block `v` has a gap before its middle items. Tests of these items, up
-  -- to the first item to be removed, turned `v` into `w`.
+  -- In this module, the open block `v` has a gap of empty slots before its middle items. These
+  -- items were tested in order until a test found an item to be removed, or no item remained. The
+  -- tests turned `v` into the open block `w`, and changed the state of the closure from `s` to `t`.
   module _ {A : Type 0} (s t : S) (v w : Open T A) (gap : 0 < v.gap)
       (h : Advances R s v t w) where
     -- `kept` is the list of the tested items that are kept, as the closure left them.
@@ -480,8 +497,9 @@ module _ {S T : Type 0} (R : S → T → Bool → S → T → Type 0) where
     moved : w.cost ≡ moving h.count v.cost
     moved = ap (λ u. u.cost) h.now ∙ moving-after v.gap h.count v.cost gap
 
-    -- If `w` is the open block after the tests, and removing the last tested item `value` turns `w`
-    -- into `z`, then `Sifts` relates the open block `v` before the tests to `z`.
+    -- `Sifts` relates an open block before some tests and removals to the open block after them. If
+    -- the last tested item, `value`, is removed from the open block `w` after the tests, then
+    -- `Sifts` relates the open block `v` before the tests to the resulting open block `z`.
     pub advanced-goes : (value : T) (z : Open T A) → w.rest ≡ value ∷ z.rest
         → z ≡ record w { rest = z.rest; gap = w.gap + 1 } → Sifts R s v t z
     advanced-goes value z rest same =
@@ -492,8 +510,9 @@ module _ {S T : Type 0} (R : S → T → Bool → S → T → Type 0) where
         (same ∙ (λ i. record (h.now i)
         { gap = sym (ap (λ u. u.gap) same) i; rest = z.rest; cost = moved i }))
 
-    -- If the open block `w` after the tests has no middle items, then no item is to be removed, and
-    -- `Sifts` relates the open block `v` before the tests to `w`.
+    -- `Sifts` relates an open block before some tests and removals to the open block after them. If
+    -- the open block `w` after the tests has no middle items, then the tests found no item to be
+    -- removed. In this case, `Sifts` relates the open block `v` before the tests to `w`.
     pub advanced-ends : w.rest ≡ [] → Sifts R s v t w
     advanced-ends none =
         sifts-of v w h.count s t kept
@@ -511,8 +530,9 @@ module _ {S T : Type 0} (R : S → T → Bool → S → T → Type 0) where
       runs-count 0 h.count s v.rest t h.left h.run,
     )
 
-  -- `Sifts` relates an open block `v` to itself if no item has been tested, and if `v` has a gap
-  -- before its middle items.
+  -- `Sifts` relates an open block before some tests and removals to the open block after them.
+  -- Before the first test, `Sifts` relates an open block `v` to `v` itself if `v` has a gap of
+  -- empty slots before its middle items.
   pub sifts-start : {A : Type 0} (s : S) (v : Open T A) → 0 < v.gap → Sifts R s v s v
   sifts-start s v gap =
       record {
@@ -525,8 +545,8 @@ module _ {S T : Type 0} (R : S → T → Bool → S → T → Type 0) where
             { front = sym (append-nil v.front) i; cost = sym (moving-none v.cost) i };
       }
 
-  -- `Sifts` describes tests of items in an open block. If it relates `v` to `w`, and `w` to `z`,
-  -- then it relates `v` to `z`.
+  -- `Sifts` relates an open block before some tests and removals to the open block after them. It
+  -- is transitive: if `Sifts` relates `v` to `w`, and `w` to `z`, then it relates `v` to `z`.
   pub sifts-then : {A : Type 0} {s t u : S} {v w z : Open T A} → Sifts R s v t w
       → Sifts R t w u z → Sifts R s v u z
   sifts-then {s = s} {t} {u} {v} {w} {z} h k =
@@ -556,15 +576,16 @@ module _ {S T : Type 0} (R : S → T → Bool → S → T → Type 0) where
 
   module _ {A : Type 0} (v w : Open T A) (m : ℕ) (s t : S) (ys : List T)
       (run : AskedUpTo R 0 m s v.rest t ys) where
-    -- `Passed` holds if the open block `w` has the front items of `v`, followed by the `m` kept
-    -- items. Otherwise, only the gap and the middle items can differ.
+    -- `Passed` holds if the front items of the open block `w` are the front items of the open block
+    -- `v`, followed by the `m` kept items. Apart from the front items, `w` may differ from `v` only
+    -- in the gap and the middle items. The cost is the same, because the kept items were not moved.
     abbrev Passed : Type 0
     Passed = w ≡ record v
         { front = v.front ++ take m ys; gap = w.gap; rest = w.rest }
 
-    -- If the first `m` middle items were kept, `value` was removed, and all later items were
-    -- tested, then `IsSifted` relates the open block `v` before these tests to the open block `z`
-    -- after them.
+    -- Suppose that `value`, the first item after the kept items, was removed, and that all later
+    -- items were then tested. Then `IsSifted` relates the open block `v` before all tests to the
+    -- open block `z` after them.
     pub sifted-goes : (value : T) (u : S) (z : Open T A) → Passed → drop m ys ≡ value ∷ w.rest
         → Sifts R t w u z → z.rest ≡ [] → IsSifted R s v u z
     unfolding part-goes
@@ -601,8 +622,9 @@ module _ {S T : Type 0} (R : S → T → Bool → S → T → Type 0) where
               }));
         }
 
-    -- If the tests found no item to be removed, then `IsSifted` relates the open block `v` before
-    -- the tests to the open block `w` after them.
+    -- `IsSifted` describes tests of all middle items of an open block, and the removal of the items
+    -- that are not kept. If the tests found no item to be removed, then all items were kept, and
+    -- `IsSifted` relates the open block `v` before the tests to the open block `w` after them.
     pub sifted-ends : Passed → drop m ys ≡ [] → w.rest ≡ [] → IsSifted R s v t w
     unfolding part-ends
     sifted-ends p k none =
@@ -622,23 +644,26 @@ module _ {S T : Type 0} (R : S → T → Bool → S → T → Type 0) where
           });
         }
 
--- In this module, a test is a struct that calls a closure and returns its result. `J` is the type
--- of the test, and `inside` maps its state to the state of the closure.
+-- In this module, `R` describes the calls to a closure. A wrapper is a struct that calls this
+-- closure and returns the result of the closure. `J` is the type of the wrapper, and `inside` maps
+-- each state of the wrapper to the state of the closure.
 module _ {J S T : Type 0} (R : S → T → Bool → S → T → Type 0) (inside : J → S) where
-  -- `through` describes the calls to a test that wraps a closure. It applies the relation `R` of
-  -- the closure to the states of the closure inside the test.
+  -- `through` describes the calls to a wrapper of a closure. Each state of the wrapper contains a
+  -- state of the closure. `through` applies `R`, the relation that describes the calls to the
+  -- closure, to these inner states.
   abbrev through : J → T → Bool → J → T → Type 0
   through s x b t y = R (inside s) x b (inside t) y
 
-  -- If the test was called with the items `xs`, then its closure was called with the same items and
-  -- returned the same results.
+  -- If a wrapper of a closure was called with the items `xs` and returned the verdicts `a`, then
+  -- the closure itself was called with the same items and returned the same verdicts.
   pub asked-through : (xs : List T) (s t : J) (a : Verdicts T) → Asked through s xs a t
       → Asked R (inside s) xs a (inside t)
   asked-through [] s t a h = (h.0, ap inside h.1)
   asked-through (x ∷ xs) s t a h =
       (h.0, h.1, inside h.2, h.3, h.4, asked-through xs h.2 t h.3 h.5, h.6)
 
-  -- If `retain` with a test that wraps a closure turns the list `v` into `w`, then `retain` with
+  -- Suppose that a wrapper calls a closure and returns the result of the closure. If a call to
+  -- `retain` with this wrapper turns the list `v` into the list `w`, then a call to `retain` with
   -- the closure itself also turns `v` into `w`.
   pub retained-through : {A : Type 0} (s : J) (v w : Thin T A) (t : J)
       → IsRetainedTo through s v w t → IsRetained R (inside s) v w
@@ -656,8 +681,9 @@ module _ {J S T : Type 0} (R : S → T → Bool → S → T → Type 0) (inside 
 
 -- In this module, `R` describes the calls to a closure that only reads the item.
 module _ {S T : Type 0} (R : S → T → Bool → S → Type 0) where
-  -- If a closure that only reads the items tested the items `xs`, then it returned one flag for
-  -- each item, and the kept items are the items whose flag is true.
+  -- Suppose that the items `xs` were tested by a closure that only reads them. Then the closure
+  -- returned one Boolean flag for each item, in order. The kept items are the items of `xs` whose
+  -- flag is true.
   told : (xs : List T) (s t : S) (a : Verdicts T) → Asked (Looks R) s xs a t
       → (length (flags_of a) ≡ length xs) × ReturnsInTurn R s (flags_of a) xs t
       × (left_at true a ≡ items_where_true (flags_of a) xs)
@@ -674,16 +700,18 @@ module _ {S T : Type 0} (R : S → T → Bool → S → Type 0) where
       (ap suc rest.0, (h.2, answer, rest.1), first b y x a xs left rest.2)
     where
       -- This is the induction step of the lemma `told`, from the list `xs` to the list `x ∷ xs`.
-      -- `b` is the flag for `x`, and `y` is `x` after the test.
+      -- Here, `b` is the flag for the item `x`, and `y` is this item after the test, which left it
+      -- unchanged.
       first : (b : Bool) (y x : T) (a : Verdicts T) (xs : List T) → y ≡ x
           → left_at true a ≡ items_where_true (flags_of a) xs
           → left_at true ((b, y) ∷ a) ≡ items_where_true (b ∷ flags_of a) (x ∷ xs)
       first true y x a xs e f = λ i. e i ∷ f i
       first false y x a xs e f = f
 
-  -- If `retain` with a closure that only reads the items turned the list `v` into `w`, then std's
-  -- `IsFiltered` holds for their items. Lemmas about `IsFiltered` are in the file `lemmas/Fn` of
-  -- std's proofs.
+  -- Suppose that `retain` was called with a closure that only reads the items, and that it turned
+  -- the list `v` into the list `w`. Then std's `IsFiltered` holds: the items of `w` are the items
+  -- of `v` for which the closure returned true. Lemmas about `IsFiltered` are in the file
+  -- `lemmas/Fn` of std's proofs.
   pub retained_filtered : {A : Type 0} (s : S) (v w : Thin T A) → IsRetained (Looks R) s v w
       → IsFiltered R s v.items w.items
   retained_filtered s v w h =
@@ -700,8 +728,8 @@ module _ {S T : Type 0} (R : S → T → Bool → S → Type 0) where
       (retained_filtered s v w h)
 
 module _ {S T : Type 0} (R : S → T → Bool → S → T → Type 0) where
-  -- If a closure tested all items of the list `xs`, then the number of kept items is at most the
-  -- length of `xs`.
+  -- Suppose that a closure tested all items of the list `xs`. Then the number of kept items is at
+  -- most the length of `xs`.
   pub few-left : (xs : List T) (s t : S) (a : Verdicts T) → Asked R s xs a t
       → length (left_at true a) ≤ length xs
   few-left [] s t a h =
@@ -711,7 +739,7 @@ module _ {S T : Type 0} (R : S → T → Bool → S → T → Type 0) where
       subst (λ (b : Verdicts T). length (left_at true b) ≤ suc (length xs)) (sym h.6)
       (one h.0 h.1 h.3 xs rest)
     where
-      -- Testing one more item increases the number of kept items by at most 1.
+      -- The test of one more item increases the number of kept items by at most 1.
       one : (b : Bool) (y : T) (a : Verdicts T) (xs : List T)
           → length (left_at true a) ≤ length xs
           → length (left_at true ((b, y) ∷ a)) ≤ suc (length xs)

@@ -1,19 +1,20 @@
--- These lemmas state which items a list contains after a write through a slice of all its items.
+-- These lemmas are for proofs about code that writes through a slice of all items of a list. They
+-- state which items the list contains after the write.
 use Rattle.std.proofs.Common.{◌≡◌, List, ◌++◌, ap, drop, length, sym, take, ◌∙◌}
 use Rattle.std.proofs.Math.Seq.{take-append_seam}
 use Rattle.std.specs.List.{refill}
 use Rattle.thin_vec.specs.Lends.{with_items}
 use Rattle.thin_vec.specs.ThinVec.{Thin}
 
--- If `ws` has the same length as `xs`, then writing the items `ws` over the items `xs` results in
--- exactly `ws`.
+-- If the list `ws` has the same length as the list `xs`, then writing the items of `ws` over the
+-- items of `xs` replaces all items of `xs`. The result is exactly `ws`.
 pub refill_all : {T : Type 0} (xs ws : List T) → length ws ≡ length xs
     → refill (length xs) xs ws ≡ ws
 refill_all xs ws same =
     ap (λ n. take n (ws ++ drop (length ws) xs)) (sym same) ∙ take-append_seam ws _
 
--- If `ws` has the same length as the list `v`, then writing `ws` over the items of `v` results in
--- exactly the items `ws`. This lemma corresponds to std's `with_items_is`.
+-- If `ws` has the same length as the list `v`, then writing `ws` over the items of `v` yields a
+-- list with exactly the items `ws`. This lemma corresponds to std's `with_items_is`.
 pub with_items_is : {T A : Type 0} (v : Thin T A) (ws : List T) → length ws ≡ length v.items
     → (with_items v ws).items ≡ ws
 with_items_is v ws same = refill_all v.items ws same

@@ -7,15 +7,16 @@ use Rattle.thin_vec.specs.Convert.IntoIter.{rest}
 use Rattle.thin_vec.specs.ThinVec.{Thin}
 
 module _ {T A : Type 0} where
-  -- If calls to `next` yielded the items `xs` and turned the iterator `s` into `t`, then the items
-  -- of `s` are `xs`, followed by the items of `t`.
+  -- If calls to `next` on the iterator `s` yielded the items `xs` and turned `s` into the iterator
+  -- `t`, then the items of `s` are `xs`, followed by the items of `t`.
   pub taken_front : (s : Thin T A) (xs : List T) (t : Thin T A) → Yields (YieldsFirst rest) s xs t
       → s.items ≡ xs ++ t.items
   taken_front s [] t y = ap (λ v. v.items) y
   taken_front s (x ∷ xs) t y = y.1 ∙ ap (λ ys. x ∷ ys) (taken_front y.0 xs t y.2)
 
-  -- If calls to `next` yielded the items `xs` and then returned `None`, then the iterator held
-  -- exactly these items at first. This lemma corresponds to std's `All-taken`.
+  -- If calls to `next` on the iterator `s` yielded the items `xs` and then returned `None`, then
+  -- `s` held exactly the items `xs` before these calls. This lemma corresponds to std's
+  -- `All-taken`.
   pub all_taken : (s : Thin T A) (xs : List T) → Drains (YieldsFirst rest) s xs → xs ≡ s.items
   all_taken s xs d = sym (taken_front s xs d.1.0 d.1.1
       ∙ (ap (λ ys. xs ++ ys) d.1.2.0 ∙ append-nil xs))

@@ -1,5 +1,6 @@
--- These lemmas are about the capacity of a list and the cost of growing the list. They are for this
--- crate and other crates. They use definitions from `specs/ThinVec.antt` and `specs/Cheap.antt`.
+-- These lemmas are about the capacity of a list, and about the cost of growing the list: requests
+-- for memory and copied items. The lemmas are for the proofs of this crate and of other crates. The
+-- definitions that they use are in `specs/ThinVec.antt` and `specs/Cheap.antt`.
 use Rattle.thin_block.proofs.Outcomes.{some-same}
 use Rattle.std.proofs.Common.{if◌then◌else◌, Bool, ◌≡◌, ℕ, zero, suc, ◌+◌, ◌*◌, ◌^◌, ◌<◌, ◌≤◌, true, false, Some, ap, List, [], arith, eqb, inl, inr, length, refl, subst, sym, ◌∙◌}
 use Rattle.std.specs.Borrow.{RattleType}
@@ -17,7 +18,7 @@ use Rattle.thin_vec.specs.ThinVec.{IsThin, IsWithin, Thin, capacity_for, cost_at
 
 module _ {T A : Type 0} (R : RattleType) (b : Block T A) (a : A) where
   -- If the block `b` of the list `v` is small enough to be allocated, then `v` satisfies
-  -- `IsWithin`, which bounds its length and capacity.
+  -- `IsWithin`: its length and its capacity are within their bounds.
   pub within-of : (v : Thin T A) → IsThin b a → thin_of b a ≡ v
       → Fits R (length b.slots) → IsWithin R v
   within-of v thin is fits =
@@ -26,15 +27,17 @@ module _ {T A : Type 0} (R : RattleType) (b : Block T A) (a : A) where
       in
       subst (IsWithin R) is here
 
-  -- If a block of capacity `c` is small enough to be allocated, then a list with the items `xs` and
-  -- the capacity `c` satisfies `IsWithin`, which bounds its length and capacity.
+  -- Suppose that a list has the items `xs` and the capacity `c` after an operation. If a block of
+  -- capacity `c` is small enough to be allocated, then this list satisfies `IsWithin`: its length
+  -- and its capacity are within their bounds.
   pub within-settled : (xs : List T) (c : ℕ) → Fits R c → Settled b a xs c
       → IsWithin R (thin_of b a)
   within-settled xs c fits after =
       within-of (thin_of b a) after.thin refl (subst (Fits R) (sym after.cap) fits)
 
-  -- `IsWithin` bounds the length and the capacity of a list. It still holds after an operation that
-  -- does not change the capacity.
+  -- `IsWithin` states that the length and the capacity of a list are within their bounds. If it
+  -- holds for the list `v`, then it still holds after an operation that changes the items to `xs`
+  -- but does not change the capacity.
   pub within-stays : (b' : Block T A) (v : Thin T A) (xs : List T) → IsWithin R v → thin_of b a ≡ v
       → Settled b' a xs (length b.slots) → IsWithin R (thin_of b' a)
   within-stays b' v xs kept is after = record {
@@ -43,8 +46,9 @@ module _ {T A : Type 0} (R : RattleType) (b : Block T A) (a : A) where
     fits = subst (Fits R) (sym (after.cap ∙ ap (λ (w : Thin T A). w.capacity) is)) kept.fits;
   }
 
-  -- If the block of the list `v` is small enough to be allocated, and an operation does not change
-  -- the capacity, then the list satisfies `IsWithin` before and after the operation.
+  -- `IsWithin` states that the length and the capacity of a list are within their bounds. Suppose
+  -- that the block `b` of the list `v` is small enough to be allocated. Then `IsWithin` holds both
+  -- before and after an operation that changes the items to `xs` but does not change the capacity.
   pub within-kept : (b' : Block T A) (v : Thin T A) (xs : List T) → IsThin b a → thin_of b a ≡ v
       → Fits R (length b.slots) → Settled b' a xs (length b.slots) → IsWithin R v
       × IsWithin R (thin_of b' a)
@@ -58,7 +62,8 @@ module _ {T A : Type 0} (R : RattleType) (b : Block T A) (a : A) where
   )
 
 module _ {T A : Type 0} (R : RattleType) (w : Thin T A) where
-  -- A list that has no items and a capacity of 0 satisfies `IsWithin`.
+  -- `IsWithin` states that the length and the capacity of a list are within their bounds. It holds
+  -- for each list `w` that has no items and a capacity of 0.
   pub within-none : w.items ≡ [] → w.capacity ≡ 0 → IsWithin R w
   within-none none nothing = record {
     room = omega (arith, ap length none);
@@ -66,8 +71,9 @@ module _ {T A : Type 0} (R : RattleType) (w : Thin T A) where
     fits = subst (Fits R) (sym nothing) (fits-none R);
   }
 
-  -- If `v` satisfies `IsWithin`, `w` has the same capacity as `v`, and the length of `w` is at most
-  -- this capacity, then `w` also satisfies `IsWithin`.
+  -- `IsWithin` states that the length and the capacity of a list are within their bounds. Suppose
+  -- that it holds for the list `v`, and that the list `w` has the same capacity as `v`. If the
+  -- length of `w` is at most this capacity, then `IsWithin` also holds for `w`.
   pub within-like : (v : Thin T A) → IsWithin R v → w.capacity ≡ v.capacity
       → length w.items ≤ v.capacity → IsWithin R w
   within-like v kept same room =
@@ -100,8 +106,9 @@ module _ {T A : Type 0} (v : Thin T A) (c : ℕ) where
 -- capacities before and after the growth.
 pub ruleset costs = (cost_at-same, cost_at-more)
 
--- `IsCheapAt c k` bounds the cost `k` of a list of capacity `c`. The bound still holds after
--- `n ≤ c` items are copied to a larger block, if its capacity `c'` is at least `2 * c`.
+-- `IsCheapAt c k` bounds the cost `k` of a list that has the capacity `c`. Suppose that this bound
+-- holds, and that `n` items are copied into a larger block of capacity `c'`. If `n ≤ c` and
+-- `2 * c ≤ c'`, then the bound for `c'` holds for the new cost.
 cheap-growing : {c : ℕ} {k : Cost} (n c' : ℕ) → IsCheapAt c k → n ≤ c → c < c' → 2 * c ≤ c'
     → IsCheapAt c' (growing n k)
 cheap-growing {c = zero} {k} n c' h le larger doubled =
@@ -136,23 +143,25 @@ module _ {T A : Type 0} (rule : Rule) (R : RattleType) (law : KeepsLaw rule)
       → capacity_for rule R v k ≡ Some c → cost_at v c ≡ v.cost
   cost_at-kept room e = cost_at-same v c (cap-kept room e)
 
-  -- If the list `v` has no room for `k` more items, then the capacity `c` that the growth rule
-  -- chooses has room for them, and is at least twice the old capacity.
+  -- Suppose that the list `v` has no room for `k` more items, and that the growth rule chooses the
+  -- capacity `c`. Then `c` is at least twice the old capacity, and it is enough for the old items
+  -- and `k` more items.
   pub cap-grown : v.capacity < length v.items + k → capacity_for rule R v k ≡ Some c
       → (length v.items + k ≤ c) × (2 * v.capacity ≤ c)
   cap-grown more e = let g = ruled-grows rule R v.capacity (length v.items + k) c law more e in
       (g.enough, g.doubled)
 
-  -- If the list `v` has no room for `k` more items and grows to the capacity `c`, then its cost
-  -- increases by one request for memory and `length v.items` copied items.
+  -- Suppose that the list `v` has no room for `k` more items. If it grows to the capacity `c` that
+  -- the growth rule chooses, then its cost increases by one request for memory and by `length
+  -- v.items` copied items.
   pub cost_at-grown : v.capacity < length v.items + k → capacity_for rule R v k ≡ Some c
       → cost_at v c ≡ growing (length v.items) v.cost
   cost_at-grown more e =
       let g = cap-grown more e in
       cost_at-more v c (omega (arith, g.0))
 
-  -- If a list grows to the capacity that the growth rule chooses, then at most as many items are
-  -- copied as slots are added.
+  -- If a list grows to the capacity that the growth rule chooses, then the number of copied items
+  -- is at most the number of added slots.
   pub cost_at-copied : length v.items ≤ v.capacity → capacity_for rule R v k ≡ Some c
       → (cost_at v c).grown + v.capacity ≤ v.cost.grown + c
   cost_at-copied room e =

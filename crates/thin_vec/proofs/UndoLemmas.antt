@@ -4,7 +4,8 @@ use Rattle.std.proofs.Common.{◌≡◌, ℕ, zero, suc, ◌≤◌, List, [], �
 use Rattle.std.specs.Prelude.{Some, insert, remove, slice_get}
 
 module _ {T : Type 0} where
-  -- Inserting an item at index `i` and then removing the item at index `i` restores the list `xs`.
+  -- Inserting the item `x` into the list `xs` at index `i`, and then removing the item at index
+  -- `i`, restores `xs`.
   pub remove-insert : (xs : List T) (i : ℕ) (x : T) → i ≤ length xs → remove (insert xs i x) i ≡ xs
   remove-insert [] zero x h = refl
   remove-insert (y ∷ xs) zero x h = refl

@@ -1,4 +1,4 @@
--- These definitions say what a list contains after a mutable borrow of its items has ended.
+-- These definitions say what a list contains after a `&mut` borrow of its items has ended.
 use Rattle.std.specs.Prelude.{List, Option, ℕ, length, slice_set}
 use Rattle.std.specs.declared.alloc.Allocator.{Ghosts as AllocatorGhosts}
 use Rattle.std.specs.List.{refill}
@@ -11,40 +11,44 @@ use Rattle.thin_vec.specs.contracts.convert.into_iter.IntoIter.{the_row as itera
 use Rattle.thin_vec.specs.contracts.list.ThinVec.{the_row}
 
 module _ {T A : Type 0} where
-  -- `with_items v ws` is the list `v` after the items `ws` have replaced its first items. The
-  -- length does not change, so surplus items of `ws` are ignored.
+  -- `with_items v ws` is the list `v` after its first items were replaced with the items `ws`. The
+  -- length does not change, so items of `ws` beyond the length of `v` are ignored.
   abbrev pub with_items : Thin T A → List T → Thin T A
   with_items v ws = record v { items = refill (length v.items) v.items ws }
 
-  -- `with_item v i w` is the list `v` after `w` has replaced the item at index `i`.
+  -- `with_item v i w` is the list `v` after the item at index `i` was replaced with `w`.
   abbrev pub with_item : Thin T A → ℕ → T → Thin T A
   with_item v i w = record v { items = slice_set v.items i w }
 
 module _ (T A G : RattleType) (a : AllocatorGhosts A.Denot) (g : GrowthGhosts G.Denot)
     (v : MutBor (Thin T.Denot A.Denot)) where
-  -- `LendsItems r` states that the reference `r` borrows all items of the list that `v` points to.
-  -- When the borrow ends, the list contains the items that were written through `r`.
+  -- `LendsItems r` states that the reference `r` borrows all items of the list to which the
+  -- reference `v` points. When the borrow ends, the list contains the items that were written
+  -- through `r`.
   abbrev pub LendsItems : MutBor (List T.Denot) → Fml
   LendsItems r = Lends (the_row T A G a g) (Array T 0) v r (with_items v.now)
 
-  -- `LendsItem i r` states that the reference `r` borrows the item at index `i` of the list that
-  -- `v` points to. When the borrow ends, this item is the value that was written through `r`.
+  -- `LendsItem i r` states that the reference `r` borrows the item at index `i` of the list to
+  -- which the reference `v` points. When the borrow ends, the item at this index is the value that
+  -- was written through `r`.
   abbrev pub LendsItem : ℕ → MutBor T.Denot → Fml
   LendsItem i r = Lends (the_row T A G a g) T v r (with_item v.now i)
 
-  -- `LendsGet i r` states that the reference in `r` borrows the item at index `i`, as in
-  -- `LendsItem`. If `r` is `None`, the list does not change.
+  -- `LendsGet i r` describes the option `r`. If `r` is `Some`, it contains a reference to the item
+  -- at index `i` of the list to which the reference `v` points, as in `LendsItem`. If `r` is
+  -- `None`, the list does not change.
   abbrev pub LendsGet : ℕ → Option (MutBor T.Denot) → Fml
   LendsGet i r = LendsIf (the_row T A G a g) T v r (with_item v.now i) v.now
 
-  -- `LendsIter it` states that the iterator `it` borrows all items of the list that `v` points to.
-  -- When the borrow ends, the list contains the items that were written through the yielded
-  -- references.
+  -- `LendsIter it` states that the iterator `it` borrows all items of the list to which the
+  -- reference `v` points. When the borrow ends, the list contains the items that were written
+  -- through the references that `it` yielded.
   abbrev pub LendsIter : IterMut T.Denot → Fml
   LendsIter it = follows (the_row T A G a g) (Array T 0) v.ghost_name
       (iter_mut_name it) (with_items v.now)
 
-  -- `LendsRest r` states that the reference `r` borrows the remaining items of the iterator that
-  -- `v` points to. When the borrow ends, they are the items that were written through `r`.
+  -- `LendsRest r` states that the reference `r` borrows the items that an iterator has not yielded
+  -- yet. The reference `v` points to this iterator. When the borrow ends, the remaining items of
+  -- the iterator are the items that were written through `r`.
   abbrev pub LendsRest : MutBor (List T.Denot) → Fml
   LendsRest r = Lends (iterator_row T A G a g) (Array T 0) v r (with_items v.now)

@@ -1,21 +1,24 @@
--- An open block is the block of a list during an edit. It has three parts (the front, the middle
--- run and the tail) with empty slots between them. `src/open_block.rt` contains a diagram.
+-- An open block is the block of a list during an edit. It consists of three parts (the front, the
+-- middle run and the tail) with empty slots between them. The comment of `OpenBlock` in
+-- `src/open_block.rt` contains a diagram of these parts.
 use Rattle.std.specs.Prelude.{ℕ, ◌+◌, ◌-◌, ◌==◌, List, ◌++◌, Option, if◌then◌else◌, length, refl}
 use Rattle.std.specs.Coded.{Coded, code_by, coded×, coded_ℕ, coded_list, coded_option}
 use Rattle.thin_block.specs.Cost.{Cost, cost_code, moving}
 use Rattle.thin_block.specs.Slots.{empty, full}
 
--- The view of an open block that contracts use. A block is open while a method such as `retain` or
--- `drain` works on its list.
+-- Contracts describe an open block by a value of the type `Open`. An open block is the block of a
+-- list while a method such as `retain` or `drain` works on the list.
 pub record Open (T A : Type 0) : Type 0 where
   -- The front items: the items before the edited range, and the items that have been kept or
   -- inserted so far.
   pub front : List T
-  -- The number of empty slots between the front and the middle run.
+  -- The number of empty slots between the first part of the block (the front) and the second part
+  -- (the middle run).
   pub gap : ℕ
   -- The middle items: the items of the edited range that have not been yielded or tested yet.
   pub rest : List T
-  -- The number of empty slots between the middle run and the tail.
+  -- The number of empty slots between the second part of the block (the middle run) and the third
+  -- part (the tail).
   pub gap_after : ℕ
   -- The tail items: the items after the edited range.
   pub tail : List T
@@ -48,23 +51,27 @@ open_code {T} {A} t a =
     (λ _. refl)
 
 module _ {T A : Type 0} where
-  -- `tail_start v` is the index of the first slot of the tail of the open block `v`.
+  -- `tail_start v` is the index of the first slot of the tail, which is the last part of the open
+  -- block `v`.
   abbrev pub tail_start : Open T A → ℕ
   tail_start v = length v.front + v.gap + length v.rest + v.gap_after
 
-  -- `reach v` is the index directly after the tail of the open block `v`.
+  -- `reach v` is the index directly after the tail, which is the last part of the open block `v`.
   abbrev pub reach : Open T A → ℕ
   reach v = tail_start v + length v.tail
 
-  -- `rest_of v` is the list of the middle items of the open block `v`.
+  -- `rest_of v` is the list of the items in the middle run, which is the second of the three parts
+  -- of the open block `v`.
   abbrev pub rest_of : Open T A → List T
   rest_of v = v.rest
 
-  -- `range_len v` is the number of slots between the front and the tail of the open block `v`.
+  -- `range_len v` is the number of slots between the first part (the front) and the last part (the
+  -- tail) of the open block `v`.
   abbrev pub range_len : Open T A → ℕ
   range_len v = v.gap + length v.rest + v.gap_after
 
-  -- `row_of v` is the list of all slots of the open block `v`, in order.
+  -- `row_of v` contains all slots of the open block `v`, in order. Each of the three parts of `v`
+  -- consists of filled slots, and may be followed by empty slots.
   abbrev pub row_of : Open T A → List (Option T)
   row_of v = full v.front
       ++ (empty v.gap
@@ -74,13 +81,14 @@ module _ {T A : Type 0} where
   abbrev pub items_of : Open T A → List T
   items_of v = v.front ++ (v.rest ++ v.tail)
 
-  -- `cost_closed v` is the cost of the open block `v` after the gap between its front and its
-  -- middle run is closed. If there is a gap, each item after it counts as one move.
+  -- `cost_closed v` is the recorded cost of the open block `v` after the gap between its front and
+  -- its middle run has been closed. If this gap has at least one slot, each item of the middle run
+  -- and of the tail counts as one move.
   abbrev pub cost_closed : Open T A → Cost
   cost_closed v = if v.gap == 0 then v.cost else moving (length v.rest + length v.tail) v.cost
 
-  -- `cost_drained v` is the cost of the open block `v` after its middle items are removed and its
-  -- tail is moved down to its front. If the tail has to be moved, each tail item counts as one
-  -- move.
+  -- `cost_drained v` is the recorded cost of the open block `v` after its middle items have been
+  -- removed, and its tail items have been moved down to follow the front directly. If there is at
+  -- least one slot between the front and the tail of `v`, each tail item counts as one move.
   abbrev pub cost_drained : Open T A → Cost
   cost_drained v = if range_len v == 0 then v.cost else moving (length v.tail) v.cost

@@ -1,5 +1,6 @@
--- These definitions state which slots of an open block contain items. An open block is the block of
--- a list during an edit.
+-- An open block is the block of a list during an edit. In contracts, it is a value of the type
+-- `Open`. The definitions in this file state which slots of an open block contain items and which
+-- are empty.
 pub mod Dedup
 pub mod Sift
 use Rattle.std.specs.Prelude.{◌≡◌, ◌+◌, ◌-◌, ◌≤◌, drop, length, slice_range, take}
@@ -8,7 +9,7 @@ use Rattle.thin_vec.specs.Open.{Open, row_of}
 use Rattle.thin_vec.specs.declared.open_block.OpenBlock.TheInside.{Inside}
 
 module _ {T A : Type 0} where
-  -- `open_of h` is the view of the open block `h` that contracts use.
+  -- `open_of h` is how contracts see the open block `h`: as a value of the type `Open`.
   abbrev pub open_of : Inside T A → Open T A
   open_of h =
       record {
@@ -22,8 +23,10 @@ module _ {T A : Type 0} where
         cost = h.block.cost;
       }
 
-  -- `Shows h v` states that the view `v` describes the open block `h`: the slots of `h` contain
-  -- exactly the items of `v`, and the indices in `h` say where the three parts begin and end.
+  -- `Shows h v` states that the value `v` describes the open block `h`. The slots of `h` contain
+  -- the items of the three parts of `v` (the front, the middle run and the tail), and empty slots
+  -- between these parts. The indices that are stored in `h` say where each part begins and ends.
+  -- The last part ends at or before the end of the block.
   pub record Shows (h : Inside T A) (v : Open T A) : Type 0 where
     pub row : h.block.slots ≡ row_of v
     pub front : length v.front ≡ h.front_end
@@ -33,7 +36,8 @@ module _ {T A : Type 0} where
     pub tail : h.tail_start + length v.tail ≡ h.len
     pub room : h.len ≤ v.capacity
 
-  -- `IsOpen h` is the invariant of the type `OpenBlock`: exactly the slots in the front, the middle
-  -- run and the tail of `h` contain items.
+  -- `IsOpen h` is the invariant of the type `OpenBlock`. It states that each slot in the front, the
+  -- middle run and the tail of the open block `h` contains an item, and that all other slots of `h`
+  -- are empty.
   abbrev pub IsOpen : Inside T A → Type 0
   IsOpen h = Shows h (open_of h)

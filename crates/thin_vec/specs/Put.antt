@@ -1,29 +1,34 @@
--- These definitions describe the loops of `src/put.rt`, which put items into the empty slots of a
--- block.
+-- The definitions in this file describe the loops of `src/put.rt`, which put items into the empty
+-- slots of a block.
 use Rattle.std.specs.Prelude.{◌≡◌, ℕ, ◌+◌, ◌<◌, ◌≤◌, Bool, true, false, List, Option, length}
 use Rattle.std.specs.Iterator.{Count, IsFinite, Yields, YieldsThen, size}
 use Rattle.std.specs.declared.option.Option.TheVariants.{None}
 use Rattle.thin_vec.specs.declared.put.Filled.{Filled}
 
--- `Gives steps s xs ended t` states that calls to `next` yielded the items `xs` and changed the
--- iterator from `s` to `t`. If `ended` is true, one more call returned `None`.
+-- `Gives steps s xs ended t` states that calls to `next` on the iterator `s` yielded the items `xs`
+-- and changed the iterator to `t`. Here, `steps` describes a single call to `next`. If `ended` is
+-- true, one more call to `next` returned `None`.
 abbrev pub Gives : {S X : Type 0} → (S → Option X → S → Type 0) → S → List X → Bool → S → Type 0
 Gives steps s xs true t = YieldsThen steps s xs None t
 Gives steps s xs false t = Yields steps s xs t
 
 -- `IsFilledBy steps can remaining room s f` describes a loop that moves items of the iterator `s`
--- into `room` empty slots, until the slots are full or the iterator ends. The result `f` contains
--- the rest of the iterator, and says whether it has ended.
+-- into `room` empty slots. The loop ends when all slots are full or when the iterator returns
+-- `None`. The result `f` of the loop contains the rest of the iterator, and says whether the
+-- iterator has ended. Here, `steps` describes a single call to `next`, `can x` states that `next`
+-- may be called on the iterator `x`, and `remaining x` is an upper bound on the number of items
+-- that `x` still yields.
 pub record IsFilledBy {S X : Type 0} (steps : S → Option X → S → Type 0) (can : S → Type 0)
     (remaining : S → Count) (room : ℕ) (s : S) (f : Filled S) : Type 0 where
   -- The items that were put into the slots, in the order in which the iterator yielded them.
   pub items : List X
   pub gave : Gives steps s items f.ended f.rest
-  -- If the iterator has not ended, all slots are full. If it has ended, at least one slot is empty.
+  -- If the iterator has not ended (`f.ended` is false), all slots are full. If it has ended, at
+  -- least one slot is still empty.
   pub full : f.ended ≡ false → length items ≡ room
   pub short : f.ended ≡ true → length items < room
-  -- If the iterator has not ended, `next` may be called again, and the rest yields a finite number
-  -- of items. The loop has lowered the upper bound on this number by at least the number of moved
-  -- items.
+  -- Suppose that the iterator has not ended. Then `next` may be called on the rest of the iterator,
+  -- and the upper bound on the number of items that the rest yields is finite. The loop has
+  -- decreased this upper bound by at least the number of items that it moved.
   pub asked : f.ended ≡ false → can f.rest × IsFinite (remaining f.rest)
   pub nearer : f.ended ≡ false → length items + size (remaining f.rest) ≤ size (remaining s)

@@ -1,5 +1,6 @@
--- These lemmas are about rows of filled slots, followed by empty slots. They are in `specs` because
--- a definition in `specs/formers` needs them.
+-- These lemmas are about rows of slots in which only the first slots are filled. Such a row
+-- consists of its items, followed by empty slots. This file is in `specs/` because a file in
+-- `specs/formers/` uses the lemmas.
 use Rattle.std.specs.Prelude.{◌≡◌, ℕ, suc, zero, List, [], ◌∷◌, ◌++◌, Bool, true, false, Option, length, map, replicate}
 use Rattle.std.specs.declared.option.Option.TheVariants.{Some, None}
 use mathlib.Core.Path.{refl, ap, ◌∙◌}
@@ -7,17 +8,20 @@ use native.Mathlib.Omega.{arith}
 use Rattle.std.specs.Option.{is_some}
 use Rattle.thin_block.specs.Slots.{empty, full, items_in}
 
--- `shape n m` is the list of flags of `n` filled slots (true), followed by `m` empty slots (false).
+-- `shape n m` is a list of flags that describes a row of `n` filled slots, followed by `m` empty
+-- slots. The flag of a filled slot is true, and the flag of an empty slot is false.
 abbrev pub shape : ℕ → ℕ → List Bool
 shape n m = replicate n true ++ replicate m false
 
--- `head_of bs` encodes the first flag of `bs`: 1 for true, 2 for false, and 0 if `bs` is empty.
+-- `head_of bs` encodes the first flag of the list `bs` as a number: 1 for true, 2 for false, and 0
+-- if `bs` is empty.
 head_of : List Bool → ℕ
 head_of [] = 0
 head_of (true ∷ bs) = 1
 head_of (false ∷ bs) = 2
 
--- `tail_of bs` is the list `bs` without its first flag, or the empty list if `bs` is empty.
+-- `tail_of bs` is the list of flags `bs` without its first flag, or the empty list if `bs` is
+-- empty.
 abbrev tail_of : List Bool → List Bool
 tail_of [] = []
 tail_of (b ∷ bs) = bs
@@ -28,19 +32,20 @@ none_shape : (X : Type 0) (m : ℕ) → map is_some (let none : List (Option X) 
 none_shape X zero = refl
 none_shape X (suc m) = ap (λ l. false ∷ l) (none_shape X m)
 
--- The list `shape (length ys) m` says which slots are filled in the row `full ys ++ empty m`.
+-- The row of slots `full ys ++ empty m` consists of filled slots, which contain the items `ys`, and
+-- `m` empty slots. The list `shape (length ys) m` says which slots of this row are filled.
 front_shape : {X : Type 0} (ys : List X) (m : ℕ)
     → map is_some (full ys ++ empty m) ≡ shape (length ys) m
 front_shape {X} [] m = none_shape X m
 front_shape (y ∷ ys) m = ap (λ l. true ∷ l) (front_shape ys m)
 
--- If the row `s` consists of `n` filled slots, followed by `m` empty slots, its flags are `n` times
--- true, followed by `m` times false.
+-- Suppose that the row of slots `s` consists of `n` filled slots, followed by `m` empty slots. Then
+-- `map is_some s` consists of `n` times `true`, followed by `m` times `false`.
 pub to_shape : {X : Type 0} (s : List (Option X)) (m : ℕ) → s ≡ full (items_in s) ++ empty m
     → map is_some s ≡ shape (length (items_in s)) m
 to_shape s m e = ap (map is_some) e ∙ front_shape (items_in s) m
 
--- If the flags of the row `s` are `m` times false, then `s` consists of `m` empty slots.
+-- If `map is_some s` is `replicate m false`, then the row of slots `s` consists of `m` empty slots.
 all_none : {X : Type 0} (s : List (Option X)) (m : ℕ)
     → map is_some s ≡ replicate m false → s ≡ empty m
 unfolding head_of
@@ -50,16 +55,18 @@ all_none (x ∷ s) zero e = let n = ap length e in absurd (omega (arith, n))
 all_none (Some x ∷ s) (suc m) e = let n : 1 ≡ 2 = ap head_of e in absurd (omega (arith, n))
 all_none (None ∷ s) (suc m) e = ap (λ l. None ∷ l) (all_none s m (ap tail_of e))
 
--- If the same slots are filled in the rows `None ∷ s` and `full ys ++ empty m`, then the two rows
--- are equal.
+-- Suppose that the rows of slots `None ∷ s` and `full ys ++ empty m` have the same length, and that
+-- the same slots are filled in both rows. Then the first slot of both rows is empty. So `ys` is
+-- empty, and the two rows are equal.
 none_first : {X : Type 0} (s : List (Option X)) (ys : List X) (m : ℕ)
     → false ∷ map is_some s ≡ shape (length ys) m → None ∷ s ≡ full ys ++ empty m
 unfolding head_of
 none_first s [] m e = all_none (None ∷ s) m e
 none_first s (y ∷ ys) m e = let n : 2 ≡ 1 = ap head_of e in absurd (omega (arith, n))
 
--- If the flags of the row `s` are `n` times true, followed by `m` times false, then `s` consists of
--- `n` filled slots, followed by `m` empty slots.
+-- Suppose that the row of slots `s` holds `n` items, and that `map is_some s` consists of `n` times
+-- `true`, followed by `m` times `false`. Then `s` consists of `n` filled slots, followed by `m`
+-- empty slots.
 pub from_shape : {X : Type 0} (s : List (Option X)) (m : ℕ)
     → map is_some s ≡ shape (length (items_in s)) m → s ≡ full (items_in s) ++ empty m
 unfolding head_of

@@ -13,8 +13,9 @@ use Rattle.thin_block.specs.Growth.{Rule, exact_capacity, ruled_capacity}
 use Rattle.thin_block.specs.Slots.{IsPacked, items_in}
 use Rattle.thin_block.specs.declared.block.Block.{Block}
 
--- The view of a `ThinVec` that contracts use. The field `cost` counts requests for memory, copied
--- items and moved items.
+-- In contracts, a `ThinVec` is a value of the type `Thin`. It consists of the items in order, the
+-- capacity, the allocator, and the recorded cost so far. The cost counts requests for memory,
+-- copied items and moved items.
 pub record Thin (T A : Type 0) : Type 0 where
   pub items : List T
   pub capacity : ℕ
@@ -30,14 +31,15 @@ thin_code {T} {A} t a =
     (λ p. record { items = p.0; capacity = p.1.0; alloc = p.1.1.0; cost = p.1.1.1 }) (λ _. refl)
 
 module _ {T A : Type 0} where
-  -- `IsThin b a` states that `b` is the block of a list with the allocator `a`. The items fill the
-  -- first `b.len` slots of `b`, and the memory of `b`, if it has any, came from `a`.
+  -- `IsThin b a` states that `b` is the block of a list with the allocator `a`. The items of `b`
+  -- fill its first slots, all other slots are empty, and the stored length is the number of items.
+  -- If `b` has memory, the memory came from `a`.
   pub record IsThin (b : Block T A) (a : A) : Type 0 where
     pub packed : IsPacked b.slots b.len
     pub from : IsFrom b.alloc a
 
-  -- `thin_of b a` is the view of the list with the block `b` and the allocator `a` that contracts
-  -- use.
+  -- `thin_of b a` is how contracts see the list with the block `b` and the allocator `a`: as a
+  -- value of the type `Thin`.
   abbrev pub thin_of : Block T A → A → Thin T A
   thin_of b a = record {
     items = items_in b.slots;
@@ -46,16 +48,17 @@ module _ {T A : Type 0} where
     cost = b.cost;
   }
 
-  -- `IsNew v a` states that the list `v` is new: it has the allocator `a`, no items, capacity 0 and
-  -- cost 0.
+  -- `IsNew v a` states that `v` is a new list with the allocator `a`: it has no items, and its
+  -- capacity and its cost are 0.
   pub record IsNew (v : Thin T A) (a : A) : Type 0 where
     pub items : v.items ≡ []
     pub capacity : v.capacity ≡ 0
     pub alloc : v.alloc ≡ a
     pub cost : v.cost ≡ no_cost
 
-  -- `IsWithin R v` states limits that every list `v` satisfies: its length is at most its capacity,
-  -- and a block of this capacity is small enough to be allocated.
+  -- `IsWithin R v` states that the length of the list `v` is at most its capacity, that the
+  -- capacity is less than `2 ^ 63`, and that a block with this capacity for items of the type `R`
+  -- is small enough to be allocated. Every list satisfies `IsWithin`.
   pub record IsWithin (R : RattleType) (v : Thin T A) : Type 0 where
     pub room : length v.items ≤ v.capacity
     pub small : v.capacity < 2 ^ 63
@@ -65,20 +68,23 @@ module _ {T A : Type 0} where
   abbrev pub HasRoomFor : Thin T A → ℕ → Type 0
   HasRoomFor v k = length v.items + k ≤ v.capacity
 
-  -- `capacity_for rule R v k` is the capacity of the list `v` after a call to `reserve(k)`: the old
-  -- capacity if it suffices, or else the one that the growth rule chooses. `None` means that this
-  -- capacity is too large.
+  -- `capacity_for rule R v k` is the capacity of the list `v` after room for `k` more items of the
+  -- type `R` has been reserved. If `v` already has enough room, this is the old capacity.
+  -- Otherwise, it is the capacity that the growth rule `rule` chooses, or `None` if this capacity
+  -- would be too large.
   abbrev pub capacity_for : Rule → RattleType → Thin T A → ℕ → Option ℕ
   capacity_for rule R v k = ruled_capacity rule R v.capacity (length v.items + k)
 
-  -- `exact_for R v k` is the capacity of the list `v` after a call to `reserve_exact(k)`: the old
-  -- capacity if it suffices, or else the length plus `k`. `None` means that this capacity is too
-  -- large.
+  -- `exact_for R v k` is the capacity of the list `v` after room for exactly `k` more items of the
+  -- type `R` has been reserved. If `v` already has enough room, this is the old capacity.
+  -- Otherwise, it is the length plus `k`, or `None` if a block of this capacity would be too large
+  -- to be allocated.
   abbrev pub exact_for : RattleType → Thin T A → ℕ → Option ℕ
   exact_for R v k = exact_capacity R v.capacity (length v.items + k)
 
-  -- `cost_at v c` is the cost of the list `v` after its capacity becomes `c`. If the capacity
-  -- changes, one more request for memory is counted, and each item is counted as copied once more.
+  -- `cost_at v c` is the recorded cost of the list `v` after a call that sets its capacity to `c`.
+  -- If the capacity changes, the cost includes one more request for memory, and each item counts as
+  -- copied once more.
   abbrev pub cost_at : Thin T A → ℕ → Cost
   cost_at v c = if c == v.capacity then v.cost else growing (length v.items) v.cost
 
@@ -89,12 +95,13 @@ module _ {T A : Type 0} where
   cost_shrunk_to v c = if c == v.capacity then v.cost else
       (if c == 0 then no_cost else growing (length v.items) v.cost)
 
-  -- `cost_shrunk v` is the cost of the list `v` after its capacity shrinks to its length.
+  -- `cost_shrunk v` is the recorded cost of the list `v` after a call that shrinks its capacity to
+  -- its length.
   abbrev pub cost_shrunk : Thin T A → Cost
   cost_shrunk v = cost_shrunk_to v (length v.items)
 
--- `IsCause named cause` states that a call fails with `CapacityOverflow` only if the needed
--- capacity is too large. `named` is this capacity, or `None` if it is too large.
+-- `IsCause named cause` states that the error `cause` is `CapacityOverflow` only if `named` is
+-- `None`. `named` is the capacity that a call needs, or `None` if this capacity is too large.
 abbrev pub IsCause : Option ℕ → ThinVecError → Type 0
 IsCause named cause = cause ≡ CapacityOverflow → named ≡ None
 

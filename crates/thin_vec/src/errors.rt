@@ -30,7 +30,7 @@ pub struct ExtendRefused<T, I> {
     /// hold this item. `None` means that the call took no item, because it could not reserve room
     /// for the lower bound of the size hint.
     pub in_hand: Option<T>,
-    /// The rest of the iterator, which yields the items that have not been taken.
+    /// The rest of the iterator, which yields the items that have not been taken yet.
     pub rest: I,
 }
 
@@ -38,34 +38,34 @@ pub struct ExtendRefused<T, I> {
 #[derive(Drop)]
 pub struct CollectRefused<T, I, A: Allocator = Global> {
     /// The list that `from_iter` was making. It holds the items that were appended before the
-    /// failure, and owns the allocator.
+    /// failure, and owns the allocator that was passed to `from_iter`.
     pub list: ThinVec<T, A>,
     /// The reason why the call failed.
     pub cause: ThinVecError,
-    /// The last item that was taken from the iterator. The list was full, and could not grow to
-    /// hold this item. `None` means that the call took no item, because it could not allocate the
-    /// first block, whose capacity is the lower bound of the size hint.
+    /// The last item that was taken from the iterator. The list had no room for this item. If the
+    /// call could not reserve room for as many items as the size hint promises, no item was taken,
+    /// and `in_hand` is `None`.
     pub in_hand: Option<T>,
-    /// The rest of the iterator, which yields the items that have not been taken.
+    /// The rest of the iterator, which yields the items that have not been taken yet.
     pub rest: I,
 }
 
 /// The error of `Splice::finish`. The items that were moved into the list before the failure stay
-/// there.
+/// in the list.
 #[derive(Drop)]
 pub struct SpliceRefused<T, I, A: Allocator = Global> {
     /// The reason why the call failed.
     pub cause: ThinVecError,
-    /// The items that were collected from the iterator, but not moved into the list. The vector
-    /// uses the allocator that was passed to `finish`.
+    /// The items that were collected from the iterator, but could not be moved into the list. The
+    /// vector uses the allocator that was passed to `finish`.
     pub held: Vec<T, A>,
-    /// The item, taken after those in `held`, for which there was no room. If it is `None`, the
-    /// call could not reserve room in the list for the items in `held`, or for the lower bound of
-    /// the size hint.
+    /// The last item that was taken from the iterator, after the items in `held`. There was no room
+    /// for this item. `in_hand` is `None` if the call could not reserve room for as many items as
+    /// the size hint promises, or for the items in `held`.
     pub in_hand: Option<T>,
-    /// The rest of the iterator, which yields the items that have not been taken. If `held` is not
-    /// empty and `in_hand` is `None`, it has already returned `None`, and `next` must not be called
-    /// on it.
+    /// The rest of the iterator, which yields the items that have not been taken yet. If `held` is
+    /// not empty and `in_hand` is `None`, the iterator has returned `None`, and `next` must not be
+    /// called on it again. In all other cases, `next` may be called.
     pub rest: I,
 }
 
@@ -106,28 +106,32 @@ impl<T: Drop, I: Drop, A: Allocator> From<SpliceRefused<T, I, A>> for ThinVecErr
 }
 
 impl<S: Drop> From<Rejected<S>> for AllocError {
-    // Drops all fields of the error. The cause is lost, because `AllocError` has no field for it.
+    // Drops all fields of the argument. The cause of the failure is lost, because `AllocError` has
+    // no field for it.
     fn from(_refused: Rejected<S>) -> AllocError {
         AllocError
     }
 }
 
 impl<T: Drop, I: Drop> From<ExtendRefused<T, I>> for AllocError {
-    // Drops all fields of the error. The cause is lost, because `AllocError` has no field for it.
+    // Drops all fields of the argument. The cause of the failure is lost, because `AllocError` has
+    // no field for it.
     fn from(_refused: ExtendRefused<T, I>) -> AllocError {
         AllocError
     }
 }
 
 impl<T: Drop, I: Drop, A: Allocator> From<CollectRefused<T, I, A>> for AllocError {
-    // Drops all fields of the error. The cause is lost, because `AllocError` has no field for it.
+    // Drops all fields of the argument. The cause of the failure is lost, because `AllocError` has
+    // no field for it.
     fn from(_refused: CollectRefused<T, I, A>) -> AllocError {
         AllocError
     }
 }
 
 impl<T: Drop, I: Drop, A: Allocator> From<SpliceRefused<T, I, A>> for AllocError {
-    // Drops all fields of the error. The cause is lost, because `AllocError` has no field for it.
+    // Drops all fields of the argument. The cause of the failure is lost, because `AllocError` has
+    // no field for it.
     fn from(_refused: SpliceRefused<T, I, A>) -> AllocError {
         AllocError
     }
@@ -173,7 +177,7 @@ impl<T: Drop, I: Drop, A: Allocator> From<SpliceRefused<T, I, A>> for io::Error 
     }
 }
 
-// `Debug` and `Display` print only the cause of an error, so the types of the other fields need not
+// `Debug` and `Display` print only the cause of an error. So the types of the other fields need not
 // implement these traits.
 impl<S> fmt::Debug for Rejected<S> {
     fn fmt<W: fmt::Write>(&self, f: &mut fmt::Formatter<W>) -> fmt::Result {

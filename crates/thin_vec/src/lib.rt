@@ -1,8 +1,8 @@
 //! A growable list that is one pointer wide: its length and its capacity are stored in its
-//! allocation, before the items. Most methods have the same names as in Rust's `Vec`.
+//! allocation, before the items. Most of its methods have the same names as in Rust's `Vec`.
 //!
-//! The list is a port of the Rust crate thin-vec. The documentation of a method says so if the
-//! method does not exist in that crate.
+//! The list is a port of the Rust crate thin-vec. If a method does not exist in that Rust crate,
+//! the documentation of the method says so.
 #![tactic(auto)]
 
 mod convert;

@@ -1,5 +1,5 @@
-//! The type `ThinVec`, the view of a list that contracts use, and the most common methods. The
-//! other methods are in the folders `list`, `convert` and `edits`.
+//! This file declares the type `ThinVec`, says how contracts describe a list, and contains the most
+//! common methods. The other methods are in the folders `list`, `convert` and `edits`.
 ghost use Rattle.std.specs.Prelude.{◌≡◌, ◌↔◌, ◌+◌, ◌-◌, ◌<◌, ◌==◌, [], ◌∷◌, ◌++◌, IfErr, IsOk, IsSome, IsTrue, None, OnErr, OnOk, Some, length, slice_index_or, take};
 ghost use Rattle.std.specs.Option.{option_to_list};
 ghost use Rattle.thin_block.specs.Block.{IsFrom};
@@ -26,14 +26,14 @@ use std::marker::{Model, PhantomData};
 use thin_block::{Block, Doubling, Growth, ThinVecError};
 
 /// A growable list like Rust's `Vec`. If its allocator is zero-sized, as `Global` is, the list is
-/// one pointer wide. Its length and its capacity are stored at the start of its allocation, which
-/// is called its *block*. A list of capacity 0 has no block.
+/// only one pointer wide. The length and the capacity are stored at the start of the allocation,
+/// which is called the *block* of the list. A list of capacity 0 has no block.
 ///
-/// The list owns its items, its block and its allocator. Dropping a list drops its items and frees
-/// its block.
+/// The list owns its items, its block and its allocator. It uses the allocator to make, grow and
+/// free the block. Dropping a list drops its items and frees its block.
 ///
-/// The growth rule `G` chooses the new capacity if the list has no room for new items. The default
-/// `Doubling` is the rule of the Rust crate thin-vec.
+/// The type `G` is the growth rule. It chooses the new capacity if the list has no room for new
+/// items. The default `Doubling` is the rule of the Rust crate thin-vec.
 pub struct ThinVec<T, A: Allocator = Global, G: Growth = Doubling> {
     pub(crate) block: Block<T, A>,
     pub(crate) alloc: A,
@@ -55,8 +55,8 @@ impl<T, A: Allocator, G: Growth> Model for ThinVec<T, A, G> {
 impl<T, A: Allocator> ThinVec<T, A> {
     ghost use Rattle.thin_vec.specs.ThinVec.{IsNew, IsWithin};
 
-    /// Returns an empty list of capacity 0 that owns `alloc` and uses the growth rule `Doubling`.
-    /// The call allocates nothing.
+    /// Returns an empty list of capacity 0, which owns the allocator `alloc`. The call allocates
+    /// nothing. The growth rule of the list is `Doubling`.
     pub fn new(alloc: A) -> ThinVec<T, A>
         ensures new { IsNew result alloc }
         ensures within { IsWithin T.row result }
@@ -64,8 +64,8 @@ impl<T, A: Allocator> ThinVec<T, A> {
         ThinVec::ruled(alloc)
     }
 
-    /// Returns an empty list of capacity 0 that owns `alloc`, like `new`. This method replaces the
-    /// trait `Default`, whose method takes no allocator.
+    /// Returns an empty list of capacity 0, like `new`. The list owns the allocator `alloc`. This
+    /// method replaces the trait `Default`, whose method takes no allocator.
     pub fn default_in(alloc: A) -> ThinVec<T, A>
         ensures new { IsNew result alloc }
         ensures within { IsWithin T.row result }
@@ -80,10 +80,10 @@ impl<T, A: Allocator, G: Growth> ThinVec<T, A, G> {
     ghost use Rattle.thin_vec.specs.Lends.{LendsItems};
     ghost use Rattle.thin_vec.specs.ThinVec.{HasRoomFor, IsNew, IsWithin};
 
-    /// Returns an empty list of capacity 0 that owns `alloc` and uses the growth rule `G`. The call
-    /// allocates nothing.
+    /// Returns an empty list of capacity 0 with the growth rule `G`. The list owns the allocator
+    /// `alloc`. The call allocates nothing.
     ///
-    /// The Rust crate thin-vec, which has a single growth rule, has no such method.
+    /// The Rust crate thin-vec has no such method, because it has a single growth rule.
     pub fn ruled(alloc: A) -> ThinVec<T, A, G>
         ensures new { IsNew result alloc }
         ensures within { IsWithin T.row result }
@@ -106,7 +106,7 @@ impl<T, A: Allocator, G: Growth> ThinVec<T, A, G> {
 
     /// Returns a reference to the allocator of the list.
     ///
-    /// The Rust crate thin-vec, whose lists store no allocator, has no such method.
+    /// The Rust crate thin-vec has no such method, because its lists do not store an allocator.
     pub fn allocator(&self) -> &A
         ensures value { result.now ≡ self.now.alloc }
     {
@@ -183,7 +183,8 @@ impl<T, A: Allocator, G: Growth> ThinVec<T, A, G> {
         self.block.slice(0, self.block.len())
     }
 
-    /// Returns the items, in order, as a mutable slice.
+    /// Returns the items, in order, as a mutable slice. Writing to the slice changes the items of
+    /// the list.
     pub fn as_mut_slice(&mut self) -> &mut [T]
         ensures* writes_back { sem 𝓛
             (LendsItems T.row A.row G.row A.Allocator G.Growth self.entry result) }
@@ -195,8 +196,8 @@ impl<T, A: Allocator, G: Growth> ThinVec<T, A, G> {
         self.block.slice_mut(0, len)
     }
 
-    /// Appends `value` without growing the list, and cannot fail. The list must already have room
-    /// for one more item (see `reserve`).
+    /// Appends `value`, which the list then owns. The list must already have room for one more
+    /// item; `reserve(1)` makes such room. So the list does not grow, and the call cannot fail.
     ///
     /// Rattle's `Vec` has a method of this name, but the Rust crate thin-vec does not.
     pub fn push_reserved(&mut self, value: T)
@@ -240,8 +241,8 @@ impl<T, A: Allocator, G: Growth> ThinVec<T, A, G> {
         value
     }
 
-    // Splits the list into its block and its allocator. The caller then owns both, and the items in
-    // the block.
+    // Splits the list into its block and its allocator, and returns both. The caller then owns the
+    // block, the items in the block, and the allocator.
     pub(crate) fn into_parts(self) -> (Block<T, A>, A)
         ensures slots { result.0.slots ≡ front self.items self.capacity }
         ensures len { result.0.len ≡ length self.items }

@@ -77,8 +77,8 @@ macro_rules! count_items {
     };
 }
 
-/// Appends `value` to `list`, which must have room for one more item. `thin_vec!` calls this
-/// function once for each item.
+/// Appends `value` to `list`, which must have room for one more item. After the call, `list` owns
+/// `value`. `thin_vec!` calls this function once for each item.
 #[doc(hidden)]
 pub fn place<T, A: Allocator>(list: &mut ThinVec<T, A>, value: T)
     requires room { HasRoomFor list.old 1 }

@@ -1,5 +1,6 @@
-//! The type `OpenBlock`, which owns the block of a list while a method such as `retain` removes,
-//! replaces or tests items of a range.
+//! The type `OpenBlock`. It owns the block of a list (the pointer to the slots) while a method such
+//! as `retain` edits a range of the list. During this time, there may be empty slots between the
+//! items.
 ghost use Rattle.std.specs.Prelude.{◌≡◌, ◌↔◌, ◌+◌, ◌-◌, ◌==◌, ◌<◌, ◌≤◌, ◌∷◌, ◌++◌, [], IsTrue, drop, if◌then◌else◌, length, slice_range, take};
 ghost use Rattle.std.specs.Iterator.{YieldsFirst, YieldsLast};
 ghost use Rattle.thin_block.specs.Cost.{moving, no_cost};
@@ -18,11 +19,12 @@ use std::marker::Model;
 use std::mem;
 use thin_block::{Block, Growth};
 
-/// Owns the block of a list while a method such as `retain` removes, replaces or tests items of a
-/// range. During this time, there may be empty slots between the items.
+/// Contains the block of a list (the pointer to its allocation) while a method such as `retain`
+/// removes, replaces or tests the items of a range. During this time, there may be empty slots
+/// between the items of the block.
 ///
-/// The slots are divided into six parts, any of which may consist of no slots. The fields say in
-/// which slot each part begins. `capacity` is the number of slots.
+/// The slots are divided into six parts, any of which may consist of no slots. The fields of this
+/// struct say in which slot each part begins. `capacity` is the number of slots.
 ///
 /// ```text
 ///   0       front_end    rest_start     rest_end    tail_start      len        capacity
@@ -37,20 +39,22 @@ use thin_block::{Block, Growth};
 ///   so far. They do not move again while the block is open.
 /// - The *gap* consists of the empty slots between the front and the middle run.
 /// - The *middle run* contains the remaining items of the range: those that have not been yielded,
-///   kept or removed so far. In code and contracts, it is called `rest`.
+///   kept or removed so far. In names of fields and in contracts, the middle run is called `rest`.
 /// - `gap_after` consists of the empty slots between the middle run and the tail. There are such
 ///   slots only after items were removed from the end of the middle run, or after the tail was
 ///   moved up.
 /// - The *tail* contains the items after the range.
 /// - The *spare slots* are the empty slots after the tail.
 ///
-/// The items of these parts are called front items, middle items and tail items.
+/// The items of the front are called front items. In the same way, the items of the middle run are
+/// called middle items, and the items of the tail are called tail items.
 ///
 /// A *test* decides whether an item is kept or removed, and may write to the item. The *verdict* on
 /// an item is this decision, together with the item as the test left it.
 ///
-/// An `OpenBlock` does not implement `Drop`: `close` puts the block back into the list. The view of
-/// an `OpenBlock` that contracts use has the type `Open` (`specs/Open.antt`).
+/// An `OpenBlock` owns the block and all items in it. It does not implement `Drop`: `close` puts
+/// the block back into the list. Contracts describe an `OpenBlock` as a value of the type `Open`,
+/// which is defined in `specs/Open.antt`.
 pub struct OpenBlock<T, A: Allocator> {
     // The block that was taken out of the list. The length that it stores is not used while the
     // block is open.
@@ -80,8 +84,9 @@ impl<T, A: Allocator> Model for OpenBlock<T, A> {
 }
 
 impl<T, A: Allocator, G: Growth> ThinVec<T, A, G> {
-    // Takes the block out of the list, and returns it as an open block whose middle run contains
-    // the items at `start..end`. The list is then empty, and its capacity is 0.
+    // Takes the block out of the list, and returns it as an open block. The items at the indices
+    // `start..end` become the middle run of the open block, and can then be removed or replaced.
+    // After the call, the list has no items, and its capacity is 0.
     pub(crate) fn open(&mut self, start: usize, end: usize) -> OpenBlock<T, A>
         requires start_le_end { start ≤ end }
         requires in_bounds { end ≤ length self.old.items }
@@ -111,9 +116,10 @@ impl<T, A: Allocator, G: Growth> ThinVec<T, A, G> {
         }
     }
 
-    // Takes the block out of the list, and returns it as an open block with a gap of `count` slots
-    // at index `at`. The list must have room for `count` more items. It is then empty, and its
-    // capacity is 0.
+    // Takes the block out of the list, and returns it as an open block with a gap of `count` empty
+    // slots. The gap begins at index `at`: the items from index `at` onward are moved up by `count`
+    // slots. The list must have room for `count` more items. After the call, the list has no items,
+    // and its capacity is 0.
     pub(crate) fn open_wide(&mut self, at: usize, count: usize) -> OpenBlock<T, A>
         requires in_bounds { at ≤ length self.old.items }
         requires room { HasRoomFor self.old count }
@@ -141,9 +147,9 @@ impl<T, A: Allocator, G: Growth> ThinVec<T, A, G> {
         block
     }
 
-    // Closes the gap of `block`, and puts the block back into the list. The list must have no
-    // items. Its own allocation, if any, is freed. The code for a gap of one or two slots is
-    // inlined.
+    // Moves the items after the gap of `block` down, and puts the block back into the list. Before
+    // the call, the list must contain no items. If the list has an allocation of its own, this
+    // allocation is freed. The code that closes a gap of one or two slots is inlined.
     #[inline(always)]
     pub(crate) fn close(&mut self, block: OpenBlock<T, A>)
         requires empty { self.old.items ≡ [] }
@@ -162,15 +168,16 @@ impl<T, A: Allocator, G: Growth> ThinVec<T, A, G> {
 }
 
 impl<T, A: Allocator> OpenBlock<T, A> {
-    // Returns the number of remaining items of the range, that is, the length of the middle run.
+    // Returns the number of items in the middle run, that is, the number of remaining items of the
+    // range.
     pub(crate) fn rest_len(&self) -> usize
         ensures value { result ≡ length self.now.rest }
     {
         self.rest_end - self.rest_start
     }
 
-    // Removes and returns the first of the remaining items of the range. Its slot becomes part of
-    // `gap`.
+    // Removes the first of the remaining items of the range, and returns this item. Its slot
+    // becomes a part of the gap before the remaining items.
     pub(crate) fn take_first(&mut self) -> T
         requires some { 0 < length self.old.rest }
         ensures rest { self.old.rest ≡ result ∷ self.new.rest }
@@ -184,8 +191,8 @@ impl<T, A: Allocator> OpenBlock<T, A> {
         self.block.take(first)
     }
 
-    // Removes and returns the last of the remaining items of the range. Its slot becomes part of
-    // `gap_after`.
+    // Removes the last of the remaining items of the range, and returns this item. Its slot becomes
+    // a part of the gap after the remaining items.
     pub(crate) fn take_last(&mut self) -> T
         requires some { 0 < length self.old.rest }
         ensures rest { self.old.rest ≡ self.new.rest ++ result ∷ [] }
@@ -205,7 +212,7 @@ impl<T, A: Allocator> OpenBlock<T, A> {
         self.block.slice(self.rest_start, self.rest_end)
     }
 
-    // Returns whether there are items after the range, that is, in the tail.
+    // Returns whether there is an item after the range, that is, in the tail.
     pub(crate) fn has_tail(&self) -> bool
         ensures value { IsTrue result ↔ (0 < length self.now.tail) }
         ensures in_bounds { reach self.now ≤ self.now.capacity }
@@ -231,8 +238,8 @@ impl<T, A: Allocator> OpenBlock<T, A> {
         self.rest_end = self.tail_start;
     }
 
-    // Closes the gap by moving the items after it down. Then stores the number of items as the
-    // length of the block, and returns the block.
+    // Closes the gap: moves the items after the gap down to the start of the gap. Then stores the
+    // number of items as the length of the block, and returns the block.
     #[inline(always)]
     fn into_closed(self) -> Block<T, A>
         requires gap_after { self.gap_after ≡ 0 }
@@ -279,8 +286,8 @@ impl<T, A: Allocator> OpenBlock<T, A> {
         self.len += count;
     }
 
-    // Removes and returns the first of the remaining items of the range. Returns `None` if no item
-    // remains.
+    // Removes the first of the remaining items of the range, and returns this item. Returns `None`
+    // if no item remains.
     pub(crate) fn next(&mut self) -> Option<T>
         ensures yields { YieldsFirst rest_of self.old result self.new }
         ensures range { range_len self.new ≡ range_len self.old }
@@ -295,8 +302,8 @@ impl<T, A: Allocator> OpenBlock<T, A> {
         Some(self.take_first())
     }
 
-    // Removes and returns the last of the remaining items of the range. Returns `None` if no item
-    // remains.
+    // Removes the last of the remaining items of the range, and returns this item. Returns `None`
+    // if no item remains.
     pub(crate) fn next_back(&mut self) -> Option<T>
         ensures yields { YieldsLast rest_of self.old result self.new }
         ensures range { range_len self.new ≡ range_len self.old }

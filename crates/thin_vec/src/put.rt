@@ -18,8 +18,8 @@ pub(crate) struct Filled<I> {
     /// The iterator after the call. It yields the items that were not taken from it during the
     /// call.
     pub(crate) rest: I,
-    /// The index of the slot directly after the last placed item. If no item was placed, this is
-    /// the index of the first empty slot.
+    /// The index of the slot directly after the last item that was placed. If no item was placed,
+    /// this is the index of the first of the empty slots.
     pub(crate) end: usize,
     /// Whether the iterator returned `None` before the slots were full.
     pub(crate) ended: bool,
@@ -50,8 +50,8 @@ pub(crate) fn put_vec<T, A: Allocator, B: Allocator>(
       cost = moving (length items.items) block.old.cost;
     } }
 {
-    // Only the proof needs this call. The contract of `cap` says that there are fewer than 2^63
-    // slots, so the addition in the loop cannot overflow.
+    // This call is needed only for the proof: the contract of `cap` says that the number of slots
+    // is less than 2^63. So each index is less than 2^63, too.
     let _whole = block.cap();
     while let Some(item) = items.pop() {
         block.put(start + items.len(), item);
@@ -59,8 +59,8 @@ pub(crate) fn put_vec<T, A: Allocator, B: Allocator>(
     items.destroy_empty();
 }
 
-// Puts clones of `items` into the empty slots from index `start` onward, in order, until an item
-// cannot be cloned. Returns the number of clones.
+// Puts clones of the items of `items` into the empty slots from index `start` onward, in order.
+// Stops early if an item cannot be cloned. Returns the number of clones that were made.
 pub(crate) fn put_clones<T: Clone, A: Allocator>(
     block: &mut Block<T, A>,
     start: usize,
@@ -77,8 +77,8 @@ pub(crate) fn put_clones<T: Clone, A: Allocator>(
     ensures refused { result < length items.now
         → HoldsAt (λ x. ¬ (T.is_infallible x)) items.now result }
 {
-    // Only the proof needs this call. The contract of `cap` says that there are fewer than 2^63
-    // slots, so the addition in the loop cannot overflow.
+    // This call is needed only for the proof: the contract of `cap` says that the number of slots
+    // is less than 2^63. So each index is less than 2^63, too.
     let _whole = block.cap();
     for i in 0..items.len() {
         match items[i].clone() {
@@ -89,8 +89,8 @@ pub(crate) fn put_clones<T: Clone, A: Allocator>(
     items.len()
 }
 
-// Puts clones of `value` into the `count` empty slots from index `start` onward, until `value`
-// cannot be cloned. Returns the number of clones.
+// Puts clones of `value` into the `count` empty slots from index `start` onward. Stops early if
+// `value` cannot be cloned. Returns the number of clones that were made.
 pub(crate) fn put_repeated<T: Clone, A: Allocator>(
     block: &mut Block<T, A>,
     start: usize,
@@ -108,8 +108,8 @@ pub(crate) fn put_repeated<T: Clone, A: Allocator>(
     } }
     ensures refused { result < count → ¬ (T.is_infallible value.now) }
 {
-    // Only the proof needs this call. The contract of `cap` says that there are fewer than 2^63
-    // slots, so the addition in the loop cannot overflow.
+    // This call is needed only for the proof: the contract of `cap` says that the number of slots
+    // is less than 2^63. So each index is less than 2^63, too.
     let _whole = block.cap();
     for i in 0..count {
         match value.clone() {
@@ -138,8 +138,8 @@ pub(crate) fn put_results<T, A: Allocator, F: FnMut() -> T>(
       cost = moving count block.old.cost;
     } }
 {
-    // Only the proof needs this call. The contract of `cap` says that there are fewer than 2^63
-    // slots, so the addition in the loop cannot overflow.
+    // This call is needed only for the proof: the contract of `cap` says that the number of slots
+    // is less than 2^63. So each index is less than 2^63, too.
     let _whole = block.cap();
     for i in 0..count {
         block.put(start + i, make());

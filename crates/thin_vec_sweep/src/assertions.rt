@@ -6,8 +6,9 @@ use crate::shapes::Shape;
 use std::fmt::Debug;
 use std::process::Abort;
 
-/// Identifies one test case of a sweep: the call, the shape of the list, the argument, and the
-/// refused allocation request. The message of a failed assertion contains these values.
+/// Identifies one test case of a sweep: the call, the length and the spare capacity of the list,
+/// the argument, and the allocation request that is refused. The message of a failed assertion
+/// contains these values.
 #[derive(Debug, Clone, Copy)]
 pub struct At {
     pub call: &'static str,
@@ -32,7 +33,8 @@ pub fn assert_same<T: PartialEq + Debug + Drop, R: Abort>(
     assert_eq!(rt; value, wanted, "{what}, {at:?}");
 }
 
-/// Asserts that `item` is the item that `T::nth` makes from `number`, or that both are `None`.
+/// Asserts that `item` is the item that `T::nth` makes from `number`, or that `item` and `number`
+/// are both `None`.
 pub fn assert_same_item<T: Sample, R: Abort>(
     rt: &R,
     at: &At,
@@ -50,8 +52,8 @@ pub fn assert_same_item<T: Sample, R: Abort>(
     assert_same(rt, at, "item", found, expected);
 }
 
-/// Returns whether `item` is the item that `T::nth` makes from `number`, or whether both are
-/// `None`.
+/// Returns `true` if `item` is the item that `T::nth` makes from `number`, or if `item` and
+/// `number` are both `None`. Otherwise, returns `false`.
 pub fn is_item<T: Sample>(item: Option<T>, number: Option<u64>) -> bool {
     match (item, number) {
         (Some(item), Some(number)) => item.kept_number() == T::expected_number(number),
@@ -60,16 +62,17 @@ pub fn is_item<T: Sample>(item: Option<T>, number: Option<u64>) -> bool {
     }
 }
 
-/// Asserts that `items` consists of the items that `T::nth` makes from `numbers`, in order.
+/// Asserts that `items` consists of the items that `T::nth` makes from `numbers`, in the same
+/// order.
 pub fn assert_same_items<T: Sample, R: Abort>(rt: &R, at: &At, items: &[T], numbers: &[u64]) {
     assert_same(rt, at, "length", items.len(), numbers.len());
     let difference = first_difference(items, numbers);
     assert_same(rt, at, "first item that differs", difference, None);
 }
 
-/// Asserts that `ledger` counts `items` items that have not been dropped, or 0 if it does not count
-/// items of type `T`. The only allocated blocks must be those of the items, and one for the list
-/// unless `capacity` is 0.
+/// Asserts that exactly `items` items have not been dropped yet, provided that `ledger` counts
+/// items of type `T`. Also asserts the number of allocated blocks: one for each item if each item
+/// owns a block, plus one for the list if `capacity`, the capacity of the list, is not 0.
 pub fn assert_live<T: Sample, R: Abort>(
     rt: &R,
     at: &At,
@@ -88,7 +91,7 @@ pub fn assert_live<T: Sample, R: Abort>(
 }
 
 // Returns the first index at which `items[index]` is not the item that `T::nth` makes from
-// `numbers[index]`, or `None` if there is no such index.
+// `numbers[index]`. Returns `None` if there is no such index.
 fn first_difference<T: Sample>(items: &[T], numbers: &[u64]) -> Option<usize> {
     let mut index: usize = 0;
     for (item, number) in items.iter().zip(numbers.iter()) {

@@ -1,5 +1,5 @@
-//! Groups of sweeps. A sweep tests one call on many lists. Some groups are only for item types that
-//! implement certain traits.
+//! Groups of sweeps. A sweep tests one call on many lists. Some groups accept every item type, and
+//! others only types that implement certain traits.
 pub mod arrays;
 pub mod clones;
 pub mod compared;
@@ -69,7 +69,7 @@ pub fn every_growth<T: Sample, G: Ruled, R: Abort>(rt: &R, scope: &Scope) {
 }
 
 /// Tests calls that edit a list without growing it, such as `pop` and `split_off`, and calls that
-/// consume a list, on the lists in `scope`.
+/// consume a list. `scope` says on which lists the calls are tested.
 pub fn every_edit<T: Sample, G: Ruled, R: Abort>(rt: &R, scope: &Scope) {
     sweep::<PushReserved, T, G, R>(rt, scope);
     sweep::<InsertReserved, T, G, R>(rt, scope);
@@ -86,8 +86,8 @@ pub fn every_edit<T: Sample, G: Ruled, R: Abort>(rt: &R, scope: &Scope) {
     sweep::<TryTake, T, G, R>(rt, scope);
 }
 
-/// Tests calls that replace a range, and calls that append items without growing the list, on the
-/// lists in `scope`.
+/// Tests calls that replace a range, and calls that append items without growing the list. `scope`
+/// says on which lists the calls are tested.
 pub fn every_replacing<T: Sample, G: Ruled, R: Abort>(rt: &R, scope: &Scope) {
     sweep::<ReplaceRange, T, G, R>(rt, scope);
     sweep::<ReplaceRangeFromList, T, G, R>(rt, scope);
@@ -95,8 +95,8 @@ pub fn every_replacing<T: Sample, G: Ruled, R: Abort>(rt: &R, scope: &Scope) {
     sweep::<AppendSlice<ExtendFromSliceReserved>, T, G, R>(rt, scope);
 }
 
-/// Tests `replace_range_from_copies` and `extend_from_copies_reserved`, which put copies of the
-/// items of a slice into a list.
+/// Tests `replace_range_from_copies` and `extend_from_copies_reserved`. Both calls put copies of
+/// the items of a slice into a list.
 pub fn every_replacing_by_copies<T: Sample + Copy, G: Ruled, R: Abort>(rt: &R, scope: &Scope) {
     sweep::<ReplaceRangeFromCopies, T, G, R>(rt, scope);
     sweep::<AppendSlice<ExtendFromCopiesReserved>, T, G, R>(rt, scope);
@@ -130,7 +130,7 @@ pub fn every_reading<T: Sample, G: Ruled, R: Abort>(rt: &R, scope: &Scope) {
 }
 
 /// Tests the method `extend` of the trait `Extend`, and calls that make a list, such as `from_iter`
-/// and `collect`, with the growth rule `Doubling`.
+/// and `collect`. All tests use the growth rule `Doubling`.
 pub fn every_making<T: Sample, R: Abort>(rt: &R, scope: &Scope) {
     sweep::<New, T, Doubling, R>(rt, scope);
     sweep::<WithCapacity, T, Doubling, R>(rt, scope);

@@ -1,5 +1,5 @@
-//! One test case of a sweep: a list, and the expected result of a call on it. The expected items
-//! are represented by the numbers from which they are made.
+//! One test case of a sweep: a call on a list, and the expected result. Each item is made from a
+//! number, so a `Vec` of numbers describes the expected items.
 use crate::assertions::{At, assert_live, assert_same, assert_same_item, assert_same_items};
 use crate::ledger::Ledger;
 use crate::samples::Sample;
@@ -20,7 +20,8 @@ pub enum Verdict {
     /// The call fails because the capacity would overflow, and not because the allocator refuses a
     /// request.
     Overflow,
-    /// The call fails because the allocator refuses to allocate a block for a list or a `Vec`.
+    /// The call fails because the allocator refuses to allocate a block, that is, the memory in
+    /// which a list or a `Vec` stores its items.
     NoRoom,
     /// The call fails because an item cannot be cloned. The clones that were already made are
     /// dropped.
@@ -45,7 +46,8 @@ pub struct Case<T: Drop, G: Ruled> {
     pub at: At,
     pub ledger: &'static Ledger,
     pub list: List<T, G>,
-    /// The expected items of the list after the call, as the numbers from which they are made.
+    /// The expected items of the list after the call. Each item is represented by the number from
+    /// which it is made.
     pub items: Vec<u64, Global>,
     /// The expected capacity of the list after the call.
     pub capacity: usize,
@@ -58,8 +60,8 @@ pub struct Case<T: Drop, G: Ruled> {
 }
 
 impl<T: Sample, G: Ruled> Case<T, G> {
-    /// Returns a test case whose list has the shape `at.shape`. Its items are made from the numbers
-    /// 1, 2, 3, and so on.
+    /// Returns a test case whose list has the length and the spare capacity of `at.shape`. The
+    /// items of the list are made from the numbers 1, 2, 3, and so on.
     pub fn new<R: Abort>(rt: &R, ledger: &'static Ledger, at: At) -> Case<T, G> {
         ledger.begin(0);
         let list = filled(rt, ledger, at.shape, 1);
@@ -81,16 +83,16 @@ impl<T: Sample, G: Ruled> Case<T, G> {
         T::nth(rt, self.ledger, number)
     }
 
-    /// Prepares for the call under test, which must follow immediately. Resets the counts of
-    /// requests, clones, and calls to `next` and `size_hint`. The allocator then refuses request
-    /// `at.refused`, or no request if this is 0.
+    /// Prepares for the call under test, and must be called directly before it. Resets the counts
+    /// of requests, of clones, and of calls to `next` and `size_hint`. If `at.refused` is not 0,
+    /// the allocator will refuse request number `at.refused`.
     pub fn begin(&self) {
         self.ledger.begin(self.at.refused);
     }
 
-    /// Returns the expected capacity after a call that makes room for `additional` more items: the
-    /// current capacity if it is sufficient, and otherwise the one that the growth rule chooses.
-    /// Returns `None` if the capacity overflows.
+    /// Returns the expected capacity of the list after a call that makes room for `additional` more
+    /// items. If there is enough room already, this is the current capacity. Otherwise, the growth
+    /// rule determines the capacity. Returns `None` if the capacity overflows.
     pub fn ruled(&self, additional: usize) -> Option<usize> {
         let want = self.items.len().checked_add(additional)?;
         if want <= self.capacity {
@@ -99,32 +101,33 @@ impl<T: Sample, G: Ruled> Case<T, G> {
         fitting::<T>(G::expected_capacity(T::SIZE, self.capacity, want))
     }
 
-    /// Returns the expected capacity after a call such as `reserve_exact(additional)`: the length
-    /// plus `additional`, or the current capacity if that is greater. Returns `None` if this
-    /// capacity is too large.
+    /// Returns the expected capacity of the list after a call such as `reserve_exact(additional)`.
+    /// This is the length plus `additional`, or the current capacity if that is greater. Returns
+    /// `None` if this capacity is too large.
     pub fn exact(&self, additional: usize) -> Option<usize> {
         let want = self.items.len().checked_add(additional)?;
         fitting::<T>(want.max(self.capacity))
     }
 
     /// Returns whether the call must be skipped because a list of capacity `capacity` would take
-    /// too much memory. Also stores this in `is_left_out`. No call is skipped if its first request
-    /// is refused, or if items have size 0.
+    /// too much memory. Also stores the result in `is_left_out`. A call is never skipped if its
+    /// first request is refused, or if the items have size 0.
     pub fn is_too_much(&mut self, capacity: Option<usize>) -> bool {
         let is_great = capacity.is_some_and(|capacity| capacity > 1_000_000);
         self.is_left_out = is_great && self.at.refused != 1 && T::LIMIT < isize::MAX as usize;
         self.is_left_out
     }
 
-    /// Returns how many requests of the call can be refused, one in each test case. If the call was
-    /// skipped, this is 1: with its first request refused, the call takes no memory.
+    /// Returns how many requests of the call are refused in turn, each in its own test case. If the
+    /// call was skipped because it would need too much memory, the result is 1: with its first
+    /// request refused, such a call takes no memory, so this test case can be run.
     pub fn requests_in_turn(&self) -> u64 {
         if self.is_left_out { 1 } else { self.requests }
     }
 
-    /// Returns the expected outcome of a call that changes the capacity to `capacity` (`None` on
-    /// overflow) and then clones `clones` items. Also updates the expected capacity and the
-    /// expected numbers of requests and clones.
+    /// Returns the expected outcome of a call that changes the capacity of the list to `capacity`
+    /// and then clones `clones` items. Also updates the expected capacity and the expected numbers
+    /// of requests and clones. `capacity` is `None` if the capacity overflows.
     pub fn growth(&mut self, capacity: Option<usize>, clones: usize) -> Verdict {
         let Some(capacity) = capacity else {
             return Verdict::Overflow;
@@ -137,9 +140,10 @@ impl<T: Sample, G: Ruled> Case<T, G> {
         verdict
     }
 
-    /// Records that the call must grow the list to `capacity`, and returns whether this must
-    /// succeed. Updates the expected number of requests and, on success, the expected capacity. If
-    /// `capacity` is `None` (overflow), returns `false` without recording anything.
+    /// Records that the call must grow the list to `capacity`, and returns whether this growth must
+    /// succeed. Adds 1 to the expected number of requests and, on success, updates the expected
+    /// capacity. If the capacity overflows, `capacity` is `None`. Nothing is then recorded, and the
+    /// result is `false`.
     pub fn grows(&mut self, capacity: Option<usize>) -> bool {
         let Some(capacity) = capacity else {
             return false;
@@ -158,9 +162,10 @@ impl<T: Sample, G: Ruled> Case<T, G> {
         self.requests != self.at.refused
     }
 
-    /// Returns the expected outcome of growing the list to `capacity` (`None` on overflow) during a
-    /// call that may grow it several times. Updates the expected capacity and requests. If the
-    /// capacity does not change, no request is expected.
+    /// Returns the expected outcome of a growth of the list to `capacity`, during a call that may
+    /// grow the list several times. Also updates the expected capacity and the expected number of
+    /// requests. If `capacity` is already the expected capacity, the list does not grow, and no
+    /// request is expected. `capacity` is `None` if the capacity overflows.
     pub fn further_growth(&mut self, capacity: Option<usize>) -> Verdict {
         let Some(wanted) = capacity else {
             return Verdict::Overflow;
@@ -173,7 +178,7 @@ impl<T: Sample, G: Ruled> Case<T, G> {
     }
 
     /// Returns the expected outcome of a call that allocates a new list or `Vec` of capacity
-    /// `capacity` (`None` on overflow) and then clones `clones` items.
+    /// `capacity` and then clones `clones` items. `capacity` is `None` if the capacity overflows.
     pub fn fresh(&mut self, capacity: Option<usize>, clones: usize) -> Verdict {
         match capacity {
             Some(capacity) => self.verdict(u64::from(capacity != 0), clones),
@@ -247,7 +252,8 @@ impl<T: Sample, G: Ruled> Case<T, G> {
         );
     }
 
-    /// Asserts that `item` is the item that `T::nth` makes from `number`, or that both are `None`.
+    /// Asserts that `item` is the item that `T::nth` makes from `number`, or that `item` and
+    /// `number` are both `None`.
     pub fn assert_item_or_none<R: Abort>(&self, rt: &R, item: Option<T>, number: Option<u64>) {
         assert_same_item(rt, &self.at, item, number);
     }
@@ -261,13 +267,14 @@ impl<T: Sample, G: Ruled> Case<T, G> {
         }
     }
 
-    /// Asserts that `items` consists of the items that `T::nth` makes from `numbers`, in order.
+    /// Asserts that `items` consists of the items that `T::nth` makes from `numbers`, in the same
+    /// order.
     pub fn assert_items<R: Abort>(&self, rt: &R, items: &[T], numbers: &[u64]) {
         assert_same_items(rt, &self.at, items, numbers);
     }
 
-    /// Asserts that `list` has the capacity `capacity`, and consists of the items that `T::nth`
-    /// makes from `numbers`, in order.
+    /// Asserts that `list` consists of the items that `T::nth` makes from `numbers`, in the same
+    /// order, and that the capacity of `list` is `capacity`.
     pub fn assert_list<H: Growth, R: Abort>(
         &self,
         rt: &R,
@@ -285,9 +292,10 @@ impl<T: Sample, G: Ruled> Case<T, G> {
         );
     }
 
-    /// Checks a list after a call that moves its items to another list. On success, it must be
-    /// empty. On failure, it must still have `shape.length` items, made from consecutive numbers
-    /// beginning with `first`. Its capacity must be unchanged.
+    /// Checks a list after a call that moves all its items to another list. On success, the list
+    /// must be empty, and its capacity must be unchanged. On failure, the whole list must be
+    /// unchanged. Before the call, the list had the shape `shape`, and its items were made from
+    /// consecutive numbers, beginning with `first`.
     pub fn assert_moved_from<R: Abort>(
         &self,
         rt: &R,
@@ -305,8 +313,9 @@ impl<T: Sample, G: Ruled> Case<T, G> {
         self.assert_list(rt, list, numbers.as_slice(), capacity);
     }
 
-    /// Checks the result of a call that makes a second list. On success, this list must have the
-    /// capacity `capacity`, and consist of the items that `T::nth` makes from `numbers`.
+    /// Checks the result of a call that makes a second list. On success, the second list must
+    /// consist of the items that `T::nth` makes from `numbers`, and its capacity must be
+    /// `capacity`.
     pub fn assert_second_list<H: Growth, R: Abort>(
         &self,
         rt: &R,
@@ -324,8 +333,8 @@ impl<T: Sample, G: Ruled> Case<T, G> {
         }
     }
 
-    /// Moves the list and its expected items out of the test case, which then contains an empty
-    /// list of capacity 0.
+    /// Moves the list and its expected items out of the test case. After the call, the test case
+    /// contains an empty list of capacity 0.
     pub fn take(&mut self) -> (List<T, G>, Vec<u64, Global>) {
         self.capacity = 0;
         let list = mem::replace(&mut self.list, ThinVec::ruled(&self.ledger.alloc));
@@ -340,8 +349,9 @@ impl<T: Sample, G: Ruled> Case<T, G> {
         self.capacity = capacity;
     }
 
-    /// Checks the state after the call: the items, the capacity, and the numbers of requests and
-    /// clones. Also asserts that no items and no blocks exist except those of the list.
+    /// Checks the state after the call: the items and the capacity of the list, and the numbers of
+    /// requests and clones. Also asserts that no items exist except those of the list, and that no
+    /// blocks are allocated except those of the list and of its items.
     pub fn check<R: Abort>(&self, rt: &R) {
         let requests = self.ledger.alloc.requests();
         assert_same(rt, &self.at, "requests", requests, self.requests);

@@ -1,5 +1,5 @@
-//! Tests of the sweeps themselves: a small sweep must run all its test cases, and each comparison
-//! must detect a difference.
+//! Tests of the sweeps themselves. These tests check that a small sweep runs all its test cases,
+//! and that each comparison detects a difference.
 use crate::assertions::At;
 use crate::calls::arrays::every_array;
 use crate::calls::clones::Resize;
@@ -18,17 +18,18 @@ use std::alloc::Global;
 use std::process::Abort;
 use thin_vec::Doubling;
 
-// Checks the counts of a sweep of `resize` on two empty lists, one of capacity 0 and one of
+// Checks the counts of a sweep of `resize` on two empty lists: one of capacity 0, and one of
 // capacity 1. Each item owns a block.
 //
-// Adding `k > 0` items to the list of capacity 0 makes `k` requests: one for the block of the list,
-// and one for each of `k - 1` clones. For each `k`, there is one test case without a refusal, and
-// one for each refused request, but at most 50 in total.
+// If `k > 0` items are added to the list of capacity 0, `resize` makes `k` allocation requests: one
+// for the block of the list, and one for each of the `k - 1` clones. (The last new item is the
+// passed value itself.) For each `k`, there is one test case without a refusal, and one for each
+// refused request, but no more than 50 test cases in total.
 //
-// The tested values of `k` are 0 (twice), 1 to 9, 17, and 100. On the list of capacity 0, this
-// makes 2 + (2 + .. + 10) + 18 + 50 = 124 test cases, with (1 + .. + 9) + 17 + 49 = 111 refusals.
-// On the list of capacity 1, adding one item makes no request, so there are 123 test cases and 110
-// refusals.
+// The tested values of `k` are 0 (twice), 1 to 9, 17, and 100. On the list of capacity 0, there are
+// 2 + (2 + .. + 10) + 18 + 50 = 124 test cases. In (1 + .. + 9) + 17 + 49 = 111 of them, a request
+// is refused. On the list of capacity 1, adding one item makes no request, so there are 123 test
+// cases and 110 refusals.
 //
 // Each test case makes ten comparisons: one of the return value, seven in `check`, and two in
 // `end`.
@@ -51,9 +52,9 @@ fn few<R: Abort>(rt: &R, alloc: Global) -> Scope {
     }
 }
 
-// The expected counts of a test on the lists that `few` selects. Each line is for one group of
-// calls: the numbers of test cases, of refused requests, and of comparisons. A new call changes
-// only the line of its group.
+// For each group of calls, the expected numbers of test cases, of refused requests, and of
+// comparisons on the lists that `few` selects. If a call is added to a group, only the line of this
+// group has to be changed.
 const COUNTS: [(u64, u64, u64); 12] = [
     // every_growth
     (6334, 2380, 81767),
@@ -142,8 +143,8 @@ fn two_items<R: Abort>(rt: &R, alloc: Global) -> Case<Counted, Doubling> {
     Case::new(rt, ledger, at)
 }
 
-// Returns an empty list that owns a block that `case` does not expect. A check of `case` must fail
-// until this block is freed.
+// Returns an empty list that owns a block. The test case `case` does not expect this block. So a
+// check of `case` must fail until the block is freed.
 fn block<R: Abort>(rt: &R, case: &Case<Counted, Doubling>) -> List<Counted, Doubling> {
     let shape = Shape {
         length: 0,

@@ -6,8 +6,9 @@ ghost use Rattle.std.specs.Iterator.{at_most};
 use crate::ledger::{Ledger, count};
 use crate::samples::Counted;
 
-/// An iterator that yields its items in reverse order. Its size hint is always `(lower, None)`. In
-/// the ledger, the iterator itself counts as one item until it is dropped.
+/// An iterator that yields its items in reverse order, and then always returns `None`. Its size
+/// hint is always `(lower, None)`, no matter how many items remain. The ledger counts the iterator
+/// itself as one item until the iterator is dropped.
 #[derive(Drop)]
 pub struct Claims<T> {
     items: Vec<T>,
@@ -17,8 +18,8 @@ pub struct Claims<T> {
 }
 
 impl<T> Claims<T> {
-    /// Returns an iterator over `items` whose size hint has the lower bound `lower`. The ledger
-    /// counts the calls to its methods `next` and `size_hint`.
+    /// Returns an iterator over `items`. The lower bound of its size hint is `lower`. The ledger
+    /// counts the calls to `next` and `size_hint` of the iterator.
     pub fn new(items: Vec<T>, lower: usize, ledger: &'static Ledger) -> Claims<T> {
         Claims {
             items,

@@ -55,8 +55,9 @@ impl Ledger {
         Box::leak(Box::new(alloc, ledger).ok().expect(rt, "memory"))
     }
 
-    /// Resets the counts of requests, clones, and calls to `next` and `size_hint`. The allocator
-    /// `alloc` then refuses the request whose number is `refused`, or no request if `refused` is 0.
+    /// Resets the counts of requests, of clones, and of calls to `next` and `size_hint`. After the
+    /// call, the allocator `alloc` refuses request number `refused`, or no request if `refused` is
+    /// 0.
     pub fn begin(&self, refused: u64) {
         self.alloc.refuse(refused);
         self.clones.set(0);
@@ -64,8 +65,8 @@ impl Ledger {
         self.hinted.set(0);
     }
 
-    /// Counts a completed test case that made `requests` allocation requests. If request `refused`
-    /// is one of them, also counts a refusal.
+    /// Counts a completed test case that made `requests` allocation requests. If request number
+    /// `refused` was one of them, also counts a refusal.
     pub fn count_case(&self, refused: u64, requests: u64) {
         count(&self.counts.cases);
         if 0 < refused && refused <= requests {

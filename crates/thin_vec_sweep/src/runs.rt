@@ -1,6 +1,6 @@
-//! Random and hand-written runs. A run executes commands, each of which describes a call, on a
-//! `ThinVec`. Except in `long.rt`, a model executes the same commands on a `Vec`, and the results
-//! are compared.
+//! Random and hand-written runs. A run executes a sequence of commands. Each command describes a
+//! call on a list. The runner (`step`) executes each command on a `ThinVec`. Except in `long.rt`, a
+//! model also executes each command on a `Vec`, and the two results are compared.
 mod commands;
 mod compared;
 mod judges;

@@ -1,4 +1,4 @@
-//! The item types of the lists under test: types of 0 to 512 bytes, a type whose values are
+//! The types of the items in the lists under test: types of 0 to 512 bytes, a type whose values are
 //! counted, and a list type.
 ghost use Rattle.std.proofs.Common.{rules};
 ghost use Rattle.std.specs.Cmp.Rules.{comparing};
@@ -23,19 +23,20 @@ pub trait Sample: Clone + Drop + PartialEq {
     /// The size of an item in bytes.
     const SIZE: usize;
 
-    /// The greatest possible capacity of a list of such items, computed by hand. For items of size
-    /// 0, it is `isize::MAX`. Otherwise, a block of this capacity must have at most `isize::MAX`
-    /// bytes.
+    /// The greatest possible capacity of a list of such items, computed by hand. If an item has a
+    /// size of 0 bytes, this capacity is `isize::MAX`. Otherwise, it is the greatest number of
+    /// items for which the size of a block is at most `isize::MAX`.
     ///
-    /// A block consists of a header of 16 bytes and the items. Its size is rounded up to a multiple
-    /// of its alignment, which is that of an item, but at least 8.
+    /// A block consists of a header of 16 bytes and the items. The size of a block is rounded up to
+    /// a multiple of its alignment. This alignment is the alignment of an item, but at least 8.
     const LIMIT: usize;
 
     /// Makes an item from `number`.
     fn nth<R: Abort>(rt: &R, ledger: &'static Ledger, number: u64) -> Self;
 
-    /// Returns the number from which the item was made, or what can be recovered of it. For
-    /// example, a `u8` preserves only the remainder of the number modulo 251.
+    /// Returns the number from which the item was made. If the type has too few values for all
+    /// numbers, returns what can be recovered of this number. For example, an item of type `u8`
+    /// preserves only the remainder of the number modulo 251.
     fn kept_number(&self) -> u64;
 
     /// Returns the expected result of `kept_number` for the item that is made from `number`.
@@ -93,8 +94,8 @@ impl Sample for i32 {
 
     const LIMIT: usize = 2_305_843_009_213_693_946;
 
-    // Makes an item from the remainder of `number` modulo `2^31 - 1`, negated if `number` is odd.
-    // So the test items have both signs.
+    // Makes an item from the remainder of `number` modulo `2^31 - 1`. The item is this remainder if
+    // `number` is even, and its negative if `number` is odd. So the test items have both signs.
     fn nth<R: Abort>(_rt: &R, _ledger: &'static Ledger, number: u64) -> i32 {
         let magnitude = (number % 2_147_483_647) as i32;
         if number % 2 == 0 {
@@ -173,8 +174,8 @@ impl Sample for [u64; 64] {
         words
     }
 
-    // Returns the first of the 64 integers in the item if it equals the last integer, and
-    // `u64::MAX` otherwise.
+    // Returns the first of the 64 integers in the item if the first integer equals the last
+    // integer. Otherwise, returns `u64::MAX`.
     fn kept_number(&self) -> u64 {
         if self[0] == self[63] {
             self[0]
@@ -188,8 +189,8 @@ impl Sample for [u64; 64] {
     }
 }
 
-/// An item that the ledger counts until it is dropped. The ledger also counts the clones of such
-/// items.
+/// An item that the ledger counts until the item is dropped. The ledger also counts the clones of
+/// such items.
 pub struct Counted {
     ledger: &'static Ledger,
     number: u64,

@@ -8,21 +8,24 @@ pub struct Shape {
     pub spare: usize,
 }
 
-/// The number of list shapes that most tests use: all except the two with 100,000 items.
+/// The number of list shapes that most tests use: all shapes except the two with 100,000 items
+/// each. A shape consists of a length and a number of empty slots.
 pub const SHAPES: usize = 110;
 
 /// The number of shapes of lists with at most 40 items. These shapes have the numbers `0..SHORT`.
 pub const SHORT: usize = 107;
 
-/// The shape number at which the two longest shapes begin. They have 100,000 items, and only some
-/// tests use them.
+/// The shape number at which the two longest shapes begin. Lists of these two shapes have 100,000
+/// items each, and only some tests use them.
 pub const LONGEST: usize = SHAPES;
 
-/// The number of all list shapes, including the two with 100,000 items.
+/// The number of all list shapes, including the two with 100,000 items each. A shape consists of a
+/// length and a number of empty slots.
 pub const ALL: usize = LONGEST + 2;
 
-// The numbers of items that tests add to a list: `FEW` for lists of at most 4 items, `SOME` for at
-// most 40 items, `MANY` for at most 10,000 items, and `MOST` for longer lists.
+// The numbers of items that a test tries to add to a list of at most 4 items. Three other arrays
+// are for longer lists: `SOME` for 5 to 40 items, `MANY` for 41 to 10,000 items, and `MOST` for
+// more items.
 const FEW: [usize; 12] = [0, 1, 2, 3, 4, 5, 6, 7, 8, 9, 17, 100];
 
 const SOME: [usize; 4] = [0, 1, 9, 50];
@@ -31,8 +34,9 @@ const MANY: [usize; 2] = [1, 300];
 
 const MOST: [usize; 2] = [1, 100_000];
 
-/// For each `k` from 0 to 6, the number of test cases of a call on a list, or on a range, of `k`
-/// items. On lists of at most 6 items, all of them are run.
+/// For each `k` from 0 to 6, the number of test cases of a call on `k` items. The call acts on a
+/// whole list of `k` items, or on a range of `k` items. On lists of at most 6 items, all these test
+/// cases are run.
 pub type Cases = [usize; 7];
 
 // The number of ranges that are tried on a list of more than 6 items.
@@ -54,9 +58,9 @@ impl Ranged {
 }
 
 impl Shape {
-    /// Returns the shape that `number` selects. The first 25 shapes have 0 to 4 items and 0 to 4
-    /// empty slots. The next 82 shapes have 0 to 40 items and 0 or 1 empty slots. The last five
-    /// shapes have 2,000 to 100,000 items.
+    /// Returns shape number `number`. The first 25 shapes have 0 to 4 items and 0 to 4 empty slots
+    /// each. The next 82 shapes have 0 to 40 items and 0 or 1 empty slots each. The last five
+    /// shapes have 2,000 to 100,000 items each.
     pub fn nth(number: usize) -> Shape {
         if number < 25 {
             return Shape {
@@ -132,20 +136,21 @@ impl Shape {
     }
 
     /// Returns the number of test cases of a call on the whole list. If the list has at most 6
-    /// items, `cases` contains this number.
+    /// items, this is the number that `cases` contains for the length of the list.
     pub fn cases(self, cases: &Cases) -> usize {
         cases.get(self.length).copied().unwrap_or(self.some())
     }
 
-    // Returns the number of test cases of a call on a list of more than 6 items, or on one range of
-    // such a list. If the list has spare capacity, the number is 0.
+    // Returns the number of test cases of a call on a list of more than 6 items. If the call acts
+    // on a range, this is the number of test cases for one range. If the list has spare capacity,
+    // the number is 0.
     fn some(self) -> usize {
         self.alone(if self.is_long() { 2 } else { 20 })
     }
 
-    /// Returns the number of test cases of a call on a range of the list. If the list has at most 6
-    /// items, there are `cases[k]` test cases on each range of `k` items. Otherwise, only four
-    /// ranges are tried.
+    /// Returns the total number of test cases of a call that acts on a range of the list. If the
+    /// list has at most 6 items, every range is tried, and each range of `k` items is used in
+    /// `cases[k]` test cases. On a longer list, only four ranges are tried.
     pub fn ranged_cases(self, cases: &Cases) -> usize {
         if self.length >= cases.len() {
             return self.some().saturating_mul(RANGES);
@@ -162,8 +167,9 @@ impl Shape {
         self.length.saturating_add(1).saturating_sub(width)
     }
 
-    /// Returns a range, and the index of a test case on it. `number` selects one of all test cases
-    /// on all ranges. On a list of at most 6 items, `cases` says how many there are on a range.
+    /// Returns a range, and the number of a test case on this range. The test cases on all ranges
+    /// are numbered consecutively, and `number` selects one of them. On a list of at most 6 items,
+    /// `cases` says how many test cases there are on a range.
     pub fn ranged_case(self, cases: &Cases, number: usize) -> Ranged {
         if self.length >= cases.len() {
             return self.some_range(number % RANGES, number / RANGES);
@@ -185,7 +191,8 @@ impl Shape {
     }
 
     // Returns one of the four ranges that are tried on a list of more than 6 items, together with
-    // `number`, the index of a test case. `range` (0 to 3) selects the range.
+    // `number`, the number of a test case on this range. `range`, a number from 0 to 3, selects the
+    // range.
     fn some_range(self, range: usize, number: usize) -> Ranged {
         let length = self.length;
         let (start, end) = match range {
@@ -197,8 +204,8 @@ impl Shape {
         Ranged { start, end, number }
     }
 
-    /// Returns `arguments` if the list has no spare capacity, and 0 otherwise. This is for calls
-    /// whose result does not depend on the spare capacity.
+    /// Returns `arguments` if the list has no spare capacity, and 0 otherwise. This avoids
+    /// repeating a call whose result does not depend on the spare capacity.
     pub fn alone(self, arguments: usize) -> usize {
         if self.spare == 0 { arguments } else { 0 }
     }
@@ -214,8 +221,8 @@ impl Shape {
         }
     }
 
-    /// Returns the number of new items in a test case. `number` selects one of the numbers that a
-    /// test tries.
+    /// Returns the number of new items in a test case. A test tries several values for this number,
+    /// and `number` selects one of them.
     pub fn count(self, number: usize) -> usize {
         let count = if self.is_small() {
             FEW.get(number)

@@ -33,8 +33,9 @@ pub trait Call<T: Sample, G: Ruled> {
     fn run<R: Abort>(rt: &R, case: &mut Case<T, G>, argument: usize);
 }
 
-/// Tests the call `C` on all shapes in `scope`. If this function and `case` were inlined, all
-/// sweeps for an item type would become one large function, and compilation would take far longer.
+/// Tests the call `C` on lists of all shapes in `scope`. This function and `case` are never
+/// inlined. Otherwise, all sweeps for an item type would become one large function, and compilation
+/// would take far longer.
 #[inline(never)]
 pub fn sweep<C: Call<T, G>, T: Sample, G: Ruled, R: Abort>(rt: &R, scope: &Scope) {
     for number in scope.shapes.start..scope.shapes.end {
@@ -45,8 +46,8 @@ pub fn sweep<C: Call<T, G>, T: Sample, G: Ruled, R: Abort>(rt: &R, scope: &Scope
     }
 }
 
-// Makes the call with enough memory, and then once more for each of its allocation requests, with
-// that request refused. Makes at most `shape.rounds()` calls.
+// Makes the call once with enough memory. Then makes the call again for each of its allocation
+// requests, with that request refused. `shape.rounds()` limits the number of refused requests.
 fn each_refusal<C: Call<T, G>, T: Sample, G: Ruled, R: Abort>(
     rt: &R,
     ledger: &'static Ledger,
@@ -70,7 +71,8 @@ fn each_refusal<C: Call<T, G>, T: Sample, G: Ruled, R: Abort>(
 }
 
 // Runs one test case: makes the call, and checks its results. Returns the number of allocation
-// requests, or 1 if the call was skipped because it would need too much memory.
+// requests that the call made, or 1 if the call was skipped because it would have needed too much
+// memory.
 #[inline(never)]
 fn case<C: Call<T, G>, T: Sample, G: Ruled, R: Abort>(
     rt: &R,

@@ -16,8 +16,8 @@ use std::process::Abort;
 use thin_testing::{Fourfold, Ruled, Threefold};
 use thin_vec::{Doubling, PowerBytes};
 
-// Selects the lists of at most 40 items if each item owns a block, and otherwise all lists except
-// the two with 100,000 items.
+// Selects the lists to test. If each item owns a block, these are the lists of at most 40 items.
+// Otherwise, these are all lists except the two longest lists, which have 100,000 items each.
 fn all<T: Sample, R: Abort>(rt: &R, alloc: Global) -> Scope {
     let shapes = if T::OWNS_BLOCK { SHORT } else { SHAPES };
     Scope {
@@ -26,7 +26,8 @@ fn all<T: Sample, R: Abort>(rt: &R, alloc: Global) -> Scope {
     }
 }
 
-// Selects the lists of 0 to 40 items, with various numbers of empty slots.
+// Selects the lists to test: lists of every length from 0 to 40, with various numbers of empty
+// slots.
 fn short<R: Abort>(rt: &R, alloc: Global) -> Scope {
     Scope {
         ledger: Ledger::new(rt, alloc),
@@ -34,7 +35,7 @@ fn short<R: Abort>(rt: &R, alloc: Global) -> Scope {
     }
 }
 
-// Selects only the two longest lists, which have 100,000 items.
+// Selects the lists to test: only the two longest lists, each of which has 100,000 items.
 fn longest<R: Abort>(rt: &R, alloc: Global) -> Scope {
     Scope {
         ledger: Ledger::new(rt, alloc),
@@ -42,8 +43,8 @@ fn longest<R: Abort>(rt: &R, alloc: Global) -> Scope {
     }
 }
 
-// Asserts that at least `cases` cases were run, and that an allocation request was refused in at
-// least `refusals` of them.
+// Asserts that at least `cases` test cases were run, and that an allocation request was refused in
+// at least `refusals` of them.
 fn assert_swept<R: Abort>(rt: &R, scope: &Scope, cases: u64, refusals: u64) {
     let counted = scope.ledger.counted();
     let is_swept = counted.0 >= cases && counted.1 >= refusals;

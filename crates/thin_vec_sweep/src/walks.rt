@@ -1,13 +1,14 @@
-//! Walks over an iterator: sequences of steps, each of which is a call to `next` or `next_back`,
-//! and the items that the steps must yield.
+//! Walks over an iterator. A walk is a sequence of steps, each of which is a call to `next` or
+//! `next_back`. This file also determines the item that each step must yield.
 use crate::shapes::Cases;
 
 /// For each `k` from 0 to 6, the number of sequences of at most `k + 1` calls to `next` and
 /// `next_back` on an iterator over `k` items.
 pub const WALKS: Cases = [3, 7, 15, 31, 63, 127, 255];
 
-// Four sequences of steps over more than 6 items. The bits of each number are the steps, beginning
-// with the last bit: 1 is a step from the back, and 0 is a step from the front.
+// Four sequences of steps over more than 6 items. Each of the four numbers represents one sequence.
+// The bits of the number represent the steps, beginning with the last bit: 1 is a step from the
+// back, and 0 is a step from the front.
 const ENDS: [u64; 4] = [0x5555_5555_5555_5555, u64::MAX, 0, 0xcccc_cccc_cccc_cccc];
 
 /// A sequence of steps. Each step takes an item from the front or from the back of an iterator.
@@ -15,18 +16,20 @@ const ENDS: [u64; 4] = [0x5555_5555_5555_5555, u64::MAX, 0, 0xcccc_cccc_cccc_ccc
 pub struct Walk {
     /// The number of steps.
     pub steps: usize,
-    // The steps, one bit each, beginning with the last bit: 1 is a step from the back, and 0 is a
-    // step from the front.
+    // The directions of the steps, with one bit for each step: 1 is a step from the back, and 0 is
+    // a step from the front.
     ends: u64,
 }
 
 impl Walk {
-    /// Returns the walk over `count` items that `number` selects.
+    /// Returns one of the walks over `count` items. `number` selects the walk.
     ///
-    /// If `count` is at most 6, the binary digits of `number + 1`, without the first digit, are the
-    /// steps, beginning with the last digit: 1 is a step from the back, and 0 is a step from the
-    /// front. If `count` is greater, `number / 4` selects the number of steps, and `number % 4`
-    /// selects their directions in `ENDS`.
+    /// If `count` is at most 6, the binary digits of `number + 1`, except the first digit, describe
+    /// the steps. The last digit describes the first step. The digit 1 is a step from the back, and
+    /// 0 is a step from the front.
+    ///
+    /// If `count` is greater than 6, `number / 4` selects the number of steps, and `number % 4`
+    /// selects the entry of `ENDS` that describes the steps.
     pub fn nth(count: usize, number: usize) -> Walk {
         if count >= WALKS.len() {
             return Walk {
@@ -59,8 +62,8 @@ impl Walk {
     }
 }
 
-/// Returns one of the five numbers of steps that are tried over `count` items, if `count` is
-/// greater than 6. `number` (0 to 4) selects the result.
+/// Returns how many steps are taken over `count` items, if `count` is greater than 6. Five numbers
+/// of steps are tried, and `number` (0 to 4) selects one of them.
 pub fn some_steps(count: usize, number: usize) -> usize {
     match number {
         0 => count / 2,
@@ -72,7 +75,7 @@ pub fn some_steps(count: usize, number: usize) -> usize {
 }
 
 /// The items that remain after some steps over an iterator, represented by the range of their
-/// indices.
+/// indices. Each step takes an item from the front or from the back.
 #[derive(Drop)]
 pub struct Remaining {
     start: usize,
@@ -88,9 +91,9 @@ impl Remaining {
         }
     }
 
-    /// Removes the last of the remaining items if `is_back` is true, and the first one otherwise.
-    /// Returns its entry in `numbers`, the number from which it was made, or `None` if no item
-    /// remains.
+    /// Removes the item that the next step must yield: the last of the remaining items if `is_back`
+    /// is true, and the first of them otherwise. Returns the entry of this item in `numbers`, which
+    /// is the number from which the item was made. Returns `None` if no item remains.
     pub fn take(&mut self, is_back: bool, numbers: &[u64]) -> Option<u64> {
         if self.start >= self.end {
             return None;
@@ -105,7 +108,7 @@ impl Remaining {
         numbers.get(place).copied()
     }
 
-    /// Returns the remaining items, as the numbers from which they were made.
+    /// Returns the remaining items, each represented by the number from which it was made.
     pub fn of(self, numbers: &[u64]) -> &[u64] {
         numbers.get(self.start..self.end).unwrap_or(&[])
     }

@@ -1,4 +1,4 @@
-//! The default growth rule `Doubling`, which doubles the capacity.
+//! Defines the default growth rule `Doubling`, which doubles the capacity.
 ghost use Rattle.std.specs.Prelude.{◌≡◌};
 ghost use Rattle.std.specs.Mem.{type_size};
 ghost use Rattle.thin_block.specs.Capacity.{first};
@@ -7,9 +7,9 @@ ghost use Rattle.thin_block.specs.Growth.{doubling, ruled_capacity};
 use crate::growth::{Growth, fitting};
 use crate::sizes::item_size;
 
-/// A growth rule that doubles the capacity. If the old capacity is 0, it uses `first_capacity`
-/// instead of twice the old capacity. If this is not enough, it chooses the required capacity. The
-/// Rust crate thin-vec uses the same rule.
+/// A growth rule that doubles the capacity. If the old capacity is 0, the rule uses the result of
+/// `first_capacity` instead of twice the old capacity. If the required capacity is greater, the
+/// rule chooses the required capacity. The Rust crate thin-vec uses the same rule.
 pub struct Doubling {}
 
 impl Growth for Doubling {
@@ -43,9 +43,9 @@ pub fn first_capacity<T>() -> usize
     }
 }
 
-/// Returns the capacity of a list of capacity `cap` after it has reserved room for `want` items
-/// under `Doubling`. The result is `cap` if `want <= cap`, and `None` if the new capacity is too
-/// large.
+/// Returns the capacity of a list of capacity `cap` after the list has reserved room for `want`
+/// items under the rule `Doubling`. The result is `cap` if `cap` is at least `want`. It is `None`
+/// if the new capacity is too large.
 pub fn next_capacity<T>(cap: usize, want: usize) -> Option<usize>
     ensures value { result ≡ ruled_capacity doubling T.row cap want }
 {

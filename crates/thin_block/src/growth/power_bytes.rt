@@ -1,5 +1,6 @@
-//! The growth rule `PowerBytes`. For items of at least one byte, it rounds the size of a block up
-//! to a power of two, and chooses the greatest capacity that fits into this size.
+//! Defines the growth rule `PowerBytes`. For items of at least one byte, this rule rounds the size
+//! of a block up to a power of two, and chooses the greatest capacity for which a block fits into
+//! this many bytes.
 ghost use Rattle.std.specs.Prelude.{◌≡◌, ◌+◌, ◌*◌, ◌^◌, ◌<◌, ◌≤◌, IfNone, IfSome};
 ghost use Rattle.std.specs.Mem.{type_size};
 ghost use Rattle.std.specs.Align.{type_align};
@@ -9,9 +10,10 @@ use crate::growth::doubling::Doubling;
 use crate::growth::{Growth, fitting};
 use crate::sizes::{HEADER, item_size};
 
-/// A growth rule that rounds the size of a block up to a power of two. It computes the size of a
-/// block for the required capacity, or for twice the old capacity if that is greater. It rounds
-/// this size up, and chooses the greatest capacity that fits.
+/// A growth rule that rounds the size of a block up to a power of two. The rule first computes the
+/// size of a block for the required capacity, or for twice the old capacity if that is greater. It
+/// rounds this size up to a power of two, and chooses the greatest capacity for which a block fits
+/// into the rounded size.
 ///
 /// If an allocator rounds requests up to powers of two, a block wastes less than the size of one
 /// item. For items of size 0, the rule is the same as `Doubling`. The Rust crate thin-vec has a
@@ -24,9 +26,10 @@ impl Growth for PowerBytes {
 
     ghost rule = { power_bytes };
 
-    // Returns the chosen capacity `n`, or `None` if it is too large. For items of at least one
-    // byte, there is a power of two `p` such that the header and `n` items fit into `p` bytes, but
-    // one more item does not.
+    // Returns the capacity that the rule chooses, or `None` if this capacity is too large. Suppose
+    // that items take at least one byte, and that the chosen capacity is `n`. Then there is a power
+    // of two `p` such that the header and `n` items fit into `p` bytes, but the header and `n + 1`
+    // items do not.
     fn next_capacity<T>(cap: usize, want: usize) -> Option<usize>
         requires { cap < want }
         ensures value { result ≡ power_bytes (type_size T.row) (type_align T.row) cap want }
@@ -47,7 +50,8 @@ impl Growth for PowerBytes {
 }
 
 // Returns the least power of two that is at least the size in bytes of a header and `items` items
-// of `size` bytes each, or `None` if this power exceeds `2 ^ 63`.
+// of `size` bytes each. Returns `None` if this power of two exceeds `2 ^ 63`. In this case, a block
+// for these items is too large to be allocated.
 fn power_for(items: usize, size: usize) -> Option<usize>
     ensures none { IfNone result (2 ^ 63 < 16 + items * size) }
     ensures value { IfSome result (λ power. power ≡ least_power (16 + items * size)) }

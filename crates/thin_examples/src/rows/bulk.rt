@@ -1,4 +1,5 @@
-//! Worked examples that check calls which add, move or remove many items at once.
+//! Worked examples of calls that add, move or remove many items at once. A worked example compares
+//! the results of calls with values that were worked out by hand.
 use crate::checks::Checks;
 use crate::rows::{Outcome, listed};
 use std::alloc::Allocator;
@@ -10,7 +11,7 @@ use thin_vec::{ExtendRefused, ThinVec, ThinVecError};
 ///
 /// # Errors
 ///
-/// Fails if there is not enough memory for the items.
+/// Fails with `OutOfMemory` if there is not enough memory for the items.
 pub fn claiming<A: Allocator, const N: usize>(
     alloc: A,
     items: [i32; N],
@@ -22,8 +23,8 @@ pub fn claiming<A: Allocator, const N: usize>(
     }
 }
 
-/// Checks that `split_off` splits a list in two, that `append` joins the parts again, and that
-/// `split_off` at the end returns an empty list.
+/// Checks that `split_off` splits a list in two, that `append` puts the two parts back together,
+/// and that `split_off` at the end of a list returns an empty list.
 pub fn row_15<A: Allocator + Copy>(alloc: A) -> Outcome {
     let mut checks = Checks::new();
     let mut list = listed(alloc, [1, 2, 3, 4, 5, 6])?;
@@ -37,8 +38,8 @@ pub fn row_15<A: Allocator + Copy>(alloc: A) -> Outcome {
     Ok(checks)
 }
 
-/// Extends new lists with iterators that yield five items, and whose size hints have the lower
-/// bounds 0, 3, 5 and 9. Checks the items and the capacities.
+/// Extends new lists with iterators that yield five items each. The lower bounds of the size hints
+/// of these iterators are 0, 3, 5 and 9. Checks the items and the capacity of each list.
 pub fn row_24<A: Allocator + Copy>(alloc: A) -> Outcome {
     let mut checks = Checks::new();
     for (lower, capacity) in [(0, 8), (3, 8), (5, 5), (9, 9)] {
@@ -49,8 +50,9 @@ pub fn row_24<A: Allocator + Copy>(alloc: A) -> Outcome {
     Ok(checks)
 }
 
-// Checks the error of a call to `extend` that failed because the size hint was too large. The cause
-// must be `CapacityOverflow`, and the iterator must still yield its two items.
+// Checks `refused`, the error of a failed call to `extend`. The cause must be `CapacityOverflow`.
+// No item was taken from the iterator: the field `in_hand` must be `None`, and the iterator in the
+// error must still yield its two items.
 fn check_refused<A: Allocator>(checks: &mut Checks, refused: ExtendRefused<i32, Hinted<i32, A>>) {
     let ExtendRefused {
         cause,
@@ -64,8 +66,8 @@ fn check_refused<A: Allocator>(checks: &mut Checks, refused: ExtendRefused<i32, 
     );
 }
 
-/// Checks that `extend` fails if the size hint of the iterator is too large for any capacity, and
-/// takes no item from the iterator.
+/// Checks that `extend` fails and takes no item from the iterator if the size hint of the iterator
+/// is too large for any capacity.
 pub fn row_25<A: Allocator + Copy>(alloc: A) -> Outcome {
     let mut checks = Checks::new();
     let mut list = listed(alloc, [1])?;

@@ -1,5 +1,6 @@
-//! The worked example that checks the function `run` of the crate `thin_runner`, which carries out
-//! commands on a list.
+//! The worked example of the function `run` in the crate `thin_runner`. This function carries out
+//! commands on a list. A worked example compares the results of calls with values that were worked
+//! out by hand.
 use crate::checks::Checks;
 use crate::rows::Outcome;
 use crate::rows::judges::Evens;
@@ -16,8 +17,9 @@ fn put<T: Drop, A: Allocator>(items: &mut Vec<T, A>, item: T) -> Result<(), Thin
     }
 }
 
-// Makes three commands for an empty list: an insert at index 9, which is past the end, a push, and
-// a drain of the pushed item. The drain calls `next_back` and then `next`.
+// Makes three commands for an empty list. The first one is an insert at index 9, which is past the
+// end of the list. The second one is a push. The third one is a drain of the pushed item: it calls
+// `next_back`, which yields the item, and then `next`, which returns `None`.
 fn past_the_end<A: Allocator + Copy>(alloc: A) -> Result<Vec<Command<i32, A>, A>, ThinVecError> {
     let mut steps = Vec::new(alloc);
     put(&mut steps, Step::Back)?;

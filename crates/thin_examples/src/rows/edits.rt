@@ -1,4 +1,5 @@
-//! Worked examples that check `drain`, `extract_if`, `bounds`, and formatting with `{:?}`.
+//! Worked examples of `drain`, `extract_if`, `bounds`, and formatting with `{:?}`. A worked example
+//! compares the results of calls with values that were worked out by hand.
 use crate::checks::Checks;
 use crate::rows::{Outcome, listed};
 use std::alloc::Allocator;
@@ -22,8 +23,8 @@ fn is_even(item: i32) -> bool {
     item.wrapping_rem(2) == 0
 }
 
-/// Checks that an `ExtractIf` that yields one item and is then dropped removes no other item from
-/// the list.
+/// Checks an `ExtractIf` that yields one item of a range and is then dropped. The drop must not
+/// remove any other item from the list.
 pub fn row_8<A: Allocator + Copy>(alloc: A) -> Outcome {
     let mut checks = Checks::new();
     let mut list = listed(alloc, [1, 2, 3, 4, 5, 6])?;
@@ -52,8 +53,8 @@ pub fn row_9<A: Allocator + Copy>(alloc: A) -> Outcome {
     Ok(checks)
 }
 
-/// Checks that `bounds` returns the start and the end of a range of a list, or `None` if the list
-/// has no such range.
+/// Checks `bounds` for a list of five items. This function must return the start and the end of the
+/// range that two `Bound`s describe, or `None` if the list has no such range.
 pub fn row_18<A: Allocator + Copy>(_alloc: A) -> Outcome {
     let mut checks = Checks::new();
     for (start, end, wanted) in [
@@ -94,7 +95,7 @@ fn check_text<T: Debug, A: Allocator>(
     Ok(())
 }
 
-/// Checks how a list, a `Drain` and an `IntoIter` are formatted with `{:?}`.
+/// Checks the text that `{:?}` writes for a list, a `Drain` and an `IntoIter`.
 pub fn row_35<A: Allocator + Copy>(alloc: A) -> Outcome {
     let mut checks = Checks::new();
     let mut list = listed(alloc, [1, 2, 3])?;

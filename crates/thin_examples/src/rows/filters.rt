@@ -1,9 +1,10 @@
-//! Worked examples that check `retain_mut`, `dedup_by`, `dedup_by_key` and `dedup`.
+//! Worked examples of `retain_mut`, `dedup_by`, `dedup_by_key` and `dedup`. A worked example
+//! compares the results of calls with values that were worked out by hand.
 use crate::checks::Checks;
 use crate::rows::{Outcome, listed};
 use std::alloc::Allocator;
 
-/// Checks that `dedup_by` compares each item with the last kept item, and not with the item
+/// Checks that `dedup_by` compares each item with the last item that it kept, and not with the item
 /// directly before it.
 pub fn row_13<A: Allocator + Copy>(alloc: A) -> Outcome {
     let mut checks = Checks::new();
@@ -49,7 +50,7 @@ pub fn row_14<A: Allocator + Copy>(alloc: A) -> Outcome {
     Ok(checks)
 }
 
-/// Checks `dedup_by_key` on one list and `dedup` on another list, and then `pop` on each of them.
+/// Checks `dedup_by_key` and `dedup`, and a call to `pop` after each of them.
 pub fn row_34<A: Allocator + Copy>(alloc: A) -> Outcome {
     let mut checks = Checks::new();
     let mut tens = listed(alloc, [10, 20, 21, 30, 20])?;

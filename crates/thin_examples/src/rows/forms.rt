@@ -1,5 +1,5 @@
-//! Worked examples that check `thin_vec!`, and methods that iterate over, compare, hash, convert or
-//! write to lists.
+//! Worked examples of `thin_vec!`, and of calls that iterate over, compare, hash, convert or write
+//! to lists. A worked example compares the results of calls with values that were computed by hand.
 use crate::checks::Checks;
 use crate::rows::{Outcome, listed};
 use std::alloc::Allocator;
@@ -22,8 +22,8 @@ pub fn row_3<A: Allocator + Copy>(alloc: A) -> Outcome {
     Ok(checks)
 }
 
-/// Checks that `into_array` returns the list if the array has fewer items, and that the clone of an
-/// empty list has no allocation.
+/// Checks that `into_array` returns the list if the array has fewer items than the list. Also
+/// checks that the clone of an empty list has no allocation.
 pub fn row_20<A: Allocator + Copy>(alloc: A) -> Outcome {
     let mut checks = Checks::new();
     let digits = [0, 1, 2, 3, 4, 5, 6, 7, 8, 9];
@@ -41,8 +41,8 @@ pub fn row_20<A: Allocator + Copy>(alloc: A) -> Outcome {
     Ok(checks)
 }
 
-/// Checks that `into_iter` yields items from both ends, and that a clone of the iterator contains
-/// the remaining items.
+/// Checks that the iterator of `into_iter` yields items from both ends, and that a clone of the
+/// iterator contains the remaining items.
 pub fn row_29<A: Allocator + Copy>(alloc: A) -> Outcome {
     let mut checks = Checks::new();
     let mut items = listed(alloc, [1, 2, 3])?.into_iter();
@@ -60,7 +60,8 @@ fn hash_of<A: Allocator>(list: &ThinVec<i32, A>) -> u64 {
     hasher.finish()
 }
 
-// Checks that `cmp` returns `order` for a list of the items `left` and a list of the items `right`.
+// Makes a list of the items `left` and a list of the items `right`. Checks that `cmp` returns
+// `order` for these two lists.
 fn check_order<A: Allocator + Copy>(
     checks: &mut Checks,
     alloc: A,
@@ -88,7 +89,7 @@ pub fn row_30<A: Allocator + Copy>(alloc: A) -> Outcome {
     Ok(checks)
 }
 
-// Writes to the list `bytes` with `write_all` and `write`. Checks the items of the list and the
+// Writes to the list `bytes` with `write_all` and `write`, and checks the items of the list and the
 // numbers that `write` returns.
 fn check_writes<A: Allocator>(checks: &mut Checks, bytes: &mut ThinVec<u8, A>) -> io::Result<()> {
     bytes.write_all(&[3, 4, 5])?;

@@ -5,9 +5,9 @@ ghost use Rattle.std.specs.Prelude.{int_rem, pos};
 
 use thin_runner::judge::Judge;
 
-/// A judge with which `retain` and `retain_mut` keep the even numbers, and `extract_if` removes
-/// them. For `dedup_by`, equal numbers are duplicates. For `dedup_by_key`, all numbers are
-/// duplicates, because all keys are 0.
+/// A judge makes decisions in place of a closure. With this judge, `retain` and `retain_mut` keep
+/// the even numbers, and `extract_if` removes them. For `dedup_by`, equal numbers are duplicates.
+/// For `dedup_by_key`, all numbers are duplicates, because they all have the key 0.
 #[derive(Clone, Copy)]
 pub struct Evens;
 

@@ -1,4 +1,5 @@
-//! Worked examples that check the growth rule `PowerBytes` and a sparse table.
+//! Worked examples of the growth rule `PowerBytes` and of a sparse table. A worked example compares
+//! the results of calls with values that were worked out by hand.
 use crate::checks::Checks;
 use crate::rows::Outcome;
 use std::alloc::Allocator;
@@ -19,8 +20,9 @@ pub fn row_21<A: Allocator + Copy>(alloc: A) -> Outcome {
     Ok(checks)
 }
 
-// Writes `value` at row 1 and column `column`, and checks that `set` returns the old value,
-// `before`. If the table does not have three rows, does nothing.
+// Calls the method `set` of the table to write `value` at row 1 and column `column`. Checks that
+// the method returns `before`, the value that the column had before the call. If the table does not
+// have three rows, does nothing.
 fn set<A: Allocator>(
     checks: &mut Checks,
     table: &mut Rows<char, A>,
@@ -34,8 +36,8 @@ fn set<A: Allocator>(
     Ok(())
 }
 
-// Removes the entry at row 1 and column `column`, and checks that its value was `value`. If the
-// table does not have three rows, does nothing.
+// Calls the method `remove` of the table to remove the entry at row 1 and column `column`. Checks
+// that the method returns `Some(value)`. If the table does not have three rows, does nothing.
 fn remove<A: Allocator>(
     checks: &mut Checks,
     table: &mut Rows<char, A>,
@@ -47,8 +49,9 @@ fn remove<A: Allocator>(
     }
 }
 
-// Checks that the table has three rows, that only row 1 has entries, namely `entries`, and that row
-// 1 owns an allocation if and only if `owns_block` is true.
+// Checks that the table has three rows, that row 1 has the entries `entries`, and that the other
+// rows have no entries. Also checks that row 1 owns an allocation if `owns_block` is true, and owns
+// none if it is false.
 fn check_entries<A: Allocator>(
     checks: &mut Checks,
     table: &Rows<char, A>,

@@ -1,5 +1,5 @@
-//! Worked examples that check capacities, items of size zero, and calls that add or remove a single
-//! item.
+//! Worked examples of capacities, of items of size zero, and of calls that add or remove a single
+//! item. A worked example compares the results of calls with values that were worked out by hand.
 use crate::checks::Checks;
 use crate::rows::{Outcome, listed};
 use std::alloc::Allocator;
@@ -28,8 +28,8 @@ pub fn row_2<A: Allocator + Copy>(alloc: A) -> Outcome {
     Ok(checks)
 }
 
-/// Checks the capacity of a list of three items after one call: `reserve(1)`, `reserve(10)` or
-/// `reserve_exact(1)`.
+/// Calls `reserve(1)`, `reserve(10)` and `reserve_exact(1)`, each on a new list of three items.
+/// Checks the capacity of the list after each call.
 pub fn row_4<A: Allocator + Copy>(alloc: A) -> Outcome {
     let mut checks = Checks::new();
     for (additional, is_exact, capacity) in [(1, false, 6), (10, false, 13), (1, true, 4)] {
@@ -119,8 +119,8 @@ pub fn row_19<A: Allocator + Copy>(alloc: A) -> Outcome {
     Ok(checks)
 }
 
-/// Checks that `clear` and pushes into reserved room do not change the capacity, and that
-/// `shrink_to_fit` reduces it to the length.
+/// Checks that `clear` and pushes into reserved room do not change the capacity. Also checks that
+/// `shrink_to_fit` reduces the capacity to the length.
 pub fn row_23<A: Allocator + Copy>(alloc: A) -> Outcome {
     let mut checks = Checks::new();
     let mut list = ThinVec::with_capacity(alloc, 10)?;

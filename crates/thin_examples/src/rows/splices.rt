@@ -1,4 +1,5 @@
-//! Worked examples that check `splice`, and calls on an empty list.
+//! Worked examples of `splice`, and a worked example of calls on an empty list. A worked example
+//! compares the results of calls with values that were worked out by hand.
 use crate::checks::Checks;
 use crate::rows::bulk::claiming;
 use crate::rows::{Outcome, listed};
@@ -7,8 +8,9 @@ use std::iter::{empty, once};
 use thin_runner::hinted::Hinted;
 use thin_vec::{SpliceRefused, ThinVec, ThinVecError};
 
-// Replaces two of five items with three items of an iterator whose size hint has the lower bound
-// `claim`. Checks that the list then has the expected items and the capacity `capacity`.
+// Replaces two of five items with the three items of an iterator. The lower bound of the iterator's
+// size hint is `claim`. Checks the items of the list afterwards, and checks that its capacity is
+// `capacity`.
 fn check_claimed<A: Allocator + Copy>(
     checks: &mut Checks,
     alloc: A,
@@ -31,9 +33,9 @@ pub fn row_10<A: Allocator + Copy>(alloc: A) -> Outcome {
     Ok(checks)
 }
 
-// Checks the error of a failed call to `finish`. The cause must be `CapacityOverflow`, every item
-// that was taken from the iterator must have been inserted, and one item must remain in the
-// iterator.
+// Checks the error of a failed call to `finish`, the method that completes a splice. The cause must
+// be `CapacityOverflow`. Every item that was taken from the iterator must have been inserted, and
+// one item must remain in the iterator.
 fn check_refused<A: Allocator>(
     checks: &mut Checks,
     refused: SpliceRefused<i32, Hinted<i32, A>, A>,
@@ -50,8 +52,9 @@ fn check_refused<A: Allocator>(
     checks.items(&[rest.next(), rest.next()], &[Some(12), None]);
 }
 
-/// Checks that `finish` fails if the size hint of the iterator is too large for any capacity.
-/// Before it fails, it replaces the two items of the range with the first two of three new items.
+/// Checks that `finish`, the method that completes a splice, fails if the size hint of the iterator
+/// is too large for any capacity. Before the failure, `finish` replaces the two items of the range
+/// with the first two of the three new items.
 pub fn row_11<A: Allocator + Copy>(alloc: A) -> Outcome {
     let mut checks = Checks::new();
     let mut list = listed(alloc, [1, 2, 3, 4, 5])?;
@@ -108,8 +111,8 @@ pub fn row_22<A: Allocator + Copy>(alloc: A) -> Outcome {
     Ok(checks)
 }
 
-// Checks a `splice` of a whole list with an empty iterator. The splice yields all items and leaves
-// the list empty.
+// Checks a `splice` of a whole list with an empty iterator. The splice yields all items, and the
+// list is empty afterwards.
 fn check_emptied<A: Allocator + Copy>(checks: &mut Checks, alloc: A) -> Result<(), ThinVecError> {
     let mut list = listed(alloc, [1, 2, 3, 4, 5])?;
     let mut splice = list.splice(0, 5, empty());
@@ -135,7 +138,8 @@ fn check_spliced<A: Allocator + Copy>(
     Ok(list)
 }
 
-// Checks a second `splice` of the same list, which yields an item that the first `splice` inserted.
+// Checks a second `splice` of the same list. The second `splice` yields an item that the first one
+// inserted.
 fn check_spliced_again<A: Allocator + Copy>(
     checks: &mut Checks,
     alloc: A,

@@ -8,7 +8,7 @@ use std::alloc::Global;
 use thin_runner::command::Command;
 
 /// Parses the words of a line as a command that adds several items. Returns `None` if the words do
-/// not have this form.
+/// not have the form of such a command.
 pub fn parse(alloc: Global, words: &[&str]) -> Result<Option<Command<u64>>, LineError>
     ensures says { IfOk result (λ found. IfSome found (SaysUnjudged words.now)) }
 {

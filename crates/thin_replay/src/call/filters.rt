@@ -1,5 +1,5 @@
-//! The parser for commands that call methods of a judge, which makes decisions in place of a
-//! closure.
+//! The parser for commands that call methods of a judge. A judge makes decisions in place of a
+//! closure: for example, it decides which items `retain` keeps.
 ghost use Rattle.std.specs.Prelude.{IfOk, IfSome};
 ghost use Rattle.thin_replay.specs.Lines.{IsCall, IsFilter};
 
@@ -9,8 +9,8 @@ use crate::line_error::LineError;
 use crate::words::count_of;
 use thin_runner::command::Command;
 
-/// Parses the words of a line as a command and a judge, which makes decisions in place of a
-/// closure. Returns `None` if the words do not have this form.
+/// Parses the words of a line as a command and a judge. A judge makes decisions in place of a
+/// closure. Returns `None` if the words do not have the form of a command with a judge.
 pub fn parse(words: &[&str]) -> Result<Option<Call>, LineError>
     ensures says { IfOk result (λ found. IfSome found (IsCall words.now)) }
 {
@@ -33,8 +33,8 @@ pub fn parse(words: &[&str]) -> Result<Option<Call>, LineError>
     }
 }
 
-// Returns the command with the name `name` if it is `Retain`, `RetainMut`, `DedupBy` or
-// `DedupByKey`, and `None` otherwise.
+// If `name` is the name of the command `Retain`, `RetainMut`, `DedupBy` or `DedupByKey`, returns
+// this command. Otherwise, returns `None`.
 fn filter(name: &str) -> Option<Command<u64>>
     ensures filter { IfSome result (IsFilter name.now) }
 {

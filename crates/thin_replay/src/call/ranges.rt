@@ -8,7 +8,7 @@ use std::alloc::Global;
 use thin_runner::command::Command;
 
 /// Parses the words of a line as `dedup`, or as a command that removes or replaces a range. Returns
-/// `None` if the words do not have this form.
+/// `None` if the words do not have the form of such a command.
 pub fn parse(alloc: Global, words: &[&str]) -> Result<Option<Command<u64>>, LineError>
     ensures says { IfOk result (λ found. IfSome found (SaysUnjudged words.now)) }
 {

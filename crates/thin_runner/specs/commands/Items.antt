@@ -8,8 +8,8 @@ use Rattle.thin_vec.specs.declared.ThinVecError.TheVariants.{CapacityOverflow}
 use Rattle.thin_runner.specs.Setting.{Setting}
 
 module _ {T A : Type 0} where
-  -- `edited old xs m` is the list `old` with the items `xs` instead of its own, and with `m` more
-  -- moves in its cost.
+  -- `edited old xs m` is the list `old` after its items were replaced with the items `xs`. Its cost
+  -- contains `m` more moves than the cost of `old`.
   abbrev pub edited : Thin T A → List T → ℕ → Thin T A
   edited old xs m = record old { items = xs; cost = moving m old.cost }
 
@@ -18,16 +18,18 @@ module _ {T A : Type 0} where
   abbrev pub at_capacity : Thin T A → ℕ → Thin T A
   at_capacity old c = record old { capacity = c; cost = cost_at old c }
 
-  -- `Refuses named old k cause new` holds if a call may fail because `old` has no room for `k` more
-  -- items. `named` is the required capacity, or `None` if it is too large to be allocated. The list
-  -- does not change.
+  -- `Refuses named old k cause new` holds if a call may fail with `cause` because the list `old`
+  -- has no room for `k` more items. The list does not change, so `new` equals `old`. The option
+  -- `named` is the capacity that the call needs, or `None` if this capacity is too large to be
+  -- allocated.
   abbrev pub Refuses : Option ℕ → Thin T A → ℕ → ThinVecError → Thin T A → Type 0
   Refuses named old k cause new =
       ¬ (HasRoomFor old k) × ((named ≡ None) ↔ (cause ≡ CapacityOverflow)) × (new ≡ old)
 
 module _ {T A J : Type 0} (here : Setting T A J) where
-  -- `Grows old k xs m new` holds if `new` is the list `old` after room for `k` more items was
-  -- reserved, all items were replaced with `xs`, and `m` moves were added to the cost.
+  -- `Grows old k xs m new` holds if a call may turn the list `old` into `new` in two steps. First,
+  -- the call reserves room for `k` more items. Second, the call replaces all items with the items
+  -- `xs`, and adds `m` moves to the cost.
   abbrev pub Grows : Thin T A → ℕ → List T → ℕ → Thin T A → Type 0
   Grows old k xs m new = (capacity_for here.rule here.R old k ≡ Some new.capacity)
       × (new ≡ edited (at_capacity old new.capacity) xs m)

@@ -5,9 +5,9 @@ use Rattle.thin_runner.specs.declared.command.Step.{Step}
 use Rattle.thin_runner.specs.declared.command.Step.TheVariants.{Front, Back}
 
 module _ {T : Type 0} where
-  -- `walked xs steps` is the list of the results of the steps on a range with the items `xs`.
-  -- `Front` removes and returns the first of the remaining items, and `Back` the last. Both return
-  -- `None` if the range is empty.
+  -- `walked xs steps` is the list of the results of the steps, in order, on a range with the items
+  -- `xs`. `Front` removes and returns the first of the remaining items, and `Back` removes and
+  -- returns the last. Each step returns `None` if no items remain.
   abbrev pub walked : List T → List Step → List (Option T)
   walked xs [] = []
   walked xs (Front ∷ steps) = slice_get xs 0 ∷ walked (drop 1 xs) steps

@@ -1,5 +1,5 @@
--- This file describes the new lists that `split_off` and `clone` make. The capacity of such a list
--- equals its length. (std: `Vec::split_off`, `Clone`)
+-- This definition describes the new lists that `split_off` and `clone` make. The capacity of such a
+-- list equals its length. (std: `Vec::split_off`, `Clone`)
 use Rattle.std.specs.Prelude.{List, length}
 use Rattle.thin_vec.specs.Cost.{moving}
 use Rattle.thin_vec.specs.ThinVec.{Thin, cost_new}

@@ -1,4 +1,4 @@
--- These definitions describe a splice, which replaces a range of a list with the items of an
+-- These definitions describe a splice, which replaces the items of a range with the items of an
 -- iterator. (std: `Vec::splice`, `Vec::extend`)
 use Rattle.std.specs.Prelude.{◌≡◌, ◌↔◌, ◌⊎◌, ℕ, ◌+◌, ◌-◌, ◌*◌, ◌<◌, ◌≤◌, List, [], ◌++◌, IsSome, None, Option, drop, length, take}
 use Rattle.std.specs.Borrow.{RattleType}
@@ -20,18 +20,20 @@ module _ {T A : Type 0} (old : Thin T A) (a b : ℕ) where
   abbrev pub cut : Thin T A
   cut = record old { items = remove_range old.items a b }
 
-  -- `HasPlacesFor most` holds if `most` items can replace the range `a..b` without new memory: the
-  -- range has at least `most` items, or it is at the end of the list and the capacity is
-  -- sufficient.
+  -- `HasPlacesFor most` holds if `most` items can replace the range `a..b` of the list `old`
+  -- without new memory. This is the case if the range has at least `most` items. It is also the
+  -- case if no item follows the range, and the list without the range has room for `most` more
+  -- items.
   abbrev pub HasPlacesFor : ℕ → Type 0
   HasPlacesFor most = (most ≤ b - a) ⊎ ((b ≡ length old.items) × HasRoomFor cut most)
 
 module _ {T A : Type 0} (rule : Rule) (R : RattleType) (old : Thin T A) (a b : ℕ) where
-  -- `Replaces placed most new` holds if replacing the items `a..b` of the list `old` with `placed`
-  -- may result in `new`. The iterator could yield at most `most` items.
+  -- `Replaces placed most new` holds if a call may replace the items `a..b` of the list `old` with
+  -- the items `placed`, so that the list becomes `new`. The items `placed` come from an iterator
+  -- that could yield at most `most` items.
   --
-  -- Each placed item counts as one move, and each item after the range as at most two. If the
-  -- capacity changed, the growth rule chose it.
+  -- Each placed item counts as one move, and each item after the range counts as at most two moves.
+  -- If the capacity changed, then the growth rule chose the new capacity.
   pub record Replaces (placed : List T) (most : ℕ) (new : Thin T A) : Type 0 where
     pub items : new.items ≡ (take a old.items ++ placed) ++ drop b old.items
     pub capacity : IsLoose rule R old.capacity new.capacity
@@ -42,9 +44,10 @@ module _ {T A : Type 0} (rule : Rule) (R : RattleType) (old : Thin T A) (a b : �
     pub cheap : IsCheap old → IsCheap new
     pub alloc : new.alloc ≡ old.alloc
 
-  -- `StopsBetween` describes a splice or an `extend` that failed with `cause`. The items `placed`
-  -- are in the list. All other items `xs` of the iterator are in `held`, in `in_hand`, or in
-  -- `rest`.
+  -- `StopsBetween` describes a splice, or a call to `extend`, that failed with `cause` and turned
+  -- the list `old` into `new`. The iterator had the items `xs`, and its size hint had the lower
+  -- bound `lower`. The call put the items `placed` into the list. All other items of the iterator
+  -- are returned in `held`, `in_hand` and `rest`.
   pub record StopsBetween (xs held : List T) (lower : ℕ) (cause : ThinVecError)
       (in_hand : Option T) (rest : Hinted T A) (new : Thin T A) : Type 0 where
     pub placed : List T
@@ -52,30 +55,36 @@ module _ {T A : Type 0} (rule : Rule) (R : RattleType) (old : Thin T A) (a b : �
     pub claim : rest.lower ≡ lower
     pub filled : Replaces placed (lower + length xs) new
     pub no_room : ¬ (HasPlacesFor old a b (lower + length xs))
-    -- If `held` is empty and `in_hand` is `None`, then the call failed because it could not reserve
-    -- room for the lower bound of the size hint of `rest`.
+    -- Suppose that `held` is empty and `in_hand` is `None`. Then the call could not reserve room
+    -- for `h` more items in the list `new`, where `h` is a possible lower bound of the size hint of
+    -- `rest`. The cause is `CapacityOverflow` if and only if the growth rule chooses no capacity
+    -- for `h` more items.
     pub by_hint : held ≡ [] → in_hand ≡ None
         → FailsAtHint rule R new (at_most (rest.lower + length (into_iter_items rest.items))) cause
-    -- If `held` has items and `in_hand` is `None`, then the cause is `CapacityOverflow` if and only
-    -- if the growth rule has no capacity for the items of `new` and of `held` together.
+    -- Suppose that `held` contains items, and that `in_hand` is `None`. Then the cause is
+    -- `CapacityOverflow` if and only if the growth rule chooses no capacity that has room for both
+    -- the items of the list `new` and the items in `held`.
     pub by_held : 0 < length held → in_hand ≡ None
         → (cause ≡ CapacityOverflow) ↔ (capacity_for rule R new (length held) ≡ None)
-    -- If `in_hand` is `Some`, and items follow the range, then the cause is `OutOfMemory`: the item
-    -- could not be put into `held`.
+    -- If `in_hand` contains an item, and the list `old` has items after the range, then the cause
+    -- is `OutOfMemory`. In this case, the call failed because there was not enough memory to put
+    -- the item into the vector `held`.
     pub by_in_hand : b < length old.items → IsSome in_hand → cause ≡ OutOfMemory
-    -- If `in_hand` is `Some`, and no item follows the range, then the cause is `CapacityOverflow`
-    -- if and only if the growth rule has no capacity for one more item.
+    -- Suppose that `in_hand` contains an item, and that no item of `old` follows the range. Then
+    -- the cause is `CapacityOverflow` if and only if the growth rule chooses no capacity for one
+    -- more item.
     pub by_push : b ≡ length old.items → IsSome in_hand
         → (cause ≡ CapacityOverflow) ↔ (capacity_for rule R new 1 ≡ None)
     -- If `held` contains items and `in_hand` is `None`, then the iterator has ended: `rest` has no
     -- items left.
     pub ended : in_hand ≡ None → 0 < length held → into_iter_items rest.items ≡ []
-    -- If items follow the range `a..b` in the list `old`, then the call placed at least `b - a`
-    -- items.
+    -- If the list `old` has items after the range `a..b`, then the call placed at least as many
+    -- items as the range had.
     pub range : b < length old.items → b - a ≤ length placed
-    -- If no item follows the range, then `held` is empty. If `in_hand` is also `Some`, then the
-    -- list `new` is full.
+    -- If no item follows the range, then `held` is empty. If `in_hand` also contains an item, then
+    -- the list `new` is full: its length equals its capacity.
     pub at_end : b ≡ length old.items → (held ≡ [])
         × (IsSome in_hand → length new.items ≡ new.capacity)
-    -- If no item follows the range, and `in_hand` is `None`, then the call placed no item.
+    -- If no item follows the range, and `in_hand` is `None`, then the call placed no item. The list
+    -- `new` is the list `old` without the items of the range.
     pub unchanged : b ≡ length old.items → in_hand ≡ None → new ≡ cut old a b

@@ -1,5 +1,6 @@
-//! The commands that test the items and remove some of them. `Dedup` compares items with `==`. The
-//! other commands ask a copy of the judge.
+//! Implements the commands that test the items and remove some of them: `Retain`, `RetainMut`,
+//! `Dedup`, `DedupBy` and `DedupByKey`. `Dedup` compares items with `==`. Each of the other
+//! commands asks a copy of the judge that was passed to `run` or `step`.
 ghost use Rattle.std.specs.Prelude.{◌≡◌};
 ghost use Rattle.thin_runner.specs.Setting.{setting};
 ghost use Rattle.thin_runner.specs.Steps.{Steps};

@@ -1,4 +1,5 @@
-//! The commands that add, remove or replace a single item, and the commands `Truncate` and `Clear`.
+//! Implements the commands that add, remove or replace a single item, and the commands `Truncate`
+//! and `Clear`.
 ghost use Rattle.std.specs.Prelude.{◌<◌, ◌≤◌, length};
 ghost use Rattle.thin_runner.specs.Setting.{setting};
 ghost use Rattle.thin_runner.specs.Steps.{Steps};

@@ -1,4 +1,5 @@
-//! The commands that may add many items: `Resize`, `ExtendFromSlice`, `Extend` and `Append`.
+//! Implements the commands that may add many items: `Resize`, `ExtendFromSlice`, `Extend` and
+//! `Append`.
 ghost use Rattle.thin_runner.specs.Setting.{setting};
 ghost use Rattle.thin_runner.specs.Steps.{Steps};
 ghost use Rattle.thin_runner.specs.declared.command.Command.TheVariants.{Resize, ExtendFromSlice, Extend, Append};

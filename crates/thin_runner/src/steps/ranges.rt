@@ -1,4 +1,4 @@
-//! The commands `Drain` and `ExtractIf`, which remove items from a range of the list.
+//! Implements the commands `Drain` and `ExtractIf`, which remove items from a range of the list.
 ghost use Rattle.std.specs.Prelude.{◌≡◌, ◌+◌, ◌≤◌, List, ◌∷◌, ◌++◌, length, vec_capacity, vec_len};
 ghost use Rattle.thin_runner.specs.Setting.{setting};
 ghost use Rattle.thin_runner.specs.Steps.{Steps};
@@ -13,8 +13,8 @@ use std::alloc::Allocator;
 use thin_vec::{Drain, Growth, ThinVec, ThinVecError};
 
 impl<T: Clone + Eq, A: Allocator + Copy, G: Growth, J: Judge<T>> Setting<T, A, G, J> {
-    // Carries out `Drain` on the range `start..end`, after reserving room for the results of the
-    // steps. If there are no steps, allocates no memory for the results.
+    // Carries out the command `Drain`. First reserves room for the results of the steps. Then
+    // drains the range `start..end`. If there are no steps, allocates no memory for the results.
     pub(crate) fn drain(
         self,
         list: &mut ThinVec<T, A, G>,
@@ -39,8 +39,9 @@ impl<T: Clone + Eq, A: Allocator + Copy, G: Growth, J: Judge<T>> Setting<T, A, G
         Reply::Answers(answers)
     }
 
-    // Carries out `ExtractIf` on the range `start..end`, after reserving room for the results of
-    // `count` calls to `next`. If `count` is 0, allocates no memory for the results.
+    // Carries out the command `ExtractIf`. First reserves room for the results of `count` calls to
+    // `next`. Then extracts items from the range `start..end`. If `count` is 0, allocates no memory
+    // for the results.
     pub(crate) fn extract_if(
         self,
         list: &mut ThinVec<T, A, G>,

@@ -1,5 +1,6 @@
-//! The commands `Reserve`, `ReserveExact` and `ShrinkToFit`, which change only the capacity, and
-//! the commands `SplitOff` and `Clone`, which make a list without spare capacity.
+//! Implements the commands `Reserve`, `ReserveExact` and `ShrinkToFit`, which change only the
+//! capacity. Also implements the commands `SplitOff` and `Clone`, which make a list without spare
+//! capacity.
 ghost use Rattle.std.specs.Prelude.{◌≤◌, length};
 ghost use Rattle.thin_runner.specs.Setting.{setting};
 ghost use Rattle.thin_runner.specs.Steps.{Steps};

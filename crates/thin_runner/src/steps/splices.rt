@@ -1,4 +1,5 @@
-//! The command `Splice`, which replaces the items of a range with the items of an iterator.
+//! Implements the command `Splice`, which replaces the items of a range with the items of an
+//! iterator.
 ghost use Rattle.std.specs.Prelude.{◌≡◌, ◌+◌, ◌≤◌, List, ◌∷◌, ◌++◌, length, vec_capacity, vec_len};
 ghost use Rattle.thin_runner.specs.Setting.{setting};
 ghost use Rattle.thin_runner.specs.Steps.{Steps};
@@ -14,8 +15,9 @@ use std::alloc::Allocator;
 use thin_vec::{Growth, Splice, SpliceRefused, ThinVec, ThinVecError};
 
 impl<T: Clone + Eq, A: Allocator + Copy, G: Growth, J: Judge<T>> Setting<T, A, G, J> {
-    // Carries out `Splice` on the range `start..end`, after reserving room for the results of the
-    // steps. If there are no steps, allocates no memory for the results.
+    // Carries out the command `Splice`. First reserves room for the results of the steps. Then
+    // replaces the items of the range `start..end` with `items`. If there are no steps, allocates
+    // no memory for the results.
     pub(crate) fn splice(
         self,
         list: &mut ThinVec<T, A, G>,

@@ -1,5 +1,5 @@
-//! Implements the traits of the module `lists` for the `Vec` of Rattle's library. The input of this
-//! program calls this kind of list `kit`.
+//! Implements the traits of the module `lists` for the `Vec` of Rattle's library. In the input of
+//! this program, this kind of list is called `kit`.
 use crate::lists::{Family, List, Numbers, Table};
 use crate::numbers::{Count, Outcome, Pick, Triple, Unhinted, Wide, mixed};
 use std::alloc::{AllocError, Global};
@@ -266,8 +266,8 @@ struct Node {
     children: Vec<Node>,
 }
 
-// Builds a tree of depth `depth` with `width` children in each inner node. The children of a node
-// are stored in a `Vec`.
+// Builds a tree of depth `depth`, in which each node that is not a leaf has `width` children. The
+// children of a node are stored in a `Vec`.
 fn build(alloc: Global, depth: usize, width: usize) -> Result<Node, AllocError> {
     let mut children = Vec::new(alloc);
     if depth > 0 {

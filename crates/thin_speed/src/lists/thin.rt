@@ -1,5 +1,5 @@
-//! Implements the traits of the module `lists` for `ThinVec`. The input of this program calls this
-//! kind of list `thin`.
+//! Implements the traits of the module `lists` for `ThinVec`. In the input of this program, this
+//! kind of list is called `thin`.
 use crate::lists::{Family, List, Numbers, Table};
 use crate::numbers::{Count, Outcome, Pick, Triple, Unhinted, Wide, mixed};
 use std::alloc::{AllocError, Global};
@@ -269,8 +269,8 @@ struct Node {
     children: ThinVec<Node>,
 }
 
-// Builds a tree of depth `depth` with `width` children in each inner node. The children of a node
-// are stored in a `ThinVec`.
+// Builds a tree of depth `depth`, in which each node that is not a leaf has `width` children. The
+// children of a node are stored in a `ThinVec`.
 fn build(alloc: Global, depth: usize, width: usize) -> Result<Node, AllocError> {
     let mut children = ThinVec::new(alloc);
     if depth > 0 {

@@ -5,7 +5,8 @@ use crate::workloads::shapes::{Work, filled, refill, refilled, repeated};
 use std::alloc::Global;
 use std::marker::PhantomData;
 
-/// The workloads of this file. Most of them edit a list at the front or in the middle.
+/// The workloads that edit a list at the front or in the middle, and the workload `ShrinkPush`,
+/// which shrinks a list.
 #[derive(Clone, Copy)]
 pub enum Editing {
     InsertFront,
@@ -94,8 +95,8 @@ impl<L: Numbers, const IN_MIDDLE: bool> Work<L, u64> for Remove<IN_MIDDLE> {
     }
 }
 
-/// Fills a list with `size` items, and then removes the middle item with `swap_remove` until the
-/// list is empty. Does this `times` times.
+/// Fills a list, and then calls `swap_remove` until the list is empty. Each call removes the item
+/// in the middle. Does this `times` times.
 ///
 /// # Errors
 ///
@@ -115,8 +116,8 @@ pub fn swap_remove<L: Numbers>(alloc: Global, size: usize, times: usize) -> Outc
     Ok(sum)
 }
 
-/// Splits off the second half of a list of `size` items, and appends it to the first half again.
-/// Does this `times` times.
+/// Makes a list of `size` items. In each of `times` rounds, splits off the second half of the list,
+/// and then appends it to the first half.
 ///
 /// # Errors
 ///
@@ -143,7 +144,7 @@ impl<L: Numbers> Work<L, u64> for Drain {
     }
 }
 
-/// A workload that drains the items from `START` up to, but not including, `END`, and then pushes
+/// A workload that drains the items from `START` up to, but not including, `END`. It then pushes
 /// the same number of items.
 pub struct DrainFew<const START: usize, const END: usize>;
 
@@ -158,8 +159,9 @@ impl<L: Numbers, const START: usize, const END: usize> Work<L, u64> for DrainFew
     }
 }
 
-/// A workload that replaces the two items at the indices `START..END` with one or two items. If it
-/// inserts only one, it also pushes an item, so that the length does not change.
+/// A workload that replaces the two items at the indices `START..END` with one or two items. `C`
+/// determines the number of new items. If there is only one, the workload also pushes an item, so
+/// that the length of the list does not change.
 pub struct SpliceFew<C, const START: usize, const END: usize> {
     count: PhantomData<C>,
 }
@@ -187,8 +189,9 @@ impl<L: Numbers> Work<L, u64> for SpliceMore {
     }
 }
 
-/// A workload that replaces two items with four, alternately at the index 5 and at the index 6, and
-/// then pops two items.
+/// A workload that replaces two items with four items, and then pops two items. In every other
+/// round, the replaced items are at the indices 5 and 6. In the remaining rounds, they are at the
+/// indices 6 and 7.
 pub struct ReplaceMore;
 
 impl<L: Numbers> Work<L, u64> for ReplaceMore {
@@ -200,8 +203,8 @@ impl<L: Numbers> Work<L, u64> for ReplaceMore {
     }
 }
 
-/// A workload that shrinks the capacity of a list to its length, pushes a number, which makes the
-/// list grow, and pops the number again.
+/// A workload that shrinks the capacity of a list to its length, and then pushes a number. For this
+/// push, the list has to grow. At the end, the workload pops the number again.
 pub struct ShrinkPush;
 
 impl<L: Numbers> Work<L, u64> for ShrinkPush {
@@ -228,8 +231,8 @@ fn pop_two<L: Numbers>(list: &mut L, sum: u64) -> u64 {
     sum
 }
 
-/// A workload that replaces the middle half of a list of `size` items with `size` numbers. Their
-/// iterator has an exact size hint.
+/// A workload that replaces the middle half of a list of `size` items with `size` numbers. The
+/// numbers are inserted from an iterator whose size hint is exact.
 pub struct SpliceHinted;
 
 impl<L: Numbers> Work<L, u64> for SpliceHinted {
@@ -240,8 +243,8 @@ impl<L: Numbers> Work<L, u64> for SpliceHinted {
     }
 }
 
-/// A workload that replaces the middle half of a list of `size` items with `size` numbers. The size
-/// hint of their iterator has a lower bound of 0.
+/// A workload that replaces the middle half of a list of `size` items with `size` numbers. The
+/// numbers are inserted from an iterator whose size hint has a lower bound of 0.
 pub struct SpliceUnhinted;
 
 impl<L: Numbers> Work<L, u64> for SpliceUnhinted {

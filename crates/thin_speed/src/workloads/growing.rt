@@ -77,7 +77,7 @@ pub fn run_growing<F: Family>(
     }
 }
 
-/// Makes a new list, and pushes `size` items onto it. Does this `times` times.
+/// In each of `times` rounds, makes a new list, and pushes `size` items onto it.
 ///
 /// # Errors
 ///
@@ -99,7 +99,8 @@ pub fn push<L: List<T>, T: Item, S: Source<T>>(
     Ok(sum)
 }
 
-/// Makes a new list, pushes `size` numbers onto it, and pops all of them. Does this `times` times.
+/// In each of `times` rounds, makes a new list, pushes `size` numbers onto it, and then pops all of
+/// them.
 ///
 /// # Errors
 ///
@@ -241,8 +242,8 @@ impl<L: Numbers> Make<L> for Copied {
     }
 }
 
-/// Makes a new list, and appends five bytes to it with each of `size` calls to `write_all`. Does
-/// this `times` times.
+/// In each of `times` rounds, makes a new list of bytes and calls `write_all` `size` times. Each of
+/// these calls appends five bytes to the list.
 ///
 /// # Errors
 ///
@@ -262,8 +263,8 @@ pub fn write_five<L: List<u8> + Write>(alloc: Global, size: usize, times: usize)
     Ok(sum)
 }
 
-/// Fills a list with `size` numbers, and then consumes it with `into_iter`. Does this `times`
-/// times.
+/// In each of `times` rounds, fills a list with `size` numbers, and then consumes the list from the
+/// front, using `into_iter`.
 ///
 /// # Errors
 ///

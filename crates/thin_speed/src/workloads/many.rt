@@ -3,7 +3,7 @@ use crate::lists::{Family, List};
 use crate::numbers::{Outcome, mixed};
 use std::alloc::{AllocError, Global};
 
-/// The workloads that use many lists.
+/// The workloads that use many lists instead of a single one.
 #[derive(Clone, Copy)]
 pub enum Many {
     EmptyLists,
@@ -32,7 +32,7 @@ pub fn run_many<F: Family>(alloc: Global, workload: Many, size: usize, times: us
     }
 }
 
-/// Makes a list of `size` empty lists, and reads all of them. Does this `times` times.
+/// In each of `times` rounds, makes a list of `size` empty lists, and reads all of them.
 ///
 /// # Errors
 ///
@@ -50,8 +50,8 @@ pub fn empty_lists<L: List<N>, N: List<u64>>(alloc: Global, size: usize, times: 
     Ok(sum)
 }
 
-/// Makes a list of `size` lists, and reads all of them. Every sixteenth has three items, and the
-/// others are empty. Does this `times` times.
+/// In each of `times` rounds, makes a list of `size` lists, and reads all of them. Every sixteenth
+/// of these lists has three items, and the others are empty.
 ///
 /// # Errors
 ///
@@ -75,7 +75,7 @@ pub fn sparse_lists<L: List<N>, N: List<u64>>(alloc: Global, size: usize, times:
     Ok(sum)
 }
 
-// Returns the length of `lists` plus the sum of all numbers in them.
+// Returns the length of `lists`, plus the sum of the items of all these lists.
 fn items_of<L: List<u64>>(lists: &[L]) -> u64 {
     let mut sum = lists.len() as u64;
     for list in lists {
@@ -86,8 +86,8 @@ fn items_of<L: List<u64>>(lists: &[L]) -> u64 {
     sum
 }
 
-/// Makes a list of `size` styles, and counts those that equal the preceding style. A style is a
-/// list of at most four rules. Does this `times` times.
+/// In each of `times` rounds, makes a list of `size` styles, and counts the styles that equal the
+/// preceding style. A style is a list of at most four rules.
 ///
 /// # Errors
 ///
@@ -105,7 +105,8 @@ pub fn styles<L: List<S>, S: List<u32>>(alloc: Global, size: usize, times: usize
     Ok(sum)
 }
 
-// Makes a style, which is a list of `number % 4` rules, plus one more rule if `number % 8` is 7.
+// Makes a style, which is a list of `number % 4` rules. If `number % 8` is 7, also inserts a fourth
+// rule at the front.
 fn style<S: List<u32>>(alloc: Global, number: usize) -> Result<S, AllocError> {
     let mut style = S::new(alloc);
     for rule in 0..number & 3 {
@@ -128,8 +129,8 @@ fn repeated<S: List<u32>>(styles: &[S]) -> u64 {
     same
 }
 
-/// Pushes `size` lists of two bytes onto a list, and pops the last one after every fifth push. Does
-/// this `times` times.
+/// In each of `times` rounds, pushes `size` steps onto a list, and pops the last step after every
+/// fifth push. A step is a list of two bytes.
 ///
 /// # Errors
 ///
@@ -155,8 +156,8 @@ pub fn undo<L: List<B>, B: List<u8>>(alloc: Global, size: usize, times: usize) -
     Ok(sum)
 }
 
-/// Builds a tree of depth `depth` with `width` children in each inner node, and visits all nodes.
-/// Does this `times` times.
+/// In each of `times` rounds, builds a tree of depth `depth`, and visits all its nodes. Each node
+/// that is not a leaf has `width` children.
 ///
 /// # Errors
 ///

@@ -1,14 +1,16 @@
-//! The loops that many workloads share, and the traits for the work inside these loops.
+//! Defines the loops that many workloads share, and the traits for the work inside these loops.
 use crate::lists::{List, Numbers};
 use crate::numbers::{Item, Outcome, Source, mixed, seen};
 use std::alloc::{AllocError, Global};
 
 /// A task that a workload repeats on a list.
 pub trait Work<L, T> {
-    /// Does the work once, and returns the new sum.
+    /// Does the work once, and returns the new sum. Some implementations mix the items that they
+    /// remove into `sum`. The other implementations return `sum` unchanged.
     ///
-    /// `number` depends on the caller: `refilled` passes the length of the list, and `repeated`
-    /// passes how many times the work has been done.
+    /// The meaning of `number` depends on the caller. The function `refilled` passes the length of
+    /// the list. The function `repeated` passes the number of times that the work has already been
+    /// done.
     ///
     /// # Errors
     ///
@@ -16,7 +18,7 @@ pub trait Work<L, T> {
     fn work(list: &mut L, alloc: Global, number: usize, sum: u64) -> Outcome;
 }
 
-/// A task that does nothing. A workload with this task only fills a list.
+/// Work that does nothing, so that the workload only fills a list.
 pub struct Idle;
 
 impl<L, T> Work<L, T> for Idle {
@@ -26,8 +28,8 @@ impl<L, T> Work<L, T> for Idle {
     }
 }
 
-/// Clears `list`, and pushes `size` items onto it. The list keeps its allocation if its capacity is
-/// sufficient.
+/// Clears `list`, and then pushes `size` items onto it. The list keeps its allocation if its
+/// capacity is large enough.
 ///
 /// # Errors
 ///
@@ -45,8 +47,8 @@ pub fn refill<L: List<T>, T: Drop, S: Source<T>>(
     Ok(())
 }
 
-/// Makes a list. Then, `times` times, clears it, pushes `size` items onto it, and does the work
-/// `W`.
+/// Makes a list. In each of `times` rounds, clears the list, pushes `size` items onto it, and does
+/// the work `W` on it.
 ///
 /// # Errors
 ///
@@ -96,10 +98,10 @@ pub fn repeated<L: Numbers, W: Work<L, u64>>(alloc: Global, size: usize, times: 
     Ok(mixed(sum, seen(list.as_slice())))
 }
 
-/// A way of making a list, for the workloads that measure how long this takes.
+/// The way in which a workload makes a new list.
 pub trait Make<L> {
-    /// Makes a new list, from the items of `source` or only from `size`, which is the length of
-    /// `source`.
+    /// Makes a new list. Some implementations take its items from `source`, whose length is `size`.
+    /// The other implementations use only `size`.
     ///
     /// # Errors
     ///

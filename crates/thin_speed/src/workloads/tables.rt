@@ -10,8 +10,8 @@ pub enum Tables {
     TableGet,
 }
 
-/// Runs `workload` on tables, which are `Rows` if the lists of the kind `F` are `ThinVec`s, and
-/// `BTreeMap`s otherwise.
+/// Runs `workload` on tables. If the lists of the kind `F` are `ThinVec`s, the tables are `Rows`.
+/// Otherwise, they are `BTreeMap`s.
 ///
 /// # Errors
 ///
@@ -28,7 +28,7 @@ pub fn run_tables<F: Family>(
     }
 }
 
-/// Makes a table, writes `size` entries to it, and reads one of them. Does this `times` times.
+/// In each of `times` rounds, makes a table, writes `size` entries to it, and reads one of them.
 ///
 /// # Errors
 ///
@@ -43,8 +43,9 @@ pub fn set_all<C: Table>(alloc: Global, size: usize, times: usize) -> Outcome {
     Ok(sum)
 }
 
-/// Makes a table, writes `size` entries to it, and then reads the entries `times` times, in a
-/// scattered order that differs from the order of writing.
+/// Makes a table, and writes `size` entries to it. In each of `times` rounds, reads the entries of
+/// the table. The entries are read in a scattered order, which differs from the order in which they
+/// were written.
 ///
 /// # Errors
 ///
@@ -62,8 +63,9 @@ pub fn get_all<C: Table>(alloc: Global, size: usize, times: usize) -> Outcome {
     Ok(sum)
 }
 
-// Makes a table with thirty columns, and writes entries to its first `size` places in a scattered
-// order. If `size` is a multiple of 7919, some of these places get no entry.
+// Makes a table with thirty columns, and writes entries to its first `size` places. The places are
+// numbered row by row, but the entries are written in a scattered order. If `size` is a multiple of
+// 7919, some of these places get no entry.
 #[inline(never)]
 fn filled_table<C: Table>(alloc: Global, size: usize) -> Result<C, AllocError> {
     let mut table = C::with_rows(alloc, size / 30 + 1)?;

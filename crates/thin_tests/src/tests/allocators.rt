@@ -1,5 +1,5 @@
-//! Tests of calls that take an allocator. Such a call must allocate its result with this allocator,
-//! even if the list is empty.
+//! Tests of calls that take an allocator as an argument. Such a call must allocate its result with
+//! this allocator, and not with the allocator of the list, even if the list is empty.
 use crate::tests::support::assertions::{assert_counts, assert_len, assert_same};
 use crate::tests::support::claims::Claims;
 use crate::tests::support::items::{list_of, refusing_nth};
@@ -9,15 +9,15 @@ use thin_examples::spliced::splice_by;
 use thin_testing::Refusing;
 use thin_vec::ThinVec;
 
-// Pushes an item to a `Vec` of `len` items, and asserts that the `Vec` then has `len + 1` items.
+// Pushes an item onto a `Vec` of `len` items, and asserts that the `Vec` then has `len + 1` items.
 fn push_one_more<A: Allocator>(rt: &impl Abort, mut vec: Vec<i32, A>, len: usize) -> Vec<i32, A> {
     vec.push(9).ok().expect(rt, "memory");
     assert_same(rt, vec.len(), len.saturating_add(1));
     vec
 }
 
-// Moves the items of the list into a `Vec` with the allocator `alloc`, and pushes one more item to
-// the `Vec`.
+// Moves the items of the list into a `Vec` with the allocator `alloc`, and pushes one more item
+// onto the `Vec`.
 fn move_into_vec<A: Allocator>(rt: &impl Abort, list: ThinVec<i32, A>, alloc: A) -> Vec<i32, A> {
     let len = list.len();
     let vec = list.into_vec(alloc).ok().expect(rt, "memory");
@@ -71,8 +71,8 @@ fn copy_into_vec<A: Allocator + Copy>(
     move_into_vec(rt, copy, alloc)
 }
 
-// Extends a new list with the items of an iterator, which is a clone of `list.into_iter()` with the
-// allocator `alloc`. Then calls `move_into_vec` with the new list.
+// Converts the list to an iterator, clones the iterator with the allocator `alloc`, and extends a
+// new list with the items of this clone. Then calls `move_into_vec` with the new list.
 fn clone_iter_into_vec<A: Allocator + Copy>(
     rt: &impl Abort,
     list: ThinVec<i32, A>,
@@ -86,8 +86,8 @@ fn clone_iter_into_vec<A: Allocator + Copy>(
     move_into_vec(rt, list, alloc)
 }
 
-// Moves the items of `list` into a `Vec` with the allocator `other`. The value of `way` (0 to 5)
-// selects one of six functions for this.
+// Moves the items of `list` into a `Vec` with the allocator `other`, using one of six functions.
+// The number `way`, from 0 to 5, selects the function.
 fn move_by_way(
     rt: &impl Abort,
     way: u32,
@@ -104,8 +104,9 @@ fn move_by_way(
     }
 }
 
-// Moves a list of `items` into a `Vec` with another allocator, in each of the six ways of
-// `move_by_way`. Asserts each time that only the other allocator has a block.
+// Moves a list of `items` to another allocator with each of the six functions that `move_by_way`
+// calls. Asserts after each move that the list's own allocator has no allocated block, and that the
+// other allocator has one allocated block.
 fn assert_each_way_moves_the_block(rt: &impl Abort, alloc: Global, items: &[i32]) {
     let own = refusing_nth(rt, alloc, 0);
     let other = refusing_nth(rt, alloc, 0);

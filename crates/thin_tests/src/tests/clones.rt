@@ -56,8 +56,9 @@ fn assert_extended<'a>(
     assert_same(rt, (list.len(), list.capacity()), (len, 4));
 }
 
-// Tries twice to append clones of three items. Asserts that the first attempt fails and drops its
-// clone, because only one item can be cloned, and that the second attempt succeeds.
+// Tries twice to append clones of three items to a list of one item. Asserts that the first
+// attempt, in which only one item can be cloned, fails and drops the clone. Asserts that the second
+// attempt, in which all three items can be cloned, succeeds.
 fn assert_extended_at_second_try(
     rt: &impl Abort,
     alloc: Global,
@@ -82,8 +83,9 @@ fn row_37_extend_from_slice_drops_its_clones_if_one_fails(rt: HostRuntime) {
     assert_same(&rt, drops.get(), 8);
 }
 
-// Tries to replace the first of two items with clones of three items. Asserts that this fails,
-// because fewer than three items can be cloned, and that the clones are dropped.
+// Tries to replace the first of two items with clones of three items. The number in `granted`,
+// which is less than three, says how many items can be cloned. Asserts that the call fails, and
+// that it drops the clones that it has made.
 fn assert_replace_range_fails(
     rt: &impl Abort,
     alloc: Global,

@@ -1,5 +1,5 @@
-//! Functions whose contracts state the capacity of a list, the number of allocated blocks and the
-//! number of copied items after each of five pushes.
+//! Functions that push items onto a list. Their contracts state the capacity of the list after each
+//! push, the number of allocated blocks, and the number of copied items.
 ghost use Rattle.std.specs.Prelude.{◌≡◌, ◌+◌, ◌*◌, ◌<◌, [], ◌∷◌, IfOk, OnOk, length};
 ghost use Rattle.thin_vec.specs.ThinVec.{HasRoomFor};
 
@@ -7,7 +7,8 @@ use std::alloc::Allocator;
 use thin_vec::{ThinVec, ThinVecError};
 
 /// Pushes five items to a new list. Returns the list, and its capacity after each push. The first
-/// push allocates memory for 4 items, and the fifth copies them to a new allocation for 8.
+/// push allocates memory for 4 items. The fifth push copies the 4 items to a new allocation, which
+/// has room for 8 items.
 pub fn five_pushes<A: Allocator>(alloc: A) -> Result<(ThinVec<u32, A>, [usize; 5]), ThinVecError>
     ensures capacities { IfOk result (λ made. made.1 ≡ 4 ∷ 4 ∷ 4 ∷ 4 ∷ 8 ∷ []) }
     ensures grown { IfOk result (λ made. made.0.cost.grown ≡ 4) }
@@ -27,8 +28,8 @@ pub fn five_pushes<A: Allocator>(alloc: A) -> Result<(ThinVec<u32, A>, [usize; 5
     Ok((list, [first, second, third, fourth, fifth]))
 }
 
-// Pushes an item to a full list. This doubles the capacity of the list, or sets it to 4 if it was
-// 0.
+// Pushes an item onto a full list. If the capacity is 0, the push changes the capacity to 4.
+// Otherwise, the push doubles the capacity.
 fn push_full<A: Allocator>(list: &mut ThinVec<u32, A>) -> Result<(), ThinVecError>
     requires full { length list.old.items ≡ list.old.capacity }
     requires few { list.old.capacity < 100 }
@@ -43,8 +44,8 @@ fn push_full<A: Allocator>(list: &mut ThinVec<u32, A>) -> Result<(), ThinVecErro
     Ok(())
 }
 
-// Pushes an item to a list with spare capacity. The push neither changes the capacity nor allocates
-// memory.
+// Pushes an item onto a list with spare capacity. The push neither changes the capacity nor
+// allocates memory.
 fn push_spare<A: Allocator>(list: &mut ThinVec<u32, A>)
     requires room { HasRoomFor list.old 1 }
     ensures len { length list.new.items ≡ length list.old.items + 1 }

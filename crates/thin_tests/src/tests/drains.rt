@@ -1,4 +1,5 @@
-//! Tests of `drain`, and functions whose contracts show what a caller can prove about a `Drain`.
+//! Functions whose contracts show what a caller of `drain` can conclude. The tests check which
+//! items a `Drain` yields, and which items remain in the list.
 ghost use Rattle.std.specs.Prelude.{◌≡◌, ◌+◌, ◌≤◌, ◌++◌, IfOk, IfSome, OnOk, drop, length, max, reverse, slice_range, take};
 ghost use Rattle.std.specs.List.{fold, remove_range};
 ghost use Rattle.thin_vec.specs.Edits.Drain.{drain_lender};
@@ -27,8 +28,8 @@ pub fn drain_greatest(list: &mut ThinVec<u32, Global>, start: usize, end: usize,
     greatest
 }
 
-/// Removes the items `start..end` from the list, and returns the first of them, if there is one.
-/// The `Drain` yields only this item before it is dropped.
+/// Removes the items `start..end` from the list, and returns the first removed item, if there is
+/// one. The `Drain` is dropped after it has yielded this item.
 pub fn drain_first<T: Drop, A: Allocator, G: Growth>(
     list: &mut ThinVec<T, A, G>,
     start: usize,
@@ -43,8 +44,9 @@ pub fn drain_first<T: Drop, A: Allocator, G: Growth>(
     drain.next()
 }
 
-/// Moves the items `start..end` of `list` to the end of `other` with one call to `extend`. This
-/// call takes the `Drain` by value, so no contract states which items remain in `list`.
+/// Moves the items `start..end` of `list` to the end of `other` with one call to `extend`. No
+/// contract states which items `list` has afterwards, because this call takes the `Drain` by value.
+/// A test checks these items.
 pub fn extend_by_range(
     list: &mut ThinVec<u32, Global>,
     start: usize,
@@ -105,8 +107,9 @@ pub fn drain_between<T: Drop, A: Allocator, G: Growth>(
     Some(list.drain(start, end))
 }
 
-// Drains `range`, from the back if `is_reverse` is true. Asserts that the `Drain` yields `wanted`,
-// that the list then contains `left`, and that its capacity is unchanged.
+// Drains `range` from the front, or from the back if `is_reverse` is true. Asserts that the `Drain`
+// yields the items in `wanted`, that the list then contains the items in `left`, and that its
+// capacity is unchanged.
 fn assert_drained<T: PartialEq + std::fmt::Debug + Drop, A: Allocator>(
     rt: &impl Abort,
     mut list: ThinVec<T, A>,
@@ -124,8 +127,8 @@ fn assert_drained<T: PartialEq + std::fmt::Debug + Drop, A: Allocator>(
     assert_same(rt, list.capacity(), capacity);
 }
 
-// Asserts that the `Drain` yields the items in `wanted` and then ends. Takes the items from the
-// back if `is_reverse` is true.
+// Asserts that the `Drain` yields the items in `wanted`, and that `next` and `next_back` then
+// return `None`. Takes the items from the front, or from the back if `is_reverse` is true.
 fn assert_yields<T: PartialEq + std::fmt::Debug + Drop, A: Allocator>(
     rt: &impl Abort,
     drain: &mut Drain<'_, T, A>,
@@ -208,7 +211,7 @@ fn drain_yields_an_inclusive_range_of_the_first_item(rt: HostRuntime) {
 }
 
 // Drains the texts at the indices `first..=last` from a list of six texts. Asserts that the `Drain`
-// yields `wanted`, and that `left` remains.
+// yields `wanted`, and that the list then contains `left`.
 fn assert_texts_drained<R: Abort>(
     rt: &R,
     alloc: Global,
@@ -221,8 +224,8 @@ fn assert_texts_drained<R: Abort>(
     assert_drained(rt, texts, range, false, wanted, left);
 }
 
-// A test case for `drain`: the first and the last index of the range, the texts that are yielded,
-// and the texts that remain.
+// A test case for `drain`: the first and the last index of the range, the texts that the `Drain`
+// yields, and the texts that remain in the list.
 type Drained = (
     (usize, usize),
     &'static [&'static str],

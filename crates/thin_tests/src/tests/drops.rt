@@ -1,5 +1,5 @@
-//! Tests that each item is dropped exactly once. Also tests that dropping an empty list makes no
-//! request to the allocator.
+//! Tests that each item is dropped exactly once, and that dropping an empty list makes no request
+//! to the allocator.
 use crate::tests::support::assertions::assert_same;
 use crate::tests::support::counted::{Counted, counted_list};
 use crate::tests::support::items::{push, refusing_nth};

@@ -1,5 +1,5 @@
-//! Tests that `?` drops each value in an error exactly once when it converts the error. There is
-//! one test for each target type.
+//! Tests that converting an error with `?` drops each value in the error exactly once. There is one
+//! test for each error type to which `?` can convert the errors of `ThinVec`.
 use crate::tests::support::assertions::assert_same;
 use crate::tests::support::counted::{Counted, counted_list};
 use std::alloc::{AllocError, Global};
@@ -8,15 +8,14 @@ use std::io;
 use std::process::Abort;
 use thin_vec::{CollectRefused, ExtendRefused, Rejected, SpliceRefused, ThinVecError};
 
-// Uses `?` to convert the error `refused` to an error of the type `E`, and returns the resulting
-// error.
+// Converts the error `refused` to the type `E` with `?`, and returns the resulting error.
 fn convert<R, E: From<R>>(refused: R) -> Result<(), E> {
     Err(refused)?;
     Ok(())
 }
 
-// Converts the error `refused` to the type `E` with `?`. Asserts that this drops the `held` values
-// in the error.
+// Converts the error `refused` to the type `E` with `?`. Asserts that the conversion drops all
+// values in the error, and that the error contained exactly `held` values.
 fn assert_conversion_drops<E: From<R> + Drop, R: Drop>(
     rt: &impl Abort,
     drops: &Cell<u32>,
@@ -31,7 +30,8 @@ fn assert_conversion_drops<E: From<R> + Drop, R: Drop>(
 const CAUSE: ThinVecError = ThinVecError::OutOfMemory;
 
 // Converts the errors of a failed `push` and a failed `extend` to the type `E`. Asserts that each
-// conversion drops all values in the error.
+// conversion drops all values in the error. The error of `extend` also contains the iterator, which
+// must be dropped, too.
 fn assert_push_and_extend_errors_dropped<'a, E>(rt: &impl Abort, drops: &'a Cell<u32>)
 where
     E: From<Rejected<Counted<'a>>> + From<ExtendRefused<Counted<'a>, Counted<'a>>> + Drop,

@@ -1,5 +1,5 @@
-//! Tests of `extend` and `from_iter`. They cover the cases that the Rust crate `thin-vec` tests,
-//! and check what a failed call returns.
+//! Tests of `extend` and `from_iter`. They cover the same cases as the tests of the Rust crate
+//! `thin-vec`, and check what a failed call returns.
 use crate::tests::support::assertions::{assert_counts, assert_list, assert_same};
 use crate::tests::support::claims::Claims;
 use crate::tests::support::counted::Counted;
@@ -21,8 +21,8 @@ fn extend_counted(rt: &impl Abort, alloc: Global, drops: &Cell<u32>) {
         .expect(rt, "memory");
 }
 
-// Extends a new list with two zero-sized items, and asserts the length and the capacity of the
-// list.
+// Extends a new list with two zero-sized items. Asserts that the list then has length 2 and
+// capacity 4.
 fn extend_units(rt: &impl Abort, alloc: Global) {
     let mut units = ThinVec::new(alloc);
     units.extend((0..2).map(|_| ())).ok().expect(rt, "memory");
@@ -94,8 +94,8 @@ fn row_26_refused_extend_returns_the_item_in_hand(rt: HostRuntime) {
     );
 }
 
-// Extends a list of three items with `count` numbers, and returns the list. The iterator's size
-// hint has a lower bound of 0.
+// Extends a list of three items with `count` numbers, and returns the list. The numbers come from
+// an iterator whose size hint has a lower bound of 0.
 fn extended_without_hint(rt: &impl Abort, alloc: Global, count: i32) -> ThinVec<i32> {
     let mut list = list_of(rt, alloc, &[1, 2, 3]);
     let more = (0..count).filter(|_| true);

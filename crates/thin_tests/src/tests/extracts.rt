@@ -1,5 +1,5 @@
-//! A function that drops an `ExtractIf` early. Its contract shows what a caller can prove about
-//! this.
+//! Defines a function that drops an `ExtractIf` early. The contract of this function shows what a
+//! caller can prove in this case.
 ghost use Rattle.std.specs.Prelude.{◌≡◌, ◌≤◌, length};
 
 use std::alloc::Allocator;

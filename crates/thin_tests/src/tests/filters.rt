@@ -1,5 +1,5 @@
 //! Tests of `retain`, `dedup` and their variants. They check what no contract states, and cover the
-//! cases that the Rust crate `thin-vec` tests.
+//! same cases as the tests of the Rust crate `thin-vec`.
 use crate::tests::support::assertions::{assert_items, assert_list, assert_same};
 use crate::tests::support::items::{boxes_of, list_of};
 use std::alloc::Global;

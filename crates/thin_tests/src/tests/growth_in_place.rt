@@ -1,5 +1,6 @@
-//! Tests of lists that are long enough to grow and shrink in place. Most tests try each change of
-//! the capacity twice, and the allocator refuses the first attempt.
+//! Tests of lists that are long enough to grow and shrink in place, with items of 1, 2, 4, 8 or 16
+//! bytes. Most tests try each change of the capacity twice. The allocator refuses the first request
+//! and grants the second request.
 use crate::tests::support::assertions::assert_same;
 use crate::tests::support::items::push;
 use std::alloc::{Allocator, Global};
@@ -57,8 +58,8 @@ impl Numbered for u128 {
     }
 }
 
-// Asserts that the list has length `len` and capacity `capacity`, and that each item is made from
-// its own index.
+// Asserts that the list has length `len` and capacity `capacity`. Also asserts that the item at
+// each index is the value that `numbered` makes from this index.
 fn assert_numbered<T: Numbered, A: Allocator, G: Growth>(
     rt: &impl Abort,
     list: &ThinVec<T, A, G>,
@@ -75,7 +76,8 @@ fn assert_numbered<T: Numbered, A: Allocator, G: Growth>(
     assert_same(rt, found, (len, len, capacity));
 }
 
-// Pushes items until the list has no spare capacity. Each item is made from its own index.
+// Pushes items until the list has no spare capacity. The item at each index is the value that
+// `numbered` makes from this index.
 fn fill<T: Numbered, A: Allocator, G: Growth>(rt: &impl Abort, list: &mut ThinVec<T, A, G>) {
     for number in list.len()..list.capacity() {
         push(rt, list, T::numbered(number));
@@ -83,7 +85,8 @@ fn fill<T: Numbered, A: Allocator, G: Growth>(rt: &impl Abort, list: &mut ThinVe
 }
 
 // Tries twice to push an item of `size` bytes to a full list. Asserts that the first push fails and
-// changes nothing, and that the second push grows the list to the expected capacity.
+// leaves the list unchanged. Asserts that the second push succeeds, and grows the list to the
+// capacity that the growth rule provides.
 fn assert_grows<T: Numbered, B: Allocator, G: Ruled>(
     rt: &impl Abort,
     refusing: &Refusing<B>,
@@ -133,7 +136,7 @@ fn make_capacity<T: Drop, A: Allocator, G: Growth>(
 }
 
 // Tries twice to change the capacity of the list to `capacity`. Asserts that the first attempt
-// fails with `OutOfMemory` and changes nothing, and that the second succeeds.
+// fails with `OutOfMemory` and leaves the list unchanged, and that the second attempt succeeds.
 fn assert_capacity_made<T: Numbered, B: Allocator>(
     rt: &impl Abort,
     refusing: &Refusing<B>,
@@ -150,9 +153,9 @@ fn assert_capacity_made<T: Numbered, B: Allocator>(
     assert_same(rt, refusing.requests(), 2);
 }
 
-// Makes a full list of `len` items. Increases its capacity twice by `more`, and then decreases it
-// by `more`. Fills the list, truncates it to `len` items, and shrinks it to this length. Checks
-// each change of the capacity.
+// Makes a full list of `len` items. Adds `more` to its capacity, adds `more` again, and then
+// subtracts `more`. Then fills the list, truncates it to `len` items, and reduces its capacity to
+// `len`. Checks each change of the capacity with `assert_capacity_made`.
 fn assert_capacities<T: Numbered, B: Allocator>(
     rt: &impl Abort,
     refusing: &Refusing<B>,
@@ -174,8 +177,9 @@ fn assert_capacities<T: Numbered, B: Allocator>(
     assert_same(rt, refusing.blocks(), 1);
 }
 
-// Runs `assert_pushes` and `assert_capacities` for items of `size` bytes. A list can grow in place
-// only if its items take at least 256 bytes, so `assert_capacities` uses lists of about this size.
+// Runs `assert_pushes` and `assert_capacities` for an item type of `size` bytes. A list can grow in
+// place only if its items take at least 256 bytes in total. For this reason, `assert_capacities`
+// uses lists whose items take about 256 bytes in total.
 fn assert_type<T: Numbered>(rt: &impl Abort, alloc: Global, size: usize) {
     let refusing = Refusing::new(alloc, 0);
     for first in [0, 5, 261] {
@@ -217,8 +221,8 @@ fn a_list_of_pairs_of_words_grows_and_shrinks_in_place(rt: HostRuntime) {
     assert_type::<u128>(&rt, rt.alloc(), 16);
 }
 
-// Pushes 3000 items to a list. Before each growth, another list is allocated directly behind this
-// list, so that this list cannot grow in place.
+// Pushes 3000 items to a list. Before each growth, another list allocates the memory directly after
+// the allocation of this list, so this list cannot grow in place.
 fn assert_pushes_beside_neighbours<T: Numbered>(rt: &impl Abort, alloc: Global) {
     let mut neighbours = ThinVec::<ThinVec<u8>>::new(alloc);
     let mut list = ThinVec::<T>::new(alloc);

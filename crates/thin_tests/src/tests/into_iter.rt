@@ -1,4 +1,4 @@
-//! Tests of `IntoIter`, the iterator that consumes a list. They check which items remain after
+//! Tests of `IntoIter`, the iterator that consumes a list. They check which items remain after some
 //! calls to `next` and `next_back`, and that the iterator ends.
 use crate::tests::support::assertions::{assert_items, assert_list, assert_same};
 use crate::tests::support::items::{list_of, refusing_nth};
@@ -48,8 +48,8 @@ fn assert_cloned<A: Allocator>(
     assert_items(rt, clone.as_slice(), wanted);
 }
 
-// Clones an iterator over 1, 2 and 3 before and after a call to `next`. Asserts which items the
-// clones yield, and which items the iterator itself then yields.
+// Clones an iterator over 1, 2 and 3 before and after the first call to `next`. Asserts which items
+// the two clones yield, and that the iterator itself then yields its remaining items.
 fn clone_between_steps<A: Allocator + Copy>(
     rt: &impl Abort,
     items: &mut IntoIter<i32, A>,
@@ -72,8 +72,8 @@ fn into_iter_clone_has_the_remaining_items(rt: HostRuntime) {
     assert_cloned(&rt, &items, refusing, &[]);
 }
 
-// Returns a list of `items` in order, followed by `items` in reverse order. Two `IntoIter`s move
-// the items into this list.
+// Returns a list that contains `items` in order, followed by `items` in reverse order. Two
+// iterators of type `IntoIter` move the items into this list.
 fn moved_twice<T: Copy + Drop>(rt: &impl Abort, alloc: Global, items: &[T]) -> ThinVec<T> {
     let mut moved = ThinVec::new(alloc);
     let list = list_of(rt, alloc, items);

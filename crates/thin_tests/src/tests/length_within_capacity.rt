@@ -1,5 +1,6 @@
 //! Functions that rely on two facts about every list: its length is at most its capacity, and its
-//! capacity is less than 2^63. The prover finds both facts without help.
+//! capacity is less than 2^63. The prover finds both facts by itself. So these functions need
+//! neither a hand-written proof nor a call to `len` that tells the prover these facts.
 ghost use Rattle.std.specs.Prelude.{◌≡◌, ◌+◌, ◌<◌, ◌≤◌, IsTrue, length, take};
 
 use std::alloc::Allocator;
@@ -27,7 +28,7 @@ pub fn replace_all<T: Drop, A: Allocator, G: Growth>(list: &mut ThinVec<T, A, G>
 }
 
 /// Truncates the list to `at` items, and returns `at + count`. The list has at least `at + count`
-/// items before the call, so this sum does not overflow.
+/// items before the call, so the sum does not overflow.
 pub fn truncate_and_add<T: Drop, A: Allocator, G: Growth>(
     list: &mut ThinVec<T, A, G>,
     at: usize,

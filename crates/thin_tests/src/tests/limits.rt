@@ -39,8 +39,8 @@ fn next_capacity_follows_doubling(rt: HostRuntime) {
     );
 }
 
-// Tests that an allocation of 2^62 bytes has room for 2^62 - 16 one-byte items. For one more item,
-// `PowerBytes` chooses no capacity, but `Doubling` does.
+// Tests that an allocation of 2^62 bytes has room for 2^62 - 16 items of one byte. For one more
+// item, the growth rule `PowerBytes` chooses no capacity, but the growth rule `Doubling` does.
 #[test]
 fn power_bytes_has_no_capacity_past_2_to_62_bytes(rt: HostRuntime) {
     let last = (1 << 62) - 16;

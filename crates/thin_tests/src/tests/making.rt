@@ -1,4 +1,5 @@
-//! Tests of `thin_vec!` with listed items, and of `from_array`.
+//! Tests of the function `from_array`, and of the macro `thin_vec!` with a list of items, as in
+//! `thin_vec![alloc => x, y]`.
 use crate::tests::support::assertions::{assert_counts, assert_same};
 use crate::tests::support::counted::Counted;
 use std::cell::Cell;

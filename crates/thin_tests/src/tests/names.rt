@@ -13,7 +13,8 @@ use thin_vec::{
     Doubling, ExtractIf, Growth, IntoIter, Rejected, ThinVec, ThinVecError, fits, thin_vec,
 };
 
-// Checks at compile time that the type `L` implements all traits in the `where` clause.
+// Checks at compile time that the type `L` implements all traits in the `where` clause. The test
+// calls this function with a list of bytes.
 fn assert_list_traits<L>(_list: &L)
 where
     L: Clone + Eq + Ord + Hash + Debug + Drop,
@@ -21,21 +22,22 @@ where
     L: Index<usize, Output = u8> + IndexMut<usize> + IntoIterator<Item = u8> + Write,
 {}
 
-// Checks at compile time that the type `I` implements all traits in the `where` clause. In the
-// test, `I` is an `IntoIter` or a `Drain`.
+// Checks at compile time that the type `I` implements all traits in the `where` clause. The test
+// calls this function with an `IntoIter` and with a `Drain` of bytes.
 fn assert_iterator_traits<I>(_items: &I)
 where
     I: DoubleEndedIterator + ExactSizeIterator + FusedIterator + Iterator<Item = u8> + Debug + Drop,
 {}
 
-// Checks at compile time that the type `E` implements all traits in the `where` clause.
+// Checks at compile time that the type `E` implements all traits in the `where` clause. The test
+// calls this function with a `ThinVecError`.
 fn assert_error_traits<E>(_cause: &E)
 where
     E: Error + Copy + Eq + From<AllocError> + From<Rejected<u8>>,
 {}
 
-// A struct that derives `Clone` and contains a list of strings. Cloning it clones each string,
-// which allocates memory.
+// A struct that derives `Clone`, and contains a list of strings. Cloning a value of this type
+// clones each string, and allocates memory for each clone.
 #[derive(Clone, Drop)]
 struct Names {
     all: ThinVec<String>,

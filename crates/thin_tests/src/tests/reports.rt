@@ -1,5 +1,6 @@
-//! Tests of the report that `thin_examples` writes about its worked examples, also if a write fails
-//! or a request for memory is refused.
+//! Tests of the report that `thin_examples` writes about its worked examples. A worked example
+//! compares the results of calls with values that were worked out by hand. In some tests, a write
+//! fails, or a request for memory is refused.
 use crate::tests::support::assertions::assert_text;
 use std::alloc::{Allocator, Global};
 use std::io;
@@ -11,8 +12,8 @@ use thin_examples::rows::Outcome;
 use thin_testing::Refusing;
 use thin_vec::ThinVecError;
 
-// A writer that appends the written bytes to `text`. The call to `write` with the number `failing`
-// fails. The first call has the number 1, so no call fails if `failing` is 0.
+// A writer that appends the written bytes to `text`. The calls to `write` are numbered from 1, and
+// call number `failing` fails. If `failing` is 0, no call fails.
 #[derive(Drop)]
 struct Failing<'a> {
     text: &'a mut String,
@@ -56,8 +57,9 @@ const OUT_OF_MEMORY: &str = "ExitCode(unix_exit_status(2))";
 
 const NOT_WRITTEN: &str = "ExitCode(unix_exit_status(3))";
 
-// Writes the report to `text`, and returns the number of calls to `write`. The call with the number
-// `failing` fails, or no call if `failing` is 0. Asserts that `report` returns the exit code `end`.
+// Writes the report to `text`, asserts that `report` returns the exit code `end`, and returns the
+// number of calls to `write`. Call number `failing` to `write` fails. If `failing` is 0, no call
+// fails.
 fn report_into<A: Allocator + Copy, R: Abort>(
     rt: &R,
     alloc: A,
@@ -75,8 +77,9 @@ fn report_into<A: Allocator + Copy, R: Abort>(
     out.calls
 }
 
-// Writes a report with a writer that fails in the call with the number `failing`. Asserts that only
-// the beginning of the report is written, and nothing after the failure.
+// Writes a report with a writer that fails in call number `failing` to `write`. Asserts that the
+// written text is the beginning of the whole report, and that nothing is written after the failed
+// call.
 fn assert_written_until<R: Abort>(rt: &R, alloc: Global, failing: usize) {
     let mut text = String::new(alloc);
     let calls = report_into(rt, alloc, &mut text, failing, NOT_WRITTEN);
@@ -97,9 +100,9 @@ fn report_stops_at_a_failed_write(rt: HostRuntime) {
     }
 }
 
-// Writes a report with an allocator that refuses the request with the number `nth`. Asserts that
-// the text is the beginning of the report and the line "out of memory", and that all memory is
-// freed.
+// Writes a report with an allocator that refuses request number `nth`. Asserts that the written
+// text is the beginning of the whole report, followed by the line "out of memory". Also asserts
+// that all memory has been freed.
 fn assert_reported_until<R: Abort>(rt: &R, alloc: Global, nth: u64) {
     let refusing = Refusing::new(alloc, nth);
     let mut text = String::new(alloc);
@@ -123,8 +126,8 @@ fn report_ends_with_out_of_memory_at_any_refused_request(rt: HostRuntime) {
     }
 }
 
-// Writes a report on the worked examples with the numbers in `rows`. Asserts that its text is
-// `wanted`, and that the exit code is `end`.
+// Writes a report on the worked examples whose numbers are in `rows`. Asserts that the text of the
+// report is `wanted`, and that the exit code is `end`.
 fn assert_report_of_rows(rt: &impl Abort, alloc: Global, rows: &[u32], wanted: &str, end: &str) {
     let mut text = String::new(alloc);
     {
@@ -164,8 +167,8 @@ fn report_counts_failed_rows_and_exits_with_1(rt: HostRuntime) {
     );
 }
 
-// Asserts that `write_row` writes the line `line` and returns `status` for worked example 7 with
-// the outcome `outcome`.
+// Writes the line of the report for worked example 7 with the outcome `outcome`. Asserts that the
+// written line is `line`, and that `write_row` returns `status`.
 fn assert_row<R: Abort>(rt: &R, alloc: Global, outcome: Outcome, line: &str, status: Status) {
     let mut text = String::new(alloc);
     {
@@ -180,8 +183,8 @@ fn assert_row<R: Abort>(rt: &R, alloc: Global, outcome: Outcome, line: &str, sta
     assert!(rt; text.as_str() == line, "not {line}");
 }
 
-// Returns the counter of a worked example that has compared one value, which was as expected if
-// `right` is true.
+// Returns the counter of a worked example that has compared one value. If `right` is true, the
+// value was the expected one. Otherwise, it was wrong.
 fn checks_of_one_value(right: bool) -> Checks {
     let mut checks = Checks::new();
     checks.is(right);

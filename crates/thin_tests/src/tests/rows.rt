@@ -1,5 +1,6 @@
-//! Tests of the worked examples: how many values each example compares, how many requests for
-//! memory it makes, and whether each comparison detects a wrong value.
+//! Tests of the worked examples. A worked example compares the results of calls with values that
+//! were worked out by hand. The tests check how many values each example compares, how many
+//! requests for memory it makes, and that each comparison detects a wrong value.
 use std::alloc::Global;
 use std::process::Abort;
 use thin_examples::checks::Checks;
@@ -7,11 +8,12 @@ use thin_examples::rows::{ROWS, row};
 use thin_testing::Refusing;
 use thin_vec::{ThinVec, thin_vec};
 
-// One line for each worked example: its number, how many values it compares, and how many requests
-// for memory it makes. These numbers were counted by hand.
+// Each line is about one worked example. It contains the number of the example, the number of
+// values that the example compares, and the number of requests for memory that the example makes.
+// These numbers were counted by hand.
 //
 // The line of example 35 contains 0 instead of the number of requests, because `format!` of
-// Rattle's library makes some of them.
+// Rattle's library makes some of these requests.
 const COUNTS: &str = "\
     1: 5, 0\n\
     2: 12, 2\n\
@@ -49,8 +51,9 @@ const COUNTS: &str = "\
     40: 15, 2\n\
     41: 6, 5\n";
 
-// Runs the worked example `number`, and asserts that it succeeds and that all memory is freed.
-// Returns how many values it compares, and how many requests for memory it makes.
+// Runs worked example number `number`. Asserts that the example succeeds, and that all memory has
+// been freed at the end. Returns how many values the example compares, and how many requests for
+// memory it makes.
 fn run_and_count<R: Abort>(rt: &R, alloc: Global, number: u32) -> (u32, u64) {
     let refusing = Refusing::new(alloc, 0);
     let checks = row(&refusing, number).ok().expect(rt, "no refusal");
@@ -59,8 +62,8 @@ fn run_and_count<R: Abort>(rt: &R, alloc: Global, number: u32) -> (u32, u64) {
     (checks.compared(), requests)
 }
 
-// Appends a line with three numbers to `lines`: the number of the worked example, how many values
-// it compares, and how many requests for memory it makes.
+// Appends one line to `lines`. The line contains the number of a worked example, the number of
+// values that the example compares, and the number of requests for memory that it makes.
 fn append_counts<R: Abort>(rt: &R, alloc: Global, number: u32, lines: &mut String) {
     let (values, requests) = run_and_count(rt, alloc, number);
     let line = format!(in alloc; "{number}: {values}, {requests}\n").expect(rt, "memory");
@@ -82,7 +85,7 @@ fn assert_wrong(rt: &impl Abort, checks: Checks, values: u32) {
 }
 
 // Compares a list of the numbers 1 and 2 with the expected items `items` and the expected capacity
-// `capacity`. Returns the counter of the comparisons.
+// `capacity`. Returns the counter of these comparisons.
 fn checks_of_holds(rt: &impl Abort, alloc: Global, items: &[u32], capacity: usize) -> Checks {
     let list = thin_vec![alloc => 1, 2].expect(rt, "memory");
     let mut checks = Checks::new();

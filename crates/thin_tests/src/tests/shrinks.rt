@@ -5,8 +5,8 @@ use std::alloc::Global;
 use std::process::Abort;
 use thin_vec::ThinVec;
 
-// Asserts that `has_capacity` returns `owns_block`, which is true if the list should have an
-// allocation.
+// Asserts that `has_capacity` returns `owns_block`. The caller passes true if the list should have
+// an allocation, and false otherwise.
 fn assert_owns_block<T>(rt: &impl Abort, list: &ThinVec<T>, owns_block: bool) {
     assert_same(rt, list.has_capacity(), owns_block);
 }
@@ -32,8 +32,8 @@ fn has_capacity_tells_whether_a_list_owns_a_block(rt: HostRuntime) {
     }
 }
 
-// Tests that a list of one `u128` keeps its item while the capacity changes. `u128` has the largest
-// alignment of all types of Rattle.
+// Tests that a list of one `u128` keeps its item while the capacity grows and shrinks. `u128` has
+// the largest alignment of all types of Rattle.
 #[test]
 fn reallocation_keeps_an_item_of_the_largest_alignment(rt: HostRuntime) {
     let mut list = ThinVec::new(rt.alloc());

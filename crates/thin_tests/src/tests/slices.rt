@@ -1,4 +1,5 @@
-//! Tests of writes to a list through a mutable slice, or through a mutable reference to an item.
+//! Tests that a list contains the new values after a write through a mutable slice, or through a
+//! mutable reference to an item.
 use crate::tests::support::assertions::{assert_items, assert_same};
 use crate::tests::support::items::list_of;
 

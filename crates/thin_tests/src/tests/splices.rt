@@ -1,5 +1,6 @@
-//! Tests of `splice` and of `finish`, the method that completes a splice. The contracts in this
-//! file show what a caller of `splice` can prove.
+//! Tests of `splice` and of `finish`, the method that completes a splice. The tests check which
+//! items a list has after a splice, and which error a failed call to `finish` returns. The
+//! contracts in this file show what a caller of `splice` can prove.
 ghost use Rattle.std.specs.Prelude.{◌≡◌, ◌≤◌, ◌++◌, OnOk, drop, length, take};
 
 use crate::tests::support::assertions::{assert_items, assert_len, assert_list, assert_same};
@@ -31,8 +32,8 @@ pub fn replace<A: Allocator, G: Growth>(
     }
 }
 
-/// Replaces the items `start..end` of the list with `numbers`, and then undoes this replacement. On
-/// success, the list has the same items as before the call.
+/// Replaces the items `start..end` of the list with `numbers`, and then puts the old items back. If
+/// the function succeeds, the list has the same items as before the call.
 pub fn replace_and_undo<A: Allocator + Copy, G: Growth>(
     list: &mut ThinVec<u32, A, G>,
     start: usize,
@@ -66,8 +67,9 @@ fn second_splice_undoes_the_first(rt: HostRuntime) {
     }
 }
 
-// Asserts that the fields of the error `refused` match `wanted`: `cause`, the items in `held`,
-// `in_hand`, and the items that `rest` still yields.
+// Asserts that the error of a failed `finish` has the contents `wanted`: the cause, the items in
+// `held`, the item in `in_hand`, and the items that the iterator `rest` still yields, in this
+// order.
 fn assert_refused<A: Allocator>(
     rt: &impl Abort,
     refused: SpliceRefused<i32, Claims<'_>, A>,
@@ -87,9 +89,9 @@ fn assert_refused<A: Allocator>(
     assert_same(rt, rest.next(), None);
 }
 
-// Asserts that replacing the range `range` of a list of `items` with the items of `iter` fails with
-// an error that matches `wanted`. Also asserts that the list then has the items `left.0` and the
-// capacity `left.1`.
+// Makes a list with the items `items`, and tries to replace the range `range` of this list with the
+// items of `iter`. Asserts that this attempt fails with an error that has the contents `wanted`.
+// Also asserts that the list then has the items `left.0` and the capacity `left.1`.
 fn assert_range_refused<A: Allocator + Copy>(
     rt: &impl Abort,
     alloc: A,
@@ -131,8 +133,8 @@ fn row_39_refused_finish_returns_the_held_items(rt: HostRuntime) {
     assert_range_refused(&rt, refusing, &[1, 2, 3], (1, 2), iter, left, wanted);
 }
 
-// Replaces the second item of the list with `count` numbers. The iterator over these numbers has a
-// size hint with the lower bound 0.
+// Replaces the second item of the list with `count` numbers. The iterator's size hint has a lower
+// bound of 0.
 fn splice_without_hint(rt: &impl Abort, list: &mut ThinVec<i32>, count: i32, alloc: Global)
     requires in_bounds { 2 ≤ length list.old.items }
 {

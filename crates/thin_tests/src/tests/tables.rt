@@ -83,8 +83,8 @@ fn with_rows_returns_the_cause(rt: HostRuntime) {
     }
 }
 
-// Sets four values in row 0. Each value counts its drops. The last value replaces the second,
-// because both are set in column 1.
+// Sets a value in row 0 four times: in the columns 3, 1, 2 and 1. Each value counts its drops. The
+// fourth value replaces the second value, because both are set in column 1.
 fn set_counted<'a>(rt: &impl Abort, table: &mut Rows<Counted<'a>>, drops: &'a Cell<u32>) {
     for column in [3, 1, 2, 1] {
         assert_row(rt, table, 0);
@@ -157,8 +157,8 @@ fn prints_a_row_of_many_entries(rt: HostRuntime) {
     );
 }
 
-// Sets `columns` entries in row 0, in descending order of their columns, and `columns` entries in
-// the last row, in ascending order.
+// Sets `columns` entries in row 0 and `columns` entries in the last row. The entries of row 0 are
+// set in descending order of their columns, and the entries of the last row in ascending order.
 fn fill_columns<A: Allocator>(rt: &impl Abort, table: &mut Rows<u32, A>, columns: usize) {
     for column in 0..columns {
         assert_set(rt, table, (table.rows().saturating_sub(1), column), 7, None);
@@ -166,8 +166,10 @@ fn fill_columns<A: Allocator>(rt: &impl Abort, table: &mut Rows<u32, A>, columns
     }
 }
 
-// The capacities of two rows grow from 4 to 4096 by doubling, with 11 requests for memory each.
-// Together with the request for the table itself, there are 23 requests and 3 allocations.
+// Tests a table in which only two rows have entries. The capacity of each of these rows grows from
+// 4 to 4096 by doubling, which takes 11 requests for memory. Together with the request for the
+// table itself, there are 23 requests. In the end, there are three allocations: one for the table
+// itself, and one for each of the two rows.
 #[test]
 fn set_adds_thousands_of_columns_to_a_row(rt: HostRuntime) {
     let refusing = refusing_nth(&rt, rt.alloc(), 0);
@@ -260,8 +262,9 @@ impl Numbers {
 
 type Reference = BTreeMap<(usize, usize), u32>;
 
-// Makes the same random call on the table and on `reference`, a `BTreeMap`. Asserts that both
-// return the same result. If the call on the table fails, neither of them changes.
+// Makes the same random call on the table and on `reference`, which is a `BTreeMap`. Asserts that
+// both calls return the same result. If the call on the table fails, neither the table nor
+// `reference` changes.
 fn call_both<A: Allocator>(
     rt: &impl Abort,
     table: &mut Rows<u32, A>,
@@ -315,8 +318,8 @@ fn set_both<A: Allocator>(
     }
 }
 
-// Asserts that the table and the `BTreeMap` `reference` have the same entries, and that each row of
-// the table has an allocation if and only if the row is not empty.
+// Asserts that the table and `reference`, a `BTreeMap`, have the same entries. Also asserts that
+// each row of the table has an allocation if and only if the row is not empty.
 fn assert_both<A: Allocator>(rt: &impl Abort, table: &Rows<u32, A>, reference: &Reference) {
     assert_same(rt, table.len(), reference.len());
     for row in 0..table.rows() {
@@ -329,7 +332,7 @@ fn assert_both<A: Allocator>(rt: &impl Abort, table: &Rows<u32, A>, reference: &
 }
 
 // Makes `calls` random calls on a table of `rows` rows, and the same calls on a `BTreeMap`.
-// Compares the entries of both every 64 calls, and at the end.
+// Compares all entries of the table and the `BTreeMap` every 64 calls, and at the end.
 fn run_both(
     rt: &impl Abort,
     refusing: &Refusing<Global>,

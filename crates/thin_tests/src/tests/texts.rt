@@ -91,8 +91,8 @@ fn assert_prints_cause<E: Debug + Display>(
     assert_same(rt, told.as_str(), wanted.as_str());
 }
 
-// Calls `assert_prints_cause` for each error type that gives values back to the caller, such as
-// `Rejected`. All errors have the cause `cause`.
+// Calls `assert_prints_cause` for one error of each error type that gives values back to the
+// caller, such as `Rejected`. All these errors have the cause `cause`.
 fn assert_all_print_cause(rt: &impl Abort, alloc: Global, cause: ThinVecError) {
     let (value, in_hand, rest) = (1, Some(1), 2);
     let rejected = Rejected { value, cause };

@@ -1,12 +1,13 @@
-//! Two functions that are generic in the item type: `three` makes a list with `thin_vec!`, and
-//! `pair` moves the items out of a list.
+//! Two functions that are generic in the item type. The function `three` makes a list with
+//! `thin_vec!`, and `pair` moves the items out of a list. The only bound on the item type is
+//! `T: Drop`.
 ghost use Rattle.std.specs.Mem.{type_size};
 ghost use Rattle.std.specs.Prelude.{◌≡◌, ◌*◌, ◌^◌, ◌<◌, [], ◌∷◌, IfOk, IfSome};
 
 use std::alloc::Allocator;
 use thin_vec::{ThinVec, ThinVecError, thin_vec};
 
-/// Makes a list of three items of any type. The contract has no precondition about the size of an
+/// Makes a list of three items of any type. The contract states no condition on the size of an
 /// item.
 pub fn three<T: Drop, A: Allocator>(
     alloc: A,

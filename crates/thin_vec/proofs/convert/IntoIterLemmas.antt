@@ -1,5 +1,6 @@
--- These lemmas state what the block of an `IntoIter` contains after each operation. The items that
--- have not been yielded yet are in the slots `start..end`, and all other slots are empty.
+-- These lemmas state what the block of an `IntoIter` contains after each operation, and what the
+-- iterator yields. The items that have not been yielded yet are in the slots `start..end` of the
+-- block. All other slots are empty.
 use Rattle.std.proofs.Common.{◌≡◌, ℕ, zero, suc, ◌+◌, ◌-◌, ◌<◌, ◌≤◌, List, [], ◌∷◌, ◌++◌, Option, Some, None, length, take, drop, refl, sym, ap, ◌∙◌, arith, get_or, length-append, append_assoc}
 use Rattle.std.proofs.iter.runs.Sources.{as_is, as_is_back, from_back, from_front}
 use Rattle.std.proofs.lemmas.Grind.{take_at_read}
@@ -34,8 +35,9 @@ module _ {T : Type 0} where
       ∙ ap (λ (s : List (Option T)). s ++ (full xs ++ empty k))
       (replicate-append-replicate start 1 None))
 
-  -- A list of `start` empty slots, the items `xs`, the item `x` and `k` empty slots can be split
-  -- directly before the slot of `x`.
+  -- Suppose that the slots are, in this order: `start` empty slots, the slots of the items `xs`,
+  -- the slot of the item `x`, and `k` empty slots. Then this list of slots can be split directly
+  -- before the slot of `x`.
   row-last : (start k : ℕ) (xs : List T) (x : T) → empty start ++ (full (xs ++ x ∷ []) ++ empty k)
       ≡ (empty start ++ full xs) ++ (Some x ∷ empty k)
   row-last start k xs x =
@@ -49,8 +51,8 @@ module _ {T : Type 0} where
   before-last start xs =
       omega (arith, length-append (empty start) (full xs), length-empty T start, length-full xs)
 
-  -- If the slots are `start` empty slots, the items `xs`, the item `x` and `k` empty slots, then
-  -- slot `start + length xs` holds `x`.
+  -- Suppose that the slots are, in this order: `start` empty slots, the items `xs`, the item `x`,
+  -- and `k` empty slots. Then slot `start + length xs` holds `x`.
   slot-last : (start k : ℕ) (xs : List T) (x : T)
       → slot (empty start ++ (full (xs ++ x ∷ []) ++ empty k)) (start + length xs) ≡ Some x
   slot-last start k xs x = ap (λ (s : List (Option T)). slot s (start + length xs))
@@ -79,8 +81,9 @@ module _ {T : Type 0} where
       all : (ys : List T) (n : ℕ) → n ≡ length ys → take n ys ≡ ys
       all ys n same = ap (take n) (sym (append-nil ys)) ∙ take_at ys [] n (sym same)
 
-  -- If `start` empty slots precede the slots `s`, then writing the items `ws` from index `start`
-  -- onward writes them over the items in `s`. The empty slots do not change.
+  -- Suppose that `start` empty slots precede the slots `s`. If the items `ws` are written from
+  -- index `start` onward, then the empty slots do not change, and `ws` is written over the items in
+  -- `s`.
   over-after : (start : ℕ) (s : List (Option T)) (ws : List T)
       → over (empty start ++ s) start ws ≡ empty start ++ over s 0 ws
   over-after zero s ws = refl
@@ -94,8 +97,10 @@ module _ {T A : Type 0} where
     pub items : items_in b.slots ≡ xs
     pub cap : length b.slots ≡ c
 
-  -- If the slots of the block `b` are `start` empty slots, the items `xs`, and `c - end` empty
-  -- slots, and its memory came from `a`, then `Walking` holds.
+  -- Suppose that the slots of the block `b` are `start` empty slots, the slots of the items `xs`,
+  -- and `c - end` empty slots. If the memory of `b` came from the allocator `a`, then
+  -- `Walking b a xs start end c` holds: `b` is the block of an iterator with the items `xs` in the
+  -- slots `start..end`.
   walking : (b : Block T A) {a : A} (xs : List T) (start end : ℕ) {c : ℕ}
       → b.slots ≡ empty start ++ (full xs ++ empty (c - end)) → start + length xs ≡ end → end ≤ c
       → IsFrom b.alloc a → Walking b a xs start end c
@@ -127,8 +132,8 @@ module _ {T A : Type 0} where
         cap = l;
       }
 
-  -- In the block of an iterator, the index `end`, which is directly after the remaining items, is
-  -- at most the number of slots.
+  -- In the block of an iterator, `end` is the index directly after the slots of the items that have
+  -- not been yielded yet. This index is at most the number of slots.
   pub walked-room : (b : Block T A) (a : A) (start end : ℕ)
       → IsWalked b a start end → end ≤ length b.slots
   walked-room b a start end t =
@@ -157,8 +162,8 @@ module _ {T A : Type 0} where
       low ∙ slot-get xs after (i - start) within))
       (get-some xs (i - start) within)
 
-  -- If the slots `start..end` of the block of an iterator hold exactly the items `ys`, then `ys` is
-  -- the list of all items that have not been yielded yet.
+  -- If the slots `start..end` of the block `b` of an iterator hold exactly the items `ys`, then
+  -- `ys` is the list of the items that have not been yielded yet.
   pub walked-run : (b : Block T A) (a : A) (start end : ℕ) (ys : List T) → IsWalked b a start end
       → full ys ≡ slice_range b.slots start end → ys ≡ items_in b.slots
   walked-run b a start end ys t run =
@@ -176,12 +181,13 @@ module _ {T A : Type 0} where
     abbrev xs : List T
     xs = items_in b.slots
 
-    -- `gap` is the number of empty slots after the items that have not been yielded yet.
+    -- `gap` is the number of empty slots after the items.
     abbrev gap : ℕ
     gap = length b.slots - end
 
-    -- If the items `ys` follow `start` empty slots, and slot `start` holds `v`, then `v` is the
-    -- first item of `ys`. Emptying this slot leaves `start + 1` empty slots before the other items.
+    -- Suppose that the slots are `start` empty slots, the items `ys`, and `k` empty slots. If slot
+    -- `start` holds `v`, then `v` is the first item of `ys`. If this slot is emptied, then
+    -- `start + 1` empty slots precede the other items.
     first-of : (ys : List T) (k : ℕ) → 0 < length ys
         → slot (empty start ++ (full ys ++ empty k)) start ≡ Some v
         → (ys ≡ v ∷ drop 1 ys)
@@ -195,8 +201,8 @@ module _ {T A : Type 0} where
         let same : y ≡ v = cc in
         (ap (λ (x : T). x ∷ ys) same, set-first start k y ys)
 
-    -- If slot `start` of the block `b` holds `v`, then `v` is the first item of the iterator.
-    -- Emptying this slot leaves `start + 1` empty slots before the other items.
+    -- If slot `start` of the block `b` holds `v`, then `v` is the first item of the iterator. If
+    -- this slot is emptied, then `start + 1` empty slots precede the other items.
     first : slot b.slots start ≡ Some v → (xs ≡ v ∷ drop 1 xs)
         × (set b.slots start None ≡ empty (start + 1) ++ (full (drop 1 xs) ++ empty gap))
     first e =
@@ -233,8 +239,8 @@ module _ {T A : Type 0} where
     place : start + length most ≡ end - 1
     place = omega (arith, t.len, length-take-le (end - 1 - start) xs (omega (arith, t.len)))
 
-    -- The slots of the block `b` are, in order: `start` empty slots, the items `most`, the last
-    -- item, and the `gap` empty slots after it.
+    -- The slots of the block `b` are, in this order: `start` empty slots, the slots of the items
+    -- `most`, the slot of the last item, and the `gap` empty slots after it.
     row : b.slots ≡ empty start ++ (full (most ++ get_or xs (end - 1 - start) v ∷ []) ++ empty gap)
     row = t.row ∙ ap (λ (ys : List T). empty start ++ (full ys ++ empty gap)) whole
 
@@ -263,8 +269,9 @@ module _ {T A : Type 0} where
         place (omega (arith, walked-room b a start end t))
         (from-same b b' a t.from (ap (λ v. v.alloc) w))
 
-  -- If `ws` was written into the block `b` of an iterator from slot `start` onward, then the new
-  -- block `b'` is the block of an iterator with equally many items.
+  -- Suppose that the items `ws` were written into the block `b` of an iterator from slot `start`
+  -- onward. Then the new block `b'` is the block of an iterator with the same number of items, in
+  -- which `ws` replaces the first items.
   pub settle-written : (b b' : Block T A) (a : A) (start end : ℕ) (ws : List T)
       → IsWalked b a start end → seen b' ≡ record (seen b) { slots = over b.slots start ws }
       → Walking b' a (refill (length (items_in b.slots)) (items_in b.slots) ws)
@@ -279,8 +286,9 @@ module _ {T A : Type 0} where
       (omega (arith, t.len, length_refill (length xs) xs ws refl)) (walked-room b a start end t)
       (from-same b b' a t.from (ap (λ v. v.alloc) w))
 
-  -- Writing `ws` into the block of an iterator from slot `start` onward changes only the items in
-  -- the view of the iterator that contracts use.
+  -- If the items `ws` are written into the block `b` of an iterator from slot `start` onward, then
+  -- contracts see the same iterator as before, except that `ws` replaces the first of the remaining
+  -- items.
   pub view-written : (b : Block T A) (a : A) (start end : ℕ) (ws : List T) → IsWalked b a start end
       → thin_of (block_with_items b start ws) a ≡ with_items (thin_of b a) ws
   view-written b a start end ws t =

@@ -1,6 +1,7 @@
--- These lemmas are about closures that test each item of a list, except the first, against the last
--- item kept before it. In this file, `R` describes the calls to the closure, and `s`, `t` and `u`
--- are its states.
+-- These lemmas are about tests for duplicates: a closure compares each item of a list, except the
+-- first, with the last item kept before it. The lemmas state which items are kept, and how the
+-- results of consecutive tests combine. In this file, `R` describes the calls to the closure, and
+-- `s`, `t` and `u` are states of the closure.
 use Rattle.std.proofs.Common.{◌≡◌, ℕ, zero, suc, ◌+◌, ◌<◌, ◌≤◌, Bool, true, false, List, [], ◌∷◌, ◌++◌, length, take, drop, refl, sym, ap, subst, ◌∙◌, arith, inl, inr, append_assoc}
 use Rattle.std.proofs.lemmas.List.{append-nil, drop_at, length_push, replicate-append-replicate, take_at}
 use Rattle.std.specs.List.{dedup, dedup_from}
@@ -14,13 +15,14 @@ use Rattle.thin_vec.specs.ThinVec.{Thin}
 use Rattle.thin_vec.proofs.RetainLemmas.{cons-head, cons-not-nil, cons-tail, moving-more, moving-none, single}
 use Rattle.thin_vec.proofs.OpenBlockLemmas.{last-of}
 
--- `OnPairs S T` is the type of relations that describe a test of two items. Their arguments are the
--- old state, both items, the result, the new state, and both items after the test.
+-- `OnPairs S T` is the type of the relations that describe a test of two items. Such a relation has
+-- seven arguments: the state before the test, the later item, the last kept item, whether the later
+-- item is removed, the state after the test, and the two items after the test.
 abbrev OnPairs : Type 0 → Type 0 → Type 1
 OnPairs S T = S → T → T → Bool → S → T → T → Type 0
 
--- If `a ++ x ∷ []` and `b ++ y ∷ []` are equal, then `a` and `b` are equal, and `x` and `y` are
--- equal.
+-- If the lists `a ++ x ∷ []` and `b ++ y ∷ []` are equal, then their last items `x` and `y` are
+-- equal, and the lists `a` and `b` are equal.
 last-same : {X : Type 0} (a b : List X) (x y : X) → a ++ x ∷ [] ≡ b ++ y ∷ [] → (a ≡ b) × (x ≡ y)
 last-same [] [] x y e = (refl, cons-head e)
 last-same [] (z ∷ b) x y e = let n = ap length e in absurd (omega (arith, n, length_push b y))
@@ -44,14 +46,15 @@ trues-all : (n : ℕ) → trues (replicate n true) ≡ n
 trues-all zero = refl
 trues-all (suc n) = ap suc (trues-all n)
 
--- `moved_down` counts the kept items after the first removed item. So `n` true flags (kept items)
--- at the start of a list of flags do not change this count.
+-- `moved_down` counts the kept items after the first removed item, because only these items are
+-- moved. If the first `n` items of a list are kept, then none of them is moved. So `n` true flags
+-- at the start of a list of flags do not change `moved_down`.
 moved-all : (n : ℕ) (b : List Bool) → moved_down (replicate n true ++ b) ≡ moved_down b
 moved-all zero b = refl
 moved-all (suc n) b = moved-all n b
 
--- `MatchBool b P Q` is `P` if `b` is true, and `Q` otherwise. It implies `G` if both `P` and `Q`
--- imply `G`.
+-- `MatchBool b P Q` is `P` if `b` is true, and `Q` otherwise. If `P` implies `G` and `Q` implies
+-- `G`, then `MatchBool b P Q` implies `G`.
 by-answer : (b : Bool) (P Q G : Type 0) → (P → G) → (Q → G) → MatchBool b P Q → G
 by-answer true P Q G f g m = f m
 by-answer false P Q G f g m = g m
@@ -62,8 +65,9 @@ map-answer : (b : Bool) {P Q P' Q' : Type 0} → (P → P') → (Q → Q') → M
 map-answer true f g m = f m
 map-answer false f g m = g m
 
--- If a list of at least two items begins with `k` and ends with `l`, then it still ends with `l`
--- without its first item, and begins with `k` without its last item.
+-- Suppose that a list of at least two items begins with `k` and ends with `l`. Then the list still
+-- ends with `l` if its first item is removed, and it still begins with `k` if its last item is
+-- removed.
 after-first : {X : Type 0} (pre zs : List X) (k l : X) → pre ++ l ∷ [] ≡ k ∷ zs → 0 < length zs
     → (p : List X) × (zs ≡ p ++ l ∷ []) × (pre ≡ k ∷ p)
 after-first [] zs k l e some = let n = ap length e in absurd (omega (arith, n, some))
@@ -91,11 +95,13 @@ module _ {S T : Type 0} (R : OnPairs S T) where
       → AskedLast R s k (x ∷ []) (true ∷ []) (k' ∷ x' ∷ []) t
   last-stays s t k x x' k' h = (false, x', k', t, [], h, refl, (x' ∷ [], (refl, refl, refl), refl))
 
-  -- In this module, the items `zs` were tested after the kept item `l`. The kept items, including
-  -- `l`, are `ws`. The state of the closure changed from `t` to `u`.
+  -- In this module, the items `zs` were tested after the kept item `l`. The flags `g` say which of
+  -- the items `zs` were kept, and `ws` is the list of the kept items, including `l`. The tests
+  -- changed the state of the closure from `t` to `u`.
   module _ (t u : S) (l : T) (g : List Bool) (ws zs : List T) (m : AskedLast R t l zs g ws u) where
-    -- If testing `xs` after the kept item `k` keeps `pre` and then `l`, and testing `zs` after `l`
-    -- keeps `ws` (including `l`), then testing `xs ++ zs` after `k` keeps `pre ++ ws`.
+    -- Suppose that the tests of the items `xs` after the kept item `k` keep the items `pre`,
+    -- followed by `l`. Suppose also that the tests of the items `zs` after `l` keep the items `ws`,
+    -- including `l`. Then the tests of `xs ++ zs` after `k` keep the items `pre ++ ws`.
     last-append : (xs : List T) (s : S) (k : T) (f : List Bool) (pre : List T)
         → AskedLast R s k xs f (pre ++ l ∷ []) t → AskedLast R s k (xs ++ zs) (f ++ g) (pre ++ ws) u
     last-append [] s k f pre h =
@@ -126,8 +132,9 @@ module _ {S T : Type 0} (R : OnPairs S T) where
 
   -- The following definitions and lemmas are about adjacent items that are all kept.
 
-  -- `PairStays` states that the first `m` items of `xs` were kept, the first of them without a
-  -- test. The tests turned `xs` into `ys`, and the state `s` of the closure into `t`.
+  -- `PairStays` states that the first `m` items of the list `xs` were kept. The first item is kept
+  -- without a test, and each later item was tested against the item before it. The tests turned
+  -- `xs` into `ys`, and changed the state of the closure from `s` to `t`.
   pub record PairStays (m : ℕ) (s : S) (xs : List T) (t : S) (ys : List T) : Type 0 where
     pub first : T
     pub done : List T
@@ -157,16 +164,17 @@ module _ {S T : Type 0} (R : OnPairs S T) where
       }
 
   module _ (m : ℕ) (s : S) (xs : List T) (t : S) (ys : List T) (h : PairStays m s xs t ys) where
-    -- `NextPair b u zs a` holds if the next test `a` compares the first untested item `a.later`
-    -- with the last kept item `h.last`.
+    -- `NextPair b u zs a` holds if the next test, `a`, compared the first untested item `a.later`
+    -- with the last kept item `h.last`. The test `a` returned `b`, and left the closure in the
+    -- state `u` and the list as `zs`.
     pub record NextPair (b : Bool) (u : S) (zs : List T)
         (a : IsPairAskedAt R m t ys b u zs) : Type 0 where
       pub front : a.before ≡ h.pre
       pub last : a.kept ≡ h.last
       pub after : h.after ≡ a.later ∷ a.after
 
-    -- If the next test `a` compares the items at the indices `m` and `m - 1`, then the former is
-    -- the first untested item, and the latter is the last kept item.
+    -- Suppose that the next test, `a`, compared the item at index `m` with the item before it. Then
+    -- `NextPair` holds: `a` compared the first untested item with the last kept item.
     next-pair : (b : Bool) (u : S) (zs : List T) (a : IsPairAskedAt R m t ys b u zs)
         → NextPair b u zs a
     next-pair b u zs a =
@@ -190,8 +198,9 @@ module _ {S T : Type 0} (R : OnPairs S T) where
     next-asked b u zs a = subst (λ (k : T). R t a.later k b u a.later_left a.kept_left)
         (next-pair b u zs a).last a.asked
 
-    -- The list `xs` consists of its first item, the items that were tested before `a`, the item
-    -- that `a` tested, and the untested items, in this order.
+    -- The list `xs` consists of four parts, in this order: its first item, the items that were
+    -- tested before the next test `a`, the item that `a` tested, and the items that are still
+    -- untested.
     next-was : (b : Bool) (u : S) (zs : List T) (a : IsPairAskedAt R m t ys b u zs)
         → xs ≡ h.first ∷ ((h.done ++ a.later ∷ []) ++ a.after)
     next-was b u zs a = h.was ∙ ap (λ (l : List T). h.first ∷ l)
@@ -207,8 +216,9 @@ module _ {S T : Type 0} (R : OnPairs S T) where
         (next-pair b u zs a).front
         ∙ sym (append_assoc h.pre (a.kept_left ∷ []) (a.later_left ∷ a.after)))
 
-    -- If the item at index `m` was tested and kept, then `PairStays` holds for the first `m + 1`
-    -- items.
+    -- `PairStays` states that the first items of a list were kept. If it holds for the first `m`
+    -- items, and the item at index `m` was then tested and kept, then it also holds for the first
+    -- `m + 1` items.
     pub pair-more : (u : S) (zs : List T) → IsPairAskedAt R m t ys false u zs
         → PairStays (m + 1) s xs u zs
     pair-more u zs a =
@@ -236,8 +246,9 @@ module _ {S T : Type 0} (R : OnPairs S T) where
           now = next-now false u zs a;
         }
 
-    -- If the first `m` items were kept, and the closure decides to remove the item at index `m`,
-    -- then `PairsAskedUpTo` holds: the tests stopped at index `m`.
+    -- Suppose that the first `m` items were kept. If the test of the item at index `m` decides to
+    -- remove this item, then `PairsAskedUpTo` holds: the first `m` items were kept, and the tests
+    -- stopped at the item at index `m`.
     pub pair-goes : (u : S) (zs : List T) → IsPairAskedAt R m t ys true u zs
         → PairsAskedUpTo R m s xs u zs
     pair-goes u zs a =
@@ -268,8 +279,9 @@ module _ {S T : Type 0} (R : OnPairs S T) where
     pub run-left : take m ys ≡ r.left
     run-left = ap (take m) r.now ∙ take_at r.left (r.over ++ r.after) m r.long
 
-    -- From index `m` onward, the list `ys` consists of the item to be removed, if there is one, and
-    -- the untested items.
+    -- From index `m` onward, the list `ys` consists of `r.over` and `r.after`. The list `r.over`
+    -- contains the item to be removed, if there is one. The list `r.after` contains the untested
+    -- items.
     pub run-over : drop m ys ≡ r.over ++ r.after
     run-over = ap (drop m) r.now ∙ drop_at r.left (r.over ++ r.after) m r.long
 
@@ -295,8 +307,10 @@ module _ {S T : Type 0} (R : OnPairs S T) where
           | inr q ↦ (q.1.0, q.1.1)
         ]
 
-    -- If the flags `r.stays` of the tested items are `r.more` true flags and then only false flags,
-    -- then `m` is 1 plus the number of true flags. (The first item is kept without a test.)
+    -- The list `r.stays` contains one flag for each tested item. The flag is true if the item is
+    -- kept. If this list consists of `r.more` true flags, followed by the false flags `f`, then the
+    -- number `m` of kept items is 1 plus the number of true flags. (The first item is kept without
+    -- a test.)
     pub run-count : (f : List Bool) → trues f ≡ 0 → r.stays ≡ all-stay r.more ++ f
         → suc (trues r.stays) ≡ m
     run-count f none e =
@@ -313,16 +327,18 @@ module _ {S T : Type 0} (R : OnPairs S T) where
     Moved front cost = w ≡ record v
         { front = front; gap = w.gap; rest = w.rest; cost = cost }
 
-    -- If `f` equals `f'` and `k` equals `k'`, then an open block with the front items `f` and the
-    -- cost `k` does not change if they are replaced with `f'` and `k'`.
+    -- If `f` equals `f'` and `k` equals `k'`, then the open block with the front items `f` and the
+    -- cost `k` is equal to the open block with the front items `f'` and the cost `k'`.
     moved : {f f' : List T} {k k' : Cost} → f ≡ f' → k ≡ k'
         → record v { front = f; gap = w.gap; rest = w.rest; cost = k }
         ≡ record v { front = f'; gap = w.gap; rest = w.rest; cost = k' }
     moved e n = λ i. record v { front = e i; gap = w.gap; rest = w.rest; cost = n i }
 
     module _ (s t : S) where
-      -- `Dedups` relates the open block `v` to `w` if the middle items `done` were tested, the kept
-      -- ones were moved to the front, and the others were removed. The block `w` must have a gap.
+      -- `Dedups` relates an open block before some tests for duplicates to the open block after
+      -- them. Suppose that the middle items `done` of the open block `v` were tested. The kept
+      -- items were moved to the end of the front items, and the others were removed. If the
+      -- resulting open block `w` has a gap, then `Dedups` relates `v` to `w`.
       dedups-of : (before : List T) (first : T) (done : List T) (stays : List Bool) (kept : List T)
           → v.front ≡ before ++ first ∷ [] → v.rest ≡ done ++ w.rest
           → AskedLast R s first done stays kept t → 0 < w.gap
@@ -341,8 +357,9 @@ module _ {S T : Type 0} (R : OnPairs S T) where
             now = now;
           }
 
+    -- `Dedups` relates an open block before some tests for duplicates to the open block after them.
     -- If the first middle item `x` was tested and removed, then `Dedups` relates the open block `v`
-    -- before the test to the open block `w` after the removal.
+    -- before this test to the open block `w` after the removal.
     pub dedups-goes : {s t : S} (x y : T) (front : List T)
         → IsLastAsked R s x v.front true t y front → v.rest ≡ x ∷ w.rest → 0 < w.gap
         → Moved front v.cost → Dedups R s v t w
@@ -351,8 +368,10 @@ module _ {S T : Type 0} (R : OnPairs S T) where
         (last-goes s t a.kept x y a.kept_left a.asked) gap
         (now ∙ moved (λ i. a.now i) (sym (moving-none v.cost)))
 
-    -- If the first middle item `x` was tested, kept and moved to the front, then `Dedups` relates
-    -- the open block `v` before the test to the open block `w` after the move.
+    -- `Dedups` relates an open block before some tests for duplicates to the open block after them.
+    -- Suppose that the first middle item `x` was tested and kept, and that it was moved to the end
+    -- of the front items, at the cost of one move. Then `Dedups` relates the open block `v` before
+    -- this test to the open block `w` after this move.
     pub dedups-stays : {s t : S} (x y : T) (front : List T)
         → IsLastAsked R s x v.front false t y front → v.rest ≡ x ∷ w.rest
         → 0 < w.gap → Moved (front ++ y ∷ []) (moving 1 v.cost) → Dedups R s v t w
@@ -371,8 +390,9 @@ module _ {S T : Type 0} (R : OnPairs S T) where
       two-front = ap (λ (l : List T). l ++ z ∷ []) a.now
           ∙ append_assoc a.before (a.kept_left ∷ []) (z ∷ [])
 
-      -- If the first middle item was kept and moved to the front, and the second was removed, then
-      -- `Dedups` relates the open block `v` before these tests to the open block `w` after them.
+      -- Suppose that the first middle item was tested, kept and moved to the end of the front
+      -- items, and that the second middle item was then tested and removed. Then `Dedups` relates
+      -- the open block `v` before these two tests to the open block `w` after them.
       pub dedups-two : b ≡ true → (value : T) → zs ≡ value ∷ w.rest → 0 < w.gap
           → Moved (front ++ z ∷ []) (moving 1 v.cost) → Dedups R s v u w
       dedups-two e value rest gap now =
@@ -386,8 +406,9 @@ module _ {S T : Type 0} (R : OnPairs S T) where
           (a.kept_left ∷ z ∷ []) a.was (whole ∙ ap (λ (l : List T). x ∷ l)
           (n.was ∙ ap (λ (l : List T). n.later ∷ l) same)) asked gap (now ∙ moved two-front refl)
 
-      -- If the first `m + 1` middle items were kept and moved to the front, and the next one, if
-      -- any, was removed, then `Dedups` relates the open block `v` before these tests to `w` after
+      -- Suppose that the first `m + 1` middle items were kept and moved to the end of the front
+      -- items. Suppose also that the next middle item, if there is one, was tested and removed.
+      -- Then `Dedups` relates the open block `v` before these tests to the open block `w` after
       -- them.
       pub dedups-run : b ≡ false → (m : ℕ) (q : S) (ws : List T) (r : PairsAskedUpTo R m u zs q ws)
           → r.after ≡ w.rest → suc (trues r.stays) ≡ m
@@ -417,8 +438,9 @@ module _ {S T : Type 0} (R : OnPairs S T) where
           ∙ append_assoc a.before (a.kept_left ∷ z ∷ []) r.left)
           (moving-more m 1 v.cost ∙ ap (λ (k : ℕ). moving k v.cost) paid))
 
-  -- `Dedups` relates an open block `v` to itself if no item has been tested, and if `v` has a front
-  -- item and a gap before its middle items.
+  -- `Dedups` relates an open block before some tests for duplicates to the open block after them.
+  -- Before the first test, `Dedups` relates an open block `v` to `v` itself if `v` has at least one
+  -- front item, and a gap of empty slots before its middle items.
   pub dedups-start : {A : Type 0} (s : S) (v : Open T A) → 0 < length v.front
       → 0 < v.gap → Dedups R s v s v
   dedups-start s v some gap =
@@ -436,8 +458,8 @@ module _ {S T : Type 0} (R : OnPairs S T) where
         now = λ i. record v { front = p.2 i; cost = sym (moving-none v.cost) i };
       }
 
-  -- `Dedups` describes tests for duplicates in an open block. If it relates `v` to `w`, and `w` to
-  -- `z`, then it relates `v` to `z`.
+  -- `Dedups` relates an open block before some tests for duplicates to the open block after them.
+  -- It is transitive: if `Dedups` relates `v` to `w`, and `w` to `z`, then it relates `v` to `z`.
   pub dedups-then : {A : Type 0} {s t u : S} {v w z : Open T A} → Dedups R s v t w
       → Dedups R t w u z → Dedups R s v u z
   dedups-then {s = s} {t} {u} {v} {w} {z} h k =
@@ -475,14 +497,17 @@ module _ {S T : Type 0} (R : OnPairs S T) where
 
   module _ {A : Type 0} (v w : Open T A) (m : ℕ) (s t : S) (ys : List T)
       (r : PairsAskedUpTo R m s v.rest t ys) where
-    -- `RunPassed` holds if the front items of the open block `w` are the `m` kept items, and `w`
-    -- otherwise differs from `v` only in its first gap and its middle items. No item was moved.
+    -- `RunPassed` states that the front items of the open block `w` are exactly the `m` kept items,
+    -- as the tests left them. Apart from the front items, `w` may differ from the open block `v`
+    -- only in the gap and the middle items. The cost is the same, because the kept items were not
+    -- moved.
     abbrev RunPassed : Type 0
     RunPassed = Moved v w (take m ys) v.cost
 
-    -- If the first `m` middle items were kept, and `value` and the later duplicates were removed,
-    -- then `IsDeduped` relates the open block `v` before the tests to the open block `z` after
-    -- them.
+    -- `IsDeduped` describes the removal of all duplicates from an open block. Suppose that the
+    -- first `m` middle items were kept, that the next middle item, `value`, was removed, and that
+    -- all later duplicates were then removed. Then `IsDeduped` relates the open block `v` before
+    -- all tests to the open block `z` after them.
     pub deduped-goes : (value : T) (u : S) (z : Open T A) → RunPassed → drop m ys ≡ value ∷ w.rest
         → Dedups R t w u z → z.rest ≡ [] → IsDeduped R s v u z
     deduped-goes value u z p k h none =
@@ -515,8 +540,9 @@ module _ {S T : Type 0} (R : OnPairs S T) where
           });
         }
 
-    -- If the tests found no item to be removed, then `IsDeduped` relates the open block `v` before
-    -- the tests to the open block `w` after them.
+    -- `IsDeduped` describes the removal of all duplicates from an open block. If the tests found no
+    -- item to be removed, then all items were kept, and `IsDeduped` relates the open block `v`
+    -- before the tests to the open block `w` after them.
     pub deduped-ends : RunPassed → drop m ys ≡ [] → w.rest ≡ [] → IsDeduped R s v t w
     deduped-ends p k none =
         let g = run-ends m s v.rest t ys r k in
@@ -537,16 +563,18 @@ module _ {S T : Type 0} (R : OnPairs S T) where
           });
         }
 
--- In this module, a test of two items is a struct that calls a closure and returns its result. `J`
--- is the type of the test, and `inside` maps its state to the state of the closure.
+-- In this module, `R` describes the calls to a closure that compares two items. A wrapper is a
+-- struct that calls this closure and returns the result of the closure. `J` is the type of the
+-- wrapper, and `inside` maps each state of the wrapper to the state of the closure.
 module _ {J S T : Type 0} (R : OnPairs S T) (inside : J → S) where
-  -- `through` describes the calls to a test that wraps a closure. It applies the relation `R` of
-  -- the closure to the states of the closure inside the test.
+  -- `through` describes the calls to a wrapper of a closure. Each state of the wrapper contains a
+  -- state of the closure. `through` applies `R`, the relation that describes the calls to the
+  -- closure, to these inner states.
   abbrev through : OnPairs J T
   through s x k b t y l = R (inside s) x k b (inside t) y l
 
-  -- If a test that wraps a closure tested the items `xs` after the kept item `k`, then the closure
-  -- was called with the same items and returned the same results.
+  -- If a wrapper of a closure tested the items `xs` after the kept item `k`, then the closure
+  -- itself was called with the same items and returned the same results.
   last-through : (xs : List T) (s t : J) (k : T) (f : List Bool) (ys : List T)
       → AskedLast through s k xs f ys t → AskedLast R (inside s) k xs f ys (inside t)
   last-through [] s t k f ys h = (h.0, h.1, ap inside h.2)
@@ -562,14 +590,15 @@ module _ {J S T : Type 0} (R : OnPairs S T) (inside : J → S) where
         (λ q. (q.0, last-through xs h.3 t h.1 h.4 q.0 q.1, q.2)) h.7,
   )
 
-  -- If a test that wraps a closure tested the items `xs`, then the closure was called with the same
-  -- items and returned the same results.
+  -- If a wrapper of a closure tested the items `xs`, then the closure itself was called with the
+  -- same items and returned the same results.
   pairs-through : (xs : List T) (s t : J) (f : List Bool) (ys : List T)
       → AskedPairs through s xs f ys t → AskedPairs R (inside s) xs f ys (inside t)
   pairs-through [] s t f ys h = (h.0, h.1, ap inside h.2)
   pairs-through (x ∷ xs) s t f ys h = last-through xs s t x f ys h
 
-  -- If `dedup_by` with a test that wraps a closure turns the list `v` into `w`, then `dedup_by`
+  -- Suppose that a wrapper calls a closure and returns the result of the closure. If a call to
+  -- `dedup_by` with this wrapper turns the list `v` into the list `w`, then a call to `dedup_by`
   -- with the closure itself also turns `v` into `w`.
   pub deduped-through : {A : Type 0} (s : J) (v w : Thin T A) (t : J) → IsDedupedTo through s v w t
       → IsDedupedBy R (inside s) v w
@@ -585,8 +614,9 @@ module _ {J S T : Type 0} (R : OnPairs S T) (inside : J → S) where
 
 -- In this module, the function `E` says whether an item is a duplicate of the last kept item.
 module _ {S T : Type 0} (E : T → T → Bool) where
-  -- If the function `E` tested the items `xs` after the kept item `k`, then the flags `f` (true for
-  -- kept items) are `unlike_from E k xs`, and the kept items `ys` are `dedup_from E k xs`.
+  -- Suppose that the items `xs` follow the kept item `k`, and that the function `E` tested them.
+  -- Then the flags `f`, which say which of these items are kept, are `unlike_from E k xs`. The list
+  -- `ys` of the kept items, including `k`, is `dedup_from E k xs`.
   last-compares : (xs : List T) (s t : S) (k : T) (f : List Bool) (ys : List T)
       → AskedLast (Compares E) s k xs f ys t → (f ≡ unlike_from E k xs) × (ys ≡ dedup_from E k xs)
   last-compares [] s t k f ys h = (h.0, h.1)
@@ -612,8 +642,9 @@ module _ {S T : Type 0} (E : T → T → Bool) where
       ]
       h.5.0 h.6 h.7
 
-  -- If the function `E` tested all items of `xs` except the first, then the flags `f` (true for
-  -- kept items) are `unlike E xs`, and the kept items `ys` are `dedup E xs`.
+  -- Suppose that the function `E` tested all items of the list `xs` except the first. Then the
+  -- flags `f`, which say which of these items are kept, are `unlike E xs`. The list `ys` of the
+  -- kept items, including the first item, is `dedup E xs`.
   pub pairs-compare : (xs : List T) (s t : S) (f : List Bool) (ys : List T)
       → AskedPairs (Compares E) s xs f ys t → (f ≡ unlike E xs) × (ys ≡ dedup E xs)
   pairs-compare [] s t f ys h = (h.0, h.1)

@@ -11,8 +11,9 @@ use Rattle.thin_vec.specs.declared.edits.holder.Holder.{Holder}
 use Rattle.thin_vec.specs.declared.edits.holder.Holds.{Ghosts as HoldsGhosts}
 
 module _ {T A G : Type 0} {g : Ghosts G} {h : HoldsGhosts (Holder (Open T A)) (Open T A)} where
-  -- `DrainKeeps a b` states that `a` and `b` borrow the same list, and that dropping either of them
-  -- results in the same list. This relation is transitive.
+  -- `DrainKeeps a b` states that `a` and `b` borrow the same list, and that dropping `a` would
+  -- result in the same list as dropping `b`. `DrainKeeps` is transitive: if it holds for `a` and
+  -- `b`, and for `b` and `c`, then it holds for `a` and `c`.
   drain_keeps_more : (a b c : Drain T A G (Holder (Open T A)) g h) → DrainKeeps a b
       → DrainKeeps b c → DrainKeeps a c
   drain_keeps_more a b c p q =

@@ -16,8 +16,9 @@ not-not true = refl
 not-not false = refl
 
 module _ {F T : Type 0} (R : F → T → Bool → F → T → Type 0) where
-  -- If `next` tests items of the list `xs`, then the length of `xs` is the number of kept,
-  -- extracted and untested items together.
+  -- Suppose that a call to `next` tests items of the list `xs`. Then the length of `xs` is the
+  -- number of kept items, plus 1 if an item was extracted, plus the number of items that are still
+  -- untested.
   pub picked-count : (s : F) (xs : List T) (item : Option T) (t : F) (kept rest : List T)
       → ExtractsNext R s xs item t kept rest → length xs ≡ length kept + length
       (option_to_list item) + length rest
@@ -43,17 +44,21 @@ module _ {F T : Type 0} (R : F → T → Bool → F → T → Type 0) where
       answered false more m = omega (arith, more m.0 m.1, ap length m.2)
 
   module _ {S : Type 0} (of : S → F) where
-    -- `J` describes the calls to a test that keeps the items for which a closure returns false. If
-    -- `s` is a state of the test, then `of s` is the state of the closure.
+    -- `J` describes the calls to a predicate that negates the result of a closure: it returns true
+    -- if the closure returns false, and false if the closure returns true. If `s` is a state of the
+    -- predicate, then `of s` is the state of the closure.
     abbrev J : S → T → Bool → S → T → Type 0
     J s x b t y = R (of s) x (not b) (of t) y
 
-    -- In this module, the test has the state `between`, and the items `after` are untested. The
-    -- closure returns true for the first of these items, if there is one.
+    -- In this module, the closure is in the state `of between`, and the items `after` are untested.
+    -- The closure returns true for the first of these items, so `item` is this item, as the closure
+    -- left it. (If `after` is empty, then `item` is `None`.) Afterward, the state is `t`, and the
+    -- items `rest` are untested.
     module _ (between : S) (after : List T) (item : Option T) (t : F) (rest : List T)
         (e : ExtractsNext R (of between) after item t [] rest) where
-      -- If the test keeps all items of `run`, then `next` extracts from `run ++ after` the first
-      -- item of `after`, or no item if `after` is empty.
+      -- Suppose that no item of the list `run` is to be extracted. Then a call to `next` that tests
+      -- the list `run ++ after` extracts the first item of `after`. If `after` is empty, then this
+      -- call extracts no item.
       picked-after : (s : S) (run left : List T) → Asked J s run (stay left) between
           → ExtractsNext R (of s) (run ++ after) item t left rest
       picked-after s [] [] a =
@@ -98,8 +103,9 @@ module _ {F T : Type 0} (R : F → T → Bool → F → T → Type 0) where
       was : xs ≡ h.run ++ h.after
       was = h.was ∙ ap (λ (l : List T). l ++ (h.run ++ h.after)) none-before
 
-      -- After the tests, the list `ys` consists of the kept items `h.left`, followed by `h.end`:
-      -- the item to be extracted, if there is one, and the untested items.
+      -- After the tests, the list `ys` consists of the kept items `h.left`, followed by `h.end`.
+      -- The list `h.end` contains the item to be extracted, if there is one, and the untested
+      -- items.
       now : ys ≡ h.left ++ h.end
       now = h.now ∙ ap (λ (l : List T). l ++ (h.left ++ h.end)) none-before
 
@@ -108,12 +114,13 @@ module _ {F T : Type 0} (R : F → T → Bool → F → T → Type 0) where
       reached : length h.left ≡ m
       reached = omega (arith, h.reached)
 
-      -- The first `m` items of the list `ys` are the kept items, as the closure left them.
+      -- After the tests, the first `m` items of the list `ys` are `h.left`, the list of the kept
+      -- items.
       left-is : take m ys ≡ h.left
       left-is = ap (take m) now ∙ take_at h.left h.end m reached
 
-      -- From index `m` onward, the list `ys` consists of the item to be extracted, if there is one,
-      -- and the untested items.
+      -- From index `m` onward, the list `ys` consists of the items `h.end`: the item to be
+      -- extracted, if there is one, and the untested items.
       end-is : drop m ys ≡ h.end
       end-is = ap (drop m) now ∙ drop_at h.left h.end m reached
 
@@ -122,8 +129,9 @@ module _ {F T : Type 0} (R : F → T → Bool → F → T → Type 0) where
       pub picked-room : m ≤ length ys
       picked-room = omega (arith, reached, ap length now, length-append h.left h.end)
 
-      -- If the tests kept the first `m` items of `xs`, and `item` is extracted from the later
-      -- items, then `item` is also extracted from the whole list `xs`.
+      -- Suppose that the tests kept the first `m` items of the list `xs`. If `item` is extracted
+      -- from the later items, then `item` is also extracted from the whole list `xs`. (`item` is
+      -- `None` if no item is extracted.)
       whole : (item : Option T) (rest : List T) → ExtractsNext R (of h.between) h.after item (of t)
           [] rest → ExtractsNext R (of s) xs item (of t) (take m ys) rest
       whole item rest e =
@@ -147,8 +155,9 @@ module _ {F T : Type 0} (R : F → T → Bool → F → T → Type 0) where
           whole (Some v) zs (stops-at-item h.between t h.after h.end v zs
           h.stops (sym end-is ∙ some))
 
--- If `k ≤ length xs`, then moving `k` items across a gap costs the same as moving the items
--- `take k xs`. If `gap` is 0, then no item is moved.
+-- If the list `xs` contains at least `k` items, then moving `k` items across a gap of `gap` empty
+-- slots costs the same as moving the items `take k xs` across this gap. If `gap` is 0, then no item
+-- is moved, and the cost does not change.
 pub cost-of : {T : Type 0} (gap : ℕ) (cost : Cost) (k : ℕ) (xs : List T) → k ≤ length xs
     → (if gap == 0 then cost else moving k cost)
     ≡ (if gap == 0 then cost else moving (length (take k xs)) cost)

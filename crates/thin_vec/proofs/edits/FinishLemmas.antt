@@ -21,9 +21,9 @@ use Rattle.thin_vec.proofs.list.ExtendLemmas.{yields-join}
 use Rattle.thin_vec.proofs.edits.SpliceLemmas.{between-length, between-more, drains-more, run-moves, stopped-more, taken-join, taken-spare}
 
 module _ {T A : Type 0} where
-  -- `IsWide` describes the open block `b` that results from opening a gap of `count` slots at index
-  -- `at` of the list `u`. Unless `count` is 0, this costs one move for each item from index `at`
-  -- onward.
+  -- `IsWide` describes the open block `b` after a gap of `count` slots was opened in the list `u`,
+  -- before the item at index `at`. Unless `count` is 0, the items from index `at` onward were moved
+  -- up to open this gap, at the cost of one move each.
   pub record IsWide (b : Open T A) (u : Thin T A) (at count : ℕ) : Type 0 where
     pub in_bounds : at ≤ length u.items
     pub front : b.front ≡ take at u.items
@@ -34,7 +34,8 @@ module _ {T A : Type 0} where
 module _ {S T A : Type 0} (steps : S → Option T → S → Type 0) (can : S → Type 0)
     (remaining : S → Count) where
   -- `FillsGap v a s w f` states that items of the iterator `s` were put into the gap of the open
-  -- block `v`, which then became the block of the list `w`. `f` contains the rest of the iterator.
+  -- block `v`, until the gap was full or the iterator ended. The open block was then closed, and
+  -- became the block of the list `w` with the allocator `a`. `f` contains the rest of the iterator.
   abbrev pub FillsGap : Open T A → A → S → Thin T A → Filled S → Type 0
   FillsGap v a s w f =
       (by : IsFilledBy steps can remaining v.gap s f) × IsClosedWith v by.items a w
@@ -57,8 +58,9 @@ module _ {S T A : Type 0} {steps : S → Option T → S → Type 0} {can : S →
     {remaining : S → Count} where
   module _ {v : Open T A} {a : A} {s : S} {w : Thin T A} {f : Filled S}
       (p : FillsGap steps can remaining v a s w f) where
-    -- If items were put into the gap of the open block `v`, then the length of the list `w` is the
-    -- number of front items, tail items and inserted items together.
+    -- After items have been put into the gap of the open block `v`, and `v` has been closed, the
+    -- length of the list `w` is the number of front items, plus the number of tail items, plus the
+    -- number of inserted items.
     pub filled-long : length w.items ≡ length v.front + length v.tail + length p.0.items
     filled-long = omega (arith, ap length p.1.items, between-length v p.0.items)
 
@@ -82,16 +84,19 @@ module _ {S T A : Type 0} {steps : S → Option T → S → Type 0} {can : S →
     filled-drains done = (f.rest, subst (λ b. Gives steps s p.0.items b f.rest) done p.0.gave)
 
     module _ (rule : Rule) (R : RattleType) (n : ℕ) (left : Count) where
-      -- If items were put into the gap, and closing the gap moved old items at most `n` times, then
-      -- `HasTaken` relates the list of the old items to the new list `w`, with the bound `n`.
+      -- `HasTaken` describes how adding items changed a list, and bounds the number of moves of old
+      -- items. If items were put into the gap, and closing the gap moved old items at most `n`
+      -- times in total, then `HasTaken` relates the list of the old items to the new list `w`, with
+      -- the bound `n`.
       pub filled-taken : p.1.cost.0 ≤ n → HasTaken rule R (left_of v a) w n left
       filled-taken few =
           taken-spare rule R (left_of v a) w (length p.0.items) p.1.cost.0 n left p.1.cost.1
           p.1.capacity (omega (arith, filled-long, length-append v.front v.tail)) few p.1.alloc
 
-      -- Suppose that a gap at index `at` of the list `u` was filled, and that closing it moved old
-      -- items `m` times. If `m + (length u.items - at) ≤ n`, then `HasTaken` relates `u` to the new
-      -- list `w` with the bound `n`.
+      -- Suppose that a gap was opened in the list `u` before index `at`, that items were put into
+      -- this gap, and that closing the gap then took `m` moves of old items. If
+      -- `m + (length u.items - at) ≤ n`, then `HasTaken` relates `u` to the new list `w`, with the
+      -- bound `n` on the moves of old items.
       pub wide-taken : (u : Thin T A) (at count : ℕ) → IsWide v u at count → a ≡ u.alloc
           → p.1.cost.0 + (length u.items - at) ≤ n → HasTaken rule R u w n left
       wide-taken u at count wide from few =
@@ -112,12 +117,13 @@ module _ {S T A : Type 0} {steps : S → Option T → S → Type 0} {can : S →
 
   module _ {v : Open T A} {s t : S} {u : Thin T A} {xs : List T} {end : ℕ}
       (p : IsReached steps can remaining v s u xs end t) where
-    -- The length of the list `u` is `end` plus the number of tail items.
+    -- `end` is the index directly after the inserted items. So the length of the list `u` is `end`
+    -- plus the number of tail items.
     pub reached-long : length u.items ≡ end + length v.tail
     reached-long = omega (arith, ap length p.items, between-length v xs, p.ends)
 
-    -- If the list `u` grows and becomes the list `w` with the same items, then `IsReached` also
-    -- holds for `w`.
+    -- `IsReached` describes a state during a call to `finish`. If it holds for the list `u`, and
+    -- `u` grows and becomes the list `w` with the same items, then it also holds for `w`.
     pub reached-grown : (w : Thin T A) → w.items ≡ u.items
         → IsReached steps can remaining v s w xs end t
     reached-grown w same = record {
@@ -130,8 +136,10 @@ module _ {S T A : Type 0} {steps : S → Option T → S → Type 0} {can : S →
       nearer = p.nearer;
     }
 
-    -- `HasTaken` bounds the moves of old items. If the bound is `m` for the steps up to the list
-    -- `u` and `n` for the later steps, then `k ≥ m + n` is a bound for all steps.
+    -- `HasTaken` describes how adding items changed a list, and bounds the number of moves of old
+    -- items. Suppose that it holds with the bound `m` for the steps of `finish` before the list `u`
+    -- was reached, and with the bound `n` for the later steps. If `m + n ≤ k`, then it holds with
+    -- the bound `k` for all steps together.
     pub reached-taken : (rule : Rule) (R : RattleType) → KeepsLaw rule → (a : A) (w : Thin T A)
         (m n k : ℕ) → m + n ≤ k → HasTaken rule R (left_of v a) u m (remaining s)
         → HasTaken rule R u w n (remaining t) → HasTaken rule R (left_of v a) w k (remaining s)
@@ -142,9 +150,10 @@ module _ {S T A : Type 0} {steps : S → Option T → S → Type 0} {can : S →
         (λ fit same. omega (arith, fit, same, ap length p.items, long, left, p.nearer))
         before now
 
-    -- `IsExtended` states which capacity a list can have after items are added. If it holds for the
-    -- later steps, and the steps up to the list `u` did not change the capacity, then it holds for
-    -- all steps.
+    -- `IsExtended` states which capacity a list may have after items were added. If the steps of
+    -- `finish` before the list `u` was reached did not change the capacity, and `IsExtended` holds
+    -- for the later steps with the capacity `d`, then `IsExtended` also holds for all steps
+    -- together with this capacity.
     pub reached-extended : (rule : Rule) (R : RattleType) (a : A) (d n : ℕ)
         → u.capacity ≡ v.capacity → IsExtended rule R u d n (remaining t)
         → IsExtended rule R (left_of v a) d n (remaining s)
@@ -161,8 +170,9 @@ module _ {S T A : Type 0} {steps : S → Option T → S → Type 0} {can : S →
               ((ap (λ n. n + (length xs + e.0)) (length-append v.front v.tail) ∙ want) i)) ∙ e.2,
         )
 
-    -- If more items were inserted at index `end` of the list `u`, and the iterator has not ended
-    -- yet, then `IsReached` also holds for the new list `w`.
+    -- Suppose that more items were inserted into the list `u` at index `end`, and that the iterator
+    -- has not ended yet. Then `IsReached` also holds for the new list `w` and all items that have
+    -- been inserted so far.
     pub reached-more : {w : Thin T A} {room : ℕ} {f : Filled S}
         (by : IsFilledBy steps can remaining room t f)
         → w.items ≡ (take end u.items ++ by.items) ++ drop end u.items
@@ -183,9 +193,9 @@ module _ {S T A : Type 0} {steps : S → Option T → S → Type 0} {can : S →
         }
 
   module _ {rule : Rule} {R : RattleType} (v : Open T A) (a : A) (s : S) (w : Thin T A) where
-    -- If `finish` inserted all items of the iterator and returned `Ok`, and the new list `w`
-    -- satisfies `HasTaken` and `IsExtended`, then `IsFinished`, which describes the whole call,
-    -- holds.
+    -- `IsFinished` describes a whole call to `finish`. It holds if the call inserted all items that
+    -- the iterator yields and returned `Ok`, and if the new list `w` satisfies `HasTaken` and
+    -- `IsExtended`.
     pub finished-ok : (x : Unit {0})
         → (xs : List T) × Drains steps s xs × (w.items ≡ with_between v xs)
         → HasTaken rule R (left_of v a) w (2 * length v.tail) (remaining s)
@@ -203,9 +213,10 @@ module _ {S T A : Type 0} {steps : S → Option T → S → Type 0} {can : S →
       cause = tt;
     }
 
-    -- Suppose that `finish` inserted the items `xs` before at least one tail item, and that the
-    -- rest of the call returned `r`. If `r` and the new list `w` satisfy the conditions below, then
-    -- `IsFinished` holds for the whole call.
+    -- `IsFinished` describes a whole call to `finish`. Suppose that the call first inserted the
+    -- items `xs` before at least one tail item, and that the rest of the call returned `r`. If the
+    -- rest of the call meets the conditions of `IsFinished`, then `IsFinished` holds for the whole
+    -- call with the result `r`.
     pub finished-from : {t : S} {u : Thin T A} {xs : List T} {end : ℕ}
         (r : Result (Unit {0}) (SpliceRefused T S A))
         → IsReached steps can remaining v s u xs end t → 0 < length v.tail

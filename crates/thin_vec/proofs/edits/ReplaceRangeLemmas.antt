@@ -1,5 +1,6 @@
--- These lemmas are about replacing a range of a list with clones. The clones are first added to the
--- list, and then moved into the range.
+-- These lemmas are about replacing a range of a list with clones. The clones are added to the list
+-- first, and are then moved into the range. The lemmas state what the list contains before this
+-- move, and how contracts describe the open block after it.
 use Rattle.std.proofs.Common.{if◌then◌else◌, inl, inr, eqb, min, Bool, true, false, ◌≡◌, ℕ, zero, suc, ◌+◌, ◌-◌, ◌≤◌, List, [], ◌∷◌, ◌++◌, None, Option, append_assoc, ap, arith, drop, length, length-append, refl, sym, take, ◌∙◌}
 use Rattle.std.proofs.lemmas.List.{drop_at, length-drop, length-take-le, replicate-append-replicate, take-append-drop, take-append-le, take_at}
 use Rattle.std.proofs.lemmas.Bool.{cases_lt}
@@ -19,8 +20,9 @@ use Rattle.thin_vec.proofs.edits.SpliceLemmas.{moving-add, moving-zero}
 use Rattle.thin_vec.proofs.OpenBlockLemmas.{Found, found, past_tail, reached}
 use Rattle.thin_vec.proofs.ListLemmas.{length-empty, length-full}
 
--- The relation `R` relates items to their clones. If `xs` are clones of the items `ss`, and `ys`
--- are clones of `ts`, then `xs ++ ys` are clones of `ss ++ ts`.
+-- The relation `R` says which items are clones of each other. Suppose that the items `xs` are
+-- clones of the items `ss`, in the same order, and that the items `ys` are clones of the items
+-- `ts`. Then the items `xs ++ ys` are clones of the items `ss ++ ts`.
 pub all_zip-append : {X : Type 0} (R : X → X → Type 0) (ss ts xs ys : List X) → AllZip R ss xs
     → AllZip R ts ys → AllZip R (ss ++ ts) (xs ++ ys)
 all_zip-append R [] ts [] ys e h = h
@@ -37,8 +39,9 @@ module _ {T : Type 0} where
   take-less (x ∷ xs) (suc i) (suc j) h = ap (λ (l : List T). x ∷ l)
       (take-less xs i j (omega arith))
 
-  -- If the `n` items `ys` are inserted into `xs` at index `i`, and the `n` items from index `i`
-  -- onward are then removed, then the result is `xs`.
+  -- Suppose that `zs` is the list `xs` with the items `ys` inserted at index `i`, and that `n` is
+  -- the length of `ys`. If the `n` items from index `i` onward are removed from `zs`, then the
+  -- result is `xs`.
   pub put-and-gone : (xs ys : List T) {zs : List T} (i : ℕ) {n : ℕ} → i ≤ length xs
       → length ys ≡ n → zs ≡ replace_range xs i i ys → take i zs ++ drop (i + n) zs ≡ xs
   put-and-gone xs ys {zs} i {n} within count is =
@@ -52,8 +55,9 @@ module _ {T : Type 0} where
       (λ m. front m ++ past m) ∙ take-append-drop i xs
 
 module _ {T : Type 0} (xs : List T) (i j : ℕ) (order : i ≤ j) (within : j ≤ length xs) where
-  -- If `zs` is inserted into `xs` at index `j`, `ys` is appended, and `ys` is then moved in place
-  -- of the items `i..j`, then the result is `xs` with `ys ++ zs` in place of these items.
+  -- Suppose that the list `w` is the list `xs` with the items `zs` inserted at index `j` and the
+  -- items `ys` appended. If the items `ys` are then moved to index `i` and replace the items
+  -- `i..j`, then the result is `xs` with `ys ++ zs` in place of the items `i..j`.
   pub brought-in : (ys zs : List T) {w : List T} {n : ℕ} → length ys ≡ n
       → w ≡ replace_range xs j j zs ++ ys
       → (take i w ++ drop (length w - n) w) ++ take (length w - n - j) (drop j w)
@@ -91,8 +95,7 @@ module _ {T : Type 0} (xs : List T) (i j : ℕ) (order : i ≤ j) (within : j �
 
 module _ {T A : Type 0} (h : Inside T A) (o : IsOpen h) (b : Block T A) (k : ℕ)
     (few : k ≤ length (open_of h).tail) (room : k ≤ (open_of h).gap) where
-  -- `v` is the view of the open block `h` that contracts use, before its last `k` tail items are
-  -- moved.
+  -- `v` is how contracts see the open block `h` before the last `k` tail items of `h` are moved.
   abbrev v : Open T A
   v = open_of h
 
@@ -108,8 +111,8 @@ module _ {T A : Type 0} (h : Inside T A) (o : IsOpen h) (b : Block T A) (k : ℕ
     len = h.len - k;
   }
 
-  -- `brought-seen` is the view of the open block `brought` that contracts use. Its last front items
-  -- are the last `k` tail items of `h`.
+  -- `brought-seen` is how contracts see the open block `brought`. The last `k` tail items of `h`
+  -- are the last front items of `brought`.
   abbrev pub brought-seen : Open T A
   brought-seen = record {
     front = v.front ++ drop (length v.tail - k) v.tail;
@@ -122,8 +125,8 @@ module _ {T A : Type 0} (h : Inside T A) (o : IsOpen h) (b : Block T A) (k : ℕ
     cost = b.cost;
   }
 
-  -- If the last `k` tail items were moved directly after the front items, then `brought` is a valid
-  -- open block, and `brought-seen` is the view of it that contracts use.
+  -- If the last `k` tail items were moved to the slots directly after the front items, then
+  -- `brought` is a valid open block, and `brought-seen` is how contracts see this open block.
   pub bring-step : b.slots ≡ moved (h.len - k) h.front_end k h.block.slots
       → Found brought brought-seen
   bring-step now =
@@ -221,8 +224,8 @@ module _ {T A : Type 0} (h : Inside T A) (o : IsOpen h) (b : Block T A) (k : ℕ
         room = omega (arith, o.room);
       }) refl refl
 
--- If clones of the items `sources` were inserted into the list `xs` at index `i`, then the new list
--- has `length xs + length sources` items.
+-- If clones of the items `sources` were inserted into the list `xs`, then the new length is the
+-- length of `xs` plus the length of `sources`.
 pub replaced-length : {T : Type 0} (clones : T → T → Type 0) (xs : List T) (i : ℕ)
     (sources ys : List T) → i ≤ length xs → ReplacesByClones clones xs i i sources ys
     → length ys ≡ length xs + length sources
@@ -238,8 +241,8 @@ replaced-length clones xs i sources ys within is =
       length_all_zip clones sources zs is.cloned,
     )
 
--- If at most `n` moves turn the cost `c` into `d`, `m` more moves turn `d` into `e`, and `m ≤ k`,
--- then at most `n + k` moves turn `c` into `e`.
+-- Suppose that at most `n` moves turn the cost `c` into `d`, and that `m` more moves turn `d` into
+-- `e`. If `m ≤ k`, then at most `n + k` moves turn `c` into `e`.
 pub at-most-more : {n m k : ℕ} {c d e : Cost} → MovesAtMost n c d → (few : m ≤ k)
     → e ≡ moving m d → MovesAtMost (n + k) c e
 at-most-more {n} {m} {k} {c} {d} {e} h few is = record {
@@ -257,8 +260,8 @@ at-most-le {n} {m} {c} {d} h le = record {
   cost = h.cost;
 }
 
--- If the cost `d` is equal to `c`, or to `c` plus `n` moves, then at most `n` moves turn `c` into
--- `d`. The flag `b` selects the case.
+-- Suppose that the cost `d` is the cost `c` if the flag `b` is true, and otherwise the cost `c`
+-- plus `n` moves. Then at most `n` moves turn `c` into `d`.
 pub at-most-if : (b : Bool) (n : ℕ) (c d : Cost) → d ≡ (if b then c else moving n c)
     → MovesAtMost n c d
 at-most-if true n c d is = record { moves = 0; few = omega arith; cost = is ∙ moving-zero c }
@@ -269,17 +272,18 @@ pub if-le : (b : Bool) (k n : ℕ) → k + (if b then 0 else n) ≤ k + n
 if-le true k n = omega arith
 if-le false k n = omega arith
 
--- `IsParted k r k1 k2` describes how `k` clones replace a range of `r` items: `k1` clones take the
--- places of old items, and `k2` clones need additional slots.
+-- `IsParted k r k1 k2` describes how `k` clones replace a range of `r` items. The first `k1` clones
+-- take the places of old items of the range, and the other `k2` clones need additional slots.
 pub record IsParted (k r k1 k2 : ℕ) : Type 0 where
   -- `k1` is the smaller of the number of clones and the length of the range.
   pub first : k1 ≡ min k r
   -- The number of all clones is `k1 + k2`.
   pub all : k1 + k2 ≡ k
 
--- Suppose that `k` clones replace a range of `r` items: first, `k2` clones are inserted after the
--- range, and then `k1` clones are appended and moved into it. This takes `min k r` more moves than
--- replacing the range with existing items.
+-- Suppose that `k` clones replace a range of `r` items, and that `t` items follow the range. First,
+-- `k2` clones are inserted directly after the range. Then `k1` clones are appended to the list, and
+-- are moved into the range. In total, these steps take `min k r` more moves than replacing the
+-- range with `k` items that already exist.
 pub cloning-moves : {k r k1 k2 : ℕ} → IsParted k r k1 k2 → (t : ℕ) {z u : ℕ} → z ≡ 0 → u ≡ t + k2
     → ((k2 + (if eqb k2 z then 0 else t)) + k1) + (k1 + (if eqb k1 r then 0 else u))
     ≡ (k + (if eqb k r then 0 else t)) + min k r

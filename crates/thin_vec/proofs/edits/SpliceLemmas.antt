@@ -34,8 +34,9 @@ pub moving-zero : (c : Cost) → c ≡ moving 0 c
 moving-zero c = ap (λ m. let d : Cost = record c { moves = m } in d)
     (let e : c.moves ≡ c.moves + 0 = omega arith in e)
 
--- If `n` items are put into the gap of the open block `v`, and the resulting open block `w` has no
--- middle items, then closing `w` moves each tail item at most once.
+-- Suppose that `n` items were put into the gap of the open block `v`, and that the resulting open
+-- block `w` has no middle items. Then closing `w` moves each tail item (each item after the range)
+-- at most once, and moves no item if the gap of `w` has no slots.
 pub closed-moves : {T A : Type 0} (v w : Open T A) (n : ℕ) → w.cost ≡ moving (v.gap - w.gap)
     v.cost → w.rest ≡ [] → w.tail ≡ v.tail → n ≡ v.gap - w.gap
     → (m : ℕ) × (cost_closed w ≡ moving (n + m) v.cost) × (m ≤ length v.tail)
@@ -70,8 +71,9 @@ closed-moves v w n paid none same count = go (eqb w.gap 0) refl
         false-true : false ≡ true → ⊥
         false-true h = cc
 
--- If a step makes `n` moves (or none if `count` is 0), and `k + m` moves follow it, then there are
--- `k + x` moves in total, for some `x ≤ n + m`.
+-- Suppose that a step changes the cost from `c` to `d`: the step makes `n` moves, or no move if
+-- `count` is 0. If `k + m` more moves follow this step, then the total number of moves is `k + x`,
+-- for some number `x` that is at most `n + m`.
 pub run-moves : (count n k m : ℕ) (c d : Cost) → d ≡ (if eqb count 0 then c else moving n c)
     → (x : ℕ) × (moving (k + m) d ≡ moving (k + x) c) × (x ≤ n + m)
 run-moves count n k m c d e = go (eqb count 0) e
@@ -88,8 +90,9 @@ run-moves count n k m c d e = go (eqb count 0) e
     )
 
 module _ {S X : Type 0} (steps : S → Option X → S → Type 0) where
-  -- If calls to `next` yielded the items `xs`, further calls yielded `ys`, and one more call
-  -- returned `o`, then all these calls yielded `xs ++ ys` before the last call returned `o`.
+  -- Suppose that calls to `next` yielded the items `xs`, and that later calls yielded the items
+  -- `ys` and then returned `o`. If `zs` is `xs ++ ys`, then all these calls together yielded `zs`
+  -- and then returned `o`.
   pub yields-held : (s t u : S) (xs ys zs : List X) (o : Option X) → Yields steps s xs t
       → zs ≡ xs ++ ys → YieldsThen steps t ys o u → YieldsThen steps s zs o u
   yields-held s t u xs ys zs o before e now = (
@@ -99,18 +102,19 @@ module _ {S X : Type 0} (steps : S → Option X → S → Type 0) where
     now.2,
   )
 
-  -- If calls to `next` yielded the items `xs`, and one more call returned `Some x`, then all these
-  -- calls yielded `xs ++ x ∷ []`.
+  -- Suppose that calls to `next` yielded the items `xs`, and that the following call returned `o`.
+  -- If `o` is `Some x`, then all these calls together yielded the items `xs ++ x ∷ []`.
   pub yields-drawn : (s u : S) (xs : List X) (o : Option X) (x : X) → o ≡ Some x
       → YieldsThen steps s xs o u → Yields steps s (xs ++ x ∷ []) u
   yields-drawn s u xs o x is all =
       yields-more steps s all.0 u xs x all.1 (subst (λ r. steps all.0 r u) is all.2)
 
-  -- Calls to `next` yielded the items `x ∷ xs`, which are equal to `held ++ option_to_list o`.
+  -- Suppose that a call to `next` yielded the item `x`, that the following calls yielded the items
+  -- `xs`, and that `x ∷ xs` is `held ++ option_to_list o`. There are two cases:
   --
-  -- - If `o` is `Some y`, these calls yielded `held ++ y ∷ []`.
-  -- - If `o` is `None`, and one more call returned `None`, all calls yielded `held` and then
-  --   returned `None`.
+  -- - If `o` is `Some y`, then all these calls together yielded `held ++ y ∷ []`.
+  -- - If `o` is `None`, and one more call returned `None`, then all these calls together yielded
+  --   `held` and then returned `None`.
   pub drawn-after : (s t u : S) (x : X) (xs held : List X) (o : Option X) → steps s (Some x) t
       → held ++ option_to_list o ≡ x ∷ xs
       → MatchOption o (YieldsThen steps t xs None u) (λ _. Yields steps t xs u)
@@ -124,8 +128,9 @@ module _ {S X : Type 0} (steps : S → Option X → S → Type 0) where
       subst (λ l. Yields steps s l u) (sym parts) (t, one, now)
 
 module _ {T A : Type 0} where
-  -- If adding `k` items to the list `v` took `k + m` moves and no reallocation, and `m ≤ n`, then
-  -- `CostsAdding v w n` holds: old items were moved at most `n` times.
+  -- Suppose that adding `k` items turned the list `v` into `w`, with `k + m` moves, and that the
+  -- capacity did not change. If `m ≤ n`, then `CostsAdding v w n` holds: each added item was moved
+  -- once, and the old items were moved at most `n` times in total.
   pub adding-run : (v w : Thin T A) (k m n : ℕ) → w.cost ≡ moving (k + m) v.cost
       → w.capacity ≡ v.capacity → length w.items ≡ length v.items + k → m ≤ n → CostsAdding v w n
   adding-run v w k m n e same long few = record {
@@ -143,13 +148,13 @@ pub if-err : {X E : Type 0} {P Q : E → Type 0} (r : Result X E) → ((e : E) �
 if-err (Ok _) h p = p
 if-err (Err e) h p = h e refl p
 
--- If `Q` holds for every error, then it holds for the error in the result `r`, if there is one.
+-- If `Q` holds for every error, then `Q` holds for the error in the result `r`, if there is one.
 pub any-err : {X E : Type 0} {Q : E → Type 0} (r : Result X E) → ((e : E) → Q e) → IfErr r Q
 any-err (Ok _) h = tt
 any-err (Err e) h = h e
 
--- If `at ≤ length xs`, then inserting the list `ys` into `xs` at index `at` results in a list of
--- length `length xs + length ys`.
+-- If `at` is at most the length of the list `xs`, then inserting the list `ys` into `xs` at index
+-- `at` results in a list of length `length xs + length ys`.
 pub inserted-long : {T : Type 0} (xs ys : List T) (at : ℕ) → at ≤ length xs
     → length ((take at xs ++ ys) ++ drop at xs) ≡ length xs + length ys
 inserted-long xs ys at in_bounds =
@@ -163,8 +168,8 @@ inserted-long xs ys at in_bounds =
     )
 
 module _ {S X : Type 0} (steps : S → Option X → S → Type 0) where
-  -- If calls to `next` yielded the items `xs`, and further calls yielded the items `ys` and then
-  -- returned `None`, then all these calls yielded `xs ++ ys` and then returned `None`.
+  -- If calls to `next` yielded the items `xs`, and later calls yielded the items `ys` and then
+  -- returned `None`, then all these calls together yielded `xs ++ ys` and then returned `None`.
   pub drains-more : (s t : S) (xs ys : List X) → Yields steps s xs t → Drains steps t ys
       → Drains steps s (xs ++ ys)
   drains-more s t xs ys before now =
@@ -172,9 +177,10 @@ module _ {S X : Type 0} (steps : S → Option X → S → Type 0) where
 
 module _ {S X A : Type 0} (steps : S → Option X → S → Type 0) (can : S → Type 0)
     (remaining : S → Count) where
-  -- If `Stopped` holds for the iterator `t` and no inserted items, then it holds for `s` and the
-  -- inserted items `xs`. Here, calls to `next` yielded `xs` and changed the iterator from `s` to
-  -- `t`.
+  -- `Stopped` describes a call to `finish` that failed with `error`, and names the items that the
+  -- call had inserted. Suppose that calls to `next` yielded the items `xs` and changed the iterator
+  -- from `s` to `t`. If `Stopped` holds for `t` and no inserted items, then it also holds for `s`
+  -- and the inserted items `xs`.
   pub stopped-more : (s t : S) (xs : List X) (error : SpliceRefused X S A) → Yields steps s xs t
       → Stopped steps can remaining t [] error → Stopped steps can remaining s xs error
   stopped-more s t xs error before (inl now) =
@@ -195,8 +201,10 @@ module _ {S X A : Type 0} (steps : S → Option X → S → Type 0) (can : S →
         (now.2.0, yields-join steps s t now.2.0 xs error.held.items before now.2.1, now.2.2),
       )
 
-  -- `Stopped` holds for the inserted items `xs` if the iterator yielded exactly `xs` and the item
-  -- in `error.in_hand` (if it is `Some`), `error.held` is empty, and `next` may be called again.
+  -- `Stopped` describes a call to `finish` that failed with `error` after it had inserted the items
+  -- `xs`. Suppose that calls to `next` on the iterator `s` yielded exactly `xs` and then the item
+  -- in `error.in_hand`, if there is one. If `error.held` contains no items, and `next` may be
+  -- called again, then `Stopped` holds.
   pub stopped-now : (s : S) (xs : List X) (error : SpliceRefused X S A) → error.held.items ≡ []
       → PausedAfter steps can remaining s (xs ++ option_to_list error.in_hand) error.rest
       → Stopped steps can remaining s xs error
@@ -212,12 +220,13 @@ module _ {S X A : Type 0} (steps : S → Option X → S → Type 0) (can : S →
       )
 
 -- The lemmas in this module are about a call to `finish` that failed with `error`. `v` is the list
--- after the call, `tail` contains the items after the range, and the iterator can yield at most
--- `left` more items.
+-- after the call, and `tail` contains the items after the replaced range. `left` is an upper bound
+-- on the number of items that the iterator may still yield.
 module _ {S T A : Type 0} (rule : Rule) (R : RattleType) (v : Thin T A) (tail : List T)
     (left : Count) (error : SpliceRefused T S A) where
-  -- If items follow the range, `error` contains no items, and the list could not reserve room for
-  -- the lower bound of the size hint, then `IsStopCause` holds, which states why `finish` failed.
+  -- `IsStopCause` states why `finish` failed with `error`. It holds if there are items after the
+  -- range (`tail`), `error` contains no items, and the list could not reserve room for the lower
+  -- bound of the iterator's size hint (`FailsAtHint`).
   pub stop-at-hint : 0 < length tail → error.held.items ≡ [] → error.in_hand ≡ None
       → FailsAtHint rule R v left error.cause → IsStopCause rule R v tail left error
   stop-at-hint some none empty fails = record {
@@ -227,12 +236,13 @@ module _ {S T A : Type 0} (rule : Rule) (R : RattleType) (v : Thin T A) (tail : 
     by_push = λ no_tail. absurd (omega (arith, some, ap length no_tail));
   }
 
-  -- If items follow the range, then `IsStopCause`, which states why `finish` failed, holds if two
-  -- conditions are met:
+  -- `IsStopCause` states why `finish` failed with `error`. It holds if there are items after the
+  -- range (`tail`), and one of two cases applies:
   --
-  -- - If `in_hand` is `None`, then `held` is not empty. The cause is `CapacityOverflow` if and only
-  --   if the growth rule chooses no capacity for these items.
-  -- - If `in_hand` is `Some`, then the cause is `OutOfMemory`.
+  -- - The field `in_hand` of `error` is `None`, and `error.held` contains at least one item. The
+  --   cause is `CapacityOverflow` if and only if the growth rule chooses no capacity for these
+  --   items.
+  -- - The field `in_hand` of `error` is `Some`, and the cause is `OutOfMemory`.
   pub stop-at-held : 0 < length tail → (error.in_hand ≡ None → 0 < length error.held.items)
       → (error.in_hand ≡ None → (error.cause ≡ CapacityOverflow)
       ↔ (capacity_for rule R v (length error.held.items) ≡ None))
@@ -245,8 +255,10 @@ module _ {S T A : Type 0} (rule : Rule) (R : RattleType) (v : Thin T A) (tail : 
     by_push = λ no_tail. absurd (omega (arith, some, ap length no_tail));
   }
 
-  -- If no item follows the range, `held` is empty, and `error` has the same `cause` and `in_hand`
-  -- as the error `e` of `extend`, then `IsExtendCause` for `e` implies `IsStopCause` for `error`.
+  -- `IsExtendCause` states why `extend` failed, and `IsStopCause` states why `finish` failed.
+  -- Suppose that no item follows the range (`tail` is empty), that `error.held` is empty, and that
+  -- `error` has the same `cause` and the same `in_hand` as the error `e` of `extend`. Then
+  -- `IsExtendCause` for `e` implies `IsStopCause` for `error`.
   pub stop-at-end : (e : ExtendRefused T S) → tail ≡ [] → error.held.items ≡ []
       → error.cause ≡ e.cause → error.in_hand ≡ e.in_hand → IsExtendCause rule R v left e
       → IsStopCause rule R v tail left error
@@ -263,9 +275,9 @@ module _ {S T A : Type 0} (rule : Rule) (R : RattleType) (v : Thin T A) (tail : 
   }
 
 module _ (rule : Rule) (R : RattleType) where
-  -- If reserving room for `k` more items in the list `v` results in the capacity `d`, then `d` is
-  -- the old capacity, or one that the growth rule may choose for at most `n ≥ length v.items + k`
-  -- items.
+  -- Suppose that the growth rule chooses the capacity `d` for the list `v` with `k` more items. If
+  -- `n` is at least the new length, `length v.items + k`, then `IsKeptOrRuled` holds for `d` and
+  -- `n`.
   pub kept-or-ruled : KeepsLaw rule → {T A : Type 0} (v : Thin T A) (k d n : ℕ)
       → capacity_for rule R v k ≡ Some d → length v.items + k ≤ n
       → IsKeptOrRuled rule R v.capacity d n
@@ -275,14 +287,16 @@ module _ (rule : Rule) (R : RattleType) where
         | inr spare ↦ inl (cap-kept rule R law v k d spare e)
       ]
 
--- Adding no moves does not change a cost. So if `n` is 0, the cost is `c` in both cases of `if`.
+-- If `n` is 0, then adding `n` moves to the cost `c` does not change `c`. So the result is `c` in
+-- both cases: no moves are added if `b` is true, and `n` moves are added if `b` is false.
 unmoved : (b : Bool) (c : Cost) (n : ℕ) → n ≡ 0 → (if b then c else moving n c) ≡ c
 unmoved true c n none = refl
 unmoved false c n none = ap (λ k. moving k c) none ∙ sym (moving-zero c)
 
 module _ {T A : Type 0} where
-  -- If the open block `v` has no middle items and no tail items, then closing `v` moves no item and
-  -- results in the list `left_of v u.alloc`.
+  -- Suppose that the open block `v` has no middle items and no tail items. Then closing `v` moves
+  -- no item. The result is the list `left_of v u.alloc`, which contains the front items of `v` and
+  -- has the allocator of the list `u`.
   pub closed-left : (v : Open T A) (u : Thin T A) → v.rest ≡ [] → v.tail ≡ []
       → record u { items = items_of v; capacity = v.capacity; cost = cost_closed v }
       ≡ left_of v u.alloc
@@ -297,8 +311,10 @@ module _ {T A : Type 0} where
         cost = free i;
       }
 
-  -- If `us` is `with_between v xs`, and `end` is the index directly after `xs`, then inserting the
-  -- items `ys` at index `end` results in `with_between v (xs ++ ys)`.
+  -- `with_between v xs` contains the items of the open block `v`, but with `xs` in place of its
+  -- middle items. Suppose that the list `us` is `with_between v xs`, and that `end` is the index
+  -- directly after the items `xs` in `us`. Then inserting the items `ys` into `us` at index `end`
+  -- results in the list `with_between v (xs ++ ys)`.
   pub between-more : (v : Open T A) (us xs ys : List T) (end : ℕ) → us ≡ with_between v xs
       → end ≡ length v.front + length xs
       → (take end us ++ ys) ++ drop end us ≡ with_between v (xs ++ ys)
@@ -309,15 +325,16 @@ module _ {T A : Type 0} where
       ∙ ((λ i. (take_at pre v.tail end here i ++ ys) ++ drop_at pre v.tail end here i)
       ∙ ap (λ l. l ++ v.tail) (append_assoc v.front xs ys))
 
-  -- `with_between v xs` consists of the front items of the open block `v`, the items `xs`, and the
-  -- tail items of `v`. Its length is the sum of the three lengths.
+  -- `with_between v xs` contains the front items of the open block `v`, then the items `xs`, and
+  -- then the tail items of `v`. So its length is the sum of the lengths of these three parts.
   pub between-length : (v : Open T A) (xs : List T)
       → length (with_between v xs) ≡ length v.front + length xs + length v.tail
   between-length v xs =
       omega (arith, length-append (v.front ++ xs) v.tail, length-append v.front xs)
 
-  -- If the open block `v` has no tail items, then `with_between v xs` consists of the front items
-  -- of `v`, followed by the items `xs`.
+  -- `with_between v xs` contains the front items of the open block `v`, then the items `xs`, and
+  -- then the tail items of `v`. If `v` has no tail items, then appending `xs` to the front items of
+  -- `v` results in the same list.
   pub after-items : (v : Open T A) (xs : List T) → v.tail ≡ []
       → (v.front ++ v.tail) ++ xs ≡ with_between v xs
   after-items v xs none =
@@ -325,11 +342,14 @@ module _ {T A : Type 0} where
       ∙ (ap (λ l. l ++ xs) (append-nil v.front)
       ∙ (sym (append-nil (v.front ++ xs)) ∙ (λ i. (v.front ++ xs) ++ sym none i)))
 
--- In this module, `rule` is the growth rule, `R` is the item type in Rattle, `T` is the same type
--- in contracts, and `A` is the type of the allocator.
+-- In this module, `rule` is the growth rule, which chooses the capacities of the lists. `R` is the
+-- type of the items in Rattle, and `T` is the type of the same items in contracts. `A` is the type
+-- of the allocators.
 module _ (rule : Rule) (R : RattleType) {T A : Type 0} where
-  -- If adding `k` items to the list `v` took `k + m` moves, `m ≤ n`, and the capacity and the
-  -- allocator did not change, then `HasTaken` holds: old items were moved at most `n` times.
+  -- `HasTaken rule R v w n left` states that adding items of an iterator turned the list `v` into
+  -- `w`, with at most `n` moves of old items in total. (The iterator could yield at most `left`
+  -- items.) If adding `k` items took `k + m` moves, `m ≤ n`, and neither the capacity nor the
+  -- allocator changed, then `HasTaken` holds.
   pub taken-spare : (v w : Thin T A) (k m n : ℕ) (left : Count) → w.cost ≡ moving (k + m) v.cost
       → w.capacity ≡ v.capacity → length w.items ≡ length v.items + k → m ≤ n → w.alloc ≡ v.alloc
       → HasTaken rule R v w n left
@@ -354,7 +374,8 @@ module _ (rule : Rule) (R : RattleType) {T A : Type 0} where
   }
 
   -- `HasTaken rule R v w n left` describes how adding items of an iterator changed the list `v` to
-  -- `w`. It holds if `w` is equal to `v`.
+  -- `w`. If `v` and `w` are equal, then `HasTaken` holds for every `n` and every `left`, because no
+  -- item was added.
   pub taken-none : (v w : Thin T A) (n : ℕ) (left : Count) → w ≡ v → HasTaken rule R v w n left
   taken-none v w n left e =
       taken-spare v w 0 0 n left (ap (λ z. z.cost) e ∙ moving-zero v.cost)
@@ -362,8 +383,10 @@ module _ (rule : Rule) (R : RattleType) {T A : Type 0} where
       (ap (λ z. z.alloc) e)
 
   module _ (law : KeepsLaw rule) where
-    -- If reserving room for `h` more items turned the list `v` into `w`, and the iterator may yield
-    -- `h` items, then `HasTaken` holds: no old item was moved.
+    -- `HasTaken` describes how adding items of an iterator changed the list `v` to `w`. Here,
+    -- `left` is an upper bound on the number of items that the iterator may yield. Suppose that
+    -- reserving room for `h` more items turned `v` into `w`, and that `h` is at most this upper
+    -- bound (`size left`). Then `HasTaken` holds, with no moves of old items.
     pub taken-reserved : (v w : Thin T A) (h : ℕ) (left : Count)
         → capacity_for rule R v h ≡ Some w.capacity → w.items ≡ v.items → w.alloc ≡ v.alloc
         → w.cost ≡ cost_at v w.capacity → (IsCheap v → IsCheap w) → h ≤ size left
@@ -377,9 +400,10 @@ module _ (rule : Rule) (R : RattleType) {T A : Type 0} where
       cheap = cheap;
     }
 
-    -- If adding items of an iterator turned the list `v` into `u` with at most `m` moves of old
-    -- items, and `u` into `w` with at most `n`, and `m + n ≤ k`, then `HasTaken` holds for both
-    -- steps together.
+    -- `HasTaken` describes how adding items of an iterator changed a list, and bounds the number of
+    -- moves of old items. Suppose that `HasTaken` holds with the bound `m` for a step from the list
+    -- `v` to `u`, and with the bound `n` for a step from `u` to `w`. If `m + n ≤ k`, then
+    -- `HasTaken` holds with the bound `k` for both steps together.
     pub taken-join : (v u w : Thin T A) (m n k : ℕ) (left more : Count) → m + n ≤ k
         → length v.items ≤ length u.items
         → (HasRoomFor v (size left) → u.capacity ≡ v.capacity → HasRoomFor u (size more))

@@ -1,5 +1,5 @@
--- These lemmas are for `append` and `split_off`. They say what two blocks contain after the last
--- items of one list have been moved to the end of the other list.
+-- These lemmas are for `append` and `split_off`. They say what the blocks of two lists contain
+-- after the last items of one list have been moved to the end of the other list.
 use Rattle.std.proofs.Common.{◌≡◌, ℕ, ◌+◌, ◌-◌, ◌≤◌, List, ◌++◌, length, take, drop, Option, None, sym, ap, ◌∙◌, arith, length-append, append_assoc}
 use Rattle.std.proofs.lemmas.List.{length-drop, length-replicate, length-take-le, take-append-drop, replicate-append-replicate}
 use Rattle.thin_block.specs.Cost.{Cost}
@@ -12,8 +12,9 @@ use Rattle.thin_vec.proofs.list.InsertRemoveLemmas.{full-append}
 use Rattle.thin_vec.proofs.ListLemmas.{IsWritten, Settled, length-full, settle-front, thin-room}
 
 module _ {T : Type 0} where
-  -- If there is room for the items `ys`, then writing them directly after the items `xs` turns the
-  -- row of slots `front xs c` into `front (xs ++ ys) c`.
+  -- The row of slots `front xs c` has `c` slots: the first slots hold the items `xs`, and all other
+  -- slots are empty. If there is room, writing the items `ys` directly after `xs` turns this row
+  -- into `front (xs ++ ys) c`.
   pub front-more : (xs ys : List T) (c : ℕ) → length xs + length ys ≤ c → laid (length xs) (full ys)
       (front xs c) ≡ front (xs ++ ys) c
   front-more xs ys c room =
@@ -32,8 +33,8 @@ module _ {T : Type 0} where
 
   module _ (ys : List T) (c i k : ℕ) (order : i ≤ length ys) (room : length ys ≤ c)
       (count : k ≡ length ys - i) where
-    -- The row `front ys c` consists of slots with the first `i` items of `ys`, slots with the other
-    -- items of `ys`, and empty slots.
+    -- The row of slots `front ys c` consists of three parts: slots with the first `i` items of
+    -- `ys`, slots with the other items of `ys`, and empty slots.
     parted : front ys c ≡ full (take i ys) ++ (full (drop i ys) ++ empty (c - length ys))
     parted =
         ap (λ (l : List T). full l ++ empty (c - length ys)) (sym (take-append-drop i ys))
@@ -50,14 +51,14 @@ module _ {T : Type 0} where
     within : k ≡ length (full (drop i ys))
     within = omega (arith, count, length-full (drop i ys), length-drop i ys)
 
-    -- The `k` slots of the row `front ys c` from index `i` onward hold the items `drop i ys`. Here,
-    -- `k` is `length ys - i`.
+    -- The row of slots `front ys c` begins with the items `ys`. Its `k` slots from index `i` onward
+    -- hold the items `drop i ys`, where `k` is `length ys - i`.
     pub front-run : run i k (front ys c) ≡ full (drop i ys)
     front-run = ap (λ (s : List (Option T)). run i k s) parted ∙ run-at i k (full (take i ys))
         (full (drop i ys)) (empty (c - length ys)) before within
 
-    -- If the `k` slots from index `i` onward are emptied, the row `front ys c` becomes
-    -- `front (take i ys) c`. Here, `k` is `length ys - i`.
+    -- The row of slots `front ys c` begins with the items `ys`. If the `k` slots from index `i`
+    -- onward are emptied, the row becomes `front (take i ys) c`. Here, `k` is `length ys - i`.
     pub front-cut : emptied i k (front ys c) ≡ front (take i ys) c
     front-cut =
         let long : length (empty {T = T} k) ≡ length (full (drop i ys)) =
@@ -71,9 +72,9 @@ module _ {T : Type 0} where
         (replicate-append-replicate k (c - length ys) None ∙ ap (λ (m : ℕ). empty m) bare))
 
 module _ {T A : Type 0} where
-  -- If the items `xs` are written directly after the last item in the block `b` of a list, and the
-  -- stored length grows by `length xs`, then the result is the block of the list with `xs`
-  -- appended.
+  -- Suppose that `b` is the block of a list, that the items `xs` are written into the slots
+  -- directly after its last item, and that the stored length grows by `length xs`. Then the new
+  -- block `b'` is the block of the list with `xs` appended.
   pub settle-more : {b : Block T A} {a : A} → IsThin b a → (b' : Block T A) (xs : List T) (n : ℕ)
       → n ≡ b.len → n + length xs ≤ length b.slots → {l : ℕ} {k : Cost} → l ≡ n + length xs
       → IsWritten b b' (laid n (full xs) b.slots) l k
@@ -87,9 +88,10 @@ module _ {T A : Type 0} where
       (omega (arith, new, end, length-append ys xs)) (omega (arith, room, end, length-append ys xs))
 
   module _ {b o : Block T A} {a p : A} (t : IsThin b a) (u : IsThin o p) where
-    -- If the items of the block `o` from index `i` onward are written after the last item in the
-    -- block `b`, and the stored length of `b` grows accordingly, then these items are appended to
-    -- the list of `b`.
+    -- Suppose that `b` and `o` are the blocks of two lists. Suppose also that the items of the
+    -- second list from index `i` onward are written directly after the last item in `b`, and that
+    -- the stored length of `b` grows by the number of these items. Then the new block `b'` is the
+    -- block of the first list with these items appended.
     pub settle-joined : (b' : Block T A) (i : ℕ) {k n : ℕ} → i ≤ length (items_in o.slots)
         → k ≡ o.len - i → n ≡ b.len → n + k ≤ length b.slots
         → {m : Cost} → IsWritten b b' (laid n (run i k o.slots) b.slots) (n + k) m
@@ -103,8 +105,9 @@ module _ {T A : Type 0} where
         settle-more t b' (drop i ys) n len (omega (arith, room, more)) (omega (arith, more))
         (slots-are w (ap (λ (r : List (Option T)). laid n r b.slots) same))
 
-  -- If all slots from index `i` onward are emptied, and the stored length becomes `i`, then the new
-  -- block `o'` is the block of a list with the first `i` items.
+  -- Suppose that `o` is the block of a list, that the slots of all items from index `i` onward are
+  -- emptied, and that the stored length becomes `i`. Then the new block `o'` is the block of a list
+  -- that contains only the first `i` items.
   pub settle-cut : {o : Block T A} {p : A} → IsThin o p → (o' : Block T A) (i : ℕ) {k : ℕ}
       {m : Cost} → i ≤ length (items_in o.slots) → k ≡ o.len - i
       → IsWritten o o' (emptied i k o.slots) i m

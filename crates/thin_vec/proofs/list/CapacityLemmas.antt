@@ -17,8 +17,10 @@ use Rattle.thin_vec.specs.ThinVec.{IsThin}
 use Rattle.thin_vec.proofs.ListLemmas.{Settled, settled, length-front, thin-room, front-grow}
 
 module _ (rule : Rule) (law : KeepsLaw rule) (R : RattleType) where
-  -- If a growth rule chooses a capacity for `w < 2 ^ 64` items, then this capacity is at least `w`,
-  -- at least twice the old capacity, and small enough to be allocated.
+  -- Suppose that a block of capacity `c` has to grow in order to hold `w` items, where `w` is less
+  -- than `2 ^ 64`. If the growth rule chooses a new capacity (`o` is `Some`), then this capacity
+  -- satisfies `Grows`: it is at least `w`, at least twice the old capacity, and small enough to be
+  -- allocated. Here, `c'` is equal to `c`, and `w'` is equal to `w`.
   pub grows-rule : (w : ℕ) {c c' w' : ℕ} {o : Option ℕ}
       → o ≡ rule (type_size R) (type_align R) c w → c ≡ c' → w ≡ w' → c < w → w < 2 ^ 64
       → IfSome o (λ n. Grows R c' w' n)
@@ -32,13 +34,15 @@ module _ (rule : Rule) (law : KeepsLaw rule) (R : RattleType) where
       }
 
 module _ {T : Type 0} where
-  -- A row of `c` empty slots is equal to `front [] c`, the slots of an empty list of capacity `c`.
+  -- `empty c` is a row of `c` empty slots. It is equal to `front [] c`, the slots of an empty list
+  -- of capacity `c`.
   pub front-none : (c : ℕ) → empty {T = T} c ≡ front [] c
   front-none c = let same : c ≡ c - 0 = omega arith in ap (λ (m : ℕ). empty m) same
 
 module _ {T A : Type 0} {b : Block T A} {a : A} (t : IsThin b a) where
-  -- If the block of a list is replaced with a block `b'` of `c` slots that has the same items in
-  -- its first slots and the same allocator, then `b'` is the block of a list with the same items.
+  -- Suppose that the block `b` of a list is replaced with a block `b'`, which has `c` slots and the
+  -- same allocator. If the first slots of `b'` hold the same items in order, and all its other
+  -- slots are empty, then `b'` is the block of a list with the same items and the capacity `c`.
   settle-remade : (b' : Block T A) (c : ℕ) {s : List (Option T)} {k : Cost}
       → seen b' ≡ record (seen b) { slots = s; alloc = Some a; cost = k }
       → s ≡ front (items_in b.slots) c → length (items_in b.slots) ≤ c
@@ -70,8 +74,9 @@ module _ {T A : Type 0} {b : Block T A} {a : A} (t : IsThin b a) where
     omega (arith, ap (λ (q : Block T A). length q.slots) same),
   )
 
-  -- If a block shrinks to `k` slots, and these slots hold all its items, then the new block `b'` is
-  -- the block of a list with the same items and the capacity `k`.
+  -- Suppose that the first `k` slots of a block hold all items of its list. If the block shrinks to
+  -- these slots, then the new block `b'` is the block of a list with the same items and the
+  -- capacity `k`.
   pub settle-shrink : (b' : Block T A) (k : ℕ) {m : Cost} → length (items_in b.slots) ≤ k
       → k ≤ length b.slots
       → seen b' ≡ record (seen b) { slots = take k b.slots; alloc = Some a; cost = m }
@@ -85,7 +90,8 @@ module _ {T A : Type 0} {b : Block T A} {a : A} (t : IsThin b a) where
       ∙ (ap (λ (m : ℕ). take m (front xs k ++ rest)) (sym (length-front xs k room))
       ∙ take-append_seam (front xs k) rest)) room
 
--- A new block of `c` empty slots is the block of an empty list of capacity `c`.
+-- If `b` is a new block of `c` empty slots with the allocator `a`, then `b` is the block of an
+-- empty list of capacity `c`.
 pub settle-new : {T A : Type 0} (b : Block T A) (a : A) (c : ℕ) {k : Cost}
     → seen b ≡ record { slots = empty c; len = 0; alloc = Some a; cost = k } → Settled b a [] c
 settle-new b a c w = settled b a [] c (ap (λ v. v.slots) w ∙ front-none c) (ap (λ v. v.len) w)

@@ -1,5 +1,6 @@
 -- These lemmas are for calls that clone items. Most of them are about clones that are written into
--- the slots after the last item of a list.
+-- the empty slots after the last item of a list. The last two lemmas are about the items in a range
+-- of a list.
 use Rattle.std.proofs.Common.{◌≡◌, ◌+◌, ◌-◌, ◌<◌, ◌≤◌, [], ◌∷◌, ◌++◌, ◌∙◌, List, Option, Some, ap, append_assoc, arith, drop, get_or, length, refl, suc, sym, take, zero, ℕ}
 use Rattle.std.proofs.lemmas.List.{get_or-drop, get_or-take, get_or_append_left, length-drop, length-take-le, map_push, replicate-append-replicate}
 use Rattle.std.proofs.lemmas.List.Elements.{All-from_recursion, all_zip_more, length_all_zip, recursion_from_All}
@@ -16,14 +17,15 @@ use Rattle.thin_vec.proofs.ListLemmas.{length-full}
 
 module _ {T : Type 0} {clones : T → T → Type 0} {sources : List T} {n i : ℕ}
     {s s' : List (Option T)} (lays : LaysClones clones sources n i s s') where
-  -- If there are at least `n` items to clone, and the first `n` of them were cloned, then there are
-  -- exactly `n` clones.
+  -- If the list `sources` has at least `n` items, and its first `n` items were cloned, then
+  -- `copies`, the list of the clones, contains exactly `n` items.
   pub length-copies : n ≤ length sources → length lays.copies ≡ n
   length-copies few = sym (length_all_zip clones (take n sources) lays.copies lays.cloned)
       ∙ length-take-le n sources few
 
-  -- If clones of the first `n` items of `sources` are in the slots from index `i` onward, and a
-  -- clone of the next item is written into the next slot, then clones of `n + 1` items are there.
+  -- Suppose that clones of the first `n` items of `sources` are in the slots from index `i` onward.
+  -- If a clone `y` of the next item is written into the next slot, then clones of the first `n + 1`
+  -- items are in the slots from index `i` onward.
   pub lays-more : (y : T) {x : T} {s'' : List (Option T)} → n < length sources
       → i + length sources ≤ length s → x ≡ get_or sources n x → clones x y
       → s'' ≡ set s' (i + n) (Some y) → LaysClones clones sources (n + 1) i s s''
@@ -46,7 +48,7 @@ pub all-repeated : {T : Type 0} (clones : T → T → Type 0) (x : T) (n m : ℕ
 all-repeated {T} clones x n m ys cloned = All-from_recursion (clones x) ys (each n m ys cloned)
   where
     -- If `ys` consists of clones of the first `n` items of `replicate m x`, then every item of `ys`
-    -- is a clone of `x`, stated with `AllByRecursion`.
+    -- is a clone of `x`. The proof is by recursion.
     each : (n m : ℕ) (ys : List T) → AllZip clones (take n (replicate m x)) ys
         → AllByRecursion (clones x) ys
     each zero m [] e = tt
@@ -57,8 +59,9 @@ all-repeated {T} clones x n m ys cloned = All-from_recursion (clones x) ys (each
     each (suc n) (suc m) (y ∷ ys) e = (e.0, each n m ys e.1)
 
 module _ {T : Type 0} (clones : T → T → Type 0) where
-  -- If every clone of `x` equals `x`, then the list of the items `xs`, `n` clones of `x`, and `x`
-  -- itself is `xs ++ replicate m x`, where `m` is `n + 1`.
+  -- Suppose that every clone of `x` equals `x`. Suppose also that the list `ys` consists of the
+  -- items `xs`, followed by `n` clones of `x`, and that `zs` is the list `ys`, followed by `x`
+  -- itself. Then `zs` is `xs ++ replicate m x`, where `m` is `n + 1`.
   pub equal-repeated : (n m : ℕ) {x : T} {xs ys zs : List T} → CloneEquals clones x
       → AppendsRepeats clones x n xs ys → zs ≡ ys ++ x ∷ [] → m ≡ n + 1 → zs ≡ xs ++ replicate m x
   equal-repeated n m {x} {xs} equal repeats last one =
@@ -77,8 +80,9 @@ module _ {T : Type 0} (clones : T → T → Type 0) where
       each [] e = refl
       each (y ∷ ys) e = λ i. equal y e.0 i ∷ each ys e.1 i
 
--- The new list `v` has the capacity 0. So if room for `k` items is reserved, the new capacity is
--- `ruled_capacity rule R 0 k`, which the growth rule chooses.
+-- A new list `v` has no items, and its capacity is 0. So if room for `k` items is reserved in `v`,
+-- the new capacity is `ruled_capacity rule R 0 k`, the capacity that the growth rule chooses if the
+-- capacity 0 has to become at least `k`.
 pub capacity-new : {T A : Type 0} (rule : Rule) (R : RattleType) (v : Thin T A) (a : A) (k : ℕ)
     → IsNew v a → capacity_for rule R v (k - length v.items) ≡ ruled_capacity rule R 0 k
 capacity-new rule R v a k new =
@@ -87,14 +91,15 @@ capacity-new rule R v a k new =
     (let e : length v.items + (k - length v.items) ≡ k = omega (arith, ap length new.items) in
     e)
 
--- If the item of `xs` at index `i` does not satisfy the predicate `P`, then `All P xs` is false.
+-- If the item of `xs` at index `i` does not satisfy the predicate `P`, then `All P xs` is false:
+-- not all items of `xs` satisfy `P`.
 pub not-all : {X : Type 0} (P : X → Type 0) (xs : List X) (i : ℕ) → i < length xs
     → HoldsAt (λ x. ¬ (P x)) xs i → All P xs → ⊥
 not-all P [] i low never all = absurd (omega arith)
 not-all P (x ∷ xs) i low never all = never x (all i x low)
 
--- A rule set is a list of lemmas that a proof can pass to the prover. This one contains only the
--- lemma about the capacity of a new list.
+-- A rule set is a list of lemmas that a proof can pass to the prover. This rule set contains only
+-- `capacity-new`, the lemma about the capacity of a new list.
 pub ruleset new_lists = (capacity-new)
 
 module _ {T : Type 0} (xs : List T) (a b : ℕ) (within : b ≤ length xs) where

@@ -1,5 +1,5 @@
 -- These lemmas are for calls that append the items of an iterator to a list. They are about the
--- items that `next` yields, and about the list after the call.
+-- items that calls to `next` yield, and about the list after these items were appended.
 use Rattle.std.proofs.Common.{true, ◌≡◌, ℕ, ◌+◌, ◌-◌, ◌<◌, ◌≤◌, List, [], ◌∷◌, ◌++◌, inl, inr, length, length-append, Option, None, Some, refl, sym, ap, subst, ◌∙◌, arith, false}
 use Rattle.std.proofs.lemmas.Bool.{cases_lt}
 use Rattle.std.proofs.lemmas.List.{map-append}
@@ -29,15 +29,15 @@ use Rattle.thin_vec.proofs.ListLemmas.{length-full}
 use Rattle.thin_vec.proofs.ThinVecLemmas.{cap-kept, cost_at-more, cost_at-moves, cost_at-same}
 
 module _ {S X : Type 0} (steps : S → Option X → S → Type 0) where
-  -- If calls to `next` yielded the items `xs`, and one more call yielded `x`, then all these calls
-  -- yielded `xs ++ x ∷ []`.
+  -- If calls to `next` yielded the items `xs`, and one more call yielded `x`, then the whole
+  -- sequence of calls yielded `xs ++ x ∷ []`.
   pub yields-more : (s t u : S) (xs : List X) (x : X) → Yields steps s xs t → steps t (Some x) u
       → Yields steps s (xs ++ x ∷ []) u
   yields-more s t u [] x e now = (u, subst (λ r. steps r (Some x) u) (sym e) now, λ _. u)
   yields-more s t u (y ∷ ys) x e now = (e.0, e.1, yields-more e.0 t u ys x e.2 now)
 
-  -- If calls to `next` yielded the items `xs`, and further calls yielded the items `ys`, then all
-  -- these calls yielded `xs ++ ys`.
+  -- If calls to `next` yielded the items `xs`, and the following calls yielded the items `ys`, then
+  -- the whole sequence of calls yielded `xs ++ ys`.
   pub yields-join : (s t u : S) (xs ys : List X) → Yields steps s xs t → Yields steps t ys u
       → Yields steps s (xs ++ ys) u
   yields-join s t u [] ys e more = subst (λ r. Yields steps r ys u) (sym e) more
@@ -50,14 +50,16 @@ module _ {S X : Type 0} (steps : S → Option X → S → Type 0) where
   yields-first s u (x ∷ xs) ys e =
       let rest = yields-first e.0 u xs ys e.2 in (rest.0, (e.0, e.1, rest.1))
 
-  -- If calls to `next` yielded items that satisfy `P` and then returned `None`, then `WholeRun`
-  -- holds: these calls form a complete run of the iterator.
+  -- Suppose that calls to `next` yielded the items `xs` and then returned `None`, and that `xs`
+  -- satisfies the predicate `P`. Then `WholeRun` holds: these calls form a complete run of the
+  -- iterator, and the items of this run satisfy `P`.
   pub run_of : (s : S) (P : List X → Type 0) → (xs : List X) × Drains steps s xs × P xs
       → WholeRun steps s (λ p. P p.items)
   run_of s P all = (run steps s all.0 true (to_end steps s all.0 all.1), refl, refl, all.2)
 
-  -- If `r` is `Ok`, and calls to `next` yielded items that satisfy `P` and then returned `None`,
-  -- then `WholeRun` holds: these calls form a complete run of the iterator.
+  -- Suppose that the result `r` is `Ok`, and that calls to `next` yielded items that satisfy `P`
+  -- and then returned `None`. Then `WholeRun` holds: these calls form a complete run of the
+  -- iterator, and the items of this run satisfy `P`.
   pub run_of_ok : {E : Type 0} (s : S) (P : List X → Type 0) (r : Result (Unit {0}) E)
       → OnOk r ((xs : List X) × Drains steps s xs × P xs)
       → OnOk r (WholeRun steps s (λ p. P p.items))
@@ -65,16 +67,22 @@ module _ {S X : Type 0} (steps : S → Option X → S → Type 0) where
   run_of_ok s P (Err _) all = tt
 
 module _ {S X : Type 0} (steps : S → Option X → S → Type 0) (s : S) where
-  -- If calls to `next` yielded the items `xs` and then the item in `o` (if there is one), and all
-  -- these items satisfy `P`, then `SomeRun` holds: these calls form a run, which may be incomplete.
+  -- Suppose that calls to `next` yielded the items `xs` and then, if `o` is `Some`, the item in
+  -- `o`. If the list of all these items satisfies `P`, then `SomeRun` holds: the calls form a run
+  -- of the iterator, which may be incomplete, and the items of this run satisfy `P`.
   pub run_given : (xs : List X) (o : Option X) (t : S) (P : List X → Type 0)
       → Yields steps s (xs ++ option_to_list o) t → P (xs ++ option_to_list o)
       → SomeRun steps s (λ p. P p.items)
   run_given xs o t P gave h =
       (run steps s (xs ++ option_to_list o) false (t, gave, λ e. absurd (false≢true e)), refl, h)
 
-  -- If a call failed with the error `e`, and the iterator yielded items that satisfy `P` and then
-  -- the item in `hand e` (if there is one), then `SomeRun` holds for all these items.
+  -- Suppose that a call failed with the error `e`. Suppose also that calls to `next` yielded items
+  -- that satisfy `P`, and then the item in `hand e`, if there is one. Then `SomeRun` holds: these
+  -- calls form a run of the iterator, which may be incomplete. If the call did not fail, nothing is
+  -- claimed.
+  --
+  -- The parameter `can` says when `next` may be called again, and `remaining` bounds the number of
+  -- items that the iterator may still yield.
   pub run_given_err : {E : Type 0} (can : S → Type 0) (remaining : S → Count)
       (hand : E → Option X) (rest : E → S) (P : List X → Type 0) (r : Result (Unit {0}) E)
       → IfErr r (λ e. (xs : List X) × P xs
@@ -87,8 +95,8 @@ module _ {S X : Type 0} (steps : S → Option X → S → Type 0) (s : S) where
       (λ l. (xs : List X) × P xs × (l ≡ xs ++ option_to_list (hand e)))
       all.2.gave (all.0, all.1, refl)
 
--- If `o` is `Some`, then the statement `MatchOption o Q (λ _. P)` is the same as `P`. So it holds
--- if `P` holds.
+-- `MatchOption o Q (λ _. P)` is the statement `Q` if the option `o` is `None`, and the statement
+-- `P` if `o` is `Some`. So it holds if `o` is `Some` and `P` holds.
 pub match-some : {X : Type 0} (P Q : Type 0) (o : Option X) → IsSome o → P
     → MatchOption o Q (λ _. P)
 match-some P Q (Some x) some p = p
@@ -98,8 +106,9 @@ match-some P Q None some p = absurd (false≢true some)
 pub hand-empty : {X : Type 0} {o : Option X} → IsSome o → o ≡ None → ⊥
 hand-empty some none = false≢true (subst IsSome none some)
 
--- If the result `r` is an error whose field `in_hand` is `Some`, then
--- `MatchOption in_hand Q (λ _. P)` is the same as `P`. So it holds if `P` holds.
+-- Suppose that the result `r` is an error whose field `in_hand` is `Some`. If the statement `P`
+-- holds, then `MatchOption error.in_hand (Q error) (λ _. P)` holds, where `Q error` is the case for
+-- `None`.
 pub full-in-hand : {T S : Type 0} (P : Type 0) (Q : ExtendRefused T S → Type 0)
     (r : Result (Unit {0}) (ExtendRefused T S)) → IfErr r (λ error. IsSome error.in_hand)
     → OnErr r P → IfErr r (λ error. MatchOption error.in_hand (Q error) (λ _. P))
@@ -109,8 +118,9 @@ full-in-hand P Q (Err error) some at_capacity =
 
 module _ {T : Type 0} where
   module _ (s s' r : List (Option T)) where
-    -- If the items `xs` are written into the slots from index `i` onward, and `x` is written into
-    -- the next slot, then these slots hold `xs ++ x ∷ []`. All other slots are unchanged.
+    -- Suppose that the items `xs` are written into the slots from index `i` onward, and that `x` is
+    -- then written into the next slot. Then the slots from index `i` onward hold `xs ++ x ∷ []`,
+    -- and all other slots are unchanged.
     pub laid-more : (i k : ℕ) (xs : List T) (x : T) → s ≡ laid i (full xs) r → k ≡ i + length xs
         → k < length r → s' ≡ set s k (Some x) → s' ≡ laid i (full (xs ++ x ∷ [])) r
     laid-more i k xs x e at within e' =
@@ -121,13 +131,15 @@ module _ {T : Type 0} where
         (sym (map-append (λ (y : T). Some y) xs (x ∷ [])))))
 
 module _ {T A : Type 0} where
-  -- If `n` is 0, then adding `n` moves to the cost of the block `v` does not change `v`.
+  -- If `n` is 0, adding `n` moves to the cost of a block changes nothing.
   pub put-none : (v : Seen T A) (n : ℕ) → n ≡ 0 → v ≡ record v { cost = moving n v.cost }
   put-none v n none = λ i. record v
       { cost = (sym (moving-none v.cost) ∙ ap (λ (k : ℕ). moving k v.cost) (sym none)) i }
 
-  -- If the block `v` differs from `u` only in its slots and by `n` more moves, and one more item is
-  -- put into `v`, then the result differs from `u` only in its slots and by `k` more moves.
+  -- Suppose that the block `v` differs from the block `u` only in its slots and in its cost, which
+  -- counts `n` more moves. If one more item is put into a slot of `v`, then the resulting block `w`
+  -- differs from `u` only in its slots and in its cost, which counts `k` more moves. Here, `k` is
+  -- `n + 1`.
   pub put-more : (u : Seen T A) {v w : Seen T A} {s : List (Option T)} (n k : ℕ) → k ≡ n + 1
       → w ≡ record v { slots = s; cost = moving 1 v.cost }
       → v ≡ record u { slots = v.slots; cost = moving n u.cost }
@@ -141,8 +153,9 @@ module _ {T A : Type 0} where
         ∙ (moving-more 1 n u.cost ∙ ap (λ (m : ℕ). moving m u.cost) (sym one)))) i;
   }
 
--- If appending the items `xs` turned the list `v` into `w` at the cost of one move for each item,
--- then `w` differs from `v` only in its items and in this cost.
+-- Suppose that appending the items `xs` turned the list `v` into `w`, at the cost of one move for
+-- each item. Then `w` differs from `v` only in its items and in its cost, which has increased by
+-- `length w.items - length v.items` moves.
 pub spare-kept : {T A : Type 0} (v w : Thin T A) (xs : List T)
     → w ≡ record v { items = v.items ++ xs; cost = moving (length xs) v.cost }
     → w ≡ record v
@@ -153,7 +166,7 @@ spare-kept v w xs is =
     omega (arith, ap length items, length-append v.items xs) in
     is ∙ (λ i. record v { items = sym items i; cost = moving (many i) v.cost })
 
--- These lemmas are about a capacity that grows in several calls.
+-- The following lemmas are about how the capacity of a list grows over several calls.
 
 module _ (rule : Rule) (R : RattleType) (law : KeepsLaw rule) where
   -- `IsLoose rule R c d` states that a list may grow from the capacity `c` to the capacity `d`. It
@@ -164,35 +177,44 @@ module _ (rule : Rule) (R : RattleType) (law : KeepsLaw rule) where
       omega (arith, g.doubled, p.4)
 
   -- `IsLoose rule R c d` states that a list may grow from the capacity `c` to the capacity `d`.
-  -- This relation is transitive.
+  -- This relation is transitive: if it holds for `c` and `d`, and for `d` and `e`, then it holds
+  -- for `c` and `e`.
   pub loose-join : (c d e : ℕ) → IsLoose rule R c d → IsLoose rule R d e → IsLoose rule R c e
   loose-join c d e (inl p) q = subst (λ n. IsLoose rule R n e) p q
   loose-join c d e (inr p) q = inr (p.0, p.1, p.2, p.3, omega (arith, p.4, loose-le d e q))
 
-  -- If `IsKeptOrRuled` allows the capacity `d` for at most `n` items, then it also allows the equal
-  -- capacity `d'` for at most `m ≥ n` items.
+  -- `IsKeptOrRuled rule R c d n` states that the new capacity `d` is the old capacity `c`, or a
+  -- capacity that the growth rule may choose when a list needs room for at most `n` items. If this
+  -- is true for `d` and `n`, then it is also true for every equal capacity `d'` and every number
+  -- `m ≥ n`.
   pub ruled-more : (c n m : ℕ) {d d' : ℕ} → d' ≡ d → n ≤ m → IsKeptOrRuled rule R c d n
       → IsKeptOrRuled rule R c d' m
   ruled-more c n m same more (inl e) = inl (same ∙ e)
   ruled-more c n m same more (inr p) =
       inr (p.0, p.1, p.2, omega (arith, p.3, more), p.4 ∙ ap Some (sym same))
 
-  -- If `IsKeptOrRuled rule R d e n` holds, and `e ≡ d` implies `P`, then `P` holds, or the growth
-  -- rule may choose the capacity `e` for at most `n` items.
+  -- `IsKeptOrRuled rule R d e n` states that the new capacity `e` is the old capacity `d`, or a
+  -- capacity that the growth rule may choose for at most `n` items. Suppose that this is true, and
+  -- that `e ≡ d` implies `P`. Then `P` holds, or `IsKeptOrRuled rule R c e n` holds, where `c` may
+  -- be any capacity.
   pub ruled-after : (c d e n : ℕ) (P : Type 0) → IsKeptOrRuled rule R d e n → (e ≡ d → P)
       → IsKeptOrRuled rule R c e n ⊎ P
   ruled-after c d e n P (inl same) f = inr (f same)
   ruled-after c d e n P (inr p) f = inl (inr p)
 
-  -- If a new list has room for exactly `h` items, where `h` is a possible size hint of the
-  -- iterator, and `IsKeptOrRuled` allows its later capacity `d`, then `IsCollected` holds for `d`.
+  -- `IsCollected` states that a list that was made from the items of an iterator may have the
+  -- capacity `d`. Suppose that the list was made with the capacity `c`, exactly enough for `h`
+  -- items, where `h` is a possible lower bound in the size hint of an iterator that yields at most
+  -- `left` items. If `IsKeptOrRuled` allows the change from `c` to `d` for at most `n` items, then
+  -- `IsCollected` holds.
   pub collected-after : {c d : ℕ} (n h : ℕ) (left : Count) → IsWithinCount h left
       → exact_capacity R 0 h ≡ Some c → IsKeptOrRuled rule R c d n → IsCollected rule R d n left
   collected-after n h left hint e (inl same) = inr (h, hint, e ∙ ap Some (sym same))
   collected-after n h left hint e (inr p) = inl p
 
-  -- If a call that reserves room for `k` more items in the list `v` chooses the capacity `d`, then
-  -- `IsLoose` holds: a list may grow from the old capacity to `d`.
+  -- Suppose that `d` is the capacity of the list `v` after a call that reserves room for `k` more
+  -- items. Then `IsLoose` holds, which states that a list may grow from the old capacity of `v` to
+  -- `d`.
   pub loose-ruled : {T A : Type 0} (v : Thin T A) (k d : ℕ) → capacity_for rule R v k ≡ Some d
       → IsLoose rule R v.capacity d
   loose-ruled v k d e =
@@ -202,9 +224,10 @@ module _ (rule : Rule) (R : RattleType) (law : KeepsLaw rule) where
       ]
 
 module _ {T A : Type 0} where
-  -- If appending `k` items took `k` moves, and a reallocation (if any) copied no more items than it
-  -- added slots, then `CostsAdding v w 0` holds: apart from the reallocation, no old item was
-  -- moved.
+  -- Suppose that appending `k` items turned the list `v` into `w`, with `k` moves, and with one
+  -- reallocation if the capacity changed. Suppose also that this reallocation copied at most `g`
+  -- items, where `g` is the number of slots by which the capacity grew. Then `CostsAdding v w 0`
+  -- holds: apart from the reallocation, no old item was moved.
   pub filled-at : (v w : Thin T A) (k : ℕ) → w.cost ≡ moving k (cost_at v w.capacity)
       → length w.items ≡ length v.items + k
       → (cost_at v w.capacity).grown + v.capacity ≤ v.cost.grown + w.capacity → CostsAdding v w 0
@@ -220,9 +243,10 @@ module _ {T A : Type 0} where
         (omega (arith, ap (λ c. c.blocks) f), omega (arith, ap (λ c. c.grown) f));
   }
 
-  -- If reserving room did not change the items, and a reallocation (if any) copied no more items
-  -- than it added slots, then `CostsAdding v w 0` holds: apart from the reallocation, no old item
-  -- was moved.
+  -- Suppose that reserving room turned the list `v` into `w`, with one reallocation if the capacity
+  -- changed, and that the items did not change. Suppose also that this reallocation copied at most
+  -- `g` items, where `g` is the number of slots by which the capacity grew. Then
+  -- `CostsAdding v w 0` holds: apart from the reallocation, no old item was moved.
   pub filled-reserved : (v w : Thin T A) → w.cost ≡ cost_at v w.capacity
       → w.items ≡ v.items
       → (cost_at v w.capacity).grown + v.capacity ≤ v.cost.grown + w.capacity → CostsAdding v w 0
@@ -237,8 +261,8 @@ module _ {T A : Type 0} where
             z) i;
       })) (omega (arith, ap length n)) few
 
-  -- If appending `k` items took `k` moves, and the capacity did not change, then
-  -- `CostsAdding v w 0` holds: no old item was moved.
+  -- Suppose that appending `k` items turned the list `v` into `w`, with `k` moves, and that the
+  -- capacity did not change. Then `CostsAdding v w 0` holds: no old item was moved.
   pub filled-spare : (v w : Thin T A) (k : ℕ)
       → w ≡ record v { items = w.items; cost = moving k v.cost }
       → length w.items ≡ length v.items + k → CostsAdding v w 0
@@ -248,8 +272,10 @@ module _ {T A : Type 0} where
       filled-at v w k (ap (λ u. u.cost) e ∙ ap (λ c. moving k c) (sym kept)) n
       (omega (arith, ap (λ c. c.grown) kept, same))
 
-  -- If adding items turned the list `v` into `u` with at most `m` moves of old items, and `u` into
-  -- `w` with at most `n`, and `m + n ≤ k`, then `CostsAdding v w k` holds for both steps together.
+  -- `CostsAdding v w k` states that adding items to the list `v`, which became `w`, moved old items
+  -- at most `k` times in total. Suppose that `CostsAdding v u m` and `CostsAdding u w n` hold, that
+  -- neither step made the capacity smaller, and that `u` is not shorter than `v`. If `m + n ≤ k`,
+  -- then `CostsAdding v w k` holds.
   pub adding-join : {v u w : Thin T A} (m n k : ℕ) → m + n ≤ k → CostsAdding v u m
       → CostsAdding u w n → v.capacity ≤ u.capacity → u.capacity ≤ w.capacity
       → length v.items ≤ length u.items → CostsAdding v w k
@@ -272,8 +298,9 @@ module _ {T A : Type 0} where
     ];
   }
 
-  -- `CostsAdding v w n` states that adding items to `v` moved old items at most `n` times. If it
-  -- holds for 0, then it holds for every `n`.
+  -- `CostsAdding v w n` bounds the cost of adding items to the list `v`, which became `w`: the old
+  -- items were moved at most `n` times in total. So if `CostsAdding v w 0` holds, then `CostsAdding
+  -- v w n` holds for every `n`.
   pub adding-more : (v w : Thin T A) (n : ℕ) → CostsAdding v w 0 → CostsAdding v w n
   adding-more v w n p = record {
     copied = p.copied;

@@ -1,5 +1,5 @@
--- These lemmas say what the block of a list contains during and after a call that inserts or
--- removes items.
+-- These lemmas are for calls that insert or remove items. They say what the block of a list
+-- contains during such a call and after it.
 use Rattle.thin_vec.proofs.list.CapacityLemmas.{front-none}
 use Rattle.std.proofs.Common.{◌≡◌, ◌≢◌, ℕ, zero, suc, ◌+◌, ◌-◌, ◌<◌, ◌≤◌, List, [], ◌∷◌, ◌++◌, length, take, drop, Option, Some, None, refl, sym, ap, ◌∙◌, subst, arith, get_or, length-append, append_assoc}
 use Rattle.std.proofs.Math.Seq.{drop-length, take-append_seam}
@@ -18,11 +18,11 @@ use Rattle.thin_block.proofs.SlotsLemmas.{same_or_not, the_item, moved_left, mov
 use lib.Seq.{set-set, take-set-le}
 use mathlib.Core.Logic.{⊎_elim}
 
--- These lemmas are about moving adjacent items by one slot.
+-- The following lemmas are about moving adjacent items by one slot.
 
 module _ {T : Type 0} where
-  -- If the item in slot `i` is removed from the row `front xs c`, and all later items are moved
-  -- down by one slot, then the row becomes `front (remove xs i) c`.
+  -- The row of slots `front xs c` begins with the items `xs`. If the item in slot `i` is removed,
+  -- and all later items are moved down by one slot, then the row becomes `front (remove xs i) c`.
   pub front-remove : (xs : List T) (c i : ℕ) {j k : ℕ} → i < length xs → length xs ≤ c → j ≡ i + 1
       → k ≡ length xs - j → moved j i k (set (front xs c) i None) ≡ front (remove xs i) c
   front-remove [] c i h l e n = absurd (omega arith)
@@ -42,12 +42,14 @@ module _ {T : Type 0} where
       (replicate-append-replicate 1 (c - length xs) None
       ∙ ap (λ (z : ℕ). replicate z None) m))))
 
-  -- In this module, the items of `xs` from index `i` onward are moved up by one slot, to make room
-  -- for a new item.
+  -- In this module, a row of `c` slots begins with the items `xs`. The `k` items from index `i`
+  -- onward are moved up by one slot, to make room for a new item at index `i`. Here, `j` is
+  -- `i + 1`.
   module _ (xs : List T) (c i : ℕ) {j k : ℕ} (h : i ≤ length xs) (l : length xs < c) (e : j ≡ i + 1)
       (n : k ≡ length xs - i) where
-    -- `after` contains the slots after slot `i` when the items from index `i` onward have been
-    -- moved up by one slot: first the moved items, then empty slots.
+    -- Suppose that the items of `xs` from index `i` onward have been moved up by one slot. Then
+    -- `after` is the row of slots that follow slot `i`: first the slots of the moved items, and
+    -- then empty slots.
     after : List (Option T)
     after = full (drop i xs) ++ replicate (c - length xs - 1) None
 
@@ -56,8 +58,9 @@ module _ {T : Type 0} where
     before : i ≡ length (full (take i xs))
     before = omega (arith, length-full (take i xs), length-take i xs)
 
-    -- If the items from index `i` onward are moved up by one slot, then slot `i` is empty. The
-    -- first `i` items are before it, and the moved items are directly after it.
+    -- After the items from index `i` onward have been moved up by one slot, slot `i` is empty. The
+    -- first `i` items are in the slots before it, and the moved items are in the slots directly
+    -- after it.
     apart : moved i j k (front xs c) ≡ full (take i xs) ++ (None ∷ after)
     unfolding after
     apart =
@@ -75,8 +78,8 @@ module _ {T : Type 0} where
         ap (λ (ys : List (Option T)). moved i j k ys) s
         ∙ moved_right i j k 1 (full a) (full b) r before e q
 
-    -- If the items of `xs` from index `i` onward are moved up by one slot, and `v` is written into
-    -- slot `i`, then the row becomes `front (insert xs i v) c`.
+    -- If the items of `xs` from index `i` onward are moved up by one slot, and `v` is then written
+    -- into slot `i`, the first slots hold `insert xs i v`, and all other slots are empty.
     pub front-insert : (v : T)
         → set (moved i j k (front xs c)) i (Some v) ≡ front (insert xs i v) c
     unfolding after
@@ -97,8 +100,9 @@ module _ {T : Type 0} where
         ∙ get_or_at (full (take i xs)) None after None i (sym before)
 
 module _ {T A : Type 0} {b : Block T A} {a : A} (t : IsThin b a) where
-  -- If the item in slot `i` is removed, all later items are moved down by one slot, and the stored
-  -- length is decremented, then `b'` is the block of the list without the item at index `i`.
+  -- Suppose that `b` is the block of a list. If the item in slot `i` is removed, all later items
+  -- are moved down by one slot, and the stored length is decremented, then the new block `b'` is
+  -- the block of the list without the item at index `i`.
   pub settle-remove : (b' : Block T A) (i : ℕ) {j k : ℕ} → i < length (items_in b.slots)
       → j ≡ i + 1 → k ≡ b.len - j → {l : ℕ} {m : Cost} → l ≡ b.len
       → IsWritten b b' (moved j i k (set b.slots i None)) (l - 1) m
@@ -111,8 +115,9 @@ module _ {T A : Type 0} {b : Block T A} {a : A} (t : IsThin b a) where
       (omega (arith, len, t.packed.len, length-remove xs i h))
       (omega (arith, thin-room b a t, length-remove xs i h))
 
-  -- If the items from index `i` onward are moved up by one slot, `v` is written into slot `i`, and
-  -- the stored length is incremented, then `b'` is the block of the list with `v` inserted.
+  -- Suppose that `b` is the block of a list. If the items from index `i` onward are moved up by one
+  -- slot, `v` is written into slot `i`, and the stored length is incremented, then the new block
+  -- `b'` is the block of the list with `v` inserted at index `i`.
   pub settle-insert : (b' : Block T A) (i : ℕ) (v : T) {j k : ℕ} → i ≤ length (items_in b.slots)
       → b.len < length b.slots → j ≡ i + 1 → k ≡ b.len - i → {l : ℕ} {m : Cost} → l ≡ b.len
       → IsWritten b b' (set (moved i j k b.slots) i (Some v)) (l + 1) m
@@ -134,7 +139,7 @@ module _ {T A : Type 0} {b : Block T A} {a : A} (t : IsThin b a) where
       ∙ front-gap (items_in b.slots) (length b.slots) i h (omega (arith, o, t.packed.len)) e
       (omega (arith, n, t.packed.len))
 
--- These lemmas are about the removal of items.
+-- The following lemmas are about the removal of items.
 
 module _ {T : Type 0} where
   -- `emptying xs k i c` is the row `front xs c` after the slots `k..i` have been emptied. (The
@@ -183,7 +188,7 @@ module _ {T : Type 0} where
     post : List (Option T)
     post = full (drop (i + 1) xs) ++ empty (c - length xs)
 
-    -- The list `pre` contains the slots before slot `i`, so its length is `i`.
+    -- The list `pre`, which contains all slots before slot `i`, has length `i`.
     length-pre : length pre ≡ i
     unfolding pre
     length-pre =
@@ -195,8 +200,8 @@ module _ {T : Type 0} where
           length-replicate {A = Option T} (i - k) None,
         )
 
-    -- The row `emptying xs k i c` consists of the slots before slot `i`, slot `i` itself with the
-    -- item of `xs` at index `i`, and the slots after it.
+    -- The row of slots `emptying xs k i c` consists of the slots before slot `i`, then slot `i`
+    -- itself, which holds the item of `xs` at index `i`, and then the slots after slot `i`.
     split : emptying xs k i c ≡ pre ++ (Some (item-at xs i bound).0 ∷ post)
     unfolding pre post
     split =
@@ -212,8 +217,8 @@ module _ {T : Type 0} where
     emptying-filled = rw (ap (λ (s : List (Option T)). slot s i) split
         ∙ get_or_at pre (Some (item-at xs i bound).0) post None i length-pre) refl
 
-    -- If `k ≤ i < length xs`, then emptying slot `i` turns the row `emptying xs k i c` into
-    -- `emptying xs k (i + 1) c`.
+    -- If `k ≤ i` and `i < length xs`, emptying slot `i` turns the row of slots `emptying xs k i c`
+    -- into `emptying xs k (i + 1) c`.
     pub emptying-take : set (emptying xs k i c) i None ≡ emptying xs k (i + 1) c
     unfolding pre post
     emptying-take =
@@ -227,7 +232,7 @@ module _ {T : Type 0} where
         (replicate-append-replicate (i - k) 1 None ∙ ap empty more))))
 
   -- If all slots of the row `front xs c` from index `k` onward are emptied, then the row becomes
-  -- `front (take k xs) c`.
+  -- `front (take k xs) c`: slots with the first `k` items of `xs`, followed by empty slots.
   pub emptying-all : (xs : List T) (k c : ℕ) → k ≤ length xs → length xs ≤ c
       → emptying xs k (length xs) c ≡ front (take k xs) c
   emptying-all xs k c order room =
@@ -238,8 +243,8 @@ module _ {T : Type 0} where
       ∙ ap (λ (s : List (Option T)). full (take k xs) ++ s)
       (replicate-append-replicate (length xs - k) (c - length xs) None ∙ ap empty many)
 
-  -- If `i < length xs`, then writing `m` into slot `i` of the row `full xs ++ s` replaces the item
-  -- of `xs` at index `i` with `m`.
+  -- The row of slots `full xs ++ s` begins with the items `xs`. If `i` is less than the length of
+  -- `xs`, then writing `m` into slot `i` replaces the item of `xs` at index `i` with `m`.
   pub full-set : (xs : List T) (s : List (Option T)) (i : ℕ) (m : T) → i < length xs
       → set (full xs ++ s) i (Some m) ≡ full (set xs i m) ++ s
   full-set [] s i m h = absurd (omega arith)
@@ -247,9 +252,10 @@ module _ {T : Type 0} where
   full-set (x ∷ xs) s (suc i) m h = ap (λ (r : List (Option T)). Some x ∷ r)
       (full-set xs s i m (omega arith))
 
-  -- If the first slots of a row hold the items `ys` and then `m`, and `m` replaces the item in slot
-  -- `i < length ys`, then the first slots hold the items that the specification function
-  -- `swap_remove` returns.
+  -- Suppose that the first slots of a row of `c` slots hold the items `ys` and then the item `m`,
+  -- and that all other slots are empty. If `m` is moved into slot `i`, in place of an item of `ys`,
+  -- then the first slots hold the items that the specification function `swap_remove` returns for
+  -- index `i`. (This function uses its argument `v` only if the list is empty.)
   front-swap_remove : (ys : List T) (c i : ℕ) (v m : T) → i < length ys → length (ys ++ m ∷ []) ≤ c
       → set (set (set (front (ys ++ m ∷ []) c) i None) (length ys) None) i (Some m) ≡ front
       (swap_remove (ys ++ m ∷ []) i v) c
@@ -275,8 +281,8 @@ module _ {T : Type 0} where
       ∙ ap (λ (l : List T). front l c) (sym cut))))
 
 module _ {T A : Type 0} where
-  -- If all slots of the block `b` are emptied, and the stored length becomes 0, then `b'` is the
-  -- block of an empty list with the same capacity.
+  -- Suppose that `b` is the block of a list. If all slots are emptied, and the stored length
+  -- becomes 0, then the new block `b'` is the block of an empty list with the same capacity.
   pub settle-emptied : {b : Block T A} {a : A} → IsThin b a → (b' : Block T A)
       {s : List (Option T)} {m : Cost} → IsWritten b b' s 0 m → s ≡ empty (length b.slots)
       → Settled b' a [] (length b.slots)
@@ -284,9 +290,9 @@ module _ {T A : Type 0} where
       settle-front t b' [] (length b.slots) w (e ∙ front-none (length b.slots)) refl (omega arith)
 
   module _ {b : Block T A} {a : A} (t : IsThin b a) (b' : Block T A) (i last : ℕ) where
-    -- If the last item `m` replaces the item in slot `i`, and the stored length is decremented,
-    -- then `b'` is the block of the list after `swap_remove` at index `i`. (`v` is used only if the
-    -- list is empty.)
+    -- Suppose that slot `i` is emptied, the last item is moved from slot `last` into slot `i`, and
+    -- the stored length is decremented. If `i` is less than `last`, then the new block `b'` is the
+    -- block of the list after `swap_remove` at index `i`.
     settle-swap_remove : (v : T) {m : T} → i < last → last + 1 ≡ b.len → slot b.slots last ≡ Some m
         → {k : Cost} → IsWritten b b' (set (set (set b.slots i None) last None) i (Some m)) last k
         → Settled b' a (swap_remove (items_in b.slots) i v) (length b.slots)
@@ -311,8 +317,9 @@ module _ {T A : Type 0} where
         (omega (arith, cut, room, length_push ys m, long)) in
         subst (λ (l : List T). Settled b' a (swap_remove l i v) c) (sym at_end) done
       where
-        -- If the list `ys` has `k` items, and `i < k`, then `swap_remove` at index `i` of
-        -- `ys ++ m ∷ []` results in `k` items. (`v` is used only if the list is empty.)
+        -- If the list `ys` has `k` items, and `i < k`, then the specification function
+        -- `swap_remove`, applied to `ys ++ m ∷ []` at index `i`, returns a list of `k` items. (This
+        -- function uses its argument `v` only if the list is empty.)
         length-swap_remove : (ys : List T) (i : ℕ) (v m : T) {k : ℕ} → length ys ≡ k → i < k
             → length (swap_remove (ys ++ m ∷ []) i v) ≡ k
         length-swap_remove ys i v m {k} long lt =
@@ -326,8 +333,9 @@ module _ {T A : Type 0} where
               long,
             )
 
-    -- If the item in the last filled slot `last` is moved into slot `i ≤ last`, and the stored
-    -- length is decremented, then `b'` is the block of the list after `swap_remove` at index `i`.
+    -- Suppose that the item in the last filled slot is moved into slot `i`, and that the stored
+    -- length is decremented. Then the new block `b'` is the block of the list after `swap_remove`
+    -- at index `i`. Slot `i` may itself be the last filled slot.
     pub settle-replaced : (v : T) → i ≤ last → last + 1 ≡ b.len → slot b.slots i ≡ Some v
         → {k : Cost} → IsWritten b b' (set (set b.slots i (slot b.slots last)) last None) last k
         → Settled b' a (swap_remove (items_in b.slots) i v) (length b.slots)

@@ -1,5 +1,5 @@
--- These lemmas prove that calls satisfy `Keeps`, `Reserves` and `TellsOverflow`, which say how the
--- capacity of a list may change, and which error a call returns.
+-- These lemmas prove that calls satisfy `Keeps`, `Reserves` and `TellsOverflow`. These three
+-- definitions say how a call may change the capacity of a list, and which error the call returns.
 use Rattle.std.proofs.Common.{◌≡◌, ℕ, ◌+◌, Err, Ok, Option, Result, Some, ap, arith, inl, inr, length, sym, ◌∙◌}
 use Rattle.std.specs.Borrow.{RattleType}
 use Rattle.std.specs.Prelude.{IfErr}
@@ -12,16 +12,19 @@ use Rattle.thin_vec.specs.Cheap.{IsCheap}
 use Rattle.thin_vec.specs.List.Capacity.{Keeps, Reserves, TellsOverflow, TellsOverflowOf}
 use Rattle.thin_vec.specs.ThinVec.{HasRoomFor, IsWithin, Thin, capacity_for}
 
--- `TellsOverflow named r` states that `r` is the error `CapacityOverflow` if and only if `named` is
--- `None`. So it holds if `r` is `Ok x` and `named` is `Some n`.
+-- `TellsOverflow named r` states that the result `r` of a call is the error `CapacityOverflow` if
+-- and only if `named` is `None`. Here, `named` is the capacity that the call needs, or `None` if
+-- this capacity is too large. So `TellsOverflow` holds if `r` is `Ok x` and `named` is `Some n`.
 pub tells-ok : {X : Type 0} (x : X) (named : Option ℕ) (n : ℕ) → named ≡ Some n
     → TellsOverflow named (Ok x)
 tells-ok x named n is = record {
   overflow = (λ e. ok-err x CapacityOverflow e, λ none. absurd (none-some none is));
 }
 
--- If `m` items of the type `R` need the same capacity as `n` items of the type `S`, then
--- `TellsOverflowOf` holds for `S`, `n` and `Ok y` if it holds for `R`, `m` and `Ok x`.
+-- `TellsOverflowOf R m r` states that making a list for exactly `m` items of the type `R` returns
+-- `CapacityOverflow` (as the result `r`) if and only if the capacity of the list would be too
+-- large. If `m` items of the type `R` and `n` items of the type `S` need the same capacity, then
+-- `TellsOverflowOf` for `R`, `m` and `Ok x` implies `TellsOverflowOf` for `S`, `n` and `Ok y`.
 pub tells-made : {X : Type 0} {x y : X} (R S : RattleType) (m n : ℕ)
     → exact_capacity R 0 m ≡ exact_capacity S 0 n
     → TellsOverflowOf R m (let r : Result X ThinVecError = Ok x in r)
@@ -33,23 +36,26 @@ tells-made {x = x} {y} R S m n e told = record {
   );
 }
 
--- If `m` items of the type `R` need the same capacity as `n` items of the type `S`, then
--- `TellsOverflowOf` holds for `S`, `n` and `r` if it holds for `R`, `m` and `r`.
+-- `TellsOverflowOf R m r` states that making a list for exactly `m` items of the type `R` returns
+-- `CapacityOverflow` (as the result `r`) if and only if the capacity of the list would be too
+-- large. If `m` items of the type `R` and `n` items of the type `S` need the same capacity, then
+-- `TellsOverflowOf R m r` implies `TellsOverflowOf S n r`.
 pub tells-same : {X : Type 0} {r : Result X ThinVecError} (R S : RattleType) (m n : ℕ)
     → exact_capacity R 0 m ≡ exact_capacity S 0 n → TellsOverflowOf R m r → TellsOverflowOf S n r
 tells-same R S m n e told = record {
   overflow = (λ over. sym e ∙ told.overflow.0 over, λ none. told.overflow.1 (e ∙ none));
 }
 
--- An error cannot be both `OutOfMemory` and `CapacityOverflow`. So every statement `P` follows if
--- `cause` is both.
+-- An error cannot be both `OutOfMemory` and `CapacityOverflow`. So every statement `P` follows from
+-- the assumption that `cause` is both.
 memory-no-overflow : {P : Type 0} (cause : ThinVecError) → cause ≡ OutOfMemory
     → cause ≡ CapacityOverflow → P
 memory-no-overflow cause is over = cc
 
 module _ {T A : Type 0} (R : RattleType) (v : Thin T A) where
-  -- If a call changes neither the capacity, nor the number of requests for memory, nor the number
-  -- of copied items, then it preserves `IsCheap`, the bound on the cost of growth.
+  -- Suppose that the list `v` became `w`, and that the capacity, the number of requests for memory
+  -- and the number of copied items did not change. If `v` satisfies `IsCheap`, which bounds the
+  -- cost of growth, then `w` satisfies `IsCheap` too.
   cheap-kept : (w : Thin T A) → w.capacity ≡ v.capacity
       → (w.cost.blocks ≡ v.cost.blocks) × (w.cost.grown ≡ v.cost.grown) → IsCheap v → IsCheap w
   cheap-kept w capacity (blocks, grown) cheap = record {
@@ -61,8 +67,10 @@ module _ {T A : Type 0} (R : RattleType) (v : Thin T A) where
         rw (blocks, capacity) old;
   }
 
-  -- `Keeps R v w` holds if the allocator, the capacity, the number of requests for memory and the
-  -- number of copied items do not change, and both lists satisfy `IsWithin`.
+  -- Suppose that the lists `v` and `w` have the same allocator, the same capacity, and the same
+  -- counts of requests for memory and of copied items. If both lists satisfy `IsWithin`, which
+  -- limits their length and capacity, then `Keeps R v w` holds. Every call that may grow a list
+  -- guarantees `Keeps`.
   pub keeps-kept : (w : Thin T A) → w.alloc ≡ v.alloc → w.capacity ≡ v.capacity
       → (w.cost.blocks ≡ v.cost.blocks) × (w.cost.grown ≡ v.cost.grown)
       → IsWithin R v × IsWithin R w → Keeps R v w
@@ -74,8 +82,9 @@ module _ {T A : Type 0} (R : RattleType) (v : Thin T A) where
   }
 
   module _ (rule : Rule) where
-    -- `Reserves` holds if the list `v` already has room for `k` more items, the call returns `Ok`,
-    -- and the capacity does not change.
+    -- `Reserves` states how a call that needs room for `k` more items may change the capacity, and
+    -- when the call fails. It holds if the list `v` already has room for `k` more items, the call
+    -- returns `Ok`, and the capacity does not change.
     pub reserves-room : {X : Type 0} {x : X} (k : ℕ) (w : Thin T A) → HasRoomFor v k
         → w.capacity ≡ v.capacity → Reserves rule R k v w (Ok x)
     reserves-room {x = x} k w room capacity =
@@ -88,9 +97,11 @@ module _ {T A : Type 0} (R : RattleType) (v : Thin T A) where
           overflow = (λ e. ok-err x CapacityOverflow e, λ none. absurd (none-some none named));
         }
 
-    -- `Reserves` holds for a call of two steps if it holds for the first step, and the second step
-    -- fails only with `OutOfMemory` and does not change the capacity. `S` can be any item type that
-    -- needs the same capacity.
+    -- `Reserves` states how a call that needs room for `k` more items may change the capacity, and
+    -- when the call fails. Suppose that a call consists of two steps. The first step changes the
+    -- list `v` to `u`, returns `Ok`, and satisfies `Reserves`. The second step changes `u` to `w`,
+    -- keeps the capacity, and fails only with `OutOfMemory`. Then the whole call satisfies
+    -- `Reserves`, also for each item type `S` that needs the same capacity.
     pub reserves-then : {X Y : Type 0} {x : X} (S : RattleType) (k l : ℕ) (u w : Thin T A)
         (r : Result Y ThinVecError) → l ≡ k
         → capacity_for rule S v l ≡ capacity_for rule R v k → w.capacity ≡ u.capacity
@@ -116,8 +127,11 @@ module _ {T A : Type 0} (R : RattleType) (v : Thin T A) where
           );
         }
 
-    -- If a call that fails with `cause` and does not change the list satisfies `Reserves`, then so
-    -- does another such call for `l` items of the type `S`, if these items need the same capacity.
+    -- `Reserves` states how a call that needs room for more items may change the capacity, and when
+    -- the call fails. Suppose that a call for `k` more items fails with the error `cause`, does not
+    -- change the list, and satisfies `Reserves`. Then a call for `l` items of the type `S` that
+    -- fails in the same way also satisfies `Reserves`, if `l` is `k` and both calls need the same
+    -- capacity.
     pub reserves-failed : {X Y : Type 0} (S : RattleType) (k l : ℕ) (w : Thin T A)
         (cause : ThinVecError) → l ≡ k
         → capacity_for rule S v l ≡ capacity_for rule R v k

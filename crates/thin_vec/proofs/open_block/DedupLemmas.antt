@@ -1,5 +1,7 @@
--- These lemmas are for the `dedup` methods, which compare each item with the last kept item. They
--- say how the view of an open block changes if a method writes into one or two slots.
+-- These lemmas are for the `dedup` methods, which compare each item with the last kept item. During
+-- such a call, the block of the list may have empty slots between its items, and is called an open
+-- block. The lemmas say how contracts see an open block after items were written into one or two of
+-- its slots.
 use Rattle.std.proofs.Common.{◌≡◌, ◌≢◌, ℕ, zero, suc, ◌+◌, ◌-◌, ◌<◌, ◌≤◌, List, [], ◌∷◌, ◌++◌, Option, Some, None, length, take, drop, refl, sym, ap, ◌∙◌, arith, length-append, append_assoc, get_or}
 use Rattle.std.proofs.lemmas.List.{drop_at, get_or_at, get_or-set_other, length-drop, length-take-le, length_push, set_at, take_at}
 use Rattle.std.specs.Prelude.{IsSome, slice_range}
@@ -20,7 +22,7 @@ use Rattle.thin_vec.proofs.ListLemmas.{length-full}
 use Rattle.thin_vec.proofs.open_block.SiftLemmas.{row-at, same-past, write-step, written}
 
 module _ {T : Type 0} where
-  -- These lemmas are about two items in neighboring slots.
+  -- The following lemmas are about two items in neighboring slots.
 
   -- `over s 0 ws` is the row of slots `s` after the items `ws` have been written into its first
   -- slots. So `over s 0 []` is `s`.
@@ -29,15 +31,16 @@ module _ {T : Type 0} where
   over-none (None ∷ s) = refl
   over-none (Some x ∷ s) = refl
 
-  -- `Neighbours` states that the slots `i` and `i + 1` hold the items `k` and `x`, and that writing
-  -- `k'` and `x'` into them at once has the same result as writing them one after the other.
+  -- `Neighbours s i k x k' x'` states that the slots `i` and `i + 1` of the row `s` hold the items
+  -- `k` and `x`. It also states that writing the new items `k'` and `x'` into these two slots at
+  -- once has the same result as writing them one after the other.
   pub record Neighbours (s : List (Option T)) (i : ℕ) (k x k' x' : T) : Type 0 where
     pub first : slot s i ≡ Some k
     pub second : slot s (suc i) ≡ Some x
     pub now : over s i (k' ∷ x' ∷ []) ≡ set (set s i (Some k')) (suc i) (Some x')
 
-  -- If the slots `i` and `i + 1` hold the items `k` and `x`, then `Neighbours` holds for any new
-  -- items `k'` and `x'`.
+  -- If the slots `i` and `i + 1` hold the items `k` and `x`, then `Neighbours` holds for these
+  -- items and any new items `k'` and `x'`.
   pub neighbours : (s : List (Option T)) (i : ℕ) (k x k' x' : T) → Some k ∷ Some x ∷ [] ≡ take 2
       (drop i s) → Neighbours s i k x k' x'
   neighbours [] zero k x k' x' e = absurd (cons-not-nil e)
@@ -56,12 +59,13 @@ module _ {T : Type 0} where
       let h = neighbours s i k x k' x' e in
       record { first = h.first; second = h.second; now = ap (λ (r : List (Option T)). p ∷ r) h.now }
 
-  -- In this module, the slice `all` contains the items in the slots `i` and `i + 1`. It is split
-  -- into the slices `a` and `b`, which contain one item each.
+  -- In this module, the slice `all` contains the two items in the slots `i` and `i + 1`. It is
+  -- split into the slices `a` and `b`, which contain one item each.
   module _ (s : List (Option T)) (i : ℕ) (all a b : List T) (within : i + 2 ≤ length s)
       (lent : full all ≡ slice_range s i (i + 2)) (cut : all ≡ a ++ b) (one : length a ≡ 1) where
-    -- If the slices `a` and `b` consist of the items `k` and `x`, then `Neighbours` holds, and
-    -- writing `k'` into `a` and `x'` into `b` changes only the slots `i` and `i + 1`.
+    -- Suppose that the slice `a` consists of the item `k`, and the slice `b` of the item `x`. Then
+    -- `Neighbours` holds, so the slots `i` and `i + 1` hold `k` and `x`. Moreover, writing `k'`
+    -- into `a` and `x'` into `b` puts them into these two slots, and changes no other slot.
     pub parts-of : {k x : T} (k' x' : T) → k ≡ get_or a 0 k → x ≡ get_or b 0 x
         → Neighbours s i k x k' x'
         × (over s i (set a 0 k' ++ set b 0 x') ≡ set (set s i (Some k')) (suc i) (Some x'))
@@ -89,13 +93,14 @@ module _ {T : Type 0} where
         (h, (λ j. over s i (set (p.1 j) 0 k' ++ set (q.1 j) 0 x')) ∙ h.now)
 
 module _ {T A : Type 0} where
-  -- These lemmas are about open blocks. The front contains the items before the range and the kept
-  -- items, the middle run contains the untested items, and the tail contains the items after the
-  -- range.
+  -- The following lemmas are about open blocks. An open block is the block of a list during an
+  -- edit. Its items are in three parts: the front items (the items before the edited range, and the
+  -- items that were kept so far), the middle items (the items of the range that were not tested
+  -- yet), and the tail items (the items after the range).
 
-  -- `WrittenTwo` states that `x'` and `y'` have replaced the middle items of `h` at the indices `k`
-  -- and `k + 1`. The view of the new open block differs from the view of `h` only in these two
-  -- items.
+  -- `WrittenTwo h o k b x y x' y'` states that the middle items `x` and `y` of the open block `h`,
+  -- at the indices `k` and `k + 1`, were overwritten with `x'` and `y'`, and that nothing else has
+  -- changed. Here, `b` is the resulting block, and `o` is the proof that `h` satisfies `IsOpen`.
   pub record WrittenTwo (h : Inside T A) (o : IsOpen h) (k : ℕ) (b : Block T A)
       (x y x' y' : T) : Type 0 where
     pub pre : List T
@@ -113,8 +118,9 @@ module _ {T A : Type 0} where
 
   module _ (h : Inside T A) (o : IsOpen h) (b : Block T A)
       (kept : seen b ≡ record (seen h.block) { slots = b.slots }) where
-    -- If two neighboring middle items of the open block `h` have been overwritten, and no other
-    -- slot has changed, then `WrittenTwo` holds for the new block `b`.
+    -- Suppose that the middle items of the open block `h` at the indices `k` and `k + 1` have been
+    -- overwritten with `x'` and `y'`. If nothing else has changed, then `WrittenTwo` holds for the
+    -- resulting block `b`.
     pub write-two-step : (k : ℕ) {x y : T} (x' y' : T) → suc k < length (open_of h).rest
         → slot h.block.slots (h.rest_start + k) ≡ Some x
         → slot h.block.slots (suc (h.rest_start + k)) ≡ Some y
@@ -170,8 +176,8 @@ module _ {T A : Type 0} where
           };
         }
 
-  -- `WrittenLast` states that `y` has replaced `x`, the last front item of the open block `h`. The
-  -- view of the new open block differs from the view of `h` only in this item.
+  -- `WrittenLast h b x y` states that the last front item `x` of the open block `h` was overwritten
+  -- with `y`, and that nothing else has changed. Here, `b` is the resulting block.
   pub record WrittenLast (h : Inside T A) (b : Block T A) (x y : T) : Type 0 where
     pub pre : List T
     pub was : (open_of h).front ≡ pre ++ x ∷ []
@@ -184,8 +190,8 @@ module _ {T A : Type 0} where
       len = h.len;
     }) (record (open_of h) { front = pre ++ y ∷ [] })
 
-  -- If the last front item of the open block `h` has been overwritten, and no other slot has
-  -- changed, then `WrittenLast` holds for the new block `b`.
+  -- If the last front item of the open block `h` has been overwritten with `y`, and nothing else
+  -- has changed, then `WrittenLast` holds for the resulting block `b`.
   pub write-last-step : (h : Inside T A) (o : IsOpen h) (b : Block T A) {x : T} (y : T)
       → 0 < length (open_of h).front → slot h.block.slots (h.front_end - 1) ≡ Some x
       → seen b ≡ record (seen h.block) { slots = set h.block.slots (h.front_end - 1) (Some y) }

@@ -1,5 +1,6 @@
--- These lemmas are for methods that test the middle items of an open block. They say how the view
--- of this block changes if one item is tested, or if the first `k` middle items become front items.
+-- An open block is the block of a list during an edit, and its middle items are the items of the
+-- range that were not tested yet. These lemmas state how contracts see an open block `h` after one
+-- middle item was tested, and after the first `k` middle items became front items.
 use Rattle.std.proofs.Common.{◌≡◌, ℕ, zero, suc, ◌+◌, ◌-◌, ◌<◌, ◌≤◌, List, [], ◌∷◌, ◌++◌, Option, Some, None, length, take, drop, refl, sym, ap, ◌∙◌, arith, length-append, append_assoc}
 use Rattle.std.proofs.lemmas.List.{get_or_at, length-drop, length-take-le, set_at, take-append-drop}
 use lib.ListN.{set}
@@ -28,8 +29,9 @@ split-at (x ∷ xs) (suc k) low =
     (x ∷ p.0, p.1, p.2, ap suc p.3, ap (λ l. x ∷ l) p.4)
 
 module _ {T : Type 0} where
-  -- A row with the slots of the items `pre`, `x` and `post` can be split into the slots before the
-  -- slot of `x`, this slot itself, and the slots after it.
+  -- Suppose that the slots `a` are followed by the items `pre`, the item `x`, the items `post`, and
+  -- the slots `z`. Then all these slots can be split into the slots before `x`, the slot of `x`,
+  -- and the slots after `x`.
   pub row-at : (a : List (Option T)) (pre : List T) (x : T) (post : List T) (z : List (Option T))
       → a ++ (full (pre ++ x ∷ post) ++ z) ≡ (a ++ full pre) ++ (Some x ∷ (full post ++ z))
   row-at a pre x post z =
@@ -38,16 +40,17 @@ module _ {T : Type 0} where
       ∙ sym (append_assoc a (full pre) (Some x ∷ (full post ++ z))))
 
 module _ {T A : Type 0} where
-  -- If two open blocks have equal tail items, and equally many empty slots before and after the
-  -- tail items, then their slots after the middle items are equal.
+  -- Suppose that the open blocks `v` and `w` have equal tail items. Suppose also that they have
+  -- equally many empty slots before the tail items, and equally many empty slots after the tail
+  -- items. Then the slots after the middle items are equal in both blocks.
   pub same-past : (v w : Open T A) → w.gap_after ≡ v.gap_after → w.tail ≡ v.tail
       → v.capacity - reach v ≡ w.capacity - reach w → past_rest v ≡ past_rest w
   same-past v w b t n = λ i. empty (sym b i) ++ (full (sym t i) ++ empty (n i))
 
   module _ (h : Inside T A) (o : IsOpen h) (b : Block T A) (k : ℕ)
       (low : k < length (open_of h).rest) where
-    -- `v` is the view of the open block `h` that contracts use, before the middle item at index `k`
-    -- is overwritten.
+    -- `v` is how contracts see the open block `h` before its middle item at index `k` is
+    -- overwritten.
     abbrev v : Open T A
     v = open_of h
 
@@ -63,13 +66,13 @@ module _ {T A : Type 0} where
       len = h.len;
     }
 
-    -- `written-seen ys` is the view of the open block `written` that contracts use, if its middle
-    -- items are `ys`. This view differs from `v` only in the middle items.
+    -- `written-seen ys` is how contracts see the open block `written` if its middle items are `ys`.
+    -- It differs from `v` only in the middle items.
     abbrev pub written-seen : List T → Open T A
     written-seen ys = record v { rest = ys }
 
-    -- `Written x y` states that `y` has replaced the middle item `x` at index `k`. The view of the
-    -- new open block differs from the old view only in this item.
+    -- `Written x y` states that the middle item `x` at index `k` was overwritten with `y`, and that
+    -- nothing else in the open block has changed.
     pub record Written (x y : T) : Type 0 where
       pub pre : List T
       pub post : List T
@@ -77,8 +80,8 @@ module _ {T A : Type 0} where
       pub was : v.rest ≡ pre ++ x ∷ post
       pub shown : Found written (written-seen (pre ++ y ∷ post))
 
-    -- If the slot of the middle item at index `k` held `x`, and `y` was written into it, then
-    -- `Written x y` holds.
+    -- If the slot of the middle item at index `k` held `x`, and `y` was written into this slot,
+    -- then `Written x y` holds.
     pub write-step : (x y : T) → slot h.block.slots (h.rest_start + k) ≡ Some x
         → seen b ≡ record (seen h.block)
         { slots = set h.block.slots (h.rest_start + k) (Some y) } → Written x y
@@ -137,10 +140,9 @@ module _ {T A : Type 0} where
               (ap (λ (z : Seen T A). z.cost) now);
         }
 
-  -- In this module, the first `k` middle items are moved to the end of the front items.
+  -- In this module, the first `k` middle items of the open block `h` become front items.
   module _ (h : Inside T A) (o : IsOpen h) (k : ℕ) (low : k ≤ length (open_of h).rest) where
-    -- `u` is the view of the open block `h` that contracts use, before its first `k` middle items
-    -- are moved.
+    -- `u` is how contracts see the open block `h` before its first `k` middle items are moved.
     abbrev u : Open T A
     u = open_of h
 
@@ -156,14 +158,16 @@ module _ {T A : Type 0} where
       len = h.len;
     }
 
-    -- `moved_run-seen b` is the view of the open block `moved_run b` that contracts use. It differs
-    -- from `u` in its front items, its middle items and its cost.
+    -- `moved_run-seen b` is how contracts see the open block `moved_run b`. It differs from `u` in
+    -- two ways: the first `k` middle items have become the last `k` front items, and the cost is
+    -- the cost of the block `b`.
     abbrev pub moved_run-seen : Block T A → Open T A
     moved_run-seen b = record u
         { front = u.front ++ take k u.rest; rest = drop k u.rest; cost = b.cost }
 
-    -- If `b` contains the slots of the front items, the slots of the moved items, the gap, and all
-    -- later slots, in this order, then `moved_run-seen b` is the view of `moved_run b`.
+    -- Suppose that the block `b` has the same allocator as before, and that its slots are, in this
+    -- order: the slots of the front items, the slots of the moved items, the gap, and all later
+    -- slots. Then contracts see the open block `moved_run b` as `moved_run-seen b`.
     moved_run-shows : (b : Block T A)
         → b.slots ≡ full u.front
         ++ (full (take k u.rest) ++ (empty u.gap ++ (full (drop k u.rest) ++ past_rest u)))
@@ -195,8 +199,9 @@ module _ {T A : Type 0} where
         })
         alloc refl
 
-    -- The slots from the first middle item onward are the slots of the first `k` middle items, the
-    -- slots of the other middle items, and the slots after them.
+    -- The slots from the first middle item onward are, in this order: the slots of the first `k`
+    -- middle items, the slots of the other middle items, and `past_rest u` (the slots after the
+    -- middle items).
     cut : full u.rest ++ past_rest u ≡ full (take k u.rest) ++ (full (drop k u.rest) ++ past_rest u)
     cut =
         ap (λ (l : List T). full l ++ past_rest u) (sym (take-append-drop k u.rest))
@@ -204,14 +209,14 @@ module _ {T A : Type 0} where
         (full-append (take k u.rest) (drop k u.rest)) ∙ append_assoc (full (take k u.rest))
         (full (drop k u.rest)) (past_rest u))
 
-    -- The slots of the open block `h` are the slots of the front items, the gap, the slots of the
-    -- items to be moved, and all later slots.
+    -- The slots of the open block `h` are, in this order: the slots of the front items, the gap,
+    -- the slots of the items to be moved, and all later slots.
     parted : h.block.slots ≡ full u.front
         ++ (empty u.gap ++ (full (take k u.rest) ++ (full (drop k u.rest) ++ past_rest u)))
     parted = o.row ∙ ap (λ (r : List (Option T)). full u.front ++ (empty u.gap ++ r)) cut
 
-    -- If there is no gap, then the first `k` middle items become front items without being moved.
-    -- The view of the resulting open block is `moved_run-seen h.block`.
+    -- If there is no gap after the front items, then the first `k` middle items become front items
+    -- without being moved. Contracts see the resulting open block as `moved_run-seen h.block`.
     pub pass-step : u.gap ≡ 0 → Found (moved_run h.block) (moved_run-seen h.block)
     pass-step none =
         moved_run-shows h.block
@@ -221,8 +226,9 @@ module _ {T A : Type 0} where
         ++ (full (take k u.rest) ++ (empty n ++ (full (drop k u.rest) ++ past_rest u))))
         (sym none))) refl
 
-    -- If the first `k` middle items are moved directly after the front items, and `b` is the
-    -- resulting block, then `moved_run-seen b` is the view of the open block `moved_run b`.
+    -- Suppose that the first `k` middle items were moved to the slots directly after the front
+    -- items, and that `b` is the resulting block. Then contracts see the open block `moved_run b`
+    -- as `moved_run-seen b`.
     pub move_run_down-step : (b : Block T A) {c : Cost}
         → seen b ≡ record (seen h.block)
         { slots = moved h.rest_start h.front_end k h.block.slots; cost = c }
@@ -236,8 +242,8 @@ module _ {T A : Type 0} where
         (full (drop k u.rest) ++ past_rest u) (sym (length-full u.front ∙ o.front))
         (sym o.gap) (sym few))) (ap (λ (z : Seen T A). z.alloc) now)
 
-  -- If the first middle item is moved to the slot directly after the front items, then this item is
-  -- the last front item in the view of the new open block.
+  -- If the first middle item of the open block `h` is moved to the slot directly after the front
+  -- items, then contracts see this item as the last front item of the new open block.
   pub move_one_down-step : (h : Inside T A) (o : IsOpen h) (some : 1 ≤ length (open_of h).rest)
       → 0 < (open_of h).gap → (b : Block T A) {x : T} {c : Cost}
       → slot h.block.slots h.rest_start ≡ Some x
@@ -275,6 +281,6 @@ module _ {T A : Type 0} where
       ++ (empty w.gap ++ (full (drop 1 (firsts same parts.2 i)) ++ past_rest w))))))))
       (ap (λ (z : Seen T A). z.alloc) now)
     where
-      -- If `y ≡ x` and `xs ≡ y ∷ ys`, then `x ∷ ys` is equal to `xs`.
+      -- If `y` is equal to `x`, and `xs` is equal to `y ∷ ys`, then `x ∷ ys` is equal to `xs`.
       firsts : {x y : T} {ys xs : List T} → y ≡ x → xs ≡ y ∷ ys → x ∷ ys ≡ xs
       firsts {x} {y} {ys} e f = ap (λ (a : T). a ∷ ys) (sym e) ∙ sym f

@@ -1,5 +1,5 @@
--- These definitions are for the iterator that `into_iter` returns. In contracts, the items of this
--- iterator are the items that it has not yielded yet. (std: `vec::IntoIter`)
+-- These definitions are for the contracts of the iterator that `into_iter` returns. In contracts,
+-- the items of this iterator are the items that it has not yielded yet. (std: `vec::IntoIter`)
 use Rattle.std.specs.Prelude.{◌≡◌, ◌++◌, ℕ, ◌+◌, ◌-◌, List, length}
 use Rattle.std.specs.Iterator.{YieldsFirst, YieldsLast}
 use Rattle.std.specs.Iterator.Runs.{YieldsInOrder, YieldsInReverse}
@@ -9,8 +9,8 @@ use Rattle.thin_block.specs.declared.block.Block.{Block}
 use Rattle.thin_vec.specs.ThinVec.{Thin}
 
 module _ {T A : Type 0} where
-  -- `IsWalked b a start end` holds if exactly the slots `start..end` of the block `b` contain
-  -- items, and the memory of `b`, if it has any, is from the allocator `a`.
+  -- `IsWalked b a start end` describes the block `b` of an iterator: exactly the slots `start..end`
+  -- hold items, and the memory of `b`, if it has any, came from the allocator `a`.
   pub record IsWalked (b : Block T A) (a : A) (start end : ℕ) : Type 0 where
     pub row : b.slots ≡ empty start ++ (full (items_in b.slots) ++ empty (length b.slots - end))
     pub len : start + length (items_in b.slots) ≡ end

@@ -1,5 +1,5 @@
 -- These definitions are for the contracts of `ExtractIf`. They name the parts of an `ExtractIf`,
--- and say what a call to `next` changes. (std: `Vec::extract_if`)
+-- and they say what a call to `next` changes. (std: `Vec::extract_if`)
 use Rattle.std.specs.Prelude.{◌≡◌, ◌+◌, ◌==◌, ◌++◌, Bool, List, Option, if◌then◌else◌, length, ℕ}
 use Rattle.std.specs.List.Retain.{ExtractsNext}
 use Rattle.std.specs.Option.{option_to_list}
@@ -11,12 +11,13 @@ use Rattle.thin_vec.specs.declared.edits.extract_if.ExtractIf.{ExtractIf}
 use Rattle.thin_vec.specs.declared.edits.holder.Holder.{Holder}
 use Rattle.thin_vec.specs.declared.edits.holder.Holds.{Ghosts as HoldsGhosts}
 
--- `R f x b g y` states that a call to the closure with the item `x` returned `b`, and changed the
--- state of the closure from `f` to `g`, and the item from `x` to `y`.
+-- `R f x b g y` states that the closure was called with the item `x` and returned the Boolean value
+-- `b`. The call changed the state of the closure from `f` to `g`, and the item from `x` to `y`.
 module _ {T F A : Type 0} (R : F → T → Bool → F → T → Type 0) where
-  -- `Extracts old item new` describes a call to `next` that kept the items `kept` and then removed
-  -- and returned `item`, if it is `Some`. If an item was extracted earlier, each item in `kept`
-  -- counts as one move.
+  -- `Extracts old item new` states that a call to `next` changed `old` to `new` and returned
+  -- `item`. Here, `old` and `new` consist of the block and the closure of an `ExtractIf`. The items
+  -- `kept`, which the call tested but did not extract, remain in the list. If an item had already
+  -- been extracted before the call, each item in `kept` counts as one move.
   pub record Extracts (old : Extracting T F A) (item : Option T)
       (new : Extracting T F A) : Type 0 where
     pub kept : List T
@@ -31,9 +32,9 @@ module _ {T F A : Type 0} (R : F → T → Bool → F → T → Type 0) where
     pub cost : new.block.cost ≡ (if old.block.gap == 0 then old.block.cost else moving
         (length kept) old.block.cost)
 
--- An `ExtractIf` owns the block of the list until it is dropped. The type of the field that
--- contains the block and the closure is a parameter. In this module, it is `Holder`, a struct with
--- only these two.
+-- An `ExtractIf` has a field that owns the block of the list until the `ExtractIf` is dropped. In
+-- this module, the type of this field is `Holder`, as in every `ExtractIf` that the method
+-- `extract_if` returns.
 module _ {T F A G : Type 0} {g : Ghosts G}
     {h : HoldsGhosts (Holder (Extracting T F A)) (Extracting T F A)} where
   -- `extract_front e` contains the items before the range, followed by the tested items that were
@@ -57,7 +58,8 @@ module _ {T F A G : Type 0} {g : Ghosts G}
   abbrev pub extract_callee : ExtractIf T F A G (Holder (Extracting T F A)) g h → F
   extract_callee e = e.holder.value.picks.pick
 
-  -- `extract_cost e` is the recorded cost of the list so far.
+  -- `extract_cost e` is the recorded cost of the list so far (requests for memory, copied items and
+  -- moves).
   abbrev pub extract_cost : ExtractIf T F A G (Holder (Extracting T F A)) g h → Cost
   extract_cost e = e.holder.value.block.cost
 
@@ -69,8 +71,9 @@ module _ {T F A G : Type 0} {g : Ghosts G}
   abbrev pub extract_alloc : ExtractIf T F A G (Holder (Extracting T F A)) g h → A
   extract_alloc e = e.list.now.alloc
 
-  -- `extract_lender e` is the ghost name of the reference to the list that the `ExtractIf` borrows.
-  -- References with equal ghost names borrow the same list.
+  -- `extract_lender e` identifies the list that the `ExtractIf` borrows. It is the ghost name of
+  -- the reference to this list, and exists only in contracts and proofs. References with equal
+  -- ghost names borrow the same list.
   abbrev pub extract_lender : ExtractIf T F A G (Holder (Extracting T F A)) g h → GName
   extract_lender e = e.list.ghost_name
 

@@ -14,8 +14,10 @@ use Rattle.thin_vec.specs.ThinVec.{HasRoomFor, Thin}
 use Rattle.thin_vec.specs.declared.errors.SpliceRefused.{SpliceRefused}
 
 module _ {T A : Type 0} where
-  -- `HasTaken rule R v w n left` states how adding items of an iterator turned the list `v` into
-  -- `w`. The iterator could yield at most `left` items, and old items were moved at most `n` times.
+  -- `HasTaken rule R v w n left` describes how adding items of an iterator turned the list `v` into
+  -- `w`. `rule` is the growth rule of the list, and `R` is the type of the items. The iterator
+  -- could yield at most `left` items, and the old items of `v` were moved at most `n` times in
+  -- total.
   pub record HasTaken (rule : Rule) (R : RattleType) (v w : Thin T A) (n : ℕ)
       (left : Count) : Type 0 where
     pub capacity : IsLoose rule R v.capacity w.capacity
@@ -24,22 +26,24 @@ module _ {T A : Type 0} where
     pub alloc : w.alloc ≡ v.alloc
     pub cheap : IsCheap v → IsCheap w
 
-  -- `IsClosedWith v xs a w` states that putting the items `xs` into the gap of the open block `v`,
-  -- and putting the block back, results in the list `w` with the allocator `a`.
+  -- An open block is the block of a list during an edit, and its gap consists of empty slots.
+  -- `IsClosedWith v xs a w` states that the items `xs` were written into the gap of the open block
+  -- `v`, and that `v` then became the block of the list `w`, whose allocator is `a`.
   pub record IsClosedWith (v : Open T A) (xs : List T) (a : A) (w : Thin T A) : Type 0 where
     pub items : w.items ≡ with_between v xs
     pub capacity : w.capacity ≡ v.capacity
     pub alloc : w.alloc ≡ a
-    -- Each item of `xs` was moved once, and each tail item at most once. If `xs` filled the gap, no
-    -- tail item was moved.
+    -- Each item of `xs` was moved once. Here, `m` is the number of moves of tail items (items after
+    -- the range). Each tail item was moved at most once, and `m` is 0 if `xs` filled the gap.
     pub cost : (m : ℕ) × (w.cost ≡ moving (length xs + m) v.cost) × (m ≤ length v.tail)
         × (length xs ≡ v.gap → m ≡ 0)
 
 module _ {S T A : Type 0} (steps : S → Option T → S → Type 0) (can : S → Type 0)
     (remaining : S → Count) where
-  -- `IsFinished` describes a call that replaces the range with the items of the iterator `s`, and
-  -- puts the open block `v` back into its list, which becomes `w`. All clauses of `Splice::finish`
-  -- follow from it.
+  -- `IsFinished` describes a call that puts the items of the iterator `s` into the open block `v`,
+  -- in place of the removed range, and then puts the block back into its list. The call returns
+  -- `result`. After the call, the list is `w`, and its allocator is `a`. All clauses of the
+  -- contract of `Splice::finish` follow from this record.
   pub record IsFinished (rule : Rule) (R : RattleType) (v : Open T A) (a : A) (s : S)
       (w : Thin T A) (result : Result (Unit {0}) (SpliceRefused T S A)) : Type 0 where
     pub succeeds : size (remaining s) ≤ v.gap → IsOk result

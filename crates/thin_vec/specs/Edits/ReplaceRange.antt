@@ -1,24 +1,26 @@
--- These definitions are for methods that replace a range of a list. They say which items the list
--- contains afterwards, and how many moves are counted. (std: `Vec::splice`)
+-- These definitions are for methods that replace a range of a list with other items. They say which
+-- items the list contains afterwards, and how many moves are counted. (std: `Vec::splice`)
 use Rattle.std.specs.Prelude.{◌≡◌, ℕ, ◌+◌, ◌-◌, ◌==◌, ◌≤◌, List, if◌then◌else◌, length, min}
 use Rattle.std.specs.List.{AllZip, replace_range}
 use Rattle.thin_block.specs.Cost.{Cost, moving}
 use Rattle.thin_vec.specs.ThinVec.{Thin, cost_at}
 
 module _ {T A : Type 0} where
-  -- `moves_replacing v i j k` counts the moves if `k` new items replace the items `i..j` of the
-  -- list `v`: one for each new item, and, if the length of the list changes, one for each item
-  -- after the range.
+  -- `moves_replacing v i j k` is the number of moves that are counted if `k` new items replace the
+  -- items `i..j` of the list `v`. Each new item counts as one move. If `k` is not the length of the
+  -- range, each item after the range also counts as one move.
   abbrev pub moves_replacing : Thin T A → ℕ → ℕ → ℕ → ℕ
   moves_replacing v i j k = k + (if k == j - i then 0 else length v.items - j)
 
-  -- `moves_cloning v i j k` counts the moves if `k` clones replace the items `i..j` of `v`. Clones
-  -- that replace old items are moved twice, because they are made in other slots first.
+  -- `moves_cloning v i j k` is the number of moves that are counted if `k` clones replace the items
+  -- `i..j` of the list `v`. It is `moves_replacing v i j k`, plus one move for each clone that
+  -- takes the place of an old item. Such a clone is first put into another slot, because the old
+  -- item is still in the list.
   abbrev pub moves_cloning : Thin T A → ℕ → ℕ → ℕ → ℕ
   moves_cloning v i j k = moves_replacing v i j k + min k (j - i)
 
 -- `ReplacesByClones clones xs i j sources ys` states that replacing the items `i..j` of the list
--- `xs` with clones of the items `sources` results in the list `ys`.
+-- `xs` with clones of the items `sources`, in order, results in the list `ys`.
 pub record ReplacesByClones {T : Type 0} (clones : T → T → Type 0) (xs : List T) (i j : ℕ)
     (sources ys : List T) : Type 0 where
   pub copies : List T

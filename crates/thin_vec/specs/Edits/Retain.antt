@@ -10,21 +10,22 @@ trues [] = zero
 trues (true ∷ flags) = suc (trues flags)
 trues (false ∷ flags) = trues flags
 
--- `moved_down stays` is the number of kept items after the first removed item. `stays` contains one
--- flag for each item of the list, which is true if the item is kept.
+-- `stays` contains one flag for each item of a list. The flag is true if the item is kept.
+-- `moved_down stays` is the number of kept items that follow the first removed item. These are the
+-- items that have to move down.
 abbrev pub moved_down : List Bool → ℕ
 moved_down [] = zero
 moved_down (true ∷ stays) = moved_down stays
 moved_down (false ∷ stays) = trues stays
 
--- `Verdicts T` is the type of lists of verdicts. A verdict consists of a flag, which is true if the
--- item is kept, and the item as the test left it.
+-- `Verdicts T` is the type of lists of verdicts. A verdict on an item consists of a flag, which is
+-- true if the item is kept, and the item as the test left it.
 abbrev pub Verdicts : Type 0 → Type 0
 Verdicts T = List (Bool × T)
 
 module _ {T : Type 0} where
-  -- `left_at true verdicts` contains the kept items, and `left_at false verdicts` contains the
-  -- removed items, as the test left them.
+  -- `left_at true verdicts` contains the items that are kept according to `verdicts`, and `left_at
+  -- false verdicts` contains the items that are removed. The items are as the test left them.
   abbrev pub left_at : Bool → Verdicts T → List T
   left_at b [] = []
   left_at true ((true, x) ∷ verdicts) = x ∷ left_at true verdicts
@@ -32,28 +33,31 @@ module _ {T : Type 0} where
   left_at false ((true, x) ∷ verdicts) = left_at false verdicts
   left_at false ((false, x) ∷ verdicts) = x ∷ left_at false verdicts
 
-  -- `stay xs` is the list of verdicts that keep every item. The list `xs` contains the items as the
-  -- test left them.
+  -- `stay xs` is the list of verdicts of a test that keeps every item. The list `xs` contains the
+  -- items as the test left them.
   abbrev pub stay : List T → Verdicts T
   stay xs = map (λ (x : T). (true, x)) xs
 
-  -- `flags_of verdicts` contains the flag of each verdict, which is true if the item is kept.
+  -- `flags_of verdicts` is the list of the flags in `verdicts`, in order. A flag is true if the
+  -- item is kept.
   abbrev pub flags_of : Verdicts T → List Bool
   flags_of verdicts = map (λ (answer : Bool × T). answer.0) verdicts
 
--- `R s x b t y` describes a call of a test with the item `x` that returns `b` (true to keep the
--- item). The call changes the state from `s` to `t`, and the item from `x` to `y`.
+-- `R s x b t y` describes one call of a test with the item `x`. The call returns the Boolean value
+-- `b`, which is true if the item is to be kept. The call changes the state of the test from `s` to
+-- `t`, and the item from `x` to `y`.
 module _ {S T : Type 0} (R : S → T → Bool → S → T → Type 0) where
-  -- `Asked s xs verdicts t` states that testing each item of `xs` once, in order, results in
-  -- `verdicts`, and changes the state of the test from `s` to `t`.
+  -- `Asked s xs verdicts t` states that each item of the list `xs` was tested once, in order. The
+  -- test returned `verdicts`, and it changed its state from `s` to `t`.
   abbrev pub Asked : S → List T → Verdicts T → S → Type 0
   Asked s [] verdicts t = (verdicts ≡ []) × (t ≡ s)
   Asked s (x ∷ xs) verdicts t =
       (b : Bool) × (y : T) × (u : S) × (rest : Verdicts T) × R s x b u y × Asked u xs rest t
       × (verdicts ≡ (b, y) ∷ rest)
 
-  -- `IsRetainedTo s v w t` states that removing items turned the list `v` into `w`, and the state
-  -- of the test from `s` into `t`. Each kept item after the first removed item counts as one move.
+  -- `IsRetainedTo s v w t` states that the list `v` became `w` when the items that failed the test
+  -- were removed. The recorded cost increased by one move for each kept item that follows the first
+  -- removed item. The test changed its state from `s` to `t`.
   pub record IsRetainedTo {A : Type 0} (s : S) (v w : Thin T A) (t : S) : Type 0 where
     pub verdicts : Verdicts T
     pub asked : Asked s v.items verdicts t
@@ -61,11 +65,13 @@ module _ {S T : Type 0} (R : S → T → Bool → S → T → Type 0) where
     pub cost : w.cost ≡ moving (moved_down (flags_of verdicts)) v.cost
 
   -- `IsRetained s v w` states that `IsRetainedTo s v w t` holds for some final state `t` of the
-  -- test.
+  -- test. So removing the items that failed the test turned the list `v` into `w`.
   abbrev pub IsRetained : {A : Type 0} → S → Thin T A → Thin T A → Type 0
   IsRetained s v w = (t : S) × IsRetainedTo s v w t
 
--- `Looks R s x b t y` states that a test does not change the tested item `x`. `R s x b t` describes
--- the call, which returns `b` and changes the state from `s` to `t`.
+-- `Looks R` describes a test that does not change the tested items. `R s x b t` describes one call
+-- of this test: the call tests the item `x`, returns `b` (true if `x` is to be kept), and changes
+-- the state of the test from `s` to `t`. `Looks R s x b t y` also states that the item `y` after
+-- the call is equal to `x`.
 abbrev pub Looks : {S T : Type 0} → (S → T → Bool → S → Type 0) → S → T → Bool → S → T → Type 0
 Looks R s x b t y = R s x b t × (y ≡ x)

@@ -1,4 +1,4 @@
--- These definitions are for the contracts of `Splice`. They name the parts of a `Splice`, and
+-- These definitions are for the contracts of `Splice`. They name the parts of a `Splice`, and they
 -- describe the list and the error after a call to `finish`. (std: `Vec::splice`)
 use Rattle.std.specs.Prelude.{◌≡◌, ◌⊎◌, ◌↔◌, ◌<◌, ◌≤◌, [], ◌++◌, IsSome, List, MatchOption, Option, length, ℕ}
 use Rattle.std.specs.Iterator.{Count, YieldsFirst, YieldsLast, YieldsThen}
@@ -16,12 +16,14 @@ use Rattle.thin_vec.specs.declared.edits.splice.Splice.{Splice}
 use Rattle.thin_vec.specs.declared.edits.holder.Holds.{Ghosts as HoldsGhosts}
 
 module _ {S T A : Type 0} (steps : S → Option T → S → Type 0) where
-  -- `Stopped can remaining s placed error` states that `finish` inserted the first items `placed`
-  -- of the iterator `s`, and then failed. The error contains the items that `s` yielded next, in
-  -- `held` and `in_hand`.
+  -- `Stopped can remaining s placed error` states that `finish` failed with `error` after it had
+  -- inserted the items `placed`, which the iterator `s` yielded first. The error contains the items
+  -- that `s` yielded after them: first the items in `held`, and then the item in `in_hand`, if
+  -- there is one.
   --
   -- If `held` is not empty and `in_hand` is `None`, the iterator has ended. Otherwise `next` may be
-  -- called again (`can`), and the number of remaining items is finite (`remaining`).
+  -- called again (as `can` states), and the number of items that the iterator may still yield is
+  -- finite (as `remaining` states).
   abbrev pub Stopped : (S → Type 0) → (S → Count) → S → List T → SpliceRefused T S A → Type 0
   Stopped can remaining s placed error =
       (PausedAfter steps can remaining s
@@ -31,31 +33,33 @@ module _ {S T A : Type 0} (steps : S → Option T → S → Type 0) where
       × YieldsThen steps s (placed ++ error.held.items) None error.rest)
 
 module _ {T A : Type 0} where
-  -- `IsStopCause` states why `finish` failed with `error`. `w` is the list after the call, `tail`
-  -- contains the items after the range, and the iterator can yield at most `left` more items.
+  -- `IsStopCause` states why a call to `finish` failed with `error`. `rule` is the growth rule, `R`
+  -- is the type of the items, `w` is the list after the call, and `tail` contains the items after
+  -- the range. The iterator can yield at most `left` more items.
   pub record IsStopCause {S : Type 0} (rule : Rule) (R : RattleType) (w : Thin T A) (tail : List T)
       (left : Count) (error : SpliceRefused T S A) : Type 0 where
-    -- If the error contains no items, the call could not reserve room for the lower bound of the
-    -- size hint. The cause is `CapacityOverflow` if and only if the growth rule chooses no
-    -- capacity.
+    -- If the error contains no items (`held` is empty, and `in_hand` is `None`), the call could not
+    -- reserve room for `h` more items, where `h` is a possible lower bound in the size hint of the
+    -- iterator. In this case, the cause is `CapacityOverflow` if and only if the growth rule
+    -- chooses no capacity for `h` more items.
     pub by_hint : error.held.items ≡ [] → error.in_hand ≡ None
         → FailsAtHint rule R w left error.cause
-    -- If `held` is not empty and `in_hand` is `None`, the cause is `CapacityOverflow` if and only
-    -- if the growth rule chooses no capacity for the items in `held`.
+    -- If the vector `held` is not empty, and `in_hand` is `None`, the cause is `CapacityOverflow`
+    -- if and only if the growth rule chooses no capacity with room for the items in `held`.
     pub by_held : 0 < length error.held.items → error.in_hand ≡ None
         → (error.cause ≡ CapacityOverflow)
         ↔ (capacity_for rule R w (length error.held.items) ≡ None)
-    -- If items follow the range, and `in_hand` is `Some`, the vector `held` could not get memory
-    -- for the item in `in_hand`.
+    -- If items follow the range, and `in_hand` is `Some`, the cause is `OutOfMemory`, because the
+    -- vector `held` could not get memory for the item in `in_hand`.
     pub by_in_hand : 0 < length tail → IsSome error.in_hand → error.cause ≡ OutOfMemory
     -- If no item follows the range, and `in_hand` is `Some`, the cause is `CapacityOverflow` if and
-    -- only if the growth rule chooses no capacity for one more item.
+    -- only if the growth rule chooses no capacity with room for one more item.
     pub by_push : tail ≡ [] → IsSome error.in_hand
         → (error.cause ≡ CapacityOverflow) ↔ (capacity_for rule R w 1 ≡ None)
 
-  -- `FailsAsExtend v w s error` describes a failed call to `finish` if no item follows the range.
-  -- `v` is the list without the range, `w` is the list after the call, and `s` is the iterator
-  -- before the call.
+  -- `FailsAsExtend v w s error` describes a call to `finish` that failed with `error`, where no
+  -- item follows the range. `v` is the list without the items of the range, `w` is the list after
+  -- the call, and `s` is the iterator before the call.
   pub record FailsAsExtend {S : Type 0} (v w : Thin T A) (s : S) (error : SpliceRefused T S A)
       : Type 0 where
     pub held : error.held.items ≡ []
@@ -65,7 +69,7 @@ module _ {T A : Type 0} where
         (λ _. length w.items ≡ w.capacity)
 
   -- `left_of v a` is the list that contains the front items and the tail items of the open block
-  -- `v`, and has the allocator `a`.
+  -- `v`, that is, all its items except the middle items. The list has the allocator `a`.
   abbrev pub left_of : Open T A → A → Thin T A
   left_of v a = record {
     items = v.front ++ v.tail;
@@ -80,12 +84,13 @@ module _ {T A : Type 0} where
   with_between v xs = (v.front ++ xs) ++ v.tail
 
 module _ {I T A G H : Type 0} {g : Ghosts G} {h : HoldsGhosts H (Open T A)} where
-  -- `splice_block s` is the open block that the `Splice` owns. Its middle run contains the items of
-  -- the range that have not been yielded yet.
+  -- `splice_block s` is the open block that the `Splice` owns. Its front contains the items before
+  -- the range, its middle run contains the items of the range that have not been yielded yet, and
+  -- its tail contains the items after the range.
   abbrev pub splice_block : Splice I T A G H g h → Open T A
   splice_block s = h.inner s.holder
 
-  -- `splice_rest s` contains the items of the range that have not been yielded yet.
+  -- `splice_rest s` contains the items of the range that the `Splice` `s` has not yielded yet.
   abbrev pub splice_rest : Splice I T A G H g h → List T
   splice_rest s = rest_of (splice_block s)
 
@@ -97,13 +102,14 @@ module _ {I T A G H : Type 0} {g : Ghosts G} {h : HoldsGhosts H (Open T A)} wher
   abbrev pub splice_alloc : Splice I T A G H g h → A
   splice_alloc s = s.list.now.alloc
 
-  -- `splice_lender s` is the ghost name of the reference to the list that the `Splice` borrows.
-  -- References with equal ghost names borrow the same list.
+  -- `splice_lender s` identifies the list that the `Splice` borrows. It is the ghost name of the
+  -- reference to this list, and exists only in contracts and proofs. References with equal ghost
+  -- names borrow the same list.
   abbrev pub splice_lender : Splice I T A G H g h → GName
   splice_lender s = s.list.ghost_name
 
-  -- `splice_left s` is the list without the items of the range. No item after the range has been
-  -- moved yet, so its cost is the present cost of the block.
+  -- `splice_left s` is the list without the items of the range. Its recorded cost is the present
+  -- cost of the block, because no item after the range has been moved yet.
   abbrev pub splice_left : Splice I T A G H g h → Thin T A
   splice_left s = left_of (splice_block s) (splice_alloc s)
 
@@ -112,20 +118,22 @@ module _ {I T A G H : Type 0} {g : Ghosts G} {h : HoldsGhosts H (Open T A)} wher
   abbrev pub splice_range : Splice I T A G H g h → ℕ
   splice_range s = range_len (splice_block s)
 
-  -- `splice_replaced s xs` contains the items of the list after the items `xs` have replaced the
-  -- range.
+  -- `splice_replaced s xs` contains the items that the list will contain after the items of the
+  -- range are replaced with `xs`.
   abbrev pub splice_replaced : Splice I T A G H g h → List T → List T
   splice_replaced s xs = with_between (splice_block s) xs
 
-  -- `HasPlacesFor s most` states that `most` items can be inserted without a request for memory:
-  -- the range has enough slots, or the list has enough room and no item follows the range.
+  -- `HasPlacesFor s most` states that `most` items can be inserted without a request for memory.
+  -- This is possible in two cases. In the first case, the range has at least `most` slots. In the
+  -- second case, no item follows the range, and the list without the range has room for `most` more
+  -- items.
   abbrev pub HasPlacesFor : Splice I T A G H g h → ℕ → Type 0
   HasPlacesFor s most =
       (most ≤ splice_range s)
       ⊎ (((splice_block s).tail ≡ []) × HasRoomFor (splice_left s) most)
 
   -- `SpliceKeeps old new` states that `old` and `new` borrow the same list, own the same iterator,
-  -- and differ only in which items of the range they have already yielded.
+  -- and differ only in which items of the range have already been yielded.
   pub record SpliceKeeps (old new : Splice I T A G H g h) : Type 0 where
     pub lender : splice_lender new ≡ splice_lender old
     pub iter : splice_iter new ≡ splice_iter old
@@ -137,14 +145,16 @@ module _ {I T A G H : Type 0} {g : Ghosts G} {h : HoldsGhosts H (Open T A)} wher
     pub cost : (splice_block new).cost ≡ (splice_block old).cost
 
   -- `SpliceSteps old item new` states that a call to `next` changed the `Splice` from `old` to
-  -- `new`, and returned `item`: the first remaining item of the range, or `None`.
+  -- `new` and returned `item`. This `item` is the first item that had not been yielded before, or
+  -- `None` if there was no such item.
   pub record SpliceSteps (old : Splice I T A G H g h) (item : Option T)
       (new : Splice I T A G H g h) : Type 0 where
     pub gave : YieldsFirst splice_rest old item new
     pub keeps : SpliceKeeps old new
 
   -- `SpliceStepsBack old item new` states that a call to `next_back` changed the `Splice` from
-  -- `old` to `new`, and returned `item`: the last remaining item of the range, or `None`.
+  -- `old` to `new` and returned `item`. This `item` is the last item that had not been yielded
+  -- before, or `None` if there was no such item.
   pub record SpliceStepsBack (old : Splice I T A G H g h) (item : Option T)
       (new : Splice I T A G H g h) : Type 0 where
     pub gave : YieldsLast splice_rest old item new

@@ -12,7 +12,7 @@ module _ {T : Type 0} (clones : T → T → Type 0) where
   abbrev pub CloneEquals : T → Type 0
   CloneEquals x = (y : T) → clones x y → y ≡ x
 
-  -- `ClonesEqual` states that every clone of an item of the type `T` equals the item.
+  -- `ClonesEqual` states that, for each value `x` of the type `T`, every clone of `x` equals `x`.
   abbrev pub ClonesEqual : Type 0
   ClonesEqual = (x : T) → CloneEquals x
 
@@ -23,9 +23,10 @@ module _ {T : Type 0} (clones : T → T → Type 0) where
     pub cloned : AllZip clones (take n sources) copies
     pub slots : s' ≡ laid i (full copies) s
 
-  -- `IsClonedList v w` holds if the list `w` is a clone of the list `v`. Its items are clones of
-  -- the items of `v`, in order, and its capacity is exactly their number. Each clone counts as one
-  -- move.
+  -- `IsClonedList v w` states that the list `w` is a clone of the list `v`. The items of `w` are
+  -- clones of the items of `v`, in the same order, and the capacity of `w` is exactly the number of
+  -- these items. `w` has the same allocator as `v`. The recorded cost of `w` includes one move for
+  -- each item.
   abbrev pub IsClonedList : {A : Type 0} → Thin T A → Thin T A → Type 0
   IsClonedList v w =
       AllZip clones v.items w.items × (length w.items ≡ length v.items)
@@ -33,8 +34,8 @@ module _ {T : Type 0} (clones : T → T → Type 0) where
       × (w.cost ≡ moving (length v.items) (cost_new (length v.items))) × IsCheap w
       × (w.capacity < 2 ^ 63)
 
--- `AppendsRepeats clones x n xs ys` holds if the list `ys` consists of the items of `xs`, followed
--- by `n` clones of `x`.
+-- `AppendsRepeats clones x n xs ys` states that the list `ys` consists of the items of `xs`,
+-- followed by `n` clones of `x`. The parameter `clones` says which items are clones of `x`.
 pub record AppendsRepeats {T : Type 0} (clones : T → T → Type 0) (x : T) (n : ℕ)
     (xs ys : List T) : Type 0 where
   pub copies : List T
@@ -42,8 +43,10 @@ pub record AppendsRepeats {T : Type 0} (clones : T → T → Type 0) (x : T) (n 
   pub count : length copies ≡ n
   pub items : ys ≡ xs ++ copies
 
--- `IsResized clones xs n x ys` holds if `ys` is a possible result of resizing the list `xs` to the
--- length `n`. If items are added, they are clones of `x`, followed by `x` itself.
+-- `IsResized clones xs n x ys` states that `ys` is a possible result of resizing the list `xs` to
+-- the length `n`. If `xs` has at least `n` items, `ys` consists of the first `n` items of `xs`.
+-- Otherwise, `ys` consists of all items of `xs`, then clones of `x`, and finally `x` itself. The
+-- parameter `clones` says which items are clones of `x`.
 pub record IsResized {T : Type 0} (clones : T → T → Type 0) (xs : List T) (n : ℕ) (x : T)
     (ys : List T) : Type 0 where
   pub shorter : n ≤ length xs → ys ≡ take n xs
@@ -51,9 +54,10 @@ pub record IsResized {T : Type 0} (clones : T → T → Type 0) (xs : List T) (n
       × (ys ≡ xs ++ (copies ++ x ∷ []))
   pub len : length ys ≡ n
 
--- `StopsAtClone infallible sources before after` describes a call that clones the items of
--- `sources` in order, until an item cannot be cloned. Each clone counts as one move, which changes
--- the cost from `before` to `after`.
+-- `StopsAtClone infallible sources before after` describes a call that cloned the items of
+-- `sources` in order, until cloning an item failed. Here, `infallible x` states that cloning `x`
+-- cannot fail. Each clone that was made counts as one move. `before` is the recorded cost before
+-- the first clone, and `after` is the recorded cost after the failure.
 pub record StopsAtClone {T : Type 0} (infallible : T → Type 0) (sources : List T)
     (before after : Cost) : Type 0 where
   pub at : ℕ
@@ -61,9 +65,11 @@ pub record StopsAtClone {T : Type 0} (infallible : T → Type 0) (sources : List
   pub fallible : HoldsAt (λ x. ¬ (infallible x)) sources at
   pub cost : after ≡ moving at before
 
--- `CostsUpToClone infallible sources v w` describes the cost of a call that clones items of
--- `sources` until an item cannot be cloned. The call changes the list from `v` to `w`, and each
--- clone counts as one move.
+-- `CostsUpToClone infallible sources v w` describes the cost of a call that cloned the items of
+-- `sources` into a list, in order, until cloning an item failed. (`infallible x` states that
+-- cloning `x` cannot fail.) The call changed the list from `v` to `w`. Each clone that was made
+-- counts as one move. If the capacity changed, the cost also includes one request for memory, and
+-- each item of `v` counts as copied once.
 abbrev pub CostsUpToClone : {T A : Type 0} → (T → Type 0) → List T → Thin T A → Thin T A → Type 0
 CostsUpToClone infallible sources v w =
     StopsAtClone infallible sources (cost_at v w.capacity) w.cost

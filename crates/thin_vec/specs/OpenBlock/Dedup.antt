@@ -7,8 +7,10 @@ use Rattle.thin_vec.specs.Edits.Retain.{moved_down, trues}
 use Rattle.thin_vec.specs.Edits.Dedup.{AskedLast, AskedPairs}
 use Rattle.thin_vec.specs.Open.{Open}
 
--- `R s x k b t y l` describes one test of the item `x` against the last kept item `k`. `b` is true
--- if `x` is to be removed. The test changes its state from `s` to `t`, `x` to `y`, and `k` to `l`.
+-- `R s x k b t y l` describes one call to a predicate that decides whether the item `x` is a
+-- duplicate of the last kept item `k`. The result `b` is true if `x` is to be removed. The call
+-- changes the state of the predicate from `s` to `t`, the item from `x` to `y`, and the kept item
+-- from `k` to `l`.
 module _ {S T : Type 0} (R : S → T → T → Bool → S → T → T → Type 0) where
   -- `IsPairAskedAt k s xs b t ys` states that the item at index `k` of `xs` was tested against the
   -- item directly before it. `b` is true if the tested item is to be removed. The test changed its
@@ -26,9 +28,9 @@ module _ {S T : Type 0} (R : S → T → T → Bool → S → T → T → Type 0
     pub asked : R s later kept b t later_left kept_left
     pub now : ys ≡ before ++ kept_left ∷ later_left ∷ after
 
-  -- `IsLastAsked s x xs b t y ys` states that the item `x` was tested against the last item of
-  -- `xs`. `b` is true if `x` is to be removed. The test changed its state from `s` to `t`, `x` to
-  -- `y`, and `xs` to `ys`.
+  -- `IsLastAsked s x xs b t y ys` states that the item `x` was tested against the last item of the
+  -- list `xs`. `b` is true if `x` is to be removed. The test changed its state from `s` to `t`, the
+  -- item from `x` to `y`, and the list from `xs` to `ys`.
   pub record IsLastAsked (s : S) (x : T) (xs : List T) (b : Bool) (t : S) (y : T)
       (ys : List T) : Type 0 where
     pub before : List T
@@ -38,9 +40,9 @@ module _ {S T : Type 0} (R : S → T → T → Bool → S → T → T → Type 0
     pub asked : R s x kept b t y kept_left
     pub now : ys ≡ before ++ kept_left ∷ []
 
-  -- `IsNextAsked s k xs b t l ys` states that the first item of `xs` was tested against the kept
-  -- item `k`. `b` is true if the tested item is to be removed. The test changed its state from `s`
-  -- to `t`, `k` to `l`, and `xs` to `ys`.
+  -- `IsNextAsked s k xs b t l ys` states that the first item of the list `xs` was tested against
+  -- the kept item `k`. `b` is true if the first item is to be removed. The test changed its state
+  -- from `s` to `t`, the kept item from `k` to `l`, and the list from `xs` to `ys`.
   pub record IsNextAsked (s : S) (k : T) (xs : List T) (b : Bool) (t : S) (l : T)
       (ys : List T) : Type 0 where
     pub later : T
@@ -50,9 +52,9 @@ module _ {S T : Type 0} (R : S → T → T → Bool → S → T → T → Type 0
     pub asked : R s later k b t later_left l
     pub now : ys ≡ later_left ∷ after
 
-  -- `AreAskedIn s i slots b t slots'` states that the item in slot `i + 1` was tested against the
-  -- item in slot `i`. `b` is true if the tested item is to be removed. The test changed its state
-  -- from `s` to `t`, and the slots to `slots'`.
+  -- `AreAskedIn s i slots b t slots'` states that the item in slot `i + 1` of the row `slots` was
+  -- tested against the item in slot `i`. `b` is true if the item in slot `i + 1` is to be removed.
+  -- The test changed its state from `s` to `t`, and the row of slots from `slots` to `slots'`.
   pub record AreAskedIn (s : S) (i : ℕ) (slots : List (Option T)) (b : Bool) (t : S)
       (slots' : List (Option T)) : Type 0 where
     pub kept : T
@@ -64,9 +66,11 @@ module _ {S T : Type 0} (R : S → T → T → Bool → S → T → T → Type 0
     pub asked : R s later kept b t later_left kept_left
     pub now : slots' ≡ slice_set (slice_set slots i (Some kept_left)) (suc i) (Some later_left)
 
-  -- `PairsAskedUpTo m s xs t ys` states that items of `xs` were tested, each against the item
-  -- directly before it, up to the first duplicate. This duplicate is at index `m`; without a
-  -- duplicate, `m` is `length xs`. The tests changed their state from `s` to `t`, and `xs` to `ys`.
+  -- `PairsAskedUpTo m s xs t ys` describes a search for the first item of the list `xs` that is to
+  -- be removed. The items were tested in order, from the second item onward, each against the item
+  -- directly before it. `m` is the index of the item that the search found, or the length of `xs`
+  -- if the search found no such item. The search changed the state of the test from `s` to `t`, and
+  -- the list from `xs` to `ys`.
   pub record PairsAskedUpTo (m : ℕ) (s : S) (xs : List T) (t : S) (ys : List T) : Type 0 where
     pub first : T
     pub done : List T
@@ -83,9 +87,12 @@ module _ {S T : Type 0} (R : S → T → T → Bool → S → T → T → Type 0
     pub stops : ((length over ≡ 1) × (stays ≡ replicate more true ++ false ∷ []))
         ⊎ ((over ≡ []) × ((after ≡ []) × (stays ≡ replicate more true)))
 
-  -- `Dedups s v t w` describes testing some or all middle items for duplicates. This changes the
-  -- open block from `v` to `w`, and the state of the test from `s` to `t`. Duplicates are removed,
-  -- and the other tested items are moved to the front.
+  -- `Dedups s v t w` states that some or all middle items of an open block were tested for
+  -- duplicates, in order, and that this changed the block from `v` to `w`. (The middle items are
+  -- the items that have not been tested yet.) Each tested item was compared with the last item that
+  -- was kept before it. The kept items were moved to the end of the front, which is the first part
+  -- of the block. Each kept item counts as one move. The other tested items were removed. The test
+  -- changed its state from `s` to `t`.
   pub record Dedups {A : Type 0} (s : S) (v : Open T A) (t : S) (w : Open T A) : Type 0 where
     pub before : List T
     pub first : T
@@ -103,9 +110,12 @@ module _ {S T : Type 0} (R : S → T → T → Bool → S → T → T → Type 0
       cost = moving (trues stays) v.cost;
     }
 
-  -- `IsDeduped s v t w` describes testing all middle items except the first for duplicates. This
-  -- changes the open block from `v` to `w`, and the state of the test from `s` to `t`. Duplicates
-  -- are removed, and the kept items form the front of `w`.
+  -- `IsDeduped s v t w` states that all duplicates among the middle items of an open block were
+  -- removed, and that this changed the block from `v` to `w`. (The middle items are the items that
+  -- have not been tested yet.) The first middle item was kept without a test. Each later middle
+  -- item was tested, in order, against the last item that was kept before it. The kept items form
+  -- the front, which is the first part of the block. Each kept item that follows the first removed
+  -- item counts as one move. The test changed its state from `s` to `t`.
   pub record IsDeduped {A : Type 0} (s : S) (v : Open T A) (t : S) (w : Open T A) : Type 0 where
     pub stays : List Bool
     pub asked : AskedPairs R s v.rest stays w.front t

@@ -1,16 +1,18 @@
 -- These definitions describe how items are removed from an open block, as in std's
--- `Vec::retain_mut` and `Vec::extract_if`. A test decides for each item whether the item is kept.
+-- `Vec::retain_mut` and `Vec::extract_if`. A test decides for each item whether the item is to be
+-- kept.
 use Rattle.std.specs.Prelude.{◌≡◌, ℕ, ◌+◌, ◌<◌, ◌==◌, List, [], ◌∷◌, ◌++◌, Bool, true, false, drop, if◌then◌else◌, length, take}
 use Rattle.thin_block.specs.Cost.{moving}
 use Rattle.thin_vec.specs.Edits.Retain.{Verdicts, Asked, flags_of, left_at, moved_down, stay, trues}
 use Rattle.thin_vec.specs.Open.{Open}
 
--- `R s x b t y` describes one test of the item `x`. `b` is true if `x` is to be kept. The test
--- changes its state from `s` to `t`, and `x` to `y`.
+-- `R s x b t y` describes one call to a predicate that decides whether an item is to be kept. The
+-- call tests the item `x`, and the result `b` is true if `x` is to be kept. The call changes the
+-- state of the predicate from `s` to `t`, and the item from `x` to `y`.
 module _ {S T : Type 0} (R : S → T → Bool → S → T → Type 0) where
-  -- `IsAskedAt k s xs b t ys` states that the item at index `k` of `xs` was tested. `b` is true if
-  -- the item is to be kept. The test changed its state from `s` to `t`, and the list from `xs` to
-  -- `ys`.
+  -- `IsAskedAt k s xs b t ys` states that the item at index `k` of the list `xs` was tested. `b` is
+  -- true if the item is to be kept. The test changed its state from `s` to `t`, and the list from
+  -- `xs` to `ys`.
   pub record IsAskedAt (k : ℕ) (s : S) (xs : List T) (b : Bool) (t : S) (ys : List T) : Type 0 where
     pub before : List T
     pub item : T
@@ -21,16 +23,18 @@ module _ {S T : Type 0} (R : S → T → Bool → S → T → Type 0) where
     pub asked : R s item b t left
     pub now : ys ≡ before ++ left ∷ after
 
-  -- `Stops s xs t ys` states that the first item of `xs` was tested and is to be removed. The test
-  -- changed its state from `s` to `t`, and `xs` to `ys`. If `xs` is empty, nothing was tested or
-  -- changed.
+  -- `Stops s xs t ys` describes the last step of a series of tests. Before this step, the test has
+  -- the state `s`, and the items of the list `xs` have not been tested. If `xs` is empty, nothing
+  -- is tested or changed: `t` is `s`, and `ys` is empty. Otherwise, the first item of `xs` is
+  -- tested, and it is to be removed. This test changes its state from `s` to `t`, and the list from
+  -- `xs` to `ys`.
   abbrev pub Stops : S → List T → S → List T → Type 0
   Stops s [] t ys = (ys ≡ []) × (t ≡ s)
   Stops s (x ∷ xs) t ys = (y : T) × R s x false t y × (ys ≡ y ∷ xs)
 
-  -- `AskedUpTo k m s xs t ys` states that items of `xs` were tested from index `k` onward, up to
-  -- the first item to remove. This item is at index `m`; without such an item, `m` is `length xs`.
-  -- The tests changed their state from `s` to `t`, and `xs` to `ys`.
+  -- `AskedUpTo k m s xs t ys` states that the test decided to keep the items `k..m` of `xs`, and to
+  -- remove the item at index `m`, if there is such an item. The test changed its state from `s` to
+  -- `t`, and `ys` is `xs` with the tested items as the test left them.
   pub record AskedUpTo (k m : ℕ) (s : S) (xs : List T) (t : S) (ys : List T) : Type 0 where
     pub before : List T
     pub run : List T
@@ -45,9 +49,13 @@ module _ {S T : Type 0} (R : S → T → Bool → S → T → Type 0) where
     pub stops : Stops between after t end
     pub now : ys ≡ before ++ (left ++ end)
 
-  -- `Advances s v t w` describes a search, among the middle items, for the next item to remove. It
-  -- changes the open block from `v` to `w`, and the state of the test from `s` to `t`. The tested
-  -- items before the one to remove are added to the front.
+  -- `Advances s v t w` describes a search, among the middle items of an open block, for the next
+  -- item to remove. (The middle items are the items that have not been tested yet.) The search
+  -- changed the block from `v` to `w`, and the state of the test from `s` to `t`. The items that
+  -- were tested and kept were added to the end of the front, which is the first part of the block.
+  -- Each kept item counts as one move if `v` has empty slots between its front and its middle
+  -- items. If the search found an item to remove, this item is the first middle item of `w`.
+  -- Otherwise, `w` has no middle items.
   pub record Advances {A : Type 0} (s : S) (v : Open T A) (t : S) (w : Open T A) : Type 0 where
     pub count : ℕ
     pub left : List T
@@ -58,9 +66,11 @@ module _ {S T : Type 0} (R : S → T → Bool → S → T → Type 0) where
       cost = if v.gap == 0 then v.cost else moving count v.cost;
     }
 
-  -- `Sifts s v t w` describes testing some or all middle items. This changes the open block from
-  -- `v` to `w`, and the state of the test from `s` to `t`. The kept items are moved to the front,
-  -- and the other tested items are removed.
+  -- `Sifts s v t w` states that some or all middle items of an open block were tested, in order,
+  -- and that this changed the block from `v` to `w`. (The middle items are the items that have not
+  -- been tested yet.) The kept items were moved to the end of the front, which is the first part of
+  -- the block. Each kept item counts as one move. The other tested items were removed. The test
+  -- changed its state from `s` to `t`.
   pub record Sifts {A : Type 0} (s : S) (v : Open T A) (t : S) (w : Open T A) : Type 0 where
     pub done : List T
     pub verdicts : Verdicts T
@@ -74,9 +84,11 @@ module _ {S T : Type 0} (R : S → T → Bool → S → T → Type 0) where
       cost = moving (trues (flags_of verdicts)) v.cost;
     }
 
-  -- `IsSifted s v t w` describes testing all middle items. This changes the open block from `v` to
-  -- `w`, and the state of the test from `s` to `t`. The kept items are added to the front, and the
-  -- others are removed.
+  -- `IsSifted s v t w` states that all middle items of an open block were tested, in order, and
+  -- that this changed the block from `v` to `w`. (The middle items are the items that have not been
+  -- tested yet.) The kept items were added to the end of the front, which is the first part of the
+  -- block. The other middle items were removed. Each kept item that follows the first removed item
+  -- counts as one move. The test changed its state from `s` to `t`.
   pub record IsSifted {A : Type 0} (s : S) (v : Open T A) (t : S) (w : Open T A) : Type 0 where
     pub verdicts : Verdicts T
     pub asked : Asked R s v.rest verdicts t

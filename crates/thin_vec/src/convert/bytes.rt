@@ -1,5 +1,5 @@
-//! The method `from_str`, which makes a list of the bytes of a text, and the implementation of
-//! std's trait `Write` for lists of bytes.
+//! Code for lists of bytes: the method `from_str`, which makes a list of the bytes of a text, and
+//! the implementation of std's trait `Write`.
 ghost use Rattle.std.specs.Prelude.{◌≡◌, ◌+◌, ◌++◌, IfErr, IfOk, IsErr, IsOk, None, OnErr, OnOk, Some, length};
 ghost use Rattle.std.specs.Borrow.{u8};
 ghost use Rattle.std.specs.IoError.{error_kind};
@@ -21,7 +21,7 @@ impl<A: Allocator> ThinVec<u8, A> {
     ///
     /// # Errors
     ///
-    /// On failure, `alloc` is dropped.
+    /// On failure, no list is made, and `alloc` is dropped.
     ///
     /// - `CapacityOverflow`: the capacity would be too large.
     /// - `OutOfMemory`: the allocator failed.
@@ -49,13 +49,13 @@ impl<A: Allocator, G: Growth> Write for ThinVec<u8, A, G> {
     ghost contents = { λ list. Some list.items };
 
     /// Appends all bytes of `buf`, and returns the number of these bytes. If there is not enough
-    /// room, the growth rule chooses the new capacity.
+    /// spare capacity, the list first grows to the capacity that the growth rule chooses.
     ///
     /// # Errors
     ///
-    /// Fails if the list has to grow, but the new capacity would be too large or the allocator
-    /// fails. The list is then unchanged. The kind of the error is `OutOfMemory` in both cases,
-    /// because std has no `ErrorKind` for a capacity overflow.
+    /// Fails only if the list has to grow, and either the new capacity would be too large or the
+    /// allocator fails. In both cases, the kind of the error is `OutOfMemory`, because std has no
+    /// `ErrorKind` for a capacity overflow. On failure, the list is unchanged.
     fn write(&mut self, buf: &[u8]) -> io::Result<usize>
         // On success.
         ensures value { IfOk result (λ count. count ≡ length buf.now) }
@@ -81,14 +81,14 @@ impl<A: Allocator, G: Growth> Write for ThinVec<u8, A, G> {
         Ok(buf.len())
     }
 
-    /// Appends all bytes of `buf`. If there is not enough room, the growth rule chooses the new
-    /// capacity.
+    /// Appends all bytes of `buf`. If there is not enough spare capacity, the list first grows to
+    /// the capacity that the growth rule chooses.
     ///
     /// # Errors
     ///
-    /// Fails if the list has to grow, but the new capacity would be too large or the allocator
-    /// fails. The list is then unchanged. The kind of the error is `OutOfMemory` in both cases,
-    /// because std has no `ErrorKind` for a capacity overflow.
+    /// Fails only if the list has to grow, and either the new capacity would be too large or the
+    /// allocator fails. In both cases, the kind of the error is `OutOfMemory`, because std has no
+    /// `ErrorKind` for a capacity overflow. On failure, the list is unchanged.
     fn write_all(&mut self, buf: &[u8]) -> io::Result<()>
         // On success.
         ensures items { OnOk result (self.new.items ≡ self.old.items ++ buf.now) }
@@ -122,7 +122,7 @@ impl<A: Allocator, G: Growth> Write for ThinVec<u8, A, G> {
         ensures succeeds { IsOk result }
         ensures unchanged { self.new ≡ self.old }
     {
-        // Every byte that was written is already in the list.
+        // There is nothing to flush, because every byte that was written is already in the list.
         Ok(())
     }
 }

@@ -16,17 +16,17 @@ use std::boxed::BoxedSlice;
 use thin_block::{ThinVecError, fits};
 
 impl<T, A: Allocator> ThinVec<T, A> {
-    /// Moves the items of an array into a new list, in order. The capacity is exactly `N`. An empty
-    /// array needs no allocation.
+    /// Moves the items of an array into a new list, in order. The capacity of the list is exactly
+    /// `N`. If the array is empty, the call allocates nothing.
     ///
-    /// An array must occupy fewer than 2^63 bytes. If `T` is a type parameter of the caller, the
-    /// caller therefore needs the precondition `N * type_size T.row < 2 ^ 63`. (`type_size` is
-    /// defined in `Rattle.std.specs.Mem`.) For a concrete type, the prover needs no help. The macro
-    /// `thin_vec!` has no such precondition.
+    /// Like every array, `items` must occupy fewer than 2^63 bytes. If `T` is a concrete type, the
+    /// prover proves this without help. If `T` is a type parameter of the caller, the caller needs
+    /// the precondition `N * type_size T.row < 2 ^ 63`. (`type_size` is defined in
+    /// `Rattle.std.specs.Mem`.) The macro `thin_vec!` does not need this precondition.
     ///
     /// # Errors
     ///
-    /// On failure, the error holds the array, which the caller owns again. `alloc` is dropped.
+    /// On failure, the error holds the array, so the caller owns it again. `alloc` is dropped.
     ///
     /// - `CapacityOverflow`: a capacity of `N` would be too large.
     /// - `OutOfMemory`: the allocator failed.
@@ -63,11 +63,11 @@ impl<T, A: Allocator> ThinVec<T, A> {
 
     /// Moves the items of a vector into a new list, in order, and frees the allocation of the
     /// vector. The vector may use any allocator. The capacity of the list is exactly the number of
-    /// items. An empty vector needs no new allocation.
+    /// items. If the vector is empty, the call allocates nothing.
     ///
     /// # Errors
     ///
-    /// On failure, the error holds the vector, which the caller owns again. `alloc` is dropped.
+    /// On failure, the error holds the vector, so the caller owns it again. `alloc` is dropped.
     ///
     /// - `CapacityOverflow`: the capacity would be too large.
     /// - `OutOfMemory`: the allocator failed.
@@ -102,12 +102,12 @@ impl<T, A: Allocator> ThinVec<T, A> {
     }
 
     /// Moves the items of a boxed slice into a new list, in order, and frees the allocation of the
-    /// slice. The slice may use any allocator. The capacity of the list is exactly the number of
-    /// items. An empty slice needs no new allocation.
+    /// boxed slice. The boxed slice may use any allocator. The capacity of the list is exactly the
+    /// number of items. If the boxed slice is empty, the call allocates nothing.
     ///
     /// # Errors
     ///
-    /// On failure, the error holds the boxed slice, which the caller owns again. `alloc` is
+    /// On failure, the error holds the boxed slice, so the caller owns it again. `alloc` is
     /// dropped.
     ///
     /// - `CapacityOverflow`: the capacity would be too large.
@@ -144,8 +144,8 @@ impl<T, A: Allocator> ThinVec<T, A> {
         }
     }
 
-    // Moves the items of the vector into this list, in order, and frees the vector. The list must
-    // be empty, and must have room for the items.
+    // Moves the items of the vector `items` into this list, in order, and frees the vector. The
+    // list must be empty, and must have room for the items.
     fn extend_from_vec_reserved<B: Allocator>(&mut self, items: Vec<T, B>)
         requires empty { self.old.items ≡ [] }
         requires room { length items.items ≤ self.old.capacity }
@@ -163,15 +163,15 @@ impl<T, A: Allocator> ThinVec<T, A> {
 }
 
 impl<T: Copy, A: Allocator> ThinVec<T, A> {
-    /// Makes a list of copies of the items of a slice, in order. The capacity is exactly the number
-    /// of items. An empty slice needs no allocation. This method is faster than `from_slice`,
-    /// because it copies the items byte for byte.
+    /// Makes a list of copies of the items of a slice, in order. The capacity of the list is
+    /// exactly the number of items. If the slice is empty, the call allocates nothing. The items
+    /// are copied byte for byte, so this method is faster than `from_slice`.
     ///
     /// This method exists neither in Rust's `Vec` nor in the Rust crate thin-vec.
     ///
     /// # Errors
     ///
-    /// On failure, `alloc` is dropped.
+    /// On failure, no list is made, and `alloc` is dropped.
     ///
     /// - `CapacityOverflow`: the capacity would be too large.
     /// - `OutOfMemory`: the allocator failed.
@@ -233,8 +233,8 @@ impl<T: Clone, A: Allocator> ThinVec<T, A> {
     }
 }
 
-// Returns the length of the array. The proof of `from_array` needs the contract of this function,
-// which states that the length is `N`.
+// Returns the number of items in the array `items`. The contract of this function states that the
+// number is `N`. The proof of `from_array`, which calls this function, needs this statement.
 fn count<T, const N: usize>(items: &[T; N]) -> usize
     ensures value { result ≡ N }
     ensures length { result ≡ length items.now }

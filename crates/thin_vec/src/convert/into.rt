@@ -10,14 +10,14 @@ use std::boxed::BoxedSlice;
 use thin_block::{Growth, ThinVecError};
 
 impl<T, A: Allocator, G: Growth> ThinVec<T, A, G> {
-    /// Moves the items of the list, in order, into a new `Vec` with the allocator `alloc`, and
-    /// frees the allocation of the list. The capacity of the `Vec` is exactly the number of items.
-    /// An empty list needs no new allocation.
+    /// Moves the items of the list, in order, into a new `Vec` that uses the allocator `alloc`. The
+    /// capacity of the `Vec` is exactly the number of items. The allocation of the list is freed.
+    /// If the list is empty, the call allocates nothing.
     ///
     /// # Errors
     ///
-    /// Fails with `OutOfMemory` if `alloc` cannot allocate the memory. The error then holds the
-    /// unchanged list, which the caller owns again. `alloc` is dropped.
+    /// Fails with `OutOfMemory` if `alloc` cannot allocate the memory. On failure, the error holds
+    /// the unchanged list, so the caller owns it again. `alloc` is dropped.
     pub fn into_vec(self, alloc: A) -> Result<Vec<T, A>, Rejected<ThinVec<T, A, G>>>
         // On success.
         ensures items { IfOk result (λ vec. vec.items ≡ self.items) }
@@ -41,8 +41,8 @@ impl<T, A: Allocator, G: Growth> ThinVec<T, A, G> {
         }
     }
 
-    // Moves the items of the list into `vec`, in order, and frees the allocation of the list. `vec`
-    // must be empty, and must have room for the items.
+    // Moves the items of the list into the vector `vec`, in order, and returns `vec`. The vector
+    // must be empty, and must have room for the items. The allocation of the list is freed.
     fn moved_to(self, mut vec: Vec<T, A>) -> Vec<T, A>
         requires empty { vec.items ≡ [] }
         requires room { length self.items ≤ vec_capacity vec }
@@ -58,13 +58,14 @@ impl<T, A: Allocator, G: Growth> ThinVec<T, A, G> {
         vec
     }
 
-    /// Moves the items of the list, in order, into a new boxed slice with the allocator `alloc`,
-    /// and frees the allocation of the list. An empty list needs no new allocation.
+    /// Moves the items of the list, in order, into a new boxed slice that uses the allocator
+    /// `alloc`. The allocation of the list is freed. If the list is empty, the call allocates
+    /// nothing.
     ///
     /// # Errors
     ///
-    /// Fails with `OutOfMemory` if `alloc` cannot allocate the memory. The error then holds the
-    /// unchanged list, which the caller owns again. `alloc` is dropped.
+    /// Fails with `OutOfMemory` if `alloc` cannot allocate the memory. On failure, the error holds
+    /// the unchanged list, so the caller owns it again. `alloc` is dropped.
     pub fn into_boxed_slice(self, alloc: A) -> Result<BoxedSlice<T, A>, Rejected<ThinVec<T, A, G>>>
         // On success.
         ensures items { IfOk result (λ boxed. boxed_slice_items boxed ≡ self.items) }
@@ -84,15 +85,16 @@ impl<T, A: Allocator, G: Growth> ThinVec<T, A, G> {
     /// If the list has exactly `N` items, moves them into an array, in order, and frees the
     /// allocation of the list. The call allocates nothing.
     ///
-    /// An array must occupy fewer than 2^63 bytes. If `T` is a type parameter of the caller, the
-    /// caller therefore needs the precondition `N * type_size T.row < 2 ^ 63`. (`type_size` is
-    /// defined in `Rattle.std.specs.Mem`.) For a concrete type, the prover needs no help. The
-    /// methods `into_vec` and `into_iter` have no such precondition.
+    /// Like every array, the result must occupy fewer than 2^63 bytes. If `T` is a concrete type,
+    /// the prover proves this without help. If `T` is a type parameter of the caller, the caller
+    /// needs the precondition `N * type_size T.row < 2 ^ 63`. (`type_size` is defined in
+    /// `Rattle.std.specs.Mem`.) The methods `into_vec` and `into_iter` do not need this
+    /// precondition.
     ///
     /// # Errors
     ///
-    /// Fails if the length is not `N`. The error is the unchanged list, which the caller owns
-    /// again.
+    /// Fails if the number of items is not `N`. The error is the unchanged list, so the caller owns
+    /// it again.
     pub fn into_array<const N: usize>(mut self) -> Result<[T; N], ThinVec<T, A, G>>
         // On success.
         ensures items { IfOk result (λ items. items ≡ self.items) }
@@ -119,8 +121,7 @@ impl<T, A: Allocator, G: Growth> ThinVec<T, A, G> {
         ensures value { result ≡ self.old.items }
         ensures items { self.new.items ≡ [] }
     {
-        // This call is needed only for the proof, because the contract of `len` limits the number
-        // of items.
+        // This call is needed only for the proof: the contract of `len` limits the number of items.
         let _len = self.len();
         let items = self.block.take_array(0);
         self.block.set_len(0);

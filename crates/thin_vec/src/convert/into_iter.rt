@@ -14,15 +14,16 @@ use std::iter::FusedIterator;
 use std::marker::{Model, PhantomData};
 use thin_block::{Block, Doubling, Growth, ThinVecError};
 
-/// An iterator that owns the items of a list and yields them from either end. It also owns the
-/// allocation and the allocator of the list. Dropping the iterator drops the remaining items and
-/// frees the allocation.
+/// An iterator that yields the items of a list from either end. It owns the items that have not
+/// been yielded yet. It also owns the allocation and the allocator of the list. Dropping the
+/// iterator drops the remaining items, and frees the allocation. No item is moved before it is
+/// yielded.
 ///
-/// The view of an `IntoIter` that contracts use has the same fields as the view of a list. The
-/// field `items` contains the remaining items.
+/// Contracts describe an `IntoIter` by the same fields as a list. The field `items` contains the
+/// items that have not been yielded yet.
 pub struct IntoIter<T, A: Allocator = Global, G: Growth = Doubling> {
-    // The remaining items are in the slots `start..end` of the block. The length that is stored in
-    // the block is not used.
+    // The items that have not been yielded yet are in the slots `start..end` of the block. The
+    // length that is stored in the block is no longer used.
     block: Block<T, A>,
     alloc: A,
     start: usize,
@@ -82,14 +83,15 @@ impl<T, A: Allocator, G: Growth> IntoIter<T, A, G> {
     ghost use types.Logic.{sem};
     ghost use Rattle.thin_vec.specs.Lends.{LendsRest};
 
-    /// Returns the number of remaining items.
+    /// Returns the number of items that have not been yielded yet.
     pub fn len(&self) -> usize
         ensures value { result ≡ length self.now.items }
     {
         self.end - self.start
     }
 
-    /// Returns an exact size hint: both bounds are the number of remaining items.
+    /// Returns a size hint whose lower bound and upper bound are both the number of items that have
+    /// not been yielded yet.
     pub fn size_hint(&self) -> (usize, Option<usize>)
         ensures value { result ≡ (length self.now.items, Some (length self.now.items)) }
     {
@@ -97,7 +99,8 @@ impl<T, A: Allocator, G: Growth> IntoIter<T, A, G> {
         (len, Some(len))
     }
 
-    /// Yields the first of the remaining items, or returns `None` if no item remains.
+    /// Yields the first item that has not been yielded yet, or returns `None` if all items have
+    /// been yielded.
     pub fn next(&mut self) -> Option<T>
         ensures variant { IsSome result ↔ (0 < length self.old.items) }
         ensures items { self.old.items ≡ option_to_list result ++ self.new.items }
@@ -109,7 +112,8 @@ impl<T, A: Allocator, G: Growth> IntoIter<T, A, G> {
         Some(self.take_first())
     }
 
-    /// Yields the last of the remaining items, or returns `None` if no item remains.
+    /// Yields the last item that has not been yielded yet, or returns `None` if all items have been
+    /// yielded.
     pub fn next_back(&mut self) -> Option<T>
         ensures variant { IsSome result ↔ (0 < length self.old.items) }
         ensures items { self.old.items ≡ self.new.items ++ option_to_list result }
@@ -121,7 +125,7 @@ impl<T, A: Allocator, G: Growth> IntoIter<T, A, G> {
         Some(self.take_last())
     }
 
-    // Yields the first of the remaining items. At least one item must remain.
+    // Yields the first item that has not been yielded yet. There must be such an item.
     fn take_first(&mut self) -> T
         requires some { 0 < length self.old.items }
         ensures items { self.old.items ≡ result ∷ self.new.items }
@@ -132,7 +136,7 @@ impl<T, A: Allocator, G: Growth> IntoIter<T, A, G> {
         self.block.take(first)
     }
 
-    // Yields the last of the remaining items. At least one item must remain.
+    // Yields the last item that has not been yielded yet. There must be such an item.
     fn take_last(&mut self) -> T
         requires some { 0 < length self.old.items }
         ensures items { self.old.items ≡ self.new.items ++ result ∷ [] }
@@ -142,15 +146,15 @@ impl<T, A: Allocator, G: Growth> IntoIter<T, A, G> {
         self.block.take(self.end)
     }
 
-    /// Returns the remaining items, in order, as a slice.
+    /// Returns the items that have not been yielded yet, in order, as a slice.
     pub fn as_slice(&self) -> &[T]
         ensures value { result.now ≡ self.now.items }
     {
         self.block.slice(self.start, self.end)
     }
 
-    /// Returns the remaining items, in order, as a mutable slice. If the caller changes an item of
-    /// the slice, the iterator later yields the changed item.
+    /// Returns the items that have not been yielded yet, in order, as a mutable slice. If the
+    /// caller changes an item of the slice, the iterator later yields the changed item.
     pub fn as_mut_slice(&mut self) -> &mut [T]
         ensures* writes_back { sem 𝓛
             (LendsRest T.row A.row G.row A.Allocator G.Growth self.entry result) }
@@ -159,7 +163,7 @@ impl<T, A: Allocator, G: Growth> IntoIter<T, A, G> {
         self.block.slice_mut(self.start, self.end)
     }
 
-    // Consumes an iterator without remaining items, and frees the allocation.
+    // Consumes the iterator, which must have yielded all its items, and frees its allocation.
     pub(crate) fn release(self)
         requires empty { self.items ≡ [] }
     {
@@ -203,8 +207,8 @@ impl<T: Clone, A: Allocator, G: Growth> IntoIter<T, A, G> {
         // On failure.
         ensures cause { IfErr result (λ cause. cause ≡ ThinVecError.OutOfMemory) }
     {
-        // This call is needed only for the proof, because the contract of `cap` limits the
-        // capacity, and with it the number of items.
+        // This call is needed only for the proof: the contract of `cap` limits the capacity, and
+        // the number of items does not exceed the capacity.
         let _room = self.block.cap();
         let list = ThinVec::from_fitting_slice(alloc, self.as_slice())?;
         Ok(list.into_iter())
@@ -252,7 +256,7 @@ impl<T: fmt::Debug, A: Allocator, G: Growth> fmt::Debug for IntoIter<T, A, G> {
 }
 
 impl<T: Drop, A: Allocator, G: Growth> Drop for IntoIter<T, A, G> {
-    // Drops the remaining items, and then frees the allocation.
+    // Drops the items that have not been yielded yet, and then frees the allocation.
     fn drop(mut self) {
         while let Some(_item) = self.next() {}
         self.release();

@@ -1,5 +1,5 @@
-//! The methods `dedup`, `dedup_by` and `dedup_by_key`. They remove each item that is a duplicate of
-//! the last kept item.
+//! The methods `dedup`, `dedup_by` and `dedup_by_key`. They compare each item with the last item
+//! that was kept before it, and remove each item that is a duplicate of this kept item.
 ghost use Rattle.std.specs.Prelude.{◌≡◌, ◌+◌, ◌<◌, ◌≤◌, length};
 ghost use Rattle.std.specs.Fn.{CalledAtPairMut, ComparesKeys};
 ghost use Rattle.std.specs.List.{dedup};
@@ -15,13 +15,15 @@ impl<T: Drop, A: Allocator, G: Growth> ThinVec<T, A, G> {
     ghost use Rattle.thin_vec.specs.Edits.Dedup.{IsDedupedBy, IsDedupedTo};
     ghost use Rattle.thin_vec.specs.ThinVec.{IsWithin};
 
-    /// Removes and drops each item for which `same` returns true. `same` is called once for each
-    /// item except the first, in order.
+    /// Calls `same` once for each item except the first, in order. If `same` returns true, the item
+    /// is removed and dropped. So the list keeps only the first of several adjacent duplicates.
     ///
-    /// The first argument of `same` is the item, and the second argument is the last kept item, as
-    /// in Rust's `Vec::dedup_by`. `same` may change both items.
+    /// The first argument of `same` is the item, and the second argument is the last item that was
+    /// kept before it. Rust's `Vec::dedup_by` passes the arguments in the same order. `same` may
+    /// write to both items.
     ///
-    /// Each kept item after the first removed item is moved once. No other item is moved.
+    /// Each kept item that follows the first removed item is moved once. No other item is moved
+    /// within the list.
     pub fn dedup_by<F: FnMut(&mut T, &mut T) -> bool>(&mut self, same: F)
         requires callable { F.IsAlwaysCallable same }
         ensures deduped { IsDedupedBy (CalledAtPairMut F.FnMut) same self.old self.new }
@@ -34,8 +36,8 @@ impl<T: Drop, A: Allocator, G: Growth> ThinVec<T, A, G> {
         let Deduping { same: _ } = test;
     }
 
-    // Tests each item except the first, in order, against the last kept item. Drops the items that
-    // are duplicates.
+    // Tests each item except the first, in order, against the last item that was kept before it.
+    // Removes and drops each item that the test finds to be a duplicate.
     fn dedup_those<J: PairTest<T>>(&mut self, test: &mut J)
         requires ready { J.ready test.old }
         ensures deduped { IsDedupedTo J.tests test.old self.old self.new test.new }
@@ -54,13 +56,15 @@ impl<T: Drop, A: Allocator, G: Growth> ThinVec<T, A, G> {
         self.close(block);
     }
 
-    /// Removes and drops each item whose key equals the key of the last kept item. The closure
-    /// `key` computes the key of an item.
+    /// Removes and drops each item whose key is equal to the key of the last item that was kept
+    /// before it. The closure `key` computes the key of an item.
     ///
-    /// For each item except the first, in order, `key` is called with this item, and then with the
-    /// last kept item, as in Rust's `Vec::dedup_by_key`. `key` may change the items.
+    /// For each item except the first, in order, `key` is called twice: first with this item, and
+    /// then with the last item that was kept before this item. Rust's `Vec::dedup_by_key` makes the
+    /// same calls. `key` may write to the items.
     ///
-    /// Each kept item after the first removed item is moved once. No other item is moved.
+    /// Each kept item that follows the first removed item is moved once. No other item is moved
+    /// within the list.
     pub fn dedup_by_key<K: PartialEq + Drop, F: FnMut(&mut T) -> K>(&mut self, key: F)
         requires callable { F.IsAlwaysCallable key }
         ensures deduped { IsDedupedBy (ComparesKeys F.FnMut K.eq) key self.old self.new }
@@ -79,11 +83,12 @@ impl<T: PartialEq + Drop, A: Allocator, G: Growth> ThinVec<T, A, G> {
     ghost use Rattle.thin_vec.specs.Edits.Dedup.{unlike};
     ghost use Rattle.thin_vec.specs.ThinVec.{IsWithin};
 
-    /// Removes and drops each item that equals the last kept item, like Rust's `Vec::dedup`. In a
-    /// sorted list, one item of each value remains.
+    /// Removes and drops each item that is equal to the last item that was kept before it, like
+    /// Rust's `Vec::dedup`. If the list is sorted, one item of each value remains.
     ///
-    /// Each item except the first is compared once. Each kept item after the first removed item is
-    /// moved once. No other item is moved.
+    /// Each item except the first is compared once, with the last item that was kept before it.
+    /// Each kept item that follows the first removed item is moved once. No other item is moved
+    /// within the list.
     pub fn dedup(&mut self)
         ensures items { self.new.items ≡ dedup T.eq self.old.items }
         ensures cost { self.new.cost ≡ moving (moved_down (unlike T.eq self.old.items))
@@ -98,18 +103,19 @@ impl<T: PartialEq + Drop, A: Allocator, G: Growth> ThinVec<T, A, G> {
     }
 }
 
-// The test that `dedup_by` uses. An item is removed if the closure `same` returns true.
+// The test that `dedup_by` uses: the later of two items is removed if the closure `same` returns
+// true.
 struct Deduping<F> {
     same: F,
 }
 
-// The test that `dedup_by_key` uses. The later of two items is removed if the closure `key` returns
-// equal keys for both.
+// The test that `dedup_by_key` uses: the later of two items is removed if the closure `key` returns
+// equal keys for both items.
 struct Keying<F> {
     key: F,
 }
 
-// The test that `dedup` uses. The later of two items is removed if they are equal.
+// The test that `dedup` uses: the later of two items is removed if the two items are equal.
 struct Comparing {}
 
 impl<T, F: FnMut(&mut T, &mut T) -> bool> PairTest<T> for Deduping<F> {

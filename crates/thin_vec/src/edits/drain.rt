@@ -1,5 +1,5 @@
-//! The method `drain`, which removes the items of a range from a list, and yields them from either
-//! end.
+//! The method `drain`, which removes the items of a range from a list, and yields them one by one
+//! from either end.
 ghost use Rattle.std.specs.Prelude.{◌≡◌, ◌+◌, ◌-◌, ◌<◌, ◌≤◌, ◌==◌, ◌++◌, IfSome, Some, if◌then◌else◌, length, slice_range};
 ghost use Rattle.std.specs.List.{remove_range};
 ghost use Rattle.std.specs.Iterator.{UpTo, item_count};
@@ -18,10 +18,10 @@ use thin_block::{Doubling, Growth};
 
 /// An iterator that removes the items of a range from a list, and yields them from either end.
 ///
-/// While the `Drain` exists, it owns the allocation of the list, and the list is empty and has
-/// capacity 0. Dropping the `Drain` drops the remaining items of the range. The list then holds the
-/// items before and after the range, in its old allocation. If a `Drain` is leaked, so are the
-/// items, and the list stays empty.
+/// Until the `Drain` is dropped, it owns the allocation of the list, and the list is empty and has
+/// capacity 0. When the `Drain` is dropped, it drops the items that were not yielded. After that,
+/// the list holds the items before the range and the items after the range, in the same allocation
+/// as before. If a `Drain` is leaked, the list stays empty, and its old items are leaked.
 pub struct Drain<
     'a,
     T,
@@ -36,8 +36,8 @@ pub struct Drain<
 
 impl<'a, T: Drop, A: Allocator, G: Growth, H: Holds<Inner = OpenBlock<T, A>>> Drop
     for Drain<'a, T, A, G, H> {
-    // Drops the remaining items of the range, moves the items after the range down, and puts the
-    // block back into the list.
+    // Drops the items that were not yielded. Moves the items after the drained range down to the
+    // start of this range, and puts the block back into the list.
     #[inline(always)]
     fn drop(self)
         ensures items { self.exit.0.now.items ≡ (H.inner self.entry.holder).front
@@ -49,8 +49,8 @@ impl<'a, T: Drop, A: Allocator, G: Growth, H: Holds<Inner = OpenBlock<T, A>>> Dr
         let Drain { list, holder } = self;
         let mut block = holder.into_inner();
         block.drop_rest();
-        // The list is already empty. This call is needed only for the proof, because the contract
-        // of `close` requires an empty list.
+        // The list is already empty. This call is needed only for the proof: the contract of
+        // `close` requires an empty list.
         list.clear();
         list.close(block);
     }
@@ -59,36 +59,39 @@ impl<'a, T: Drop, A: Allocator, G: Growth, H: Holds<Inner = OpenBlock<T, A>>> Dr
 impl<T: Drop, A: Allocator, G: Growth> ThinVec<T, A, G> {
     ghost use Rattle.thin_vec.specs.Edits.Drain.{DrainKeepsAlong, DrainsInOrder, DrainsInReverse, drain_alloc, drain_capacity, drain_cost, drain_kept, drain_lender, drain_rest};
 
-    /// Removes the items `start..end`, and returns an iterator that yields them from either end.
-    /// The range must be in bounds; the function `bounds` of this crate can check it.
+    /// Removes the items `start..end` from the list, and returns an iterator that yields them from
+    /// either end. The range must be in bounds. To check a range that may be out of bounds, use the
+    /// function `bounds` of this crate.
     ///
-    /// Until the iterator is dropped, the list is borrowed, is empty and has capacity 0. Dropping
-    /// the iterator drops the remaining items of the range. The list then holds the items before
-    /// and after the range. If the iterator is leaked, the list stays empty.
+    /// The list is borrowed until the iterator is dropped. Until then, it is empty and has capacity
+    /// 0. When the iterator is dropped, it drops the items that were not yielded. After that, the
+    /// list holds the items before the range and the items after the range. If the iterator is
+    /// leaked, the list stays empty.
     ///
     /// Neither this call nor dropping the iterator allocates memory, and neither can fail. This
-    /// call moves no item. Dropping the iterator moves each item after the range once, unless the
-    /// range is empty.
+    /// call moves no item. When the iterator is dropped, each item after the range is moved once.
+    /// If the range is empty, no item is moved.
     pub fn drain(&mut self, start: usize, end: usize) -> Drain<'_, T, A, G>
         requires start_le_end { start ≤ end }
         requires in_bounds { end ≤ length self.old.items }
 
-        // The `Drain` yields the items of the range: `next` in order, and `next_back` in reverse
-        // order.
+        // The `Drain` yields the items of the range. `next` yields them in order, and `next_back`
+        // in reverse order.
         ensures rest { drain_rest result ≡ slice_range self.old.items start end }
         ensures runs { DrainsInOrder result }
         ensures runs_back { DrainsInReverse result }
 
-        // These clauses state the items, capacity, allocator and cost of the list after the `Drain`
-        // is dropped.
+        // After the `Drain` is dropped, the list has the following items, capacity, allocator and
+        // recorded cost.
         ensures kept { drain_kept result ≡ remove_range self.old.items start end }
         ensures capacity { drain_capacity result ≡ self.old.capacity }
         ensures alloc { drain_alloc result ≡ self.old.alloc }
         ensures cost { drain_cost result ≡ (if start == end then self.old.cost else moving
             (length self.old.items - end) self.old.cost) }
 
-        // The `Drain` borrows this list: its reference has the same ghost name as `self`. Calls to
-        // `next` do not change what the list will be after the `Drain` is dropped.
+        // The `Drain` borrows this list: its reference to the list has the same ghost name as
+        // `self`. Calls to `next` do not change the value that the list will have after the `Drain`
+        // is dropped.
         ensures same_reference { drain_lender result ≡ self.entry.ghost_name }
         ensures stays { DrainKeepsAlong result }
     {
@@ -103,14 +106,15 @@ impl<T: Drop, A: Allocator, G: Growth> ThinVec<T, A, G> {
 impl<'a, T, A: Allocator, G: Growth> Drain<'a, T, A, G> {
     ghost use Rattle.thin_vec.specs.Edits.Drain.{DrainSteps, DrainStepsBack, drain_rest};
 
-    /// Returns the number of remaining items of the range.
+    /// Returns the number of items that have not been yielded yet.
     pub fn len(&self) -> usize
         ensures value { result ≡ length (drain_rest self.now) }
     {
         self.holder.value.rest_len()
     }
 
-    /// Returns an exact size hint: both bounds are the number of remaining items of the range.
+    /// Returns a size hint whose lower bound and upper bound are both the number of items that have
+    /// not been yielded yet.
     pub fn size_hint(&self) -> (usize, Option<usize>)
         ensures value { result
             ≡ (length (drain_rest self.now), Some (length (drain_rest self.now))) }
@@ -119,23 +123,23 @@ impl<'a, T, A: Allocator, G: Growth> Drain<'a, T, A, G> {
         (len, Some(len))
     }
 
-    /// Yields the first of the remaining items of the range, or returns `None` if no such item
-    /// remains.
+    /// Yields the first item that has not been yielded yet, or returns `None` if all items have
+    /// been yielded.
     pub fn next(&mut self) -> Option<T>
         ensures steps { DrainSteps self.old result self.new }
     {
         self.holder.value.next()
     }
 
-    /// Yields the last of the remaining items of the range, or returns `None` if no such item
-    /// remains.
+    /// Yields the last item that has not been yielded yet, or returns `None` if all items have been
+    /// yielded.
     pub fn next_back(&mut self) -> Option<T>
         ensures steps { DrainStepsBack self.old result self.new }
     {
         self.holder.value.next_back()
     }
 
-    /// Returns the remaining items of the range, in order, as a slice.
+    /// Returns the items that have not been yielded yet, in order, as a slice.
     pub fn as_slice(&self) -> &[T]
         ensures value { result.now ≡ drain_rest self.now }
     {

@@ -1,8 +1,9 @@
-//! The method `extract_if` and its iterator `ExtractIf`, which removes each item of a range for
-//! which a closure returns true.
+//! The method `extract_if`, and the iterator `ExtractIf` that it returns. The iterator tests the
+//! items of a range with a closure, and removes each item for which the closure returns true.
 //!
-//! Removed items leave a gap of empty slots. The items kept after a removal are moved down
-//! together, before the next removal or after the last test.
+//! No item moves before the first item is removed. The removed items leave a gap of empty slots.
+//! When the next item is removed, or when all items of the range have been tested, the items that
+//! were kept since the previous removal are moved down to the start of the gap.
 ghost use Rattle.std.specs.Prelude.{◌≡◌, ◌≤◌, IfSome, Some, drop, length, not, slice_range, take};
 ghost use Rattle.std.specs.Fn.{CalledAtMut};
 ghost use Rattle.std.specs.Iterator.{UpTo, at_most};
@@ -17,13 +18,15 @@ use crate::open_block::sift::Test;
 use std::alloc::{Allocator, Global};
 use thin_block::{Doubling, Growth};
 
-/// An iterator that tests the items of a range with a closure. It removes and yields each item for
-/// which the closure returns true. The closure may change each item that it tests.
+/// An iterator that tests the items of a range of a list with a closure. It removes each item for
+/// which the closure returns true, and yields the removed items in order. The closure may change
+/// each item that it tests. The changed item is then yielded or kept. The method `extract_if`
+/// returns this iterator.
 ///
-/// While the `ExtractIf` exists, it owns the allocation of the list, and the list is empty and has
-/// capacity 0. After it is dropped, the list holds all items that were not yielded. Untested items
-/// are kept, without a call to the closure. If an `ExtractIf` is leaked, so are the items, and the
-/// list stays empty.
+/// Until the `ExtractIf` is dropped, it owns the allocation of the list, and the list is empty and
+/// has capacity 0. After the drop, the list holds every item that was not yielded. Items that were
+/// not tested are kept, and the closure is not called for them. If an `ExtractIf` is leaked, the
+/// list stays empty, and its old items are leaked.
 pub struct ExtractIf<
     'a,
     T,
@@ -34,20 +37,21 @@ pub struct ExtractIf<
 > {
     list: &'a mut ThinVec<T, A, G>,
     holder: H,
-    // If the block has memory, the allocator of the list allocated it.
+    // If the block has memory, the allocator of the list allocated this memory.
     ghost from: { IsFrom (H.inner holder).block.alloc list.now.alloc },
 }
 
-/// The two values that an `ExtractIf` owns: the open block of the list, and the test that contains
-/// the closure.
+/// The two values that an `ExtractIf` owns: the open block, which is the block of the list during
+/// the edit, and the test, which contains the closure.
 pub struct Extracting<T, F, A: Allocator> {
     block: OpenBlock<T, A>,
     picks: Picks<F>,
-    // There is no empty slot between the untested items and the items after the range.
+    // There is no empty slot between the items that have not been tested yet and the items after
+    // the range.
     ghost adjacent: { block.gap_after ≡ 0 },
 }
 
-/// The test that an `ExtractIf` uses. An item is removed if the closure `pick` returns true.
+/// The test that an `ExtractIf` uses: an item is removed if the closure `pick` returns true.
 pub struct Picks<F> {
     pick: F,
 }
@@ -67,8 +71,8 @@ impl<T, F: FnMut(&mut T) -> bool> Test<T> for Picks<F> {
 
 impl<'a, T: Drop, F: Drop, A: Allocator, G: Growth, H: Holds<Inner = Extracting<T, F, A>>> Drop
     for ExtractIf<'a, T, F, A, G, H> {
-    // Moves the untested items and the items after the range down, to close the gap. Then puts the
-    // block back into the list, and drops the closure.
+    // Closes the gap that the removed items left, by moving down the items that were not tested and
+    // the items after the range. Then puts the block back into the list, and drops the closure.
     fn drop(self)
         ensures items { self.exit.0.now.items ≡ items_of (H.inner self.entry.holder).block }
         ensures capacity { self.exit.0.now.capacity ≡ (H.inner self.entry.holder).block.capacity }
@@ -78,8 +82,8 @@ impl<'a, T: Drop, F: Drop, A: Allocator, G: Growth, H: Holds<Inner = Extracting<
         let ExtractIf { list, holder } = self;
         let Extracting { block, picks } = holder.into_inner();
         let Picks { pick } = picks;
-        // The list is already empty. This call is needed only for the proof, because the contract
-        // of `close` requires an empty list.
+        // The list is already empty. This call is needed only for the proof: the contract of
+        // `close` requires an empty list.
         list.clear();
         list.close(block);
         drop(pick);
@@ -89,9 +93,10 @@ impl<'a, T: Drop, F: Drop, A: Allocator, G: Growth, H: Holds<Inner = Extracting<
 impl<T, F: FnMut(&mut T) -> bool, A: Allocator> Extracting<T, F, A> {
     ghost use Rattle.thin_vec.specs.Edits.ExtractIf.{Extracts};
 
-    // Tests the untested items, in order, until `pick` returns true for one of them. Removes and
-    // returns this item, or returns `None` if there is no such item. The other tested items are
-    // kept.
+    // Tests the items that have not been tested yet, in order, until the closure `pick` returns
+    // true for one of them. Removes that item and returns it, or returns `None` if there is no such
+    // item. The other tested items are kept, and are moved down if there are empty slots before
+    // them.
     fn next_picked(&mut self) -> Option<T>
         requires callable { F.IsAlwaysCallable self.old.picks.pick }
         ensures extracts { Extracts (CalledAtMut F.FnMut) self.old result self.new }
@@ -108,18 +113,21 @@ impl<T, F: FnMut(&mut T) -> bool, A: Allocator> Extracting<T, F, A> {
 impl<T: Drop, A: Allocator, G: Growth> ThinVec<T, A, G> {
     ghost use Rattle.thin_vec.specs.Edits.ExtractIf.{extract_alloc, extract_callee, extract_capacity, extract_cost, extract_front, extract_gone, extract_lender, extract_rest, extract_tail};
 
-    /// Returns an iterator that removes and yields, in order, the items in `start..end` for which
-    /// `pick` returns true. The function `bounds` converts a Rust range into `start` and `end`, and
-    /// checks them.
+    /// Returns an iterator that removes the items in the range `start..end` for which `pick`
+    /// returns true. The iterator yields the removed items in order.
     ///
-    /// Each call to `next` tests items until `pick` returns true. `pick` is called at most once for
-    /// each item, and may change the item.
+    /// `extract_if` itself does not call `pick`. Each call to `next` tests items of the range, in
+    /// order, until `pick` returns true for one of them. `pick` is called at most once for each
+    /// item, and may change the item.
     ///
-    /// After the `ExtractIf` is dropped, the list holds all items that were not yielded, including
-    /// the untested items, as with Rust's `Vec::extract_if`. It has its old capacity and allocator.
+    /// After the `ExtractIf` is dropped, the list holds every item that was not yielded, and has
+    /// its old capacity and allocator. Items that were not tested are kept, as with Rust's
+    /// `Vec::extract_if`.
     ///
     /// No memory is allocated. Each item that stays in the list and follows the first removed item
-    /// is moved once, even if it is not in the range. No other item is moved.
+    /// is moved once, even if it is not in the range. No other item is moved within the list.
+    ///
+    /// The function `bounds` converts a Rust range into `start` and `end`, and checks them.
     pub fn extract_if<F: FnMut(&mut T) -> bool>(
         &mut self,
         start: usize,
@@ -129,17 +137,18 @@ impl<T: Drop, A: Allocator, G: Growth> ThinVec<T, A, G> {
         requires start_le_end { start ≤ end }
         requires in_bounds { end ≤ length self.old.items }
 
-        // The `ExtractIf` owns the items before the range (`front`), in the range (`rest`) and
-        // after the range (`tail`), and the closure (`callee`). No item has been removed yet
-        // (`gone`).
+        // The `ExtractIf` owns the items before the range (`front`), the items of the range
+        // (`rest`), the items after the range (`tail`), and the closure (`callee`). No item has
+        // been removed yet (`gone`).
         ensures front { extract_front result ≡ take start self.old.items }
         ensures rest { extract_rest result ≡ slice_range self.old.items start end }
         ensures tail { extract_tail result ≡ drop end self.old.items }
         ensures gone { extract_gone result ≡ 0 }
         ensures callee { extract_callee result ≡ pick }
 
-        // The `ExtractIf` borrows this list: its reference has the same ghost name as `self`. It
-        // has the old capacity, allocator and cost of the list.
+        // The `ExtractIf` borrows this list: its reference to the list has the same ghost name as
+        // `self`. The capacity, the allocator and the recorded cost of the `ExtractIf` are those
+        // that the list had before the call.
         ensures same_reference { extract_lender result ≡ self.entry.ghost_name }
         ensures capacity { extract_capacity result ≡ self.old.capacity }
         ensures alloc { extract_alloc result ≡ self.old.alloc }
@@ -159,8 +168,8 @@ impl<T: Drop, A: Allocator, G: Growth> ThinVec<T, A, G> {
 impl<'a, T, F, A: Allocator, G: Growth> ExtractIf<'a, T, F, A, G> {
     ghost use Rattle.thin_vec.specs.Edits.ExtractIf.{extract_rest};
 
-    /// Returns bounds on the number of items that will still be yielded: 0, and the number of
-    /// untested items.
+    /// Returns a lower and an upper bound on the number of items that will still be yielded. The
+    /// lower bound is 0, and the upper bound is the number of items that have not been tested yet.
     pub fn size_hint(&self) -> (usize, Option<usize>)
         ensures value { result ≡ (0, Some (length (extract_rest self.now))) }
     {
@@ -171,9 +180,9 @@ impl<'a, T, F, A: Allocator, G: Growth> ExtractIf<'a, T, F, A, G> {
 impl<'a, T, F: FnMut(&mut T) -> bool, A: Allocator, G: Growth> ExtractIf<'a, T, F, A, G> {
     ghost use Rattle.thin_vec.specs.Edits.ExtractIf.{ExtractSteps, extract_callee};
 
-    /// Tests items, in order, until the closure returns true for one of them. Removes and returns
-    /// this item. If the closure returns false for all untested items, this call and all later
-    /// calls return `None`.
+    /// Tests the items that have not been tested yet, in order, until the closure returns true for
+    /// one of them. Then removes that item and returns it. If the closure returns false for all
+    /// these items, this call and each later call return `None`.
     pub fn next(&mut self) -> Option<T>
         requires callable { F.IsAlwaysCallable (extract_callee self.old) }
         ensures steps { ExtractSteps (CalledAtMut F.FnMut) self.old result self.new }

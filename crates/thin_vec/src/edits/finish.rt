@@ -30,8 +30,8 @@ use std::iter::Iterator;
 use thin_block::{Growth, ThinVecError};
 
 impl<T, A: Allocator, G: Growth> ThinVec<T, A, G> {
-    // Moves items of `iter` into the gap of `block`, until the gap is full or `iter` ends. Then
-    // puts the block back into the list.
+    // Moves items of `iter` into the gap of `block` (the empty slots between its items), until the
+    // gap is full or `iter` ends. Then puts the block back into the list.
     #[inline(always)]
     fn fill_gap<I: Iterator<Item = T>>(&mut self, mut block: OpenBlock<T, A>, iter: I) -> Filled<I>
         requires empty { self.old.items ≡ [] }
@@ -49,9 +49,9 @@ impl<T, A: Allocator, G: Growth> ThinVec<T, A, G> {
         filled
     }
 
-    // Makes a gap before the item at index `at`, and moves items of `iter` into it. The lower bound
-    // of the size hint is the length of the gap. If this room cannot be reserved, the list is
-    // unchanged, and the error holds `iter`.
+    // Makes a gap of empty slots before the item at index `at`, and moves items of `iter` into the
+    // gap. The gap has `n` slots, where `n` is the lower bound of the size hint of `iter`. If the
+    // call cannot reserve room for this gap, the list is unchanged, and the error holds `iter`.
     #[inline(always)]
     fn insert_hinted<I: Iterator<Item = T>>(
         &mut self,
@@ -79,8 +79,8 @@ impl<T, A: Allocator, G: Growth> ThinVec<T, A, G> {
         ensures cause { IfErr result
             (λ rejected. FailsAtHint G.rule T.row self.new (I.remaining iter) rejected.cause) }
 
-        // Each item from index `at` onward is moved at most twice. If the call succeeds and fills
-        // the whole gap, each of them is moved at most once.
+        // In every case, each item from index `at` onward is moved at most twice. If the call
+        // succeeds and fills the whole gap, each of these items is moved at most once.
         ensures taken { HasTaken G.rule T.row self.old self.new
             (2 * (length self.old.items - at)) (I.remaining iter) }
         ensures taken_full { IfOk result (λ filled. filled.ended ≡ false
@@ -97,8 +97,8 @@ impl<T, A: Allocator, G: Growth> ThinVec<T, A, G> {
 }
 
 impl<T: Drop, A: Allocator, G: Growth> ThinVec<T, A, G> {
-    // Collects the items of `iter` in a vector that uses `alloc`, and then inserts them before the
-    // item at index `at`. If `iter` yields no item, nothing is allocated.
+    // Collects the items of `iter` in a vector that uses `alloc`, and then inserts the items into
+    // the list, before the item at index `at`. If `iter` yields no item, nothing is allocated.
     #[inline(always)]
     fn insert_held<I: Iterator<Item = T>>(
         &mut self,
@@ -117,7 +117,7 @@ impl<T: Drop, A: Allocator, G: Growth> ThinVec<T, A, G> {
         // When it must succeed.
         ensures succeeds { size (I.remaining iter) ≡ 0 → IsOk result }
 
-        // On failure, the list is unchanged, and the error holds all items that `iter` yielded.
+        // On failure, the list is unchanged, and the error holds every item that `iter` yielded.
         ensures err { OnErr result (self.new ≡ self.old) }
         ensures placed { IfErr result
             (λ error. Stopped I.next_gives I.can_next I.remaining iter [] error) }
@@ -160,7 +160,7 @@ impl<T: Drop, A: Allocator, G: Growth> ThinVec<T, A, G> {
     }
 
     // Inserts the items of the vector `held` before the item at index `at`. The list must have room
-    // for them.
+    // for these items.
     fn insert_vec(&mut self, at: usize, held: Vec<T, A>)
         requires in_bounds { at ≤ length self.old.items }
         requires room { HasRoomFor self.old (length held.items) }
@@ -176,9 +176,10 @@ impl<T: Drop, A: Allocator, G: Growth> ThinVec<T, A, G> {
         self.close(block);
     }
 
-    // Fills the empty slots of the removed range with items of `iter`. If `iter` yields more,
-    // `insert_hinted` and then `insert_held` insert the further items before the items that follow
-    // the range.
+    // Fills the empty slots of the removed range with items of `iter`. If `iter` yields more items,
+    // two functions insert them before the items that follow the range. First, `insert_hinted`
+    // reserves room according to the size hint of `iter`, and fills this room. Then `insert_held`
+    // inserts the remaining items.
     #[inline(always)]
     pub(crate) fn finish_before_tail<I: Iterator<Item = T>>(
         &mut self,
@@ -186,8 +187,9 @@ impl<T: Drop, A: Allocator, G: Growth> ThinVec<T, A, G> {
         iter: I,
         alloc: A,
     ) -> Result<(), SpliceRefused<T, I, A>>
-        // `block` must have been taken out of this list. At least one item must follow the removed
-        // range, and no item of the range itself may remain.
+        // `block` must have been taken out of this list. It must contain at least one item that
+        // follows the removed range (the field `tail`), and no item of the range itself (the field
+        // `rest`).
         requires some { 0 < length block.tail }
         requires empty { self.old.items ≡ [] }
         requires none { block.rest ≡ [] }
@@ -199,7 +201,7 @@ impl<T: Drop, A: Allocator, G: Growth> ThinVec<T, A, G> {
         requires finite { IsFinite (I.remaining iter) }
 
         // `IsFinished` states how the call changes the list, when it succeeds, and what it returns
-        // on failure. All `ensures` clauses of `Splice::finish` follow from it.
+        // on failure. All `ensures` clauses of `Splice::finish` follow from this clause.
         ensures { IsFinished I.next_gives I.can_next I.remaining G.rule T.row block self.old.alloc
             iter self.new result }
     {
@@ -227,16 +229,16 @@ impl<T: Drop, A: Allocator, G: Growth> ThinVec<T, A, G> {
         }
     }
 
-    // Puts `block` back into the list, and then appends the items of `iter`, as `extend` does. No
-    // item may follow the removed range.
+    // Puts `block` back into the list, and then appends the items of `iter`, as `extend` does. The
+    // block must not contain any item after the removed range.
     pub(crate) fn finish_at_end<I: Iterator<Item = T>>(
         &mut self,
         block: OpenBlock<T, A>,
         iter: I,
         alloc: A,
     ) -> Result<(), SpliceRefused<T, I, A>>
-        // `block` must have been taken out of this list. No item may follow the removed range, and
-        // no item of the range itself may remain.
+        // `block` was taken out of this list. It contains no item that follows the removed range
+        // (`tail`), and no item of the range itself (`rest`).
         requires no_tail { block.tail ≡ [] }
         requires within { reach block ≤ block.capacity }
         requires empty { self.old.items ≡ [] }
@@ -249,7 +251,7 @@ impl<T: Drop, A: Allocator, G: Growth> ThinVec<T, A, G> {
         requires finite { IsFinite (I.remaining iter) }
 
         // `IsFinished` states how the call changes the list, when it succeeds, and what it returns
-        // on failure. All `ensures` clauses of `Splice::finish` follow from it.
+        // on failure. All `ensures` clauses of `Splice::finish` follow from this clause.
         ensures { IsFinished I.next_gives I.can_next I.remaining G.rule T.row block self.old.alloc
             iter self.new result }
     {
@@ -278,15 +280,15 @@ impl<T: Drop, A: Allocator, G: Growth> ThinVec<T, A, G> {
 struct Drawn<T, I, A: Allocator> {
     /// The items, in order.
     held: Vec<T, A>,
-    /// The item after the items in `held`, for which the vector has no room. If the iterator has
-    /// ended, `in_hand` is `None`.
+    /// The item that the iterator yielded directly after the items in `held`. The vector has no
+    /// room for this item. If the iterator has ended, `in_hand` is `None`.
     in_hand: Option<T>,
-    /// The rest of the iterator, which yields the items that have not been taken.
+    /// The rest of the iterator, which yields the items that have not been taken yet.
     rest: I,
 }
 
-// Collects `first` and then the items of `iter` in a vector that uses `alloc`. Stops if `iter`
-// returns `None`, or if the vector cannot allocate memory.
+// Collects the item `first`, and then the items of `iter`, in a vector that uses `alloc`. Stops
+// when `iter` returns `None`, or when the vector cannot allocate memory for an item.
 fn draw<T, A: Allocator, I: Iterator<Item = T>>(first: T, iter: I, alloc: A) -> Drawn<T, I, A>
     requires can_next { I.can_next iter }
     requires finite { IsFinite (I.remaining iter) }
@@ -332,9 +334,9 @@ fn draw<T, A: Allocator, I: Iterator<Item = T>>(first: T, iter: I, alloc: A) -> 
     }
 }
 
-// Moves items of `iter` into the vector `held` until it is full, and returns the next item in
-// `in_hand`. Stops earlier if `iter` ends. The vector is passed by value, so that its length can
-// stay in a register.
+// Moves items of `iter` into the spare capacity of the vector `held` until the vector is full. Then
+// takes one more item from `iter`, and returns it in `in_hand`. Stops earlier if `iter` returns
+// `None`. The vector is passed by value, so that its length can stay in a register.
 fn draw_spare<T, A: Allocator, I: Iterator<Item = T>>(held: Vec<T, A>, iter: I) -> Drawn<T, I, A>
     requires can_next { I.can_next iter }
     requires finite { IsFinite (I.remaining iter) }

@@ -1,11 +1,14 @@
 //! The trait `Holds`, through which `Drain`, `ExtractIf` and `Splice` own the block of a list.
 //!
-//! If a struct declares both a mutable reference and a raw pointer, the contract of its `drop`
-//! cannot state what the reference points to after the call. So the field for the block, which
-//! contains a raw pointer, has a type parameter with the bound `Holds` as its type.
+//! Each of these structs has one field for a `&mut` to the list, and one field for the block of the
+//! list. The block contains a raw pointer. If a struct declares one field with a raw pointer and
+//! another field with a `&mut`, the contract of its `drop` cannot describe the value behind the
+//! `&mut` after the call. So the type of the field for the block is a type parameter with the bound
+//! `Holds`, which hides the raw pointer.
 ghost use Rattle.std.specs.Prelude.{◌≡◌};
 
-/// A trait for types whose values contain exactly one inner value, and can be converted into it.
+/// A trait for types whose values contain exactly one inner value. Such a value can be converted
+/// into its inner value.
 pub trait Holds {
     /// The type of the inner value.
     type Inner;
@@ -13,13 +16,13 @@ pub trait Holds {
     /// Maps a holder (a value of the implementing type) to its inner value.
     ghost inner: { Self → Self.Inner };
 
-    /// Converts the holder into its inner value, which the caller then owns.
+    /// Consumes the holder, and returns its inner value, which the caller then owns.
     fn into_inner(self) -> Self::Inner
         ensures value { result ≡ inner self };
 }
 
 /// The only type in this crate that implements `Holds`. It is the default of the type parameter `H`
-/// of `Drain`, `ExtractIf` and `Splice`, so users need not write this parameter.
+/// of `Drain`, `ExtractIf` and `Splice`. So users of these types need not write this parameter.
 pub struct Holder<B> {
     pub(crate) value: B,
 }

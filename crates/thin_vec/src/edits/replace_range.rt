@@ -1,5 +1,5 @@
-//! The method `replace_range`, which replaces the items of a range with clones. If the call fails,
-//! the list keeps its old items.
+//! The method `replace_range`, which replaces the items of a range with clones of given items. If
+//! the call fails, the list keeps its old items.
 ghost use Rattle.std.specs.Prelude.{◌≡◌, ◌+◌, ◌-◌, ◌*◌, ◌==◌, ◌<◌, ◌≤◌, ◌++◌, All, IfErr, IsOk, OnErr, OnOk, drop, if◌then◌else◌, length, take};
 ghost use Rattle.std.specs.List.{replace_range};
 ghost use Rattle.thin_block.specs.Cost.{moving};
@@ -13,26 +13,29 @@ use std::alloc::Allocator;
 use thin_block::{Growth, ThinVecError};
 
 impl<T: Clone, A: Allocator, G: Growth> ThinVec<T, A, G> {
-    /// Replaces the items `start..end` with clones of `items`, in order. The old items are dropped
-    /// after the last clone is made, because cloning can fail. So the call needs a capacity of at
-    /// least `self.len() + items.len()`, even if the range is longer than `items`.
+    /// Replaces the items `start..end` with clones of `items`, in order. The old items of the range
+    /// are dropped.
     ///
     /// This method exists neither in Rust's `Vec` nor in the Rust crate thin-vec.
     ///
-    /// If `items` is longer than the range, the surplus clones are made in a gap after the range.
-    /// The other clones are made at the end of the list, and are then moved into the range.
+    /// Cloning an item can fail, and in this case the list must keep its old items. So the old
+    /// items of the range are dropped only after the last clone is made. That is why the call needs
+    /// a capacity of at least `self.len() + items.len()`, even if the range is longer than `items`.
     ///
-    /// On success, each item after the range is moved at most once. On failure, it is moved at most
-    /// three times: once to make the gap, and twice while the gap is closed.
+    /// If `items` is longer than the range, the surplus clones are made in a gap directly after the
+    /// range. The other clones are made at the end of the list, and are then moved into the range.
+    ///
+    /// On success, each item after the range is moved at most once. On failure, each item after the
+    /// range is moved at most three times: once to make the gap, and twice while the gap is closed.
     ///
     /// # Errors
     ///
     /// - `CapacityOverflow`: there is no room for `items.len()` more items, and the growth rule
-    ///   chooses no capacity. The list is unchanged.
+    ///   chooses no capacity for them. The list is unchanged.
     /// - `OutOfMemory`: there is no room for `items.len()` more items, and the allocator failed.
     ///   The list is unchanged.
-    /// - `OutOfMemory`: an item could not be cloned. All clones are dropped. The list keeps its old
-    ///   items and the reserved capacity.
+    /// - `OutOfMemory`: an item could not be cloned. The clones that were already made are dropped.
+    ///   The list keeps its old items, and the capacity that was reserved for the clones.
     pub fn replace_range(
         &mut self,
         start: usize,
@@ -70,8 +73,9 @@ impl<T: Clone, A: Allocator, G: Growth> ThinVec<T, A, G> {
     }
 
     // Does the same as `replace_range`, in a list that already has room for `items.len()` more
-    // items. Makes the surplus clones, if any, in a gap after the range, and the other clones at
-    // the end of the list.
+    // items. If `items` is longer than the range, the surplus clones are made first, in a gap
+    // directly after the range. Then the other clones are made at the end of the list, and are
+    // moved into the range.
     fn replace_reserved_by_clones(
         &mut self,
         start: usize,
@@ -83,7 +87,7 @@ impl<T: Clone, A: Allocator, G: Growth> ThinVec<T, A, G> {
         requires room { HasRoomFor self.old (length items.now) }
         requires within { IsWithin T.row self.old }
 
-        // If cloning cannot fail for any item of `items`, the call succeeds.
+        // If no clone can fail, the call succeeds.
         ensures succeeds { All T.is_infallible items.now → IsOk result }
 
         // On success.
@@ -117,14 +121,15 @@ impl<T: Clone, A: Allocator, G: Growth> ThinVec<T, A, G> {
         Ok(())
     }
 
-    // Inserts clones of `items` before the item at index `at`. The list must have room for them. If
-    // an item cannot be cloned, all clones are dropped, and the list keeps its old items.
+    // Inserts clones of `items` before the item at index `at`. The list must have room for the
+    // clones. If an item cannot be cloned, the clones that were already made are dropped, and the
+    // list keeps its old items.
     fn insert_clones_reserved(&mut self, at: usize, items: &[T]) -> Result<(), ThinVecError>
         requires in_bounds { at ≤ length self.old.items }
         requires room { HasRoomFor self.old (length items.now) }
         requires within { IsWithin T.row self.old }
 
-        // If cloning cannot fail for any item of `items`, the call succeeds.
+        // If no clone can fail, the call succeeds.
         ensures succeeds { All T.is_infallible items.now → IsOk result }
 
         // On success.
@@ -160,7 +165,7 @@ impl<T: Clone, A: Allocator, G: Growth> ThinVec<T, A, G> {
 }
 
 impl<T: Drop, A: Allocator, G: Growth> ThinVec<T, A, G> {
-    // Drops the items `start..end`, and moves the items after this range down.
+    // Drops the items `start..end`, and moves the items after this range down to index `start`.
     fn drop_range(&mut self, start: usize, end: usize)
         requires start_le_end { start ≤ end }
         requires in_bounds { end ≤ length self.old.items }
@@ -176,8 +181,9 @@ impl<T: Drop, A: Allocator, G: Growth> ThinVec<T, A, G> {
         self.close(block);
     }
 
-    // Drops the items `start..end`, and moves the last `count` items of the list into their slots.
-    // If some of these slots stay empty, the other items after the range are moved down.
+    // Drops the items `start..end`, and moves the last `count` items of the list into the slots of
+    // this range. If `count` is less than the length of the range, some of these slots stay empty.
+    // In this case, the other items after the range are moved down to close the gap.
     fn replace_by_last(&mut self, start: usize, end: usize, count: usize)
         requires start_le_end { start ≤ end }
         requires few { count ≤ end - start }

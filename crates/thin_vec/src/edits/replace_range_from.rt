@@ -1,5 +1,6 @@
-//! The methods `replace_range_from_copies` and `replace_range_from_list`, which replace the items
-//! of a range. If a call fails, no list is changed.
+//! The methods `replace_range_from_copies` and `replace_range_from_list`. They replace the items of
+//! a range with copies of given items, or with the items of another list. If a call fails, no list
+//! is changed.
 ghost use Rattle.std.specs.Prelude.{◌≡◌, ◌+◌, ◌-◌, ◌==◌, ◌<◌, ◌≤◌, ◌++◌, [], IsOk, OnErr, OnOk, drop, if◌then◌else◌, length, take};
 ghost use Rattle.std.specs.List.{replace_range};
 ghost use Rattle.thin_block.specs.Cost.{moving, no_cost};
@@ -19,15 +20,19 @@ impl<T: Copy, A: Allocator, G: Growth> ThinVec<T, A, G> {
     ///
     /// This method exists neither in Rust's `Vec` nor in the Rust crate thin-vec.
     ///
-    /// The call needs room for `items.len() - (end - start)` more items. If `items` is not longer
-    /// than the range, the call cannot fail. Each item after the range is moved at most once.
+    /// Copying an item cannot fail. So the old items are dropped before the new items are copied,
+    /// and the call needs room for only `items.len() - (end - start)` more items. If `items` is not
+    /// longer than the range, the call needs no additional room, and cannot fail. Each item after
+    /// the range is moved at most once.
     ///
     /// # Errors
     ///
-    /// Fails only if there is not enough room. On failure, the list is unchanged.
+    /// On failure, the list is unchanged.
     ///
-    /// - `CapacityOverflow`: the growth rule chooses no capacity, because it would be too large.
-    /// - `OutOfMemory`: the allocator failed.
+    /// - `CapacityOverflow`: there is not enough room for the additional items, and the growth rule
+    ///   chooses no capacity for them.
+    /// - `OutOfMemory`: there is not enough room for the additional items, and the allocator
+    ///   failed.
     pub fn replace_range_from_copies(
         &mut self,
         start: usize,
@@ -83,19 +88,24 @@ impl<T: Copy, A: Allocator, G: Growth> ThinVec<T, A, G> {
 
 impl<T: Drop, A: Allocator, G: Growth> ThinVec<T, A, G> {
     /// Replaces the items `start..end` with the items of `other`, in order. The old items of the
-    /// range are dropped. After the call, `other` is empty, and keeps its capacity.
+    /// range are dropped. The items of `other` are moved: after the call, `other` is empty, and
+    /// keeps its capacity.
     ///
     /// This method exists neither in Rust's `Vec` nor in the Rust crate thin-vec.
     ///
-    /// The call needs room for `other.len() - (end - start)` more items. If `other` is not longer
-    /// than the range, the call cannot fail. Each item after the range is moved at most once.
+    /// Moving an item cannot fail. So the old items are dropped before the new items are moved, and
+    /// the call needs room for only `other.len() - (end - start)` more items. If `other` is not
+    /// longer than the range, the call needs no additional room, and cannot fail. Each item after
+    /// the range is moved at most once.
     ///
     /// # Errors
     ///
-    /// Fails only if there is not enough room. On failure, both lists are unchanged.
+    /// On failure, both lists are unchanged.
     ///
-    /// - `CapacityOverflow`: the growth rule chooses no capacity, because it would be too large.
-    /// - `OutOfMemory`: the allocator failed.
+    /// - `CapacityOverflow`: there is not enough room for the additional items, and the growth rule
+    ///   chooses no capacity for them.
+    /// - `OutOfMemory`: there is not enough room for the additional items, and the allocator
+    ///   failed.
     pub fn replace_range_from_list(
         &mut self,
         start: usize,
@@ -160,9 +170,10 @@ impl<T: Drop, A: Allocator, G: Growth> ThinVec<T, A, G> {
         self.close(block);
     }
 
-    // Takes the block out of the list, and drops the items `start..end`, which leaves a gap. If the
-    // gap has fewer than `count` slots, the items after it are moved up, so that it has `count`
-    // slots.
+    // Takes the block out of the list, and drops the items `start..end`. The slots of these items
+    // then form a gap of empty slots. If the gap has fewer than `count` slots, the items after it
+    // are moved up, so that the gap has `count` slots. After the call, the list is empty and has no
+    // block.
     fn open_range(&mut self, start: usize, end: usize, count: usize) -> OpenBlock<T, A>
         requires start_le_end { start ≤ end }
         requires in_bounds { end ≤ length self.old.items }

@@ -1,9 +1,10 @@
 //! The methods `retain` and `retain_mut`, which keep the items for which a closure returns true,
 //! and drop the other items.
 //!
-//! Removed items leave a gap of empty slots. The items kept after a removal are moved down
-//! together, before the next removal or after the last test. The `dedup` methods work in the same
-//! way.
+//! No item moves before the first item is removed. The removed items leave a gap of empty slots.
+//! When the next item is removed, or when all items have been tested, the items that were kept
+//! since the previous removal are moved down to the start of the gap. The `dedup` methods work in
+//! the same way.
 ghost use Rattle.std.specs.Prelude.{◌≡◌, ◌<◌, ◌≤◌, length};
 ghost use Rattle.std.specs.List.Retain.{IsFiltered};
 ghost use Rattle.std.specs.Fn.{CalledAt, CalledAtMut};
@@ -18,11 +19,12 @@ impl<T: Drop, A: Allocator, G: Growth> ThinVec<T, A, G> {
     ghost use Rattle.thin_vec.specs.Edits.Retain.{IsRetained, IsRetainedTo, Looks};
     ghost use Rattle.thin_vec.specs.ThinVec.{IsWithin};
 
-    /// Keeps the items for which `keep` returns true, in order, and drops the other items, like
-    /// Rust's `Vec::retain`. `keep` is called once for each item, in order.
+    /// Keeps the items for which `keep` returns true, and drops the other items, like Rust's
+    /// `Vec::retain`. The closure `keep` is called once for each item, in order. The kept items
+    /// stay in the same order.
     ///
-    /// Each kept item after the first removed item is moved once. No other item is moved. The
-    /// capacity does not change.
+    /// Each kept item that follows the first removed item is moved once. No other item is moved
+    /// within the list. The capacity does not change.
     pub fn retain<F: FnMut(&T) -> bool>(&mut self, keep: F)
         requires callable { F.IsAlwaysCallable keep }
         ensures retained { IsRetained (Looks (CalledAt F.FnMut)) keep self.old self.new }
@@ -36,8 +38,9 @@ impl<T: Drop, A: Allocator, G: Growth> ThinVec<T, A, G> {
         let Looking { keep: _ } = test;
     }
 
-    /// Keeps the items for which `keep` returns true, and drops the other items, like `retain`.
-    /// Unlike with `retain`, `keep` may change each item.
+    /// Keeps the items for which `keep` returns true, and drops the other items, like `retain`. In
+    /// contrast to the closure of `retain`, `keep` may change the items. The kept items stay in the
+    /// list with these changes.
     pub fn retain_mut<F: FnMut(&mut T) -> bool>(&mut self, keep: F)
         requires callable { F.IsAlwaysCallable keep }
         ensures retained { IsRetained (CalledAtMut F.FnMut) keep self.old self.new }
@@ -67,14 +70,14 @@ impl<T: Drop, A: Allocator, G: Growth> ThinVec<T, A, G> {
     }
 }
 
-// The test that `retain` uses. An item is kept if `keep` returns true. The closure cannot change
-// the item.
+// The test that `retain` uses: an item is kept if the closure `keep` returns true. The closure
+// cannot write to the item.
 struct Looking<F> {
     keep: F,
 }
 
-// The test that `retain_mut` uses. An item is kept if `keep` returns true. The closure may change
-// the item.
+// The test that `retain_mut` uses: an item is kept if the closure `keep` returns true. The closure
+// may write to the item.
 struct Writing<F> {
     keep: F,
 }

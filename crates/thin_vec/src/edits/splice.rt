@@ -15,11 +15,13 @@ use std::alloc::{Allocator, Global};
 use std::iter::Iterator;
 use thin_block::{Doubling, Growth, ThinVecError};
 
-/// An iterator that yields the items of a range from either end. Its method `finish` puts new
-/// items, which another iterator yields, in place of the range.
+/// A `Splice` replaces the items of a range of a list with the items of an iterator. It yields the
+/// old items of the range from either end. Its method `finish` puts the items of the iterator in
+/// their place.
 ///
-/// A program that drops a `Splice` without calling `finish` does not compile. Until `finish` is
-/// called, the `Splice` owns the allocation of the list, and the list is empty and has capacity 0.
+/// Every `Splice` must be ended with a call to `finish`: a program that drops a `Splice` does not
+/// compile. Until this call, the `Splice` owns the allocation of the list, and the list is empty
+/// and has capacity 0.
 pub struct Splice<
     'a,
     I,
@@ -38,11 +40,11 @@ impl<T, A: Allocator, G: Growth> ThinVec<T, A, G> {
     ghost use Rattle.thin_vec.specs.Edits.Splice.{splice_alloc, splice_block, splice_iter, splice_lender, splice_range, splice_rest};
 
     /// Begins to replace the items `start..end` with the items of `iter`. The returned `Splice`
-    /// yields the old items from either end, and its method `finish` puts the new items in their
-    /// place.
+    /// yields the old items from either end. Its method `finish` puts the items of `iter` in their
+    /// place. The range must be in bounds. To check a range that may be out of bounds, use the
+    /// function `bounds` of this crate.
     ///
     /// The call cannot fail. It allocates nothing, moves no item, and takes no item from `iter`.
-    /// The range must be in bounds; the function `bounds` of this crate can check it.
     pub fn splice<I: Iterator<Item = T>>(
         &mut self,
         start: usize,
@@ -52,21 +54,23 @@ impl<T, A: Allocator, G: Growth> ThinVec<T, A, G> {
         requires start_le_end { start ≤ end }
         requires in_bounds { end ≤ length self.old.items }
 
-        // The `Splice` yields the items of the range. It stores the length of the range, and the
-        // iterator `iter` of the new items.
+        // The `Splice` yields the items of the range. It also stores the length of the range, and
+        // the iterator `iter`, which yields the new items.
         ensures rest { splice_rest result ≡ slice_range self.old.items start end }
         ensures range { splice_range result ≡ end - start }
         ensures iter { splice_iter result ≡ iter }
 
-        // The `Splice` owns the items before and after the range. It has the old capacity,
-        // allocator and cost of the list.
+        // The `Splice` owns the items before the range and the items after the range. The capacity,
+        // the allocator and the recorded cost of the `Splice` are those that the list had before
+        // the call.
         ensures front { (splice_block result).front ≡ take start self.old.items }
         ensures tail { (splice_block result).tail ≡ drop end self.old.items }
         ensures capacity { (splice_block result).capacity ≡ self.old.capacity }
         ensures alloc { splice_alloc result ≡ self.old.alloc }
         ensures cost { (splice_block result).cost ≡ self.old.cost }
 
-        // The `Splice` borrows this list: its reference has the same ghost name as `self`.
+        // The `Splice` borrows this list: its reference to the list has the same ghost name as
+        // `self`.
         ensures same_reference { splice_lender result ≡ self.entry.ghost_name }
     {
         let block = self.open(start, end);
@@ -81,14 +85,15 @@ impl<T, A: Allocator, G: Growth> ThinVec<T, A, G> {
 impl<'a, T, I, A: Allocator, G: Growth> Splice<'a, I, T, A, G> {
     ghost use Rattle.thin_vec.specs.Edits.Splice.{SpliceSteps, SpliceStepsBack, splice_rest};
 
-    /// Returns the number of remaining items of the range.
+    /// Returns the number of items of the range that have not been yielded yet.
     pub fn len(&self) -> usize
         ensures value { result ≡ length (splice_rest self.now) }
     {
         self.holder.value.rest_len()
     }
 
-    /// Returns an exact size hint: both bounds are the number of remaining items of the range.
+    /// Returns a size hint whose lower bound and upper bound are both the number of items of the
+    /// range that have not been yielded yet.
     pub fn size_hint(&self) -> (usize, Option<usize>)
         ensures value { result
             ≡ (length (splice_rest self.now), Some (length (splice_rest self.now))) }
@@ -97,16 +102,16 @@ impl<'a, T, I, A: Allocator, G: Growth> Splice<'a, I, T, A, G> {
         (len, Some(len))
     }
 
-    /// Yields the first of the remaining items of the range, or returns `None` if no such item
-    /// remains.
+    /// Yields the first item of the range that has not been yielded yet, or returns `None` if all
+    /// items have been yielded.
     pub fn next(&mut self) -> Option<T>
         ensures steps { SpliceSteps self.old result self.new }
     {
         self.holder.value.next()
     }
 
-    /// Yields the last of the remaining items of the range, or returns `None` if no such item
-    /// remains.
+    /// Yields the last item of the range that has not been yielded yet, or returns `None` if all
+    /// items have been yielded.
     pub fn next_back(&mut self) -> Option<T>
         ensures steps { SpliceStepsBack self.old result self.new }
     {
@@ -124,26 +129,31 @@ impl<
 > Splice<'a, I, T, A, G, H> {
     ghost use Rattle.thin_vec.specs.Edits.Splice.{FailsAsExtend, HasPlacesFor, IsStopCause, Stopped, splice_block, splice_iter, splice_left, splice_range, splice_replaced};
 
-    /// Drops the remaining items of the range, and puts the items of the iterator in place of the
-    /// range. The iterator must end: `next` is called on it until it returns `None` for the first
-    /// time.
+    /// Drops the items of the range that were not yielded, and puts the items of the iterator in
+    /// their place. After the call, the list holds the items before the range, then the items of
+    /// the iterator, and then the items after the range. `next` is called on the iterator until it
+    /// returns `None` for the first time. So the iterator must not be endless.
     ///
-    /// If no item follows the range, `finish` appends the new items like `extend`. Otherwise, it
-    /// takes up to three steps, and stops when the iterator ends:
+    /// If items follow the range, `finish` takes up to three steps. If the iterator ends during a
+    /// step, no further step is taken:
     ///
-    /// 1. It moves items of the iterator into the slots of the range. If slots stay empty, the
-    ///    items after the range are moved down.
-    /// 2. It calls `size_hint` on the iterator once, makes room for `n` items before the items
-    ///    after the range, where `n` is the lower bound, and fills this room.
+    /// 1. It moves items of the iterator into the slots of the range. If the iterator ends before
+    ///    these slots are filled, the items after the range are moved down to close the gap.
+    /// 2. It calls `size_hint` on the iterator once. If the lower bound is `n`, it makes room for
+    ///    `n` items directly before the items after the range. Then it fills this room with items
+    ///    of the iterator.
     /// 3. It collects the remaining items in a vector that uses `alloc`, reserves room for them in
     ///    the list, and moves them into this room.
     ///
+    /// If no item follows the range, `finish` appends the items of the iterator in the same way as
+    /// `extend`.
+    ///
     /// # Cost
     ///
-    /// Each new item is moved into the list once, and each item after the range is moved at most
-    /// twice. Step 2 and step 3 each grow the list at most once, which copies all its items. The
-    /// cost of the vector in step 3 is not counted. If the iterator cannot yield more items than
-    /// the range has slots, `finish` allocates nothing.
+    /// Each item of the iterator is moved into the list once, and each item after the range is
+    /// moved at most twice. Step 2 and step 3 each grow the list at most once. Whenever the list
+    /// grows, all its items are copied. The cost of the vector in step 3 is not counted. If the
+    /// iterator cannot yield more items than the range has slots, `finish` allocates nothing.
     ///
     /// # Errors
     ///
@@ -152,12 +162,13 @@ impl<
     /// - The iterator cannot yield more items than the range has slots.
     /// - No item follows the range, and the list has room for all items of the iterator.
     ///
-    /// If items follow the range, room for all items does not guarantee success: if the lower bound
-    /// of the size hint is too low, step 3 allocates memory.
+    /// If items follow the range, room for all items does not guarantee success. The lower bound of
+    /// the size hint may be too low, and then step 3 allocates memory.
     ///
-    /// On failure, no item is lost. Items that were moved into the list stay there. The error
-    /// contains the items that were taken after them, first in `held` and then in `in_hand`. In
-    /// cases 1 and 2, no item follows the range. In cases 3, 4 and 5, items follow it.
+    /// On failure, no item is lost. The items that were moved into the list stay there. The items
+    /// that were taken from the iterator after them are in the error, first in `held` and then in
+    /// `in_hand`. There are five cases. In cases 1 and 2, no item follows the range. In cases 3, 4
+    /// and 5, items follow the range.
     ///
     /// | | What failed | `held` | `in_hand` | `rest` yields |
     /// |---|---|---|---|---|
@@ -167,16 +178,16 @@ impl<
     /// | 4 | step 3: collecting items | the collected items | the next item | the remaining items |
     /// | 5 | step 3: reserving room | all collected items | `None` | nothing: `rest` has ended |
     ///
-    /// In case 1, the list contains exactly the items before the range. In case 2, it is full, and
-    /// contains all items that were appended. In cases 3, 4 and 5, all slots of the range are
-    /// filled.
+    /// In case 1, the list contains exactly the items before the range. In case 2, the list is
+    /// full, and contains all items that were appended so far. In cases 3, 4 and 5, all slots of
+    /// the range are filled.
     ///
-    /// The `cause` is `CapacityOverflow` if the growth rule chooses no capacity for the required
-    /// length, and otherwise `OutOfMemory`. In case 4, it is `OutOfMemory`. In case 5, `next` must
-    /// not be called on `rest`.
+    /// In cases 1, 2, 3 and 5, the `cause` is `CapacityOverflow` if the growth rule chooses no
+    /// capacity for the required length, and `OutOfMemory` if the allocator of the list failed. In
+    /// case 4, the `cause` is `OutOfMemory`. In case 5, `next` must not be called on `rest`.
     ///
-    /// In Rust, dropping a `Splice` puts the new items into the list. Here, a call to `finish` is
-    /// needed, because the replacement can fail.
+    /// In Rust, a `Splice` puts the new items into the list when it is dropped. Here, a call to
+    /// `finish` is needed instead, because the replacement can fail.
     #[inline(always)]
     pub fn finish(self, alloc: A) -> Result<(), SpliceRefused<T, I, A>>
         requires can_next { I.can_next (splice_iter self) }
@@ -195,8 +206,9 @@ impl<
             → IsOk result }
 
         // On failure, every item that the iterator yielded is in the list or in the error. If items
-        // follow the range, all slots of the range are filled. Otherwise, the list is full, or no
-        // item was taken from the iterator.
+        // follow the range, all slots of the range are filled (`before_tail`). If no item follows
+        // the range, the list is full, or the call has taken no item from the iterator
+        // (`without_tail`).
         ensures placed { IfErr result (λ error. (xs : List T)
             × (self.exit.0.now.items ≡ splice_replaced self.entry xs)
             × Stopped I.next_gives I.can_next I.remaining (splice_iter self.entry) xs error) }
@@ -227,8 +239,8 @@ impl<
         } else {
             list.finish_at_end(block, iter, alloc)
         };
-        // This call is needed only for the proof, because the contract of `len` states limits of
-        // the length and the capacity (`IsWithin`).
+        // This call is needed only for the proof: the contract of `len` states that the length and
+        // the capacity of the list are within certain limits (`IsWithin`).
         let _len = list.len();
         answer
     }

@@ -1,5 +1,5 @@
-//! The method `append`, which moves the items of one list to the end of another, and the method
-//! `split_off`, which splits a list in two.
+//! The methods `append`, which moves the items of one list to the end of another, and `split_off`,
+//! which splits a list in two.
 ghost use Rattle.std.specs.Prelude.{◌≡◌, ◌+◌, ◌-◌, ◌≤◌, ◌++◌, [], IfErr, IfOk, IsOk, OnErr, OnOk, drop, length, take};
 ghost use Rattle.thin_block.specs.Cost.{moving};
 ghost use Rattle.thin_vec.specs.List.Capacity.{Costs, Keeps, Reserves, IsMade};
@@ -11,13 +11,13 @@ use thin_block::{Growth, ThinVecError};
 impl<T, A: Allocator, G: Growth> ThinVec<T, A, G> {
     ghost use Rattle.thin_vec.specs.ThinVec.{HasRoomFor, IsWithin, cost_new};
 
-    /// Moves all items of `other` to the end of this list, in order. `other` is then empty, and
-    /// keeps its capacity. If this list has not enough room, the growth rule chooses its new
-    /// capacity.
+    /// Moves all items of `other` to the end of this list, in order. After the call, `other` is
+    /// empty, and keeps its capacity. If there is not enough spare capacity, this list first grows
+    /// to the capacity that the growth rule chooses.
     ///
     /// # Errors
     ///
-    /// Fails only if this list has to grow. On failure, both lists are unchanged.
+    /// Fails only if there is not enough spare capacity. On failure, both lists are unchanged.
     ///
     /// - `CapacityOverflow`: the new capacity would be too large.
     /// - `OutOfMemory`: the allocator failed.
@@ -34,8 +34,8 @@ impl<T, A: Allocator, G: Growth> ThinVec<T, A, G> {
         ensures err { OnErr result (self.new ≡ self.old) }
         ensures other_err { OnErr result (other.new ≡ other.old) }
 
-        // The call changes the capacity exactly as `reserve(other.len())` would, and it fails if
-        // and only if `reserve(other.len())` would fail.
+        // In every case, the call changes the capacity exactly as `reserve(other.len())` would, and
+        // it fails if and only if `reserve(other.len())` would fail.
         ensures reserves { Reserves G.rule T.row (length other.old.items) self.old self.new result }
         ensures keeps { Keeps T.row self.old self.new }
         ensures other_within { IsWithin T.row other.old × IsWithin T.row other.new }
@@ -48,14 +48,15 @@ impl<T, A: Allocator, G: Growth> ThinVec<T, A, G> {
         Ok(())
     }
 
-    /// Moves the items from index `at` onward, in order, to a new list, and returns it. The new
-    /// list uses `alloc`, and its capacity is exactly the number of these items. This list keeps
-    /// its capacity. If `at` is the length, the call allocates nothing.
+    /// Moves the items at the indices `at..self.len()` to a new list, in order, and returns the new
+    /// list. The new list uses the allocator `alloc`, and its capacity is exactly the number of
+    /// these items. This list keeps its first `at` items and its capacity. If `at` is the length,
+    /// the call allocates nothing.
     ///
     /// # Errors
     ///
-    /// Fails with `OutOfMemory` if `alloc` cannot allocate the memory. This list is then unchanged,
-    /// and `alloc` is dropped.
+    /// Fails with `OutOfMemory` if `alloc` cannot allocate the memory. On failure, the list is
+    /// unchanged, and `alloc` is dropped.
     pub fn split_off(&mut self, alloc: A, at: usize) -> Result<ThinVec<T, A, G>, ThinVecError>
         requires in_bounds { at ≤ length self.old.items }
 
@@ -83,9 +84,9 @@ impl<T, A: Allocator, G: Growth> ThinVec<T, A, G> {
         Ok(tail)
     }
 
-    /// Moves all items of `other` to the end of this list, in order, and cannot fail. `other` is
-    /// then empty, and keeps its capacity. This list must already have room for the items (see
-    /// `reserve`).
+    /// Moves all items of `other` to the end of this list, in order. After the call, `other` is
+    /// empty, and keeps its capacity. This list must already have room for the items; `reserve`
+    /// makes such room. So this list does not grow, and the call cannot fail.
     ///
     /// This method exists neither in Rust's `Vec` nor in the Rust crate thin-vec.
     pub fn append_reserved(&mut self, other: &mut ThinVec<T, A, G>)
@@ -100,8 +101,8 @@ impl<T, A: Allocator, G: Growth> ThinVec<T, A, G> {
         self.append_from(other, 0);
     }
 
-    // Moves the items of `other` from index `start` onward to the end of this list, which must have
-    // room for them.
+    // Moves the items of `other` from index `start` onward to the end of this list. This list must
+    // have room for these items.
     fn append_from(&mut self, other: &mut ThinVec<T, A, G>, start: usize)
         requires in_bounds { start ≤ length other.old.items }
         requires room { HasRoomFor self.old (length other.old.items - start) }

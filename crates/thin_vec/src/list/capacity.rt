@@ -1,5 +1,5 @@
-//! The methods that reserve room in a list. Only `grow_to` grows a list, and only `capacity_for`
-//! calls the growth rule.
+//! The methods that reserve room in a list. The function `grow_to` is the only function that grows
+//! a list. The function `capacity_for` is the only function that calls the growth rule.
 ghost use Rattle.std.specs.Prelude.{◌≡◌, ◌+◌, ◌<◌, ◌≤◌, [], IfErr, IfOk, IfSome, IsErrOf, IsFalse, IsOk, IsTrue, None, OnErr, OnOk, Some, length};
 ghost use Rattle.thin_block.specs.Capacity.{Fits};
 ghost use Rattle.thin_block.specs.Cost.{growing};
@@ -17,15 +17,21 @@ impl<T, A: Allocator, G: Growth> ThinVec<T, A, G> {
 
     /// Reserves room for at least `additional` more items. If there is not enough room, the list
     /// grows to the capacity that the growth rule chooses, which is at least twice the old
-    /// capacity. Growing may copy every item to another address.
+    /// capacity. Otherwise, nothing changes.
+    ///
+    /// When a list grows, its block may be moved to another address. In this case, every item is
+    /// copied.
     ///
     /// # Errors
     ///
-    /// Fails only if the list has to grow. On failure, the list is unchanged.
+    /// Fails only if there is not enough room. On failure, the list is unchanged.
     ///
-    /// - `CapacityOverflow`: the growth rule chooses no capacity, because it would exceed
-    ///   `isize::MAX`, or its block would take more than `isize::MAX` bytes.
+    /// - `CapacityOverflow`: the growth rule chooses no capacity, because the new capacity would be
+    ///   too large.
     /// - `OutOfMemory`: the allocator failed.
+    ///
+    /// A capacity is too large if it exceeds `isize::MAX`, or if its block would take more than
+    /// `isize::MAX` bytes.
     pub fn reserve(&mut self, additional: usize) -> Result<(), ThinVecError>
         // On success.
         ensures room { OnOk result (HasRoomFor self.new additional) }
@@ -49,14 +55,14 @@ impl<T, A: Allocator, G: Growth> ThinVec<T, A, G> {
     }
 
     /// Reserves room for exactly `additional` more items. If there is not enough room, the list
-    /// grows, and the new capacity is the length plus `additional`.
+    /// grows, and the new capacity is the length plus `additional`. Otherwise, nothing changes.
     ///
-    /// If a list grows only through this method, each call may copy all items. The method `reserve`
-    /// avoids this, because it at least doubles the capacity.
+    /// If a list grows only through this method, each call may copy all items of the list. The
+    /// method `reserve` avoids this: whenever it grows the list, it at least doubles the capacity.
     ///
     /// # Errors
     ///
-    /// Fails only if the list has to grow. On failure, the list is unchanged.
+    /// Fails only if there is not enough room. On failure, the list is unchanged.
     ///
     /// - `CapacityOverflow`: the length plus `additional` is too large for a capacity.
     /// - `OutOfMemory`: the allocator failed.
@@ -126,9 +132,10 @@ impl<T, A: Allocator, G: Growth> ThinVec<T, A, G> {
         self.grow_to(capacity)
     }
 
-    // Reserves room like `reserve`, for calls that add several items. If `additional` is known at
-    // compile time, the compiled code checks for room with a single comparison. (With `reserve`,
-    // this is so only if `additional` is 1.)
+    // Reserves room for at least `additional` more items, with the same contract as `reserve`. This
+    // function is meant for calls that add several items. If `additional` is known at compile time,
+    // for example because it is the length of a literal, the compiled code checks for room with a
+    // single comparison. (The compiled code of `reserve` does this only if `additional` is 1.)
     #[tactic(auto, using(thin_block::proofs::CapacityLemmas::ruled))]
     pub(crate) fn reserve_run(&mut self, additional: usize) -> Result<(), ThinVecError>
         // On success.
@@ -153,7 +160,9 @@ impl<T, A: Allocator, G: Growth> ThinVec<T, A, G> {
     }
 
     // Returns whether there is room for `additional` more items. If `additional` exceeds
-    // `isize::MAX`, no list has so much room, and adding `additional` to the length could overflow.
+    // `isize::MAX`, the function returns false, because no list has so much room. Otherwise, it
+    // adds `additional` to the length. The length is also at most `isize::MAX`, so this addition
+    // cannot overflow.
     fn has_room_for(&self, additional: usize) -> bool
         ensures within { IsWithin T.row self.now }
         ensures room { IsTrue result → HasRoomFor self.now additional }
@@ -167,8 +176,9 @@ impl<T, A: Allocator, G: Growth> ThinVec<T, A, G> {
         len + additional <= cap
     }
 
-    // Grows the list to make room for `additional` more items. There must not be room for them yet.
-    // This part of `reserve` is a separate, cold function because most calls find enough room.
+    // Grows the list to make room for `additional` more items. The list must have too little room
+    // for these items. This part of `reserve` is a separate function, which is marked as cold,
+    // because most calls to `reserve` find enough room.
     #[cold]
     fn grow_for(&mut self, additional: usize) -> Result<(), ThinVecError>
         requires more { self.old.capacity < length self.old.items + additional }
@@ -197,7 +207,8 @@ impl<T, A: Allocator, G: Growth> ThinVec<T, A, G> {
     }
 
     // Returns the capacity that the growth rule chooses for `additional` more items, or `None` if
-    // it chooses no capacity. There must not be room for these items yet.
+    // the rule chooses no capacity. The list must not have room for these items yet. No other
+    // function calls the growth rule.
     #[tactic(auto, using(thin_block::proofs::CapacityLemmas::ruled))]
     fn capacity_for(&self, additional: usize) -> Option<usize>
         requires more { self.now.capacity < length self.now.items + additional }
@@ -212,8 +223,9 @@ impl<T, A: Allocator, G: Growth> ThinVec<T, A, G> {
         }
     }
 
-    // Grows the list to the capacity `cap`. This function and `Block::grow` are inlined, so that
-    // growing a list that the caller has just made need not test whether there is a block.
+    // Grows the list to the capacity `cap`. No other function grows a list. Both this function and
+    // `Block::grow` are inlined. So if a caller grows a list that it has just made, the compiled
+    // code does not test whether the list already has a block.
     #[inline(always)]
     pub(crate) fn grow_to(&mut self, cap: usize) -> Result<(), ThinVecError>
         requires larger { self.old.capacity < cap }
@@ -241,8 +253,9 @@ impl<T, A: Allocator, G: Growth> ThinVec<T, A, G> {
     }
 
     // Makes an empty list whose capacity is exactly `capacity`. The function `fits` must return
-    // true for `capacity`, which means that it is not too large. If `capacity` is 0, the list has
-    // no block.
+    // true for `capacity`, which means that a block of this capacity is not too large. If
+    // `capacity` is 0, the list has no block. All methods that make a list with an exact capacity
+    // use this function, except `from_iter`, which uses `reserve_first`.
     pub(crate) fn with_fitting_capacity(
         alloc: A,
         capacity: usize,
@@ -284,7 +297,7 @@ impl<T, A: Allocator> ThinVec<T, A> {
     ///
     /// # Errors
     ///
-    /// On failure, `alloc` is dropped.
+    /// On failure, no list is made, and `alloc` is dropped.
     ///
     /// - `CapacityOverflow`: `capacity` exceeds `isize::MAX`, or a block of this capacity would
     ///   take more than `isize::MAX` bytes.

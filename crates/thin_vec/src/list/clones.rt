@@ -1,5 +1,5 @@
-//! The methods that clone items. They reserve room for all clones before they make the first one,
-//! so no clone needs a test for room.
+//! The methods that clone items. Room for all clones is reserved before the first clone is made. So
+//! there is no need to test for room before each clone.
 ghost use Rattle.std.specs.Prelude.{◌≡◌, ◌⊎◌, ◌+◌, ◌<◌, ◌≤◌, [], ◌++◌, ◌-◌, All, HoldsAt, IfErr, IfOk, IsOk, OnErr, OnOk, length, slice_range, take};
 ghost use Rattle.std.specs.List.{AllZip, AppendsClones};
 ghost use Rattle.thin_block.specs.Capacity.{Fits};
@@ -16,16 +16,18 @@ impl<T: Clone, A: Allocator, G: Growth> ThinVec<T, A, G> {
     ghost use Rattle.thin_vec.specs.Cheap.{IsCheap};
     ghost use Rattle.thin_vec.specs.ThinVec.{HasRoomFor, IsWithin, cost_new};
 
-    /// Appends a clone of each item of `items`, in order. If there is not enough room, the growth
-    /// rule chooses the new capacity. For `Copy` items, `extend_from_copies` is faster.
+    /// Appends a clone of each item of `items`, in order. If there is not enough spare capacity,
+    /// the list first grows to the capacity that the growth rule chooses. For items that are
+    /// `Copy`, `extend_from_copies` is faster.
     ///
     /// # Errors
     ///
-    /// - `CapacityOverflow`: the list has to grow, but the new capacity would be too large. The
-    ///   list is unchanged.
-    /// - `OutOfMemory`: the list has to grow, but the allocator failed. The list is unchanged.
-    /// - `OutOfMemory`: an item could not be cloned. All clones are dropped. The list keeps its old
-    ///   items and, if it has grown, its new capacity.
+    /// - `CapacityOverflow`: there is not enough spare capacity, and the new capacity would be too
+    ///   large. The list is unchanged.
+    /// - `OutOfMemory`: there is not enough spare capacity, and the allocator failed. The list is
+    ///   unchanged.
+    /// - `OutOfMemory`: an item could not be cloned. The clones that were already made are dropped,
+    ///   so the list keeps only its old items. If the list has grown, it keeps the new capacity.
     pub fn extend_from_slice(&mut self, items: &[T]) -> Result<(), ThinVecError>
         // On success.
         ensures items { OnOk result
@@ -44,8 +46,9 @@ impl<T: Clone, A: Allocator, G: Growth> ThinVec<T, A, G> {
         ensures err_cost { OnErr result ((self.new ≡ self.old)
             ⊎ CostsUpToClone T.is_infallible items.now self.old self.new) }
 
-        // The call changes the capacity exactly as `reserve(items.len())` would, and fails with
-        // `CapacityOverflow` if and only if `reserve` would.
+        // In every case, the call changes the capacity exactly as `reserve(items.len())` would. It
+        // fails with `CapacityOverflow` if and only if `reserve(items.len())` would fail with
+        // `CapacityOverflow`.
         ensures reserves { Reserves G.rule T.row (length items.now) self.old self.new result }
         ensures keeps { Keeps T.row self.old self.new }
     {
@@ -53,14 +56,16 @@ impl<T: Clone, A: Allocator, G: Growth> ThinVec<T, A, G> {
         self.extend_from_slice_reserved(items)
     }
 
-    /// Makes a list of clones of all items, in order. The new list uses `alloc` and the same growth
-    /// rule, and its capacity is exactly the number of items. If there are no items, nothing is
-    /// allocated. For `Copy` items, `clone_copies` is faster.
+    /// Makes a list of clones of all items of this list, in order. The new list uses the allocator
+    /// `alloc` and the same growth rule as this list, and its capacity is exactly the number of
+    /// items. If there are no items, nothing is allocated. For items that are `Copy`,
+    /// `clone_copies` is faster.
     ///
     /// # Errors
     ///
     /// Fails with `OutOfMemory` if `alloc` cannot allocate the memory, or if an item cannot be
-    /// cloned. `alloc` and all clones are then dropped.
+    /// cloned. On failure, no list is made. The clones that were already made are dropped, and
+    /// `alloc` is dropped, too.
     pub fn clone(&self, alloc: A) -> Result<ThinVec<T, A, G>, ThinVecError>
         // On success.
         ensures items { IfOk result (λ list. AllZip T.is_clone self.now.items list.items) }
@@ -80,9 +85,9 @@ impl<T: Clone, A: Allocator, G: Growth> ThinVec<T, A, G> {
         ThinVec::from_fitting_slice(alloc, self.as_slice())
     }
 
-    // Makes a list of clones of `items`, in order, whose capacity is exactly their number. The
-    // function `fits` must return true for this number, which means that it is not too large for a
-    // capacity.
+    // Makes a list of clones of `items`, in order. The list uses the allocator `alloc`. The
+    // capacity of the list is exactly the number of items. The function `fits` must return true for
+    // this number, which means that a block of this capacity is not too large.
     pub(crate) fn from_fitting_slice(
         alloc: A,
         items: &[T],
@@ -113,15 +118,16 @@ impl<T: Clone, A: Allocator, G: Growth> ThinVec<T, A, G> {
         Ok(list)
     }
 
-    /// Appends a clone of each item of `items`, in order, without growing the list. The list must
-    /// already have room for the clones (see `reserve`).
+    /// Appends a clone of each item of `items`, in order. The list must already have room for the
+    /// clones; `reserve` makes such room. So the list does not grow.
     ///
     /// This method exists neither in Rust's `Vec` nor in the Rust crate thin-vec.
     ///
     /// # Errors
     ///
-    /// Fails with `OutOfMemory` if an item cannot be cloned. All clones are then dropped, and the
-    /// list is as before.
+    /// Fails with `OutOfMemory` if an item cannot be cloned. On failure, the clones that were
+    /// already made are dropped, so the list keeps only its old items. Its capacity does not
+    /// change.
     pub fn extend_from_slice_reserved(&mut self, items: &[T]) -> Result<(), ThinVecError>
         requires room { HasRoomFor self.old (length items.now) }
 
@@ -153,8 +159,8 @@ impl<T: Clone, A: Allocator, G: Growth> ThinVec<T, A, G> {
         Ok(())
     }
 
-    // Appends clones of `items`, in order, up to the first item that cannot be cloned. Returns the
-    // number of clones. The list must have room for clones of all items.
+    // Appends clones of `items`, in order. Stops at the first item that cannot be cloned. Returns
+    // the number of clones that were made. The list must have room for clones of all these items.
     fn push_clones_reserved(&mut self, items: &[T]) -> usize
         requires room { HasRoomFor self.old (length items.now) }
         ensures in_bounds { result ≤ length items.now }
@@ -174,18 +180,19 @@ impl<T: Clone, A: Allocator, G: Growth> ThinVec<T, A, G> {
         placed
     }
 
-    /// Appends clones of the items `start..end` of the list, in order. If there is not enough room,
-    /// the growth rule chooses the new capacity.
+    /// Appends clones of the items `start..end` of the list, in order. If there is not enough spare
+    /// capacity, the list first grows to the capacity that the growth rule chooses.
     ///
     /// Rust's `Vec` has a method of this name, but the Rust crate thin-vec does not.
     ///
     /// # Errors
     ///
-    /// - `CapacityOverflow`: the list has to grow, but the new capacity would be too large. The
-    ///   list is unchanged.
-    /// - `OutOfMemory`: the list has to grow, but the allocator failed. The list is unchanged.
-    /// - `OutOfMemory`: an item could not be cloned. All clones are dropped. The list keeps its old
-    ///   items and, if it has grown, its new capacity.
+    /// - `CapacityOverflow`: there is not enough spare capacity, and the new capacity would be too
+    ///   large. The list is unchanged.
+    /// - `OutOfMemory`: there is not enough spare capacity, and the allocator failed. The list is
+    ///   unchanged.
+    /// - `OutOfMemory`: an item could not be cloned. The clones that were already made are dropped,
+    ///   so the list keeps only its old items. If the list has grown, it keeps the new capacity.
     pub fn extend_from_within(&mut self, start: usize, end: usize) -> Result<(), ThinVecError>
         requires start_le_end { start ≤ end }
         requires in_bounds { end ≤ length self.old.items }
@@ -210,8 +217,9 @@ impl<T: Clone, A: Allocator, G: Growth> ThinVec<T, A, G> {
             ⊎ CostsUpToClone T.is_infallible (slice_range self.old.items start end)
             self.old self.new) }
 
-        // The call changes the capacity exactly as `reserve(end - start)` would, and fails with
-        // `CapacityOverflow` if and only if `reserve` would.
+        // In every case, the call changes the capacity exactly as `reserve(end - start)` would. It
+        // fails with `CapacityOverflow` if and only if `reserve(end - start)` would fail with
+        // `CapacityOverflow`.
         ensures reserves { Reserves G.rule T.row (end - start) self.old self.new result }
         ensures keeps { Keeps T.row self.old self.new }
     {
@@ -219,8 +227,9 @@ impl<T: Clone, A: Allocator, G: Growth> ThinVec<T, A, G> {
         self.extend_from_within_reserved(start, end)
     }
 
-    // Appends clones of the items `start..end` of the list, in order. The list must have room for
-    // them. If an item cannot be cloned, the call fails, and all clones are dropped.
+    // Appends clones of the items `start..end` of the list, in order. The list must already have
+    // room for the clones, so it does not grow. If an item cannot be cloned, the call fails, and
+    // the clones that were already made are dropped.
     fn extend_from_within_reserved(&mut self, start: usize, end: usize) -> Result<(), ThinVecError>
         requires start_le_end { start ≤ end }
         requires in_bounds { end ≤ length self.old.items }
@@ -259,17 +268,18 @@ impl<T: Clone, A: Allocator, G: Growth> ThinVec<T, A, G> {
         Ok(())
     }
 
-    // Appends clones of the items `start..end` of the list, up to the first item that cannot be
-    // cloned. Returns the number of clones. The list must have room for all of them. The stored
-    // length is updated after each clone, because the items are read from the list itself.
+    // Appends clones of the items `start..end` of the list, in order. Stops at the first item that
+    // cannot be cloned. Returns the number of clones that were made. The list must have room for
+    // all these clones. The stored length is updated after each clone, because the items to clone
+    // are read from the list itself.
     fn push_clones_within(&mut self, start: usize, end: usize) -> usize
         requires start_le_end { start ≤ end }
         requires in_bounds { end ≤ length self.old.items }
         requires room { HasRoomFor self.old (end - start) }
         requires within { IsWithin T.row self.old }
 
-        // The call appends clones of the first `result` items of the range, so `result` is at most
-        // the length of the range.
+        // The call appends clones of the first `result` items of the range `start..end`. So
+        // `result` is at most the length of this range.
         ensures in_bounds { result ≤ end - start }
         ensures items { AppendsClones T.is_clone self.old.items self.new.items
             (take result (slice_range self.old.items start end)) }
@@ -303,8 +313,8 @@ impl<T: Clone, A: Allocator + Copy, G: Growth> Clone for ThinVec<T, A, G> {
 
     ghost is_infallible = { λ list. list.items ≡ [] };
 
-    // Makes a list of clones of all items. The new list uses a copy of the allocator. On failure,
-    // the cause is lost, because `AllocError` has no field for it.
+    // Makes a list of clones of all items of this list. The allocator is `Copy`, and the new list
+    // uses a copy of it. On failure, the cause is lost, because `AllocError` has no field for it.
     fn clone(&self) -> Result<Self, AllocError> {
         match ThinVec::clone(self, *self.allocator()) {
             Ok(other) => Ok(other),

@@ -1,5 +1,6 @@
-//! Implementations of traits that compare, hash and print lists like the slices of their items, and
-//! of `Emptied` and `MadeWith`, two traits of Rattle's std that make empty lists.
+//! Implementations of traits that compare, hash and print lists. A list is compared, hashed and
+//! printed like the slice of its items, so its capacity and its recorded cost have no effect. This
+//! file also implements `Emptied` and `MadeWith`, two traits of Rattle's std that make empty lists.
 ghost use Rattle.std.specs.Cmp.{on_equiv, on_per, on_po, on_total};
 ghost use Rattle.std.specs.Cmp.Lexicographic.{lists_agrees, lists_equiv, lists_per, lists_po, lists_ties, lists_total, pointwise, slice_cmp, slice_partial_cmp};
 ghost use Rattle.std.specs.Hash as fed;
@@ -74,8 +75,8 @@ impl<T: fmt::Debug, A: Allocator, G: Growth> fmt::Debug for ThinVec<T, A, G> {
 impl<T, A: Allocator + Clone, G: Growth> Emptied for ThinVec<T, A, G> {
     ghost is_emptied = { λ list. list.items ≡ [] };
 
-    // Makes an empty list that owns a clone of the allocator of `like`. Fails if the allocator
-    // cannot be cloned. (`mem::try_take` of Rattle's std calls this function.)
+    // Makes an empty list that owns a clone of the allocator of the list `like`. Fails if the
+    // allocator cannot be cloned. The function `mem::try_take` of Rattle's std calls this function.
     fn emptied(like: &ThinVec<T, A, G>) -> Result<ThinVec<T, A, G>, AllocError> {
         Ok(ThinVec::ruled(like.allocator().clone()?))
     }
@@ -84,8 +85,8 @@ impl<T, A: Allocator + Clone, G: Growth> Emptied for ThinVec<T, A, G> {
 impl<T, A: Allocator, G: Growth> MadeWith<A> for ThinVec<T, A, G> {
     ghost is_made_with = { λ list. list.items ≡ [] };
 
-    // Makes an empty list that owns `alloc`. (The method `or_default` of the maps in Rattle's std
-    // calls this function.)
+    // Makes an empty list that owns the allocator `alloc`. The method `or_default` of the maps in
+    // Rattle's std calls this function.
     fn made_with(alloc: A) -> ThinVec<T, A, G> {
         ThinVec::ruled(alloc)
     }

@@ -11,15 +11,15 @@ use thin_block::{Growth, ThinVecError};
 impl<T: Copy, A: Allocator, G: Growth> ThinVec<T, A, G> {
     ghost use Rattle.thin_vec.specs.ThinVec.{HasRoomFor, cost_new};
 
-    /// Appends a copy of each item of `items`, in order. If there is not enough room, the growth
-    /// rule chooses the new capacity. This method is faster than `extend_from_slice`, because it
-    /// copies the items byte for byte.
+    /// Appends a copy of each item of `items`, in order. If there is not enough spare capacity, the
+    /// list first grows to the capacity that the growth rule chooses. The items are copied byte for
+    /// byte, so this method is faster than `extend_from_slice`.
     ///
     /// This method exists neither in Rust's `Vec` nor in the Rust crate thin-vec.
     ///
     /// # Errors
     ///
-    /// Fails only if the list has to grow. On failure, the list is unchanged.
+    /// Fails only if there is not enough spare capacity. On failure, the list is unchanged.
     ///
     /// - `CapacityOverflow`: the new capacity would be too large.
     /// - `OutOfMemory`: the allocator failed.
@@ -34,8 +34,8 @@ impl<T: Copy, A: Allocator, G: Growth> ThinVec<T, A, G> {
         // On failure, the list is unchanged.
         ensures err { OnErr result (self.new ≡ self.old) }
 
-        // The call changes the capacity exactly as `reserve(items.len())` would, and it fails if
-        // and only if `reserve(items.len())` would fail.
+        // In every case, the call changes the capacity exactly as `reserve(items.len())` would, and
+        // it fails if and only if `reserve(items.len())` would fail.
         ensures reserves { Reserves G.rule T.row (length items.now) self.old self.new result }
         ensures keeps { Keeps T.row self.old self.new }
     {
@@ -75,8 +75,8 @@ impl<T: Copy, A: Allocator, G: Growth> ThinVec<T, A, G> {
         Ok(list)
     }
 
-    /// Appends a copy of each item of `items`, in order, and cannot fail. The list must already
-    /// have room for the items (see `reserve`).
+    /// Appends a copy of each item of `items`, in order. The list must already have room for the
+    /// items; `reserve` makes such room. So the list does not grow, and the call cannot fail.
     ///
     /// This method exists neither in Rust's `Vec` nor in the Rust crate thin-vec.
     pub fn extend_from_copies_reserved(&mut self, items: &[T])

@@ -23,20 +23,21 @@ impl<T, A: Allocator, G: Growth> ThinVec<T, A, G> {
     /// Appends the items that `iter` yields before its first `None`. After this `None`, `next` is
     /// not called again.
     ///
-    /// The call gets the size hint of `iter` once, and reserves room for its lower bound. It fills
-    /// the spare capacity, and pushes each further item. If there is room for all items that the
-    /// iterator may yield, the call cannot fail.
+    /// First, the call gets the size hint of `iter` once, and reserves room for `n` more items,
+    /// where `n` is the lower bound of the size hint. Then it moves items into the spare capacity,
+    /// and pushes each further item. So the call cannot fail if there is room for all items that
+    /// the iterator may yield.
     ///
     /// # Errors
     ///
     /// The cause is `CapacityOverflow` if the new capacity would be too large, and `OutOfMemory` if
     /// the allocator failed. There are two cases:
     ///
-    /// - The call cannot reserve room for the lower bound. The list is then unchanged, `in_hand` is
-    ///   `None`, and `rest` is the whole iterator.
-    /// - The call cannot push a further item. The list is then full, and keeps the items that were
-    ///   appended. `in_hand` is the item that could not be pushed, and `rest` yields the items
-    ///   after it.
+    /// - The call cannot reserve room for `n` more items. In this case, the list is unchanged,
+    ///   `in_hand` is `None`, and `rest` is the whole iterator.
+    /// - The call cannot push a further item. In this case, the list keeps the items that were
+    ///   appended before, and is full. `in_hand` is the item that could not be pushed, and `rest`
+    ///   yields the items after it.
     pub fn extend<I: Iterator<Item = T>>(&mut self, iter: I) -> Result<(), ExtendRefused<T, I>>
         requires can_next { I.can_next iter }
         requires finite { IsFinite (I.remaining iter) }
@@ -80,7 +81,7 @@ impl<T, A: Allocator, G: Growth> ThinVec<T, A, G> {
         }
     }
 
-    // Appends the items of `iter`, like `extend`, but without asking for the size hint.
+    // Appends the items of `iter`, as `extend` does, but does not ask `iter` for its size hint.
     pub(crate) fn extend_unhinted<I: Iterator<Item = T>>(
         &mut self,
         iter: I,
@@ -137,14 +138,14 @@ impl<T, A: Allocator, G: Growth> ThinVec<T, A, G> {
     }
 
     // Moves items of `iter` into the spare capacity until the list is full or `iter` ends. If the
-    // list is full, calls `next` once more. Returns the rest of the iterator and the result of this
-    // last call, or `None` if `iter` ended before.
+    // list is full, takes one more item from `iter`. Returns the rest of the iterator, and this
+    // further item if there is one.
     fn extend_reserved<I: Iterator<Item = T>>(&mut self, iter: I) -> (I, Option<T>)
         requires can_next { I.can_next iter }
         requires finite { IsFinite (I.remaining iter) }
 
-        // The call appends the items `xs`, which it takes from the iterator. Each of them counts as
-        // one move.
+        // The call appends the items `xs`, which it takes from the iterator. Each of these items
+        // counts as one move.
         ensures items { (xs : List T) × (self.new.items ≡ self.old.items ++ xs)
             × YieldsThen I.next_gives iter xs result.1 result.0 }
         ensures changes { self.new ≡ record self.old {
@@ -152,9 +153,9 @@ impl<T, A: Allocator, G: Growth> ThinVec<T, A, G> {
           cost = moving (length self.new.items - length self.old.items) self.old.cost;
         } }
 
-        // If the call returns an item, the list is full, and `next` may be called again. The upper
-        // bound on the number of remaining items is finite, and has decreased by more than the
-        // number of appended items.
+        // If the call returns an item, the list is full, and `next` may be called on the returned
+        // iterator. The upper bound on the number of items that this iterator may still yield is
+        // finite. The call has decreased this bound by more than the number of appended items.
         ensures full { OnSome result.1 (length self.new.items ≡ self.new.capacity) }
         ensures rest { OnSome result.1 (I.can_next result.0 × IsFinite (I.remaining result.0)) }
         ensures nearer { OnSome result.1
@@ -178,8 +179,9 @@ impl<T, A: Allocator, G: Growth> ThinVec<T, A, G> {
         (rest, extra)
     }
 
-    // Moves items of `iter` into the spare capacity until the list is full or `iter` ends. The
-    // field `end` of the result is the new length, which is stored only once, after the last move.
+    // Moves items of `iter` into the spare capacity, until the list is full or `iter` ends. The new
+    // length is stored only once, after the last item is moved. The field `end` of the result is
+    // the new length.
     fn fill_spare<I: Iterator<Item = T>>(&mut self, iter: I) -> Filled<I>
         requires can_next { I.can_next iter }
         requires finite { IsFinite (I.remaining iter) }
@@ -207,20 +209,21 @@ impl<T, A: Allocator> ThinVec<T, A> {
     /// Makes a list of the items that `iter` yields before its first `None`. After this `None`,
     /// `next` is not called again. The list uses the allocator `alloc`.
     ///
-    /// The call gets the size hint of `iter` once, and makes a block whose capacity is exactly the
-    /// lower bound. It fills this block, and pushes each further item. If the iterator cannot yield
-    /// any item, the call cannot fail.
+    /// First, the call gets the size hint of `iter` once, and makes a block whose capacity is
+    /// exactly the lower bound of the size hint. Then it moves items into the block until it is
+    /// full, and pushes each further item. So the call cannot fail if the iterator cannot yield any
+    /// item.
     ///
     /// # Errors
     ///
     /// The cause is `CapacityOverflow` if the capacity would be too large, and `OutOfMemory` if the
     /// allocator failed. There are two cases:
     ///
-    /// - The call cannot make the first block. `list` is then new and empty, `in_hand` is `None`,
-    ///   and `rest` is the whole iterator.
-    /// - The call cannot push a further item. `list` is then full, and holds the items that were
-    ///   appended. `in_hand` is the item that could not be pushed, and `rest` yields the items
-    ///   after it.
+    /// - The call cannot make the first block. In this case, `list` is a new empty list, `in_hand`
+    ///   is `None`, and `rest` is the whole iterator.
+    /// - The call cannot push a further item. In this case, `list` holds the items that were
+    ///   appended before, and is full. `in_hand` is the item that could not be pushed, and `rest`
+    ///   yields the items after it.
     pub fn from_iter<I: Iterator<Item = T>>(
         alloc: A,
         iter: I,
@@ -287,9 +290,9 @@ impl<T, A: Allocator> ThinVec<T, A> {
 impl<T: Drop, A: Allocator, G: Growth> Extend<T> for ThinVec<T, A, G> {
     ghost extend_gives = { Extends G.rule T.row };
 
-    // Appends the items of `iter`, like the method `ThinVec::extend`. On failure, the items that
-    // were appended stay in the list. The iterator, and an item that could not be appended, are
-    // dropped.
+    // Appends the items of `iter`, like the method `ThinVec::extend`. On failure, drops the
+    // iterator. If an item was taken from the iterator but could not be appended, this item is also
+    // dropped. The items that were appended before the failure stay in the list.
     fn extend<U: IntoIterator<Item = T>>(&mut self, iter: U) -> Result<(), AllocError> {
         match ThinVec::extend(self, iter.into_iter()) {
             Ok(()) => Ok(()),
@@ -303,8 +306,7 @@ impl<T: Drop, A: Allocator> FromIterator<T> for ThinVec<T, A> {
 
     ghost from_iter_gives = { IsMadeOf T.row };
 
-    // Makes a list of the items of `iter`, like the method `ThinVec::from_iter`. On failure, the
-    // iterator and all items that were taken from it are dropped.
+    // On failure, drops all items that were taken from the iterator, and the iterator itself.
     fn from_iter<U: IntoIterator<Item = T>>(
         alloc: A,
         iter: U,

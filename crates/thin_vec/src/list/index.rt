@@ -65,7 +65,8 @@ impl<T, A: Allocator, G: Growth> Index<usize> for ThinVec<T, A, G> {
 }
 
 impl<T, A: Allocator, G: Growth> IndexMut<usize> for ThinVec<T, A, G> {
-    // Returns a mutable reference to the item at `index`.
+    // Returns a mutable reference to the item at `index`. Writing through the reference changes the
+    // item of the list.
     fn index_mut(&mut self, index: usize) -> &mut T
         requires { index < length self.old.items }
         ensures* writes_back { sem 𝓛
@@ -74,8 +75,8 @@ impl<T, A: Allocator, G: Growth> IndexMut<usize> for ThinVec<T, A, G> {
         ensures found { slice_get self.old.items index ≡ Some result.now }
         ensures within { IsWithin T.row self.old }
     {
-        // This call is needed only for the proof, because the clause `within` follows from the
-        // contract of `len`.
+        // This call is needed only for the proof: the clause `within` follows from the contract of
+        // `len`.
         let _len = self.block.len();
         self.block.slot_mut(index)
     }
@@ -83,6 +84,7 @@ impl<T, A: Allocator, G: Growth> IndexMut<usize> for ThinVec<T, A, G> {
 
 impl<T, A: Allocator, G: Growth> ThinVec<T, A, G> {
     /// Returns a mutable reference to the item at `index`, or `None` if there is no such item.
+    /// Writing through the reference changes the item of the list.
     ///
     /// The lists of the Rust crate thin-vec have this method because they dereference to slices.
     pub fn get_mut(&mut self, index: usize) -> Option<&mut T>
@@ -123,7 +125,8 @@ impl<'a, T, A: Allocator, G: Growth> IntoIterator for &'a mut ThinVec<T, A, G> {
         × EveryRun (iter_mut_steps {A = T})
         (λ p. ItemsMapTo p (λ x. x.now) (iter_mut_rest p.from)) };
 
-    // Returns an iterator over mutable references to the items, in order.
+    // Returns an iterator over mutable references to the items, in order. Writing through a
+    // reference changes the item of the list.
     fn into_iter(self) -> IterMut<'a, T>
         ensures* writes_back { sem 𝓛
             (LendsIter T.row A.row G.row A.Allocator G.Growth self.entry result) }

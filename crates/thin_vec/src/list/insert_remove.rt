@@ -1,4 +1,5 @@
-//! The methods that insert or remove one item, and `truncate` and `clear`.
+//! The methods that insert or remove one item, and the methods `truncate` and `clear`, which can
+//! remove several items.
 ghost use Rattle.std.specs.Prelude.{◌≡◌, ◌+◌, ◌-◌, ◌<◌, ◌≤◌, ◌==◌, [], ◌∷◌, ◌++◌, IfErr, IfOk, IsOk, None, OnErr, OnOk, Some, if◌then◌else◌, insert, length, remove, slice_get, take};
 ghost use Rattle.std.specs.List.{swap_remove};
 ghost use Rattle.std.specs.List.Retain.{PopsIf};
@@ -15,14 +16,14 @@ use thin_block::{Growth, ThinVecError};
 impl<T, A: Allocator, G: Growth> ThinVec<T, A, G> {
     ghost use Rattle.thin_vec.specs.ThinVec.{HasRoomFor, IsWithin, capacity_for};
 
-    /// Inserts `value` at `index`, which must be at most the length. Each item from `index` onward
-    /// is moved to the next higher index. If there is no spare capacity, the growth rule chooses
-    /// the new capacity.
+    /// Inserts `value` at `index`, which must be at most the length. The list then owns `value`.
+    /// Each item from `index` onward is moved to the next higher index. If there is no spare
+    /// capacity, the list first grows to the capacity that the growth rule chooses.
     ///
     /// # Errors
     ///
-    /// Fails only if the list has to grow. On failure, the list is unchanged, and `value` is
-    /// returned in the error.
+    /// Fails only if there is no spare capacity. On failure, the list is unchanged, and the error
+    /// holds `value`, which the caller owns again.
     ///
     /// - `CapacityOverflow`: the new capacity would be too large.
     /// - `OutOfMemory`: the allocator failed.
@@ -40,8 +41,8 @@ impl<T, A: Allocator, G: Growth> ThinVec<T, A, G> {
         ensures err { OnErr result (self.new ≡ self.old) }
         ensures value_returned { IfErr result (λ error. error.value ≡ value) }
 
-        // The call changes the capacity exactly as `reserve(1)` would, and it fails if and only if
-        // `reserve(1)` would fail.
+        // In every case, the call changes the capacity exactly as `reserve(1)` would, and it fails
+        // if and only if `reserve(1)` would fail.
         ensures reserves { Reserves G.rule T.row 1 self.old self.new (causes result) }
         ensures keeps { Keeps T.row self.old self.new }
     {
@@ -52,9 +53,10 @@ impl<T, A: Allocator, G: Growth> ThinVec<T, A, G> {
         Ok(())
     }
 
-    /// Inserts `value` at `index`, which must be at most the length, and cannot fail. Each item
-    /// from `index` onward is moved to the next higher index. The list must already have room for
-    /// one more item (see `reserve`).
+    /// Inserts `value` at `index`, which must be at most the length. The list then owns `value`.
+    /// Each item from `index` onward is moved to the next higher index. The list must already have
+    /// room for one more item; `reserve(1)` makes such room. So the list does not grow, and the
+    /// call cannot fail.
     ///
     /// This method exists neither in Rust's `Vec` nor in the Rust crate thin-vec.
     pub fn insert_reserved(&mut self, index: usize, value: T)
@@ -70,15 +72,16 @@ impl<T, A: Allocator, G: Growth> ThinVec<T, A, G> {
         self.block.put_and_store(index, value, len + 1);
     }
 
-    /// Appends `value`, and returns a mutable reference to it. If there is no spare capacity, the
-    /// growth rule chooses the new capacity.
+    /// Appends `value`, which the list then owns. Returns a mutable reference to the new item.
+    /// Writing through the reference changes the item of the list. If there is no spare capacity,
+    /// the list first grows to the capacity that the growth rule chooses.
     ///
     /// Rust's `Vec` has a method of this name, but the Rust crate thin-vec does not.
     ///
     /// # Errors
     ///
-    /// Fails only if the list has to grow. On failure, the list is unchanged, and `value` is
-    /// returned in the error.
+    /// Fails only if there is no spare capacity. On failure, the list is unchanged, and the error
+    /// holds `value`, which the caller owns again.
     ///
     /// - `CapacityOverflow`: the new capacity would be too large.
     /// - `OutOfMemory`: the allocator failed.
@@ -105,16 +108,17 @@ impl<T, A: Allocator, G: Growth> ThinVec<T, A, G> {
         Ok(&mut self[len])
     }
 
-    /// Inserts `value` at `index`, which must be at most the length, and returns a mutable
-    /// reference to it. Each item from `index` onward is moved to the next higher index. If there
-    /// is no spare capacity, the growth rule chooses the new capacity.
+    /// Inserts `value` at `index`, which must be at most the length. The list then owns `value`.
+    /// Returns a mutable reference to the new item. Writing through the reference changes the item
+    /// of the list. Each item from `index` onward is moved to the next higher index. If there is no
+    /// spare capacity, the list first grows to the capacity that the growth rule chooses.
     ///
     /// Rust's `Vec` has a method of this name, but the Rust crate thin-vec does not.
     ///
     /// # Errors
     ///
-    /// Fails only if the list has to grow. On failure, the list is unchanged, and `value` is
-    /// returned in the error.
+    /// Fails only if there is no spare capacity. On failure, the list is unchanged, and the error
+    /// holds `value`, which the caller owns again.
     ///
     /// - `CapacityOverflow`: the new capacity would be too large.
     /// - `OutOfMemory`: the allocator failed.
@@ -159,8 +163,9 @@ impl<T, A: Allocator, G: Growth> ThinVec<T, A, G> {
         value
     }
 
-    /// Removes the item at `index` and returns it. The last item is moved to `index`. So the call
-    /// takes constant time, but does not keep the order of the items. The capacity does not change.
+    /// Removes the item at `index` and returns it. The last item is moved to `index`, and no other
+    /// item is moved. So the call takes constant time, but does not keep the order of the items.
+    /// The capacity does not change.
     pub fn swap_remove(&mut self, index: usize) -> T
         requires in_bounds { index < length self.old.items }
         ensures value { slice_get self.old.items index ≡ Some result }
@@ -176,9 +181,10 @@ impl<T, A: Allocator, G: Growth> ThinVec<T, A, G> {
         value
     }
 
-    /// Removes and returns the last item if `predicate` returns true for it. Otherwise, or if the
-    /// list is empty, returns `None`. `predicate` may change the item, whether or not it is
-    /// removed. The capacity does not change.
+    /// Calls `predicate` with the last item. If `predicate` returns true, the item is removed and
+    /// returned. Otherwise, the item stays in the list, with any change that `predicate` made to
+    /// it, and the call returns `None`. If the list is empty, `predicate` is not called, and the
+    /// call returns `None`. The capacity does not change.
     ///
     /// Rust's `Vec` has a method of this name, but the Rust crate thin-vec does not.
     pub fn pop_if<P: FnOnce(&mut T) -> bool>(&mut self, predicate: P) -> Option<T>
@@ -201,7 +207,8 @@ impl<T, A: Allocator, G: Growth> ThinVec<T, A, G> {
 impl<T: Drop, A: Allocator, G: Growth> ThinVec<T, A, G> {
     ghost use Rattle.thin_vec.specs.ThinVec.{IsWithin};
 
-    /// Drops the items from index `len` onward, if there are any. The capacity does not change.
+    /// Drops the items from index `len` onward. If the list has at most `len` items, nothing
+    /// changes. The capacity does not change.
     pub fn truncate(&mut self, len: usize)
         ensures items { self.new.items ≡ take len self.old.items }
         ensures changes { self.new ≡ record self.old { items = self.new.items } }

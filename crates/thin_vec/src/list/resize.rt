@@ -14,19 +14,21 @@ impl<T: Clone, A: Allocator, G: Growth> ThinVec<T, A, G> {
     ghost use Rattle.thin_vec.specs.Cheap.{IsCheap};
     ghost use Rattle.thin_vec.specs.ThinVec.{HasRoomFor, IsWithin};
 
-    /// Changes the length to `len`. If the list is longer, the items from index `len` onward and
-    /// `value` are dropped. If the list is shorter, clones of `value` are appended, and then
-    /// `value` itself. If there is not enough room, the growth rule chooses the new capacity.
+    /// Changes the length to `len`. If the list is longer, the items from index `len` onward are
+    /// dropped. If the list is shorter, clones of `value` are appended, and then `value` itself as
+    /// the last item. If no item is appended, `value` is dropped. If there is not enough spare
+    /// capacity, the list first grows to the capacity that the growth rule chooses.
     ///
     /// # Errors
     ///
-    /// Fails only if items are appended. On failure, `value` is dropped.
+    /// Fails only if the list has to become longer. On failure, `value` is dropped.
     ///
-    /// - `CapacityOverflow`: the list has to grow, but the new capacity would be too large. The
-    ///   list is unchanged.
-    /// - `OutOfMemory`: the list has to grow, but the allocator failed. The list is unchanged.
-    /// - `OutOfMemory`: `value` could not be cloned. All clones are dropped. The list keeps its old
-    ///   items and, if it has grown, its new capacity.
+    /// - `CapacityOverflow`: there is not enough spare capacity, and the new capacity would be too
+    ///   large. The list is unchanged.
+    /// - `OutOfMemory`: there is not enough spare capacity, and the allocator failed. The list is
+    ///   unchanged.
+    /// - `OutOfMemory`: `value` could not be cloned. The clones that were already made are dropped,
+    ///   so the list keeps only its old items. If the list has grown, it keeps the new capacity.
     pub fn resize(&mut self, len: usize, value: T) -> Result<(), ThinVecError>
         // On success.
         ensures items { OnOk result (IsResized T.is_clone self.old.items len value self.new.items) }
@@ -47,8 +49,9 @@ impl<T: Clone, A: Allocator, G: Growth> ThinVec<T, A, G> {
         ensures err_cost { OnErr result ((self.new ≡ self.old) ⊎ CostsUpToClone T.is_infallible
             (replicate (len - length self.old.items - 1) value) self.old self.new) }
 
-        // If the call adds `n` items, it changes the capacity exactly as `reserve(n)` would, and
-        // fails with `CapacityOverflow` if and only if `reserve(n)` would.
+        // Let `n` be the number of new items. In every case, the call changes the capacity exactly
+        // as `reserve(n)` would. It fails with `CapacityOverflow` if and only if `reserve(n)` would
+        // fail with `CapacityOverflow`.
         ensures reserves { Reserves G.rule T.row (len - length self.old.items) self.old self.new
             result }
         ensures keeps { Keeps T.row self.old self.new }
@@ -63,13 +66,14 @@ impl<T: Clone, A: Allocator, G: Growth> ThinVec<T, A, G> {
     }
 
     // Appends `count - 1` clones of `value`, and then `value` itself. The list must have room for
-    // them. If cloning fails, `value` and all clones are dropped.
+    // these items. If cloning `value` fails, the clones that were already made are dropped, and
+    // `value` is dropped, too.
     fn resize_reserved(&mut self, value: T, count: usize) -> Result<(), ThinVecError>
         requires some { 0 < count }
         requires room { HasRoomFor self.old count }
 
         // The call succeeds if cloning `value` cannot fail, or if `count` is 1, because no clone is
-        // then made.
+        // made in this case. On success, the items are appended.
         ensures succeeds { T.is_infallible value → IsOk result }
         ensures succeeds_by_one { count ≡ 1 → IsOk result }
         ensures items { OnOk result
@@ -79,7 +83,7 @@ impl<T: Clone, A: Allocator, G: Growth> ThinVec<T, A, G> {
             → self.new.items ≡ self.old.items ++ replicate count value) }
         ensures cost { OnOk result (self.new.cost ≡ moving count self.old.cost) }
 
-        // Only the fields `items` and `cost` of the list may change.
+        // In every case, only the fields `items` and `cost` of the list may change.
         ensures changes { self.new ≡ record self.old {
           items = self.new.items;
           cost = self.new.cost;
@@ -104,8 +108,8 @@ impl<T: Clone, A: Allocator, G: Growth> ThinVec<T, A, G> {
         Ok(())
     }
 
-    // Appends `count` clones of `value`, but stops if cloning fails. Returns the number of appended
-    // clones. The list must have room for `count` clones.
+    // Appends `count` clones of `value`, but stops if cloning `value` fails. Returns the number of
+    // clones that were made. The list must have room for `count` clones.
     fn push_repeated_reserved(&mut self, value: &T, count: usize) -> usize
         requires room { HasRoomFor self.old count }
         ensures in_bounds { result ≤ count }
@@ -129,8 +133,9 @@ impl<T: Drop, A: Allocator, G: Growth> ThinVec<T, A, G> {
     ghost use Rattle.thin_vec.specs.ThinVec.{HasRoomFor, IsWithin};
 
     /// Changes the length to `len`. If the list is longer, the items from index `len` onward are
-    /// dropped. If the list is shorter, `make` is called once for each new item, in order. If there
-    /// is not enough room, the growth rule chooses the new capacity.
+    /// dropped. If the list is shorter, the results of `make` are appended: `make` is called once
+    /// for each new item, in order. If there is not enough spare capacity, the list first grows to
+    /// the capacity that the growth rule chooses.
     ///
     /// Rust's `Vec` has a method of this name, but the Rust crate thin-vec does not.
     ///
@@ -156,8 +161,8 @@ impl<T: Drop, A: Allocator, G: Growth> ThinVec<T, A, G> {
         // On failure, the list is unchanged.
         ensures err { OnErr result (self.new ≡ self.old) }
 
-        // If the call adds `n` items, it changes the capacity exactly as `reserve(n)` would, and it
-        // fails if and only if `reserve(n)` would fail.
+        // Let `n` be the number of new items. In every case, the call changes the capacity exactly
+        // as `reserve(n)` would, and it fails if and only if `reserve(n)` would fail.
         ensures reserves { Reserves G.rule T.row (len - length self.old.items) self.old self.new
             result }
         ensures keeps { Keeps T.row self.old self.new }

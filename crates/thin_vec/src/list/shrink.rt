@@ -10,18 +10,19 @@ use thin_block::{Block, Growth, ThinVecError};
 impl<T, A: Allocator, G: Growth> ThinVec<T, A, G> {
     ghost use Rattle.thin_vec.specs.ThinVec.{IsWithin, cost_shrunk, cost_shrunk_to};
 
-    /// Shrinks the capacity to `min_capacity`, or to the length if that is greater. If this would
-    /// not reduce the capacity, nothing changes.
+    /// Shrinks the capacity to `min_capacity`, or to the length if the length is greater. If this
+    /// would not reduce the capacity, nothing changes.
     ///
-    /// If the capacity is reduced to 0, the allocation is freed. In contracts, the counts in the
-    /// field `cost` then become 0.
+    /// If the capacity is reduced to 0, the allocation is freed. In contracts, all counters in the
+    /// field `cost` of the list are then 0, too.
     ///
-    /// Rust's `Vec` has a method of this name. The Rust crate thin-vec does not.
+    /// Rust's `Vec` has a method of this name, but the Rust crate thin-vec does not.
     ///
     /// # Errors
     ///
-    /// Fails with `OutOfMemory` if the allocator fails. The list is then unchanged. Shrinking an
-    /// empty list to capacity 0 cannot fail.
+    /// Fails with `OutOfMemory` if the allocator fails. On failure, the list is unchanged. If an
+    /// empty list is shrunk to capacity 0, the call cannot fail, because it only frees the
+    /// allocation.
     pub fn shrink_to(&mut self, min_capacity: usize) -> Result<(), ThinVecError>
         // On success.
         ensures capacity { OnOk result (self.new.capacity
@@ -55,13 +56,13 @@ impl<T, A: Allocator, G: Growth> ThinVec<T, A, G> {
 
     /// Shrinks the capacity to the length. If the list is full, nothing changes.
     ///
-    /// If an empty list has an allocation, it is freed. In contracts, the counts in the field
-    /// `cost` then become 0.
+    /// If the list is empty but has an allocation, the allocation is freed. In contracts, all
+    /// counters in the field `cost` of the list are then 0, too.
     ///
     /// # Errors
     ///
-    /// Fails with `OutOfMemory` if the allocator fails. The list is then unchanged. If the list is
-    /// empty, the call cannot fail.
+    /// Fails with `OutOfMemory` if the allocator fails. On failure, the list is unchanged. If the
+    /// list is empty, the call cannot fail, because it only frees the allocation.
     pub fn shrink_to_fit(&mut self) -> Result<(), ThinVecError>
         // On success.
         ensures capacity { OnOk result (self.new.capacity ≡ length self.old.items) }
@@ -91,7 +92,8 @@ impl<T, A: Allocator, G: Growth> ThinVec<T, A, G> {
         requires smaller { cap < self.old.capacity }
         requires within { IsWithin T.row self.old }
 
-        // On success and on failure, only the fields `capacity` and `cost` of the list may change.
+        // Whether or not the call succeeds, only the fields `capacity` and `cost` of the list may
+        // change.
         ensures changes { self.new ≡ record self.old {
           capacity = self.new.capacity;
           cost = self.new.cost;
@@ -112,8 +114,8 @@ impl<T, A: Allocator, G: Growth> ThinVec<T, A, G> {
         Ok(())
     }
 
-    // Frees the allocation of the list, which must be empty. The capacity and, in contracts, the
-    // counts in the field `cost` become 0.
+    // Frees the allocation of the list. The list must be empty. After the call, its capacity is 0.
+    // In contracts, all counters in its field `cost` are then 0, too.
     fn give_block_back(&mut self)
         requires empty { self.old.items ≡ [] }
         ensures changes { self.new ≡ record self.old { items = []; capacity = 0; cost = no_cost } }

@@ -1,6 +1,7 @@
 //! Functions that the `dedup` methods call. They keep the first item, and test each later item
-//! against the last kept item. The front contains the kept items, and the middle run contains the
-//! remaining items.
+//! against the last item that was kept before it. During this work, the kept items are at the front
+//! of the block. The remaining items, which have not been kept or removed yet, come after them,
+//! perhaps after a gap of empty slots.
 ghost use Rattle.std.specs.Prelude.{◌≡◌, ◌+◌, ◌-◌, ◌^◌, ◌<◌, ◌≤◌, ◌∷◌, ◌++◌, [], Bool, length};
 ghost use Rattle.thin_block.specs.Block.{seen};
 ghost use Rattle.thin_block.specs.Cost.{moving};
@@ -11,15 +12,16 @@ use crate::open_block::OpenBlock;
 use std::alloc::Allocator;
 use thin_block::Block;
 
-/// A test of an item and the last item that was kept before it. It decides whether the later item
-/// is removed, and may write to both items.
+/// A test of two items of a list: an item, and the last item that was kept before it. The test
+/// decides whether the later of the two items is to be removed. It may write to both items.
 pub(crate) trait PairTest<T> {
-    /// `tests s x k b t y l` holds if the test, called in state `s` with the later item `x` and the
-    /// kept item `k`, may return `b` and leave the state `t` and the items `y` and `l`.
+    /// `tests s x k b t y l` holds if one call to the test may change the state of the test from
+    /// `s` to `t`, the later item from `x` to `y`, and the last item that was kept before it from
+    /// `k` to `l`. The flag `b` is true if the later item is to be removed.
     ghost tests: { Self → T → T → Bool → Self → T → T → Type 0 };
 
-    /// `ready s` holds if the test can be called in state `s` with any two items. After each call,
-    /// `ready` holds for the new state, too.
+    /// `ready s` holds if the test can be called in the state `s`, with any two items. After such a
+    /// call, `ready` holds again for the new state of the test.
     ghost ready: { Self → Type 0 };
 
     /// Returns whether the item `later` is to be removed. `kept` is the last item that was kept
@@ -33,8 +35,8 @@ pub(crate) trait PairTest<T> {
 impl<T, A: Allocator> OpenBlock<T, A> {
     ghost use Rattle.thin_vec.specs.OpenBlock.Dedup.{IsPairAskedAt, IsLastAsked, IsNextAsked};
 
-    // Tests the item at index `k` of the remaining items against the item at index `k - 1`. Returns
-    // whether the item at index `k` is to be removed.
+    // Tests the item at index `k` of the remaining items against the item at index `k - 1`, and
+    // returns whether the item at index `k` is to be removed. `k` must not be 0.
     pub(crate) fn test_pair<J: PairTest<T>>(&mut self, k: usize, test: &mut J) -> bool
         requires some { 0 < k }
         requires in_bounds { k < length self.old.rest }
@@ -48,8 +50,8 @@ impl<T, A: Allocator> OpenBlock<T, A> {
         test_neighbours(&mut self.block, kept, test)
     }
 
-    // Tests `later` against the last kept item, without moving the kept item. Returns whether
-    // `later` is to be removed.
+    // Tests the item `later` against the last item that was kept. Returns whether `later` is to be
+    // removed. The kept item is not moved.
     pub(crate) fn test_last<J: PairTest<T>>(&mut self, later: &mut T, test: &mut J) -> bool
         requires some { 0 < length self.old.front }
         requires ready { J.ready test.old }
@@ -61,8 +63,8 @@ impl<T, A: Allocator> OpenBlock<T, A> {
         test.test(later, self.block.slot_mut(self.front_end - 1))
     }
 
-    // Tests the first remaining item against `kept`, without moving the remaining item. Returns
-    // whether the remaining item is to be removed.
+    // Tests the first of the remaining items against the item `kept`. Returns whether the first of
+    // the remaining items is to be removed. This item is not moved.
     pub(crate) fn test_next<J: PairTest<T>>(&mut self, kept: &mut T, test: &mut J) -> bool
         requires some { 0 < length self.old.rest }
         requires ready { J.ready test.old }
@@ -91,9 +93,9 @@ impl<T, A: Allocator> OpenBlock<T, A> {
 impl<T, A: Allocator> OpenBlock<T, A> {
     ghost use Rattle.thin_vec.specs.OpenBlock.Dedup.{PairsAskedUpTo};
 
-    // Tests each remaining item except the first against the item before it, and stops at the first
-    // one that is to be removed. Returns its index, or the number of remaining items if there is
-    // none.
+    // Tests each remaining item except the first against the item before it. Stops at the first
+    // item that is to be removed, and returns its index among the remaining items. If no item is to
+    // be removed, returns the number of remaining items. No item is moved or dropped.
     fn test_pairs<J: PairTest<T>>(&mut self, test: &mut J) -> usize
         requires some { 0 < length self.old.rest }
         requires ready { J.ready test.old }
@@ -116,8 +118,9 @@ impl<T, A: Allocator> OpenBlock<T, A> {
 impl<T: Drop, A: Allocator> OpenBlock<T, A> {
     ghost use Rattle.thin_vec.specs.OpenBlock.Dedup.{IsDeduped, Dedups};
 
-    // Keeps the first of the remaining items, and tests each later one against the last kept item.
-    // Drops the items that are to be removed, and appends the others to the front.
+    // Keeps the first of the remaining items. Tests each later item against the last item that was
+    // kept before it, and drops the items that are to be removed. After the call, no item remains
+    // to be tested, and the front contains the kept items.
     pub(crate) fn dedup_rest<J: PairTest<T>>(&mut self, test: &mut J)
         requires some { 0 < length self.old.rest }
         requires front { self.old.front ≡ [] }
@@ -148,11 +151,15 @@ impl<T: Drop, A: Allocator> OpenBlock<T, A> {
         self.dedup_last(test);
     }
 
-    // Tests each remaining item against the last kept item, and appends it to the kept items, until
-    // an item is to be removed. Drops that item. At least two items must remain before the call.
+    // Tests the remaining items, in order, each against the last item that was kept before it.
+    // Stops at the first item that is to be removed, and drops this item. Appends the items before
+    // it to the kept items. If no item is to be removed, appends all remaining items. At least two
+    // items must remain before the call.
     //
-    // The first remaining item is taken out of the block for its test, because only adjacent items
-    // of a block can be borrowed mutably at the same time.
+    // The first remaining item is taken out of the block before it is tested. This is necessary
+    // because the test needs mutable references to this item and to the last kept item at the same
+    // time. The block can provide two such references only for adjacent items, but there are empty
+    // slots between these two items.
     fn dedup_two<J: PairTest<T>>(&mut self, test: &mut J)
         requires some { 0 < length self.old.front }
         requires two { 1 < length self.old.rest }
@@ -184,8 +191,8 @@ impl<T: Drop, A: Allocator> OpenBlock<T, A> {
         }
     }
 
-    // Tests the remaining item, if there is one. Appends it to the kept items if the test keeps it,
-    // and drops it otherwise.
+    // Tests the last remaining item, if there is one. If the test keeps the item, appends it to the
+    // kept items. Otherwise, drops it.
     fn dedup_last<J: PairTest<T>>(&mut self, test: &mut J)
         requires some { 0 < length self.old.front }
         requires short { length self.old.rest ≤ 1 }
@@ -207,7 +214,7 @@ impl<T: Drop, A: Allocator> OpenBlock<T, A> {
 }
 
 // Tests the item in slot `i + 1` against the item in slot `i`. Returns whether the item in slot
-// `i + 1` is to be removed.
+// `i + 1` is to be removed. Neither item is moved.
 fn test_neighbours<T, A: Allocator, J: PairTest<T>>(
     block: &mut Block<T, A>,
     i: usize,

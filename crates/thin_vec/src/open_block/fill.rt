@@ -1,4 +1,5 @@
-//! Methods that put items into the gap of an open block, directly after the front.
+//! Methods that put items into the gap of an open block. The gap consists of empty slots in the
+//! middle of the block. The new items directly follow the items before the gap.
 ghost use Rattle.std.specs.Prelude.{◌≡◌, ◌-◌, ◌<◌, ◌≤◌, [], ◌++◌, HoldsAt, List, drop, length, take};
 ghost use Rattle.std.specs.Iterator.{IsFinite};
 ghost use Rattle.std.specs.List.{AllZip};
@@ -14,8 +15,9 @@ use std::mem;
 use thin_block::{Block, Growth};
 
 impl<T, A: Allocator> OpenBlock<T, A> {
-    // Moves items of `iter` into the gap, in order, until the gap is full or `iter` returns `None`.
-    // The field `end` of the result is the new length of the front.
+    // Moves items of `iter` into the gap (the empty slots after the front), in order, until the gap
+    // is full or `iter` returns `None`. The field `end` of the result is the new length of the
+    // front.
     pub(crate) fn fill<I: Iterator<Item = T>>(&mut self, iter: I) -> Filled<I>
         requires can_next { I.can_next iter }
         requires finite { IsFinite (I.remaining iter) }
@@ -35,7 +37,8 @@ impl<T, A: Allocator> OpenBlock<T, A> {
         filled
     }
 
-    // Moves the items of the vector `items` into the gap, in order, and frees the vector.
+    // Moves the items of the vector `items` into the gap of empty slots, in order, and frees the
+    // vector.
     pub(crate) fn fill_from_vec<B: Allocator>(&mut self, items: Vec<T, B>)
         requires room { length items.items ≤ self.old.gap }
         ensures { self.new ≡ record self.old {
@@ -49,8 +52,8 @@ impl<T, A: Allocator> OpenBlock<T, A> {
         self.front_end += count;
     }
 
-    // Moves the items of the list `other` into the gap, in order. `other` is then empty, but its
-    // capacity is unchanged.
+    // Moves the items of the list `other` into the gap of empty slots, in order. After the call,
+    // `other` is empty, but its capacity is unchanged.
     pub(crate) fn fill_from_list<G: Growth>(&mut self, other: &mut ThinVec<T, A, G>)
         requires room { length other.old.items ≤ self.old.gap }
         ensures changes { self.new ≡ record self.old {
@@ -87,7 +90,7 @@ impl<T, A: Allocator> OpenBlock<T, A> {
 }
 
 impl<T: Copy, A: Allocator> OpenBlock<T, A> {
-    // Copies the items of the slice `items` into the gap, in order.
+    // Copies the items of the slice `items` into the gap of empty slots, in order.
     pub(crate) fn fill_from_copies(&mut self, items: &[T])
         requires room { length items.now ≤ self.old.gap }
         ensures { self.new ≡ record self.old {
@@ -102,8 +105,8 @@ impl<T: Copy, A: Allocator> OpenBlock<T, A> {
 }
 
 impl<T: Clone, A: Allocator> OpenBlock<T, A> {
-    // Clones the items of the slice `items` into the gap, in order, until an item cannot be cloned.
-    // Returns the number of clones.
+    // Puts clones of the items of the slice `items` into the gap of empty slots, in order. Stops
+    // early if an item cannot be cloned. Returns the number of clones that were made.
     pub(crate) fn fill_from_clones(&mut self, items: &[T]) -> usize
         requires room { length items.now ≤ self.old.gap }
         ensures in_bounds { result ≤ length items.now }

@@ -1,6 +1,7 @@
 //! Functions that `retain`, `retain_mut` and `extract_if` call. They test the items of a range in
-//! place, and then move the kept items down. The front contains the kept items, and the middle run
-//! contains the remaining items.
+//! place, and then move the kept items down. The kept items are at the front of the block. The
+//! remaining items, which have not been kept or removed yet, come after them, perhaps after a gap
+//! of empty slots.
 ghost use Rattle.std.specs.Prelude.{◌≡◌, ◌↔◌, ◌+◌, ◌<◌, ◌≤◌, ◌==◌, ◌++◌, [], Bool, IsTrue, drop, length, take};
 ghost use Rattle.thin_block.specs.Cost.{moving};
 
@@ -9,21 +10,20 @@ use std::alloc::Allocator;
 use std::mem;
 use thin_block::Block;
 
-// If at least this many items have to be moved, they are moved together, which is faster than
-// moving them one by one.
+// If at least this many items have to be moved, it is faster to move them together than one by one.
 const MANY: usize = 8;
 
-/// A test of one item. It decides whether the item is kept, and may write to the item.
+/// A test of one item. It decides whether the item is to be kept, and may write to the item.
 pub(crate) trait Test<T> {
-    /// `tests s x b t y` holds if the test, called in state `s` with the item `x`, may return `b`
-    /// and leave the state `t` and the item `y`.
+    /// `tests s x b t y` holds if one call to the test may change the state of the test from `s` to
+    /// `t`, and the item from `x` to `y`. The flag `b` is true if the item is to be kept.
     ghost tests: { Self → T → Bool → Self → T → Type 0 };
 
-    /// `ready s` holds if the test can be called in state `s` with any item. After each call,
-    /// `ready` holds for the new state, too.
+    /// `ready s` holds if the test can be called in the state `s`, with any item. After such a
+    /// call, `ready` holds again for the new state of the test.
     ghost ready: { Self → Type 0 };
 
-    /// Returns whether `item` is kept.
+    /// Returns whether `item` is to be kept.
     fn test(&mut self, item: &mut T) -> bool
         requires ready { ready self.old }
         ensures asked { tests self.old item.old result self.new item.new }
@@ -45,8 +45,8 @@ impl<T, A: Allocator> OpenBlock<T, A> {
         test.test(self.block.slot_mut(self.rest_start + k))
     }
 
-    // Adds the first `k` of the remaining items to the kept items. There must be no gap before
-    // them, so no item is moved.
+    // Adds the first `k` of the remaining items to the kept items. There must be no gap before the
+    // remaining items, so no item is moved.
     pub(crate) fn pass(&mut self, k: usize)
         requires none { self.old.gap ≡ 0 }
         requires in_bounds { k ≤ length self.old.rest }
@@ -76,9 +76,9 @@ impl<T, A: Allocator> OpenBlock<T, A> {
         self.rest_start += 1;
     }
 
-    // Moves the first `k` of the remaining items down, directly after the kept items. They are
-    // moved together if `k` is at least `MANY`, and otherwise one by one. If `k` is 2, there is no
-    // loop.
+    // Moves the first `k` of the remaining items down, so that they directly follow the kept items.
+    // If `k` is at least `MANY`, all `k` items are moved together. Otherwise, they are moved one by
+    // one. If `k` is 2, this is done without a loop.
     #[inline(always)]
     pub(crate) fn move_down(&mut self, k: usize)
         requires in_bounds { k ≤ length self.old.rest }
@@ -103,9 +103,9 @@ impl<T, A: Allocator> OpenBlock<T, A> {
         }
     }
 
-    // Moves the first `k` of the remaining items down together, directly after the kept items.
-    // `close_gap` takes the block by value, so that the other fields of the open block can stay in
-    // registers.
+    // Moves the first `k` of the remaining items down, so that they directly follow the kept items.
+    // The method `close_gap` of the block moves all `k` items together. `close_gap` takes the block
+    // by value, so that the other fields of the open block can stay in registers.
     #[inline(always)]
     fn move_run_down(&mut self, k: usize)
         requires in_bounds { k ≤ length self.old.rest }
@@ -119,15 +119,16 @@ impl<T, A: Allocator> OpenBlock<T, A> {
         let block = mem::replace(&mut self.block, Block::none());
         let closed = block.close_gap(self.front_end, self.rest_start - self.front_end, k);
         let none = mem::replace(&mut self.block, closed);
-        // `none` is the empty block that replaced `block` during the call to `close_gap`. It has no
-        // allocation to free.
+        // `none` is the empty block that was in the field `block` during the call to `close_gap`.
+        // It has no allocation, so there is nothing to free.
         none.forget_none();
         self.front_end += k;
         self.rest_start += k;
     }
 
-    // Returns whether at least two items remain. There must be a gap before them, so that
-    // `rest_end - 1` does not overflow. During a loop, `rest_end - 1` can stay in a register.
+    // Returns whether at least two items remain. There must be a gap, so `rest_end` is not 0, and
+    // `rest_end - 1` cannot overflow. The code compares with `rest_end - 1` because this number can
+    // stay in a register during a loop.
     pub(crate) fn has_two(&self) -> bool
         requires gap { 0 < self.now.gap }
         ensures value { IsTrue result ↔ (1 < length self.now.rest) }
@@ -135,8 +136,9 @@ impl<T, A: Allocator> OpenBlock<T, A> {
         self.rest_start < self.rest_end - 1
     }
 
-    // Tests the remaining items from index `k` onward, and stops at the first one that is to be
-    // removed. Returns its index, or the number of remaining items if there is none. No item is
+    // Tests the remaining items from index `k` onward, and stops at the first item that is to be
+    // removed. Returns the index of this item among the remaining items. If there is no such item,
+    // returns the number of all remaining items, including the items before index `k`. No item is
     // moved.
     pub(crate) fn test_run<J: Test<T>>(&mut self, k: usize, test: &mut J) -> usize
         requires in_bounds { k ≤ length self.old.rest }
@@ -159,8 +161,9 @@ impl<T, A: Allocator> OpenBlock<T, A> {
 impl<T, A: Allocator> OpenBlock<T, A> {
     ghost use Rattle.thin_vec.specs.OpenBlock.Sift.{Advances};
 
-    // Tests each remaining item, and appends it to the kept items, until an item is to be removed.
-    // Returns whether there is such an item. If so, it is then the first of the remaining items.
+    // Tests the remaining items, in order, up to the first item that is to be removed, and returns
+    // whether there is such an item. The items before it are added to the kept items, and moved
+    // down if there is a gap. The item itself becomes the first of the remaining items.
     pub(crate) fn advance<J: Test<T>>(&mut self, test: &mut J) -> bool
         requires ready { J.ready test.old }
         ensures advances { Advances J.tests test.old self.old test.new self.new }
@@ -175,7 +178,9 @@ impl<T, A: Allocator> OpenBlock<T, A> {
         self.rest_len() > 0
     }
 
-    // Does the same as `advance`, but needs a gap before the remaining items.
+    // Does the same as `advance`: tests the remaining items up to the first item that is to be
+    // removed, and returns whether there is such an item. There must be empty slots after the kept
+    // items.
     fn advance_past_gap<J: Test<T>>(&mut self, test: &mut J) -> bool
         requires gap { 0 < self.old.gap }
         requires ready { J.ready test.old }
@@ -190,8 +195,9 @@ impl<T, A: Allocator> OpenBlock<T, A> {
         }
     }
 
-    // Does the same as `advance`, but needs a gap and at least two remaining items. The first two
-    // items are tested before the loop. If one of them is to be removed, no loop counter is needed.
+    // Does the same as `advance`, but needs a gap before the remaining items, and at least two
+    // remaining items. The first two items are tested before the loop. If one of them is to be
+    // removed, no loop counter is needed.
     fn advance_two<J: Test<T>>(&mut self, test: &mut J) -> bool
         requires two { 1 < length self.old.rest }
         requires gap { 0 < self.old.gap }
@@ -212,7 +218,8 @@ impl<T, A: Allocator> OpenBlock<T, A> {
         self.rest_len() > 0
     }
 
-    // Does the same as `advance`, but needs a gap. At most one item may remain before the call.
+    // Does the same as `advance`, but needs empty slots after the kept items. At most one item may
+    // remain before the call.
     fn advance_last<J: Test<T>>(&mut self, test: &mut J) -> bool
         requires short { length self.old.rest ≤ 1 }
         requires gap { 0 < self.old.gap }
@@ -264,8 +271,9 @@ impl<T: Drop, A: Allocator> OpenBlock<T, A> {
         self.sift_last(test);
     }
 
-    // Tests each remaining item, and appends it to the kept items, until an item is to be removed.
-    // Drops that item. At least two items must remain before the call.
+    // Tests the remaining items, in order, up to the first item that is to be removed, and drops
+    // this item. Appends the items before it to the kept items. If no item is to be removed,
+    // appends all remaining items. At least two items must remain before the call.
     fn sift_two<J: Test<T>>(&mut self, test: &mut J)
         requires two { 1 < length self.old.rest }
         requires gap { 0 < self.old.gap }
@@ -279,8 +287,8 @@ impl<T: Drop, A: Allocator> OpenBlock<T, A> {
         }
     }
 
-    // Tests the remaining item, if there is one. Appends it to the kept items if the test keeps it,
-    // and drops it otherwise.
+    // Tests the last remaining item, if there is one. If the test keeps the item, appends it to the
+    // kept items. Otherwise, drops it.
     fn sift_last<J: Test<T>>(&mut self, test: &mut J)
         requires short { length self.old.rest ≤ 1 }
         requires gap { 0 < self.old.gap }

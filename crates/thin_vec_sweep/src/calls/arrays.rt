@@ -1,5 +1,5 @@
-//! Tests of `thin_vec![alloc => x, y]` with one, two or three items, and of the conversions between
-//! lists and arrays.
+//! Tests of the macro `thin_vec!` with one, two or three items, as in `thin_vec![alloc => x, y]`,
+//! and of the conversions between lists and arrays.
 ghost use Rattle.std.specs.Mem.{type_size};
 ghost use Rattle.std.specs.Prelude.{◌*◌, ◌<◌, ◌^◌};
 
@@ -47,8 +47,8 @@ impl<T: Sample> Call<T, Doubling> for Listed {
     }
 }
 
-// Calls `thin_vec![alloc => ..]` with the first `count` (1 to 3) of the items `x`, `y` and `z`, and
-// returns the new list.
+// Calls `thin_vec![alloc => ..]` with the first `count` of the items `x`, `y` and `z`, and returns
+// the new list. `count` is 1, 2 or 3.
 fn written_out<T: Sample>(
     alloc: &'static Refusing<Global>,
     count: usize,
@@ -63,8 +63,8 @@ fn written_out<T: Sample>(
     }
 }
 
-// Calls `thin_vec![in alloc; ..]` with the first `count` (1 to 3) of the items `x`, `y` and `z`,
-// and returns the new list.
+// Calls `thin_vec![in alloc; ..]` with the first `count` of the items `x`, `y` and `z`, and returns
+// the new list. `count` is 1, 2 or 3.
 fn written_out_in<T: Sample>(
     alloc: &'static Refusing<Global>,
     count: usize,
@@ -111,8 +111,8 @@ fn arrays<T: Sample, const N: usize, R: Abort>(rt: &R, ledger: &'static Ledger)
     }
 }
 
-// Runs one test case: converts the list to an array and back if it has `N` items. Otherwise,
-// `into_array` must return the list unchanged.
+// Runs one test case. If the list under test has `N` items, the test case converts the list to an
+// array, and the array back to a list. Otherwise, `into_array` must return the list unchanged.
 fn array<T: Sample, const N: usize, R: Abort>(rt: &R, ledger: &'static Ledger, at: At)
     requires small { N * type_size T.row < 2 ^ 63 }
 {
@@ -122,8 +122,8 @@ fn array<T: Sample, const N: usize, R: Abort>(rt: &R, ledger: &'static Ledger, a
     case.end(rt);
 }
 
-// Calls `into_array` on the list under test, and `from_array` on the resulting array, if any.
-// Checks the results of both calls.
+// Calls `into_array` on the list under test. If the call returns an array, passes this array to
+// `from_array`. Checks the results of both calls.
 fn become_array<T: Sample, const N: usize, R: Abort>(rt: &R, case: &mut Case<T, Doubling>)
     requires small { N * type_size T.row < 2 ^ 63 }
 {
@@ -147,9 +147,9 @@ fn become_array<T: Sample, const N: usize, R: Abort>(rt: &R, case: &mut Case<T, 
     }
 }
 
-// Converts `list` to an array of `N` items and back. Returns the resulting list (`list` itself if
-// the first conversion fails, `None` if the second one fails), whether the first conversion
-// succeeded, and the result of the second one.
+// Converts `list` to an array of `N` items, and the array back to a list. Returns three values: a
+// list, whether the first conversion succeeded, and the result of the second conversion. The list
+// is `list` itself if the first conversion failed, and `None` if the second conversion failed.
 fn there_and_back<T: Sample, A: Allocator, const N: usize, R: Abort>(
     rt: &R,
     at: &At,

@@ -13,7 +13,8 @@ use thin_vec::ThinVecError;
 // `resize_with` adds items made from descending numbers, the last of which is `FRESH`.
 const FRESH: u64 = 80_000;
 
-/// A test that calls `resize` with several new lengths, some of which are at most the old length.
+/// A test that calls `resize` with several new lengths. Some of them are at most the old length,
+/// and others are greater.
 pub struct Resize {}
 
 impl<T: Sample, G: Ruled> Call<T, G> for Resize {
@@ -37,8 +38,9 @@ impl<T: Sample, G: Ruled> Call<T, G> for Resize {
     }
 }
 
-// Returns the new length of the list in the test case `argument`, and the number of items to add.
-// This number is 0 if the list does not become longer.
+// Returns two numbers for test case number `argument`: the new length of the list, and the number
+// of items to add. In the first few test cases, the new length is at most the old length, so the
+// second number is 0.
 fn length(shape: Shape, argument: usize) -> (usize, usize) {
     match argument.checked_sub(shape.indices()) {
         None => (shape.index(argument), 0),
@@ -49,8 +51,8 @@ fn length(shape: Shape, argument: usize) -> (usize, usize) {
     }
 }
 
-/// A test that calls `resize_with` with the same new lengths as `Resize`. The closure removes the
-/// last item of a vector, and returns it.
+/// A test that calls `resize_with` with the same new lengths as the test `Resize`. Each call of the
+/// closure removes the last item of a vector, and returns this item.
 pub struct ResizeWith {}
 
 impl<T: Sample, G: Ruled> Call<T, G> for ResizeWith {

@@ -12,9 +12,10 @@ use std::hash::{DefaultHasher, Hash, Hasher};
 use std::process::Abort;
 use thin_testing::Ruled;
 
-/// A test that hashes a list, and compares it with four others: an equal one, one with a different
-/// last item, one without the last item, and one with one more item. If the list is empty, so are
-/// the first three others.
+/// A test that hashes a list, and compares it with a second list. In the four test cases, the
+/// second list is equal to the first, has a different last item, lacks the last item, or has one
+/// more item. If the first list is empty, the second list is empty, too, in the first three test
+/// cases.
 pub struct Compare {}
 
 impl<T: Sample + Ord + Hash + Debug, G: Ruled> Call<T, G> for Compare {
@@ -77,8 +78,8 @@ fn hash<H: Hash>(value: &H) -> u64 {
     hasher.finish()
 }
 
-/// A test that formats a list, and the iterator that `into_iter` returns, with `{:?}` and with
-/// `{:#?}`.
+/// A test that formats two values with `{:?}` and with `{:#?}`: a list, and the iterator that
+/// `into_iter` returns.
 pub struct Print {}
 
 impl<T: Sample + Debug, G: Ruled> Call<T, G> for Print {
@@ -114,7 +115,7 @@ impl<T: Sample + Debug, G: Ruled> Call<T, G> for Print {
 }
 
 // Returns the expected result of formatting an `IntoIter` over `items` with `{:?}` and with
-// `{:#?}`, separated by a space.
+// `{:#?}`. A space separates the two texts.
 fn iter_text<D: Debug, R: Abort>(rt: &R, global: Global, items: &D) -> String {
     text(rt, global, &Told { items })
 }

@@ -10,13 +10,14 @@ use std::process::Abort;
 use thin_testing::{Refusing, Ruled};
 use thin_vec::{Doubling, Rejected, ThinVec, ThinVecError, thin_vec};
 
-// The number from which all items in the test `Repeated` are made.
+// Each test item is made from a number. In the test `Repeated`, all items are made from `FRESH`.
 const FRESH: u64 = 70_000;
 
-// The allocator of the lists under test. It can refuse one allocation request.
+// The type of the allocator of the lists under test. The allocator can refuse one allocation
+// request.
 type Lender = &'static Refusing<Global>;
 
-/// A test that calls `into_vec` or `into_boxed_slice`.
+/// A test that calls `into_vec` in some test cases, and `into_boxed_slice` in the others.
 pub struct IntoOthers {}
 
 impl<T: Sample, G: Ruled> Call<T, G> for IntoOthers {
@@ -79,8 +80,8 @@ impl<T: Sample, G: Ruled> Call<T, G> for TryTake {
     }
 }
 
-// Converts the list under test to a `Vec`, and reserves room for `spare` more items. `case` is left
-// with an empty list of capacity 0.
+// Converts the list under test to a `Vec`, and reserves room for `spare` more items in the `Vec`.
+// After the call, `case` contains an empty list of capacity 0.
 fn vec_of<T: Sample, R: Abort>(
     rt: &R,
     case: &mut Case<T, Doubling>,
@@ -141,8 +142,8 @@ fn from_other<T: Sample>(
     }
 }
 
-/// A test that calls `from_str` with two texts of the same number of letters. Each letter takes one
-/// byte in the first text, and two bytes in the second.
+/// A test that calls `from_str` with two texts. Both texts have the same number of letters, but
+/// each letter takes one byte in the first text, and two bytes in the second text.
 pub struct FromStr {}
 
 impl Call<u8, Doubling> for FromStr {
@@ -216,8 +217,8 @@ impl<T: Sample> Call<T, Doubling> for WithCapacity {
     }
 }
 
-/// A test that makes a list of `k` equal items, for several `k`, using `thin_vec![alloc => x; k]`
-/// or `thin_vec![in alloc; x; k]`.
+/// A test that makes a list of `k` equal items, for several numbers `k`, using
+/// `thin_vec![alloc => x; k]` or `thin_vec![in alloc; x; k]`.
 pub struct Repeated {}
 
 impl<T: Sample> Call<T, Doubling> for Repeated {

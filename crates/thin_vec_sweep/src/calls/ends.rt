@@ -1,5 +1,6 @@
-//! Tests of the calls that add or remove one item, such as `push` and `swap_remove`, and of
-//! `truncate` and `clear`.
+//! Tests of the calls that add or remove one item (`push`, `push_mut`, `push_reserved`, `pop`,
+//! `insert`, `insert_mut`, `insert_reserved`, `remove`, `swap_remove`), and of `truncate` and
+//! `clear`.
 use crate::case::{Case, Verdict, put};
 use crate::samples::Sample;
 use crate::shapes::Shape;
@@ -9,11 +10,12 @@ use std::process::Abort;
 use thin_testing::Ruled;
 use thin_vec::Rejected;
 
-// The number from which a test makes the item that it adds to a list.
+// Each test item is made from a number. The new item that a test adds to a list is made from
+// `FRESH`.
 const FRESH: u64 = 70_000;
 
-// The number from which a test makes the item that it passes to `push_mut` or `insert_mut`. The
-// test then replaces this item with the one that is made from `FRESH`.
+// The number from which a test makes the item that it passes to `push_mut` or `insert_mut`. After
+// the call, the test replaces this item with the item that is made from `FRESH`.
 const PASSED: u64 = 71_000;
 
 /// A test that calls `push`.
@@ -54,8 +56,9 @@ impl<T: Sample, G: Ruled> Call<T, G> for PushMut {
     }
 }
 
-// Checks the result of `push_mut` or `insert_mut`. The item that the test has replaced (`hand`), or
-// the item in the error if the call failed, must be the item that was passed to the call.
+// Checks the result of `push_mut` or `insert_mut`. On success, the test has already replaced the
+// item that the call added, and `hand` must be this added item. On failure, the error must contain
+// the item that was passed to the call.
 fn lent<T: Sample, G: Ruled, R: Abort>(
     rt: &R,
     case: &mut Case<T, G>,

@@ -1,5 +1,6 @@
-//! Tests of the calls that fill a list from an iterator, such as `extend` and `from_iter`, with
-//! various size hints, some of which are wrong.
+//! Tests of the calls that fill a list from an iterator, such as `extend` and `from_iter`. Each
+//! call is tried with several size hints of the iterator. The lower bound of such a hint is too
+//! small, exact, too large, or even greater than the greatest possible capacity.
 use crate::assertions::assert_same;
 use crate::case::{Case, Verdict, numbers, put, source};
 use crate::claims::Claims;
@@ -13,8 +14,8 @@ use std::process::Abort;
 use thin_testing::Ruled;
 use thin_vec::{Doubling, ThinVec};
 
-// The number from which the first item of an iterator is made. Each further item is made from the
-// next lower number.
+// Each test item is made from a number. The first item of an iterator is made from `FRESH`, the
+// next item from `FRESH - 1`, and so on.
 const FRESH: u64 = 800_000;
 
 // The number of size hints that are tried.
@@ -43,12 +44,13 @@ pub struct Ending {
     pub verdict: Verdict,
     /// The number of items that are moved into the list.
     pub placed: usize,
-    /// The number of items that are taken from the iterator and stored in a temporary vector
+    /// The number of items that are taken from the iterator and then stored in a temporary vector
     /// instead of the list.
     pub held: usize,
-    /// The number of items (0 or 1) that the call takes from the iterator but finds no room for.
+    /// The number of items in hand: 1 if the call takes an item from the iterator and finds no room
+    /// for this item, and 0 otherwise.
     pub in_hand: usize,
-    /// The number of times that the iterator returns `None`, which is 0 or 1.
+    /// The number of times the iterator returns `None`: 0 or 1.
     pub ends: usize,
     /// The number of times `size_hint` is called.
     pub hints: u64,
@@ -68,7 +70,7 @@ impl Ending {
         }
     }
 
-    /// Returns the expected outcome of a call that succeeds, and moves all `placed` items of the
+    /// Returns the expected outcome of a call that succeeds and moves all `placed` items of the
     /// iterator into the list.
     pub fn done(placed: usize) -> Ending {
         Ending {
@@ -89,9 +91,10 @@ impl Ending {
     }
 }
 
-/// Returns the expected outcome of a call that appends `count` items from an iterator, and updates
-/// the expected items. The call first grows the list to `hinted`, the capacity for the size hint
-/// (`None` on overflow), and later as needed.
+/// Returns the expected outcome of a call that appends `count` items from an iterator, and appends
+/// the expected items to `case.items`. The call first grows the list to the capacity `hinted`,
+/// which it computes from the size hint. Later, it grows the list whenever the list is full.
+/// `hinted` is `None` if this capacity would be too large.
 pub fn fill<T: Sample, G: Ruled, R: Abort>(
     rt: &R,
     case: &mut Case<T, G>,
@@ -115,8 +118,8 @@ pub fn fill<T: Sample, G: Ruled, R: Abort>(
     Ending::done(count)
 }
 
-/// Returns the numbers from which the next `count` items of the iterator are made, after its first
-/// `before` items.
+/// Returns the `count` items that the iterator yields after its first `before` items. Each item is
+/// represented by the number from which it is made.
 pub fn coming<R: Abort>(
     rt: &R,
     ledger: &'static Ledger,
@@ -171,8 +174,8 @@ pub fn back<T: Sample, G: Ruled, R: Abort>(
     case.assert_items(rt, items.as_slice(), numbers.as_slice());
 }
 
-/// Returns an iterator over `count` items, made from `FRESH`, `FRESH - 1`, and so on. The lower
-/// bound of its size hint is `lower`.
+/// Returns an iterator over `count` items. The items are made from the numbers `FRESH`,
+/// `FRESH - 1`, and so on. The lower bound of the iterator's size hint is `lower`.
 pub fn claims<T: Sample, G: Ruled, R: Abort>(
     rt: &R,
     case: &Case<T, G>,
@@ -211,8 +214,8 @@ impl<T: Sample, G: Ruled> Call<T, G> for Extend {
     }
 }
 
-/// A test that calls `extend` of the trait `std::iter::Extend`. If the call fails, it must drop the
-/// items that it did not append.
+/// A test that calls `extend` of the trait `std::iter::Extend`. If this call fails, it must drop
+/// the items that it did not append.
 pub struct ExtendAsTrait {}
 
 impl<T: Sample, G: Ruled> Call<T, G> for ExtendAsTrait {
@@ -233,8 +236,8 @@ impl<T: Sample, G: Ruled> Call<T, G> for ExtendAsTrait {
     }
 }
 
-// Asserts that the call succeeded if and only if `ending` says that it must succeed. `is_done` says
-// whether it succeeded.
+// Asserts that the call succeeded if and only if `ending` expects it to succeed. `is_done` says
+// whether the call succeeded.
 fn done<T: Sample, G: Ruled, R: Abort>(rt: &R, case: &Case<T, G>, ending: &Ending, is_done: bool) {
     assert_same(
         rt,
@@ -245,9 +248,9 @@ fn done<T: Sample, G: Ruled, R: Abort>(rt: &R, case: &Case<T, G>, ending: &Endin
     );
 }
 
-// Returns an iterator whose items are to be appended, the number of these items, and the expected
-// outcome of the call. Returns `None` if the call must be skipped because it would need too much
-// memory.
+// Returns three values: an iterator whose items are to be appended, the number of these items, and
+// the expected outcome of the call. Returns `None` if the call must be skipped because it would
+// need too much memory.
 fn extension<T: Sample, G: Ruled, R: Abort>(
     rt: &R,
     case: &mut Case<T, G>,
@@ -328,8 +331,9 @@ impl<T: Sample> Call<T, Doubling> for Collect {
     }
 }
 
-// Drops the list under test. Returns an iterator, and the expected outcome of making a list from
-// it. Returns `None` if the call must be skipped because it would need too much memory.
+// Drops the list under test. Returns two values: an iterator, and the expected outcome of a call
+// that makes a list from this iterator. Returns `None` if the call must be skipped because it would
+// need too much memory.
 fn collection<T: Sample, R: Abort>(
     rt: &R,
     case: &mut Case<T, Doubling>,

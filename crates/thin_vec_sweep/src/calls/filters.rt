@@ -1,5 +1,5 @@
-//! Tests of calls that remove some items, such as `retain` and `dedup`. Each closure checks that it
-//! is called with the expected items, in order.
+//! Tests of the calls that remove some of the items, such as `retain` and `dedup`. Each closure
+//! checks that it is called with the expected items, in order.
 use crate::case::{Case, put};
 use crate::closures::{ClosureCalls, PATTERNS, number_at, stays};
 use crate::samples::{Counted, Sample};
@@ -11,8 +11,8 @@ use std::mem;
 use std::process::Abort;
 use thin_testing::Ruled;
 
-// The number from which the tests of `retain_mut` and `pop_if` make the item that the closure moves
-// into the list.
+// The number from which a test of `retain_mut` or `pop_if` makes a new item. The closure moves this
+// item into the list.
 const FRESH: u64 = 70_000;
 
 /// A test that calls `retain`. The closure only reads the items.
@@ -39,8 +39,9 @@ impl<T: Sample, G: Ruled> Call<T, G> for Retain {
     }
 }
 
-// Returns the items that remain after `retain` on a list of `count` items, as the numbers from
-// which they were made. `pattern` determines which items the closure keeps.
+// Returns the items that remain after a call to `retain` on a list of `count` items. Each item is
+// represented by the number from which it was made. `pattern` determines which items the closure
+// keeps.
 fn kept<R: Abort>(rt: &R, global: Global, count: usize, pattern: usize) -> Vec<u64, Global> {
     let mut left = Vec::new(global);
     for index in 0..count {
@@ -52,7 +53,7 @@ fn kept<R: Abort>(rt: &R, global: Global, count: usize, pattern: usize) -> Vec<u
 }
 
 /// A test that calls `retain_mut`. The closure replaces the first item with a new item, and each
-/// other item with the old item at the previous index.
+/// later item with the item that was originally before it.
 pub struct RetainMut {}
 
 impl<T: Sample, G: Ruled> Call<T, G> for RetainMut {
@@ -80,9 +81,10 @@ impl<T: Sample, G: Ruled> Call<T, G> for RetainMut {
     }
 }
 
-// Returns the items that remain after the test `RetainMut`, as the numbers from which they were
-// made. The closure moves each item up by one index. `pattern` determines at which of the `count`
-// indices the items are then kept.
+// Returns the items that remain after the test `RetainMut` on a list of `count` items, as the
+// numbers from which they were made. The closure replaces the first item with a new item, and each
+// later item with the item that was originally before it. `pattern` determines at which indices the
+// written items are kept.
 fn moved_up<R: Abort>(rt: &R, global: Global, count: usize, pattern: usize) -> Vec<u64, Global> {
     let mut left = Vec::new(global);
     let mut number = FRESH;
@@ -95,8 +97,9 @@ fn moved_up<R: Abort>(rt: &R, global: Global, count: usize, pattern: usize) -> V
     left
 }
 
-/// A test that calls `pop_if`. The closure owns a new item, and swaps it with the last item. The
-/// closure returns `true` in one test case, and `false` in the other.
+/// A test that calls `pop_if`. The closure owns a new item, and swaps it with the last item of the
+/// list. The old last item is then dropped together with the closure. There are two test cases: the
+/// closure returns `true` in one of them, and `false` in the other.
 pub struct PopIf {}
 
 impl<T: Sample, G: Ruled> Call<T, G> for PopIf {
@@ -125,9 +128,10 @@ impl<T: Sample, G: Ruled> Call<T, G> for PopIf {
     }
 }
 
-// Updates `items`, the expected items after the test `PopIf`. Replaces the last item, if any, with
-// `FRESH`. If `goes` is true, then removes and returns this item. Otherwise, returns `None`. Each
-// item is represented by the number from which it was made.
+// Updates `items`, the expected items of the test `PopIf`, each represented by a number. Returns
+// the expected result of `pop_if`. If `items` is empty, nothing changes, and the result is `None`.
+// Otherwise, the closure replaces the last item with the new item `FRESH`, and returns `goes`. If
+// `goes` is true, the new item is removed and returned. If `goes` is false, the result is `None`.
 fn popped<R: Abort>(rt: &R, items: &mut Vec<u64, Global>, goes: bool) -> Option<u64> {
     let _last = items.pop()?;
     if goes {
@@ -168,9 +172,9 @@ impl<T: Sample, G: Ruled> Call<T, G> for DedupBy {
     }
 }
 
-// Returns the items that remain after the test `DedupBy`, as the numbers from which they were made.
-// The closure always swaps its two items. `pattern` determines at which of the `count` indices the
-// item is then removed.
+// Returns the items that remain after the test `DedupBy` on a list of `count` items, as the numbers
+// from which they were made. The closure swaps each later item with the last item that was kept
+// before it. Then `pattern` determines whether the item at the later index is removed.
 fn exchanged<R: Abort>(rt: &R, global: Global, count: usize, pattern: usize) -> Vec<u64, Global> {
     let mut left = Vec::new(global);
     let mut last = number_at(0);
@@ -187,8 +191,9 @@ fn exchanged<R: Abort>(rt: &R, global: Global, count: usize, pattern: usize) -> 
     left
 }
 
-/// A test that calls `dedup_by_key`. The two keys are equal if the later item is to be removed. The
-/// ledger counts the keys, so the test detects keys that are not dropped.
+/// A test that calls `dedup_by_key`. In each comparison, the key of the later item is 1. The key of
+/// the kept item is 1 if the later item is to be removed, and 0 otherwise. The ledger counts the
+/// keys, so the test also detects keys that are not dropped.
 pub struct DedupByKey {}
 
 impl<T: Sample, G: Ruled> Call<T, G> for DedupByKey {
@@ -224,8 +229,9 @@ impl<T: Sample, G: Ruled> Call<T, G> for DedupByKey {
     }
 }
 
-// Returns the items that remain after the test `DedupByKey`, as the numbers from which they were
-// made. `pattern` determines which of the `count` items remain. The first item always remains.
+// Returns the items that remain after the test `DedupByKey` on a list of `count` items. Each item
+// is represented by the number from which it was made. The first item always remains, and `pattern`
+// determines which later items remain.
 fn first_kept<R: Abort>(rt: &R, global: Global, count: usize, pattern: usize) -> Vec<u64, Global> {
     let mut left = Vec::new(global);
     for index in 0..count {
@@ -236,8 +242,8 @@ fn first_kept<R: Abort>(rt: &R, global: Global, count: usize, pattern: usize) ->
     left
 }
 
-/// A test that calls `dedup`. Before the call, each item that is to be removed is made equal to its
-/// predecessor.
+/// A test that calls `dedup`. Before the call, each item that is to be removed is made equal to the
+/// item before it.
 pub struct Dedup {}
 
 impl<T: Sample + PartialEq, G: Ruled> Call<T, G> for Dedup {

@@ -12,11 +12,13 @@ use std::process::Abort;
 use thin_testing::Ruled;
 use thin_vec::Growth;
 
-// The number from which the test `IntoIter` makes the item that replaces an item of the iterator.
+// The number from which the test `IntoIter` makes a new item. The test replaces an item of the
+// iterator with this new item.
 const FRESH: u64 = 70_000;
 
-// Returns how many different numbers of calls the test `IntoIterClone` tries before it clones the
-// iterator. On a list of at most 4 items, these are all numbers from 0 to the length plus 2.
+// The test `IntoIterClone` calls `next` or `next_back` `n` times, and then clones the iterator.
+// Returns how many values of `n` are tried. On a list of at most 4 items, these values are
+// `0..=length + 2`.
 fn steps(shape: Shape) -> usize {
     shape.indices().saturating_add(2)
 }
@@ -28,8 +30,9 @@ fn step(shape: Shape, number: usize) -> usize {
     }
 }
 
-/// A test that calls `into_iter`, takes some items from both ends, and checks the remaining items.
-/// The test then replaces the first remaining item, calls `next` once more, and drops the iterator.
+/// A test that calls `into_iter`, takes some items from both ends of the iterator, and checks the
+/// remaining items. The test then replaces the first remaining item, calls `next` once more, and
+/// drops the iterator.
 pub struct IntoIter {}
 
 impl<T: Sample, G: Ruled> Call<T, G> for IntoIter {
@@ -59,8 +62,9 @@ impl<T: Sample, G: Ruled> Call<T, G> for IntoIter {
     }
 }
 
-// Asserts that `rest` still contains the items that are made from `numbers`, in order, and that its
-// methods `len` and `size_hint` return the number of these items.
+// Asserts that the iterator `rest` still contains the items that are made from `numbers`, in the
+// same order. Also asserts that the methods `len` and `size_hint` of `rest` return the number of
+// these items.
 fn remains<T: Sample, A: Allocator, G: Growth, R: Abort>(
     rt: &R,
     at: &At,
@@ -73,8 +77,9 @@ fn remains<T: Sample, A: Allocator, G: Growth, R: Abort>(
     assert_same_items(rt, at, rest.as_slice(), numbers);
 }
 
-// Calls `next` and `next_back` on `items` in the order that `walk` specifies, and checks the
-// yielded items. Returns the remaining items, as the numbers from which they were made.
+// Calls `next` and `next_back` on `items` in the order that `walk` specifies, and checks each item
+// that is yielded. Returns the remaining items, each represented by the number from which it was
+// made.
 fn step_through<'a, T: Sample, A: Allocator, G: Growth, R: Abort>(
     rt: &R,
     at: &At,

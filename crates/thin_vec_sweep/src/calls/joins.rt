@@ -7,12 +7,12 @@ use crate::sweep::Call;
 use std::process::Abort;
 use thin_testing::Ruled;
 
-// The number from which the first item of the second list is made. Each further item is made from
-// the next higher number.
+// The number from which the first item of the second list is made. Each further item of this list
+// is made from the next higher number.
 const FRESH: u64 = 80_000;
 
-/// A test that calls `append` with second lists of various lengths, with and without one empty
-/// slot.
+/// A test that calls `append` with second lists of various lengths. For each length, the second
+/// list is tried once without spare capacity, and once with one empty slot.
 pub struct Append {}
 
 impl<T: Sample, G: Ruled> Call<T, G> for Append {

@@ -1,5 +1,6 @@
-//! Tests of `bounds`, `drain` and `extract_if`. The tests take some items from a `Drain` or an
-//! `ExtractIf`, and then drop it.
+//! Tests of the function `bounds`, and of `drain` and `extract_if`, which remove items of a range.
+//! The tests take some items from the iterators that `drain` and `extract_if` return, and then drop
+//! these iterators.
 use crate::assertions::{At, assert_same, assert_same_item, assert_same_items};
 use crate::case::{Case, put};
 use crate::closures::{number_at, stays};
@@ -33,8 +34,8 @@ impl<T: Sample, G: Ruled> Call<T, G> for Drained {
     }
 }
 
-// Returns the items of a list of `length` items that lie outside `range`, as the numbers from which
-// they were made.
+// Returns those items of a list of `length` items that lie outside `range`. Each item is
+// represented by the number from which it was made.
 fn outside<R: Abort>(rt: &R, global: Global, range: Ranged, length: usize) -> Vec<u64, Global> {
     let mut left = Vec::new(global);
     for index in 0..length {
@@ -64,8 +65,9 @@ fn drain<T: Sample, A: Allocator, G: Growth, R: Abort>(
     remains(rt, at, &drain, numbers);
 }
 
-// Asserts that `drain` still contains the items that are made from `numbers`, in order, and that
-// its methods `len` and `size_hint` return the number of these items.
+// Asserts that the iterator `drain` still contains the items that are made from `numbers`, in the
+// same order. Also asserts that the methods `len` and `size_hint` of `drain` return the number of
+// these items.
 fn remains<T: Sample, A: Allocator, G: Growth, R: Abort>(
     rt: &R,
     at: &At,
@@ -78,8 +80,9 @@ fn remains<T: Sample, A: Allocator, G: Growth, R: Abort>(
     assert_same_items(rt, at, drain.as_slice(), numbers);
 }
 
-// Calls `next` and `next_back` on `drain` in the order that `walk` specifies, and checks the
-// yielded items. Returns the remaining items, as the numbers from which they were made.
+// Calls `next` and `next_back` on `drain` in the order that `walk` specifies, and checks each item
+// that is yielded. Returns the remaining items, each represented by the number from which it was
+// made.
 fn step_through<'a, T: Sample, A: Allocator, G: Growth, R: Abort>(
     rt: &R,
     at: &At,
@@ -100,12 +103,13 @@ fn step_through<'a, T: Sample, A: Allocator, G: Growth, R: Abort>(
     remaining.of(numbers)
 }
 
-// For each `k` from 0 to 6, the number of test cases of `extract_if` on a range of `k` items: all
-// `2^k` sequences of results of the closure, each with 0 to `k + 1` calls to `next`.
+// For each `k` from 0 to 6, the number of test cases of `extract_if` on a range of `k` items. Each
+// of the `2^k` sequences of results of the closure is tried with each number of calls to `next`
+// from 0 to `k + 1`. So there are `(k + 2) * 2^k` test cases.
 const EXTRACTIONS: Cases = [2, 6, 16, 40, 96, 224, 512];
 
-/// A test that calls `extract_if` on several ranges, with several closures. The test calls `next`
-/// zero or more times, and then drops the `ExtractIf`.
+/// A test that calls `extract_if` on several ranges, with several closures. Each test case calls
+/// `next` a fixed number of times, and then drops the `ExtractIf`.
 pub struct Extracted {}
 
 impl<T: Sample, G: Ruled> Call<T, G> for Extracted {
@@ -134,16 +138,17 @@ struct Extraction {
     pattern: usize,
     // The number of times the closure must be called.
     asked: usize,
-    // The items that `next` must yield, as the numbers from which they were made.
+    // The items that `next` must yield. Each item is represented by the number from which it is
+    // made.
     given: Vec<u64, Global>,
-    // The items that the list must contain after the `ExtractIf` is dropped, as the numbers from
-    // which they were made.
+    // The items that the list must contain after the `ExtractIf` is dropped. Each item is
+    // represented by the number from which it is made.
     left: Vec<u64, Global>,
 }
 
 impl Extraction {
-    // Returns a test case of `extract_if` on a list of `length` items. `range` contains the range
-    // and the index of the test case.
+    // Returns one test case of `extract_if` on a list of `length` items. `range` contains the start
+    // and the end of the range, and the number of the test case.
     fn new<R: Abort>(rt: &R, global: Global, length: usize, range: Ranged) -> Extraction {
         let width = range.width();
         let (calls, pattern) = calls_and_pattern(width, range.number);
@@ -173,8 +178,8 @@ impl Extraction {
     }
 }
 
-// Returns the number of calls to `next`, and the pattern of results of the closure, for the test
-// case `number` on a range of `width` items.
+// Returns two numbers for test case number `number` on a range of `width` items. The first says how
+// many times `next` is called. The second selects the results of the closure.
 fn calls_and_pattern(width: usize, number: usize) -> (usize, usize) {
     if width >= EXTRACTIONS.len() {
         return (some_steps(width, number % 5), number / 5);
@@ -186,9 +191,9 @@ fn calls_and_pattern(width: usize, number: usize) -> (usize, usize) {
     (number % calls, number / calls)
 }
 
-// Calls `extract_if` on `range`, and then `next` as often as `wanted` specifies. Checks the yielded
-// items and the size hint. The closure returns `true` only for an expected item that is to be
-// removed, according to `wanted`.
+// Calls `extract_if` on `range`, and then calls `next` the number of times that `wanted` specifies.
+// Checks each item that is yielded, and finally the size hint. The closure returns `true` only for
+// the expected item, and only if `wanted` says that this item is to be removed.
 fn extract<T: Sample, A: Allocator, G: Growth, R: Abort>(
     rt: &R,
     at: &At,
@@ -222,9 +227,9 @@ fn extract<T: Sample, A: Allocator, G: Growth, R: Abort>(
 // numbers `n`.
 const BOUNDS: usize = 19;
 
-/// A test that calls `bounds` with every pair of 19 bounds: `Unbounded`, and the inclusive and
-/// exclusive bounds at 0 to 4, the length, the length plus 1, and the two greatest values of
-/// `usize`.
+/// A test that calls `bounds` with every pair of bounds from a set of 19. The set consists of
+/// `Unbounded`, and of inclusive and exclusive bounds at nine numbers: 0 to 4, the length, the
+/// length plus 1, and the two greatest values of `usize`.
 pub struct Bounds {}
 
 impl<T: Sample, G: Ruled> Call<T, G> for Bounds {
@@ -263,8 +268,9 @@ fn bound(number: usize, length: usize) -> Bound<usize> {
     }
 }
 
-// Returns the expected result of `bounds` for a list of `length` items. The additions may saturate,
-// because no list has `usize::MAX` items.
+// Returns the expected result of `bounds` for the bounds `start` and `end` and a list of `length`
+// items. The additions saturate instead of overflowing. This is correct because no list has
+// `usize::MAX` items.
 fn between(start: Bound<usize>, end: Bound<usize>, length: usize) -> Option<(usize, usize)> {
     let first = match start {
         Bound::Included(place) => place,

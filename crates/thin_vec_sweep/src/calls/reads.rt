@@ -1,5 +1,5 @@
-//! Tests of calls that read a list, or write to items through a mutable reference. None of these
-//! calls makes an allocation request.
+//! Tests of the calls that read a list, or that write to items through a mutable reference. None of
+//! these calls makes an allocation request.
 use crate::assertions::assert_same;
 use crate::case::{Case, List};
 use crate::samples::Sample;
@@ -9,7 +9,8 @@ use std::mem;
 use std::process::Abort;
 use thin_testing::Ruled;
 
-// The number from which a test makes the item that it writes to a list.
+// Each test item is made from a number. The new item that a test writes to a list is made from
+// `FRESH`.
 const FRESH: u64 = 70_000;
 
 /// A test that calls `len`, `is_empty`, `has_capacity` and `allocator`.
@@ -63,8 +64,8 @@ impl<T: Sample, G: Ruled> Call<T, G> for Iterate {
     }
 }
 
-// Iterates over `list`, and returns the first index at which a wrong item is yielded, or `None` if
-// there is no such index.
+// Iterates over `list`, and returns the first index at which the iteration does not yield the
+// expected item. Returns `None` if there is no such index.
 fn difference<T: Sample, G: Ruled>(list: &List<T, G>, numbers: &[u64]) -> Option<usize> {
     let mut index: usize = 0;
     for item in list {
@@ -129,8 +130,8 @@ impl<T: Sample, G: Ruled> Call<T, G> for IndexMut {
     }
 }
 
-/// A test that calls `get_mut` for several indices, some of which are out of bounds. If the call
-/// returns a reference, the test replaces the item.
+/// A test that calls `get_mut` for several indices, one at a time. Some of the indices are out of
+/// bounds. If the call returns a reference, the test replaces the item through this reference.
 pub struct GetMut {}
 
 impl<T: Sample, G: Ruled> Call<T, G> for GetMut {
@@ -164,7 +165,7 @@ impl<T: Sample, G: Ruled> Call<T, G> for GetMut {
 }
 
 /// A test that iterates over `&mut list`. It replaces the first item with a new item, and each
-/// other item with the old item at the previous index.
+/// later item with the item that was originally before it.
 pub struct IterateMut {}
 
 impl<T: Sample, G: Ruled> Call<T, G> for IterateMut {

@@ -8,19 +8,19 @@ use crate::sweep::Call;
 use std::process::Abort;
 use thin_testing::Ruled;
 
-// The number from which the first new item is made. Each further new item is made from the next
-// higher number.
+// The number from which a test makes the first item that replaces a range. Each further new item is
+// made from the next higher number.
 const FRESH: u64 = 80_000;
 
-// The number of test cases on each range. They differ in the number of new items.
+// The number of test cases on each range. These test cases differ in the number of new items.
 const COUNTS: usize = 7;
 
 // For each `k` from 0 to 6, the number of test cases on a range of `k` items, which is always
 // `COUNTS`.
 const EACH_COUNT: Cases = [COUNTS; 7];
 
-// Returns the number of new items in the test case that `range` describes. On a list of more than
-// 40 items, there are only two test cases, and the list becomes longer in both.
+// Returns the number of new items in test case number `range.number`. On a list of more than 40
+// items, only the test cases 0 and 1 are run. In both of them, the list becomes longer.
 fn count_for(range: Ranged) -> usize {
     let width = range.width();
     match range.number % COUNTS {
@@ -115,7 +115,7 @@ impl<T: Sample + Copy, G: Ruled> Call<T, G> for ReplaceRangeFromCopies {
 }
 
 /// A test that calls `replace_range_from_list`, which moves the items of another list into the
-/// range. The other list has no spare capacity.
+/// range. The other list has no spare capacity before the call.
 pub struct ReplaceRangeFromList {}
 
 impl<T: Sample, G: Ruled> Call<T, G> for ReplaceRangeFromList {

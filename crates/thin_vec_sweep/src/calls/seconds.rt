@@ -9,8 +9,8 @@ use std::process::Abort;
 use thin_testing::{Refusing, Ruled};
 use thin_vec::{Doubling, ThinVec, ThinVecError};
 
-/// A call that makes a second list of the same items. Both lists have the item type `T` and the
-/// growth rule `G`.
+/// A call that makes a new list with the same items as a given list. Both lists have the item type
+/// `T` and the growth rule `G`.
 pub trait MakesSecond<T: Sample, G: Ruled> {
     /// The name of the call in the message of a failed assertion.
     const NAME: &'static str;

@@ -10,8 +10,8 @@ use std::process::Abort;
 use thin_testing::Ruled;
 use thin_vec::ThinVecError;
 
-// The number from which the first item of the slice is made. Each further item is made from the
-// next higher number.
+// The number from which the first item of the slice is made. Each further item of the slice is made
+// from the next higher number.
 const FRESH: u64 = 80_000;
 
 /// A call that appends the items of a slice to a list of `T` with the growth rule `G`.
@@ -35,7 +35,7 @@ pub trait AppendsSlice<T: Sample, G: Ruled> {
 }
 
 /// A test that makes the call `C` with slices of several lengths. If `C` requires spare capacity,
-/// these are all lengths from 1 to the number of empty slots.
+/// the test uses each length from 1 to the number of empty slots.
 pub struct AppendSlice<C> {
     call: PhantomData<C>,
 }
@@ -67,7 +67,7 @@ impl<T: Sample, G: Ruled, C: AppendsSlice<T, G>> Call<T, G> for AppendSlice<C> {
     }
 }
 
-/// A call to `extend_from_slice`, which appends clones of the items.
+/// A call to `extend_from_slice`, which appends clones of the items of a slice to the list.
 pub struct ExtendFromSlice {}
 
 impl<T: Sample, G: Ruled> AppendsSlice<T, G> for ExtendFromSlice {
@@ -85,7 +85,8 @@ impl<T: Sample, G: Ruled> AppendsSlice<T, G> for ExtendFromSlice {
     }
 }
 
-/// A call to `extend_from_copies`, which appends copies of the items.
+/// A call to `extend_from_copies`, which appends the items of a slice to the list. The items are
+/// copied, not cloned.
 pub struct ExtendFromCopies {}
 
 impl<T: Sample + Copy, G: Ruled> AppendsSlice<T, G> for ExtendFromCopies {
@@ -101,7 +102,8 @@ impl<T: Sample + Copy, G: Ruled> AppendsSlice<T, G> for ExtendFromCopies {
     }
 }
 
-/// A call to `extend_from_slice_reserved`, which clones the items into spare capacity.
+/// A call to `extend_from_slice_reserved`, which puts clones of the items of a slice into the spare
+/// capacity of the list.
 pub struct ExtendFromSliceReserved {}
 
 impl<T: Sample, G: Ruled> AppendsSlice<T, G> for ExtendFromSliceReserved {
@@ -125,7 +127,8 @@ impl<T: Sample, G: Ruled> AppendsSlice<T, G> for ExtendFromSliceReserved {
     }
 }
 
-/// A call to `extend_from_copies_reserved`, which copies the items into spare capacity.
+/// A call to `extend_from_copies_reserved`, which puts copies of the items of a slice into the
+/// spare capacity of the list.
 pub struct ExtendFromCopiesReserved {}
 
 impl<T: Sample + Copy, G: Ruled> AppendsSlice<T, G> for ExtendFromCopiesReserved {
@@ -190,8 +193,9 @@ impl<G: Ruled> AppendsSlice<u8, G> for WriteAll {
     }
 }
 
-// Asserts that the kind of `error` is `OutOfMemory`, and returns the cause `OutOfMemory`. A
-// capacity overflow has the same error kind, and so the same result.
+// Asserts that `error`, the error of a failed write, has the kind `OutOfMemory`, and returns
+// `OutOfMemory` as the cause. After a capacity overflow, the error has the same kind, so the result
+// is the same.
 fn cause<R: Abort>(rt: &R, at: &At, error: &Error) -> ThinVecError {
     let kind = error.kind() == ErrorKind::OutOfMemory;
     assert_same(rt, at, "the error's kind is OutOfMemory", kind, true);

@@ -1,5 +1,6 @@
-//! Tests of `splice`. They take some items from the `Splice`, and then call `finish`, which moves
-//! the new items into the list. Some size hints of the iterator over the new items are wrong.
+//! Tests of `splice`. They take some items of the replaced range from the `Splice`, and then call
+//! `finish`, which moves the new items into the list. The iterator over the new items has a size
+//! hint whose lower bound is too small, exact, or too large.
 ghost use Rattle.std.specs.Iterator.{IsFinite};
 ghost use Rattle.std.specs.Prelude.{◌≤◌, length};
 ghost use Rattle.thin_vec.specs.Edits.Splice.{SpliceKeeps};
@@ -21,27 +22,30 @@ use thin_vec::{Growth, Splice, SpliceRefused, ThinVec};
 // The number of size hints that are tried.
 const HINTS: usize = 5;
 
-// The number of ways to combine 5 size hints with 0 to 5 new items. On lists of at most 6 items,
-// all of them are tried.
+// The number of pairs that consist of one of 5 size hints and a number of new items from 0 to 5. On
+// lists of at most 6 items, all these pairs are tried.
 const FILLS: usize = 30;
 
 // The number of short sequences of calls: no call, one call to `next`, and one call to `next_back`.
-// On a range that is not empty, each of them is tried `FILLS` times.
+// Each of these sequences is tried with each size hint and each number of new items.
 const SHORT_WALKS: usize = 3;
 
-// For each `k` from 0 to 6, the number of test cases on a range of `k` items.
+// For each `k` from 0 to 6, the number of test cases on a range of `k` items. Each test case makes
+// a sequence of calls to `next` and `next_back`, and then calls `finish`.
 //
-// If `k > 0`, these are 3 * 30 test cases with at most one call to `next` or `next_back`, and one
-// test case for each longer sequence of calls. If `k = 0`, these are 30 test cases without a call
-// and 3 with one call to `next`.
+// If `k > 0`, each of the 3 sequences of at most one call is tried 30 times, and each longer
+// sequence is tried once. If `k = 0`, there are 30 test cases without a call to `next` or
+// `next_back`, and 3 test cases with one call to `next`.
 const AFTER_STEPS: Cases = [33, 94, 102, 118, 150, 214, 342];
 
-// For each `k` from 0 to 6, the number of test cases on a range of `k` items that call `finish`
-// without taking an item first. Each size hint is combined with each number of new items.
+// For each `k` from 0 to 6, the number of test cases that replace a range of `k` items and call
+// `finish` at once, that is, without a call to `next` or `next_back`. There is one test case for
+// each pair of a size hint and a number of new items.
 const AT_ONCE: Cases = [FILLS; 7];
 
 // Returns, for each `k` from 0 to 6, the number of test cases on a range of `k` items. If the list
-// has spare capacity, which affects only `finish`, no item is taken before `finish`.
+// has spare capacity, the test cases call `finish` without taking an item first. This is enough,
+// because spare capacity affects only `finish`.
 fn cases(shape: Shape) -> Cases {
     if shape.spare == 0 {
         AFTER_STEPS
@@ -50,12 +54,12 @@ fn cases(shape: Shape) -> Cases {
     }
 }
 
-// One test case of `splice`: the replaced range, the calls before `finish`, and the iterator over
-// the new items.
+// One test case of `splice`: the replaced range, the calls to `next` and `next_back` before
+// `finish`, and the properties of the iterator over the new items.
 #[derive(Drop)]
 struct Plan {
     range: Ranged,
-    // The numbers from which the items in the replaced range are made.
+    // The numbers from which the items in the range are made.
     numbers: Vec<u64, Global>,
     // The calls to `next` and `next_back` before `finish`.
     walk: Walk,
@@ -66,9 +70,9 @@ struct Plan {
 }
 
 impl Plan {
-    // Returns the test case with the index `argument`. One of the size hints is exact when `finish`
-    // reads it. If there are items after the range, `finish` has already filled the range then, so
-    // fewer items remain in the iterator.
+    // Returns test case number `argument`. When `finish` reads the size hint, it may already have
+    // moved new items into the range. One of the size hints is chosen so that it is exact at that
+    // moment.
     fn new<T: Sample, G: Ruled, R: Abort>(rt: &R, case: &Case<T, G>, argument: usize) -> Plan {
         let shape = case.at.shape;
         let range = shape.ranged_case(&cases(shape), argument);
@@ -93,8 +97,8 @@ impl Plan {
     }
 }
 
-// Returns the index of the walk in the test case `number` on a list of at most 6 items. A walk is a
-// sequence of calls to `next` and `next_back`.
+// Returns the number of the walk that test case number `number` uses on a list of at most 6 items.
+// A walk is a sequence of calls to `next` and `next_back`.
 fn few_steps(number: usize) -> usize {
     let crossed = SHORT_WALKS.saturating_mul(FILLS);
     match number.checked_sub(crossed) {
@@ -103,9 +107,9 @@ fn few_steps(number: usize) -> usize {
     }
 }
 
-// Returns the number of new items for a range of `width` items in a list of more than 6 items.
-// Depending on `number`, it is more than twice `width`, equal to `width`, one less than `width`, or
-// 0.
+// Returns the number of new items for a list of more than 6 items. `width` is the length of the
+// replaced range. Depending on `number`, the result is more than twice `width`, exactly `width`,
+// one less than `width`, or 0.
 fn many(width: usize, number: usize) -> usize {
     match number {
         0 => width.saturating_mul(2).saturating_add(9),
@@ -116,8 +120,8 @@ fn many(width: usize, number: usize) -> usize {
 }
 
 // Returns one of five lower bounds for the size hint of an iterator over `all` items. `number`
-// selects the bound. One of the five is `left`, the number of items that remain when `finish` reads
-// the hint.
+// selects the bound. One of the five bounds is `left`, which is the number of items that remain in
+// the iterator when `finish` reads the size hint.
 fn hint(number: usize, left: usize, all: usize) -> usize {
     match number {
         0 => 0,
@@ -128,8 +132,8 @@ fn hint(number: usize, left: usize, all: usize) -> usize {
     }
 }
 
-// Returns the expected outcome of `finish`, and updates the expected items. If there are no items
-// after the range, `finish` behaves like `extend`.
+// Returns the expected outcome of `finish`, and updates the expected items in `case.items`. If
+// there are no items after the range, `finish` has the same outcome as `extend`.
 fn finish<T: Sample, G: Ruled, R: Abort>(rt: &R, case: &mut Case<T, G>, plan: &Plan) -> Ending {
     let range = plan.range;
     let length = case.items.len();
@@ -181,9 +185,10 @@ fn fill_between<T: Sample, G: Ruled>(case: &mut Case<T, G>, width: usize, plan: 
     ending
 }
 
-// Returns how many of `count` items a new `Vec` can take before the allocator refuses a request.
-// Also counts its requests: the first is for 4 items, or for 8 items of at most one byte, and each
-// further request doubles the capacity.
+// Returns how many of `count` items a new `Vec` can take before the allocator refuses one of its
+// requests. Also adds the requests of the `Vec` to the expected requests of `case`. The first
+// request is for 4 items, or for 8 items if an item takes at most one byte. Each further request
+// doubles the capacity.
 fn hold<T: Sample, G: Ruled>(case: &mut Case<T, G>, count: usize) -> usize {
     let first = if T::SIZE <= 1 { 8 } else { 4 };
     let mut room: usize = 0;
@@ -198,8 +203,8 @@ fn hold<T: Sample, G: Ruled>(case: &mut Case<T, G>, count: usize) -> usize {
     count
 }
 
-/// A test that calls `splice` on several ranges, takes some items, and calls `finish`. Several
-/// numbers of new items are combined with several size hints.
+/// A test that calls `splice` on several ranges, takes some items from the `Splice`, and calls
+/// `finish`. Several numbers of new items are combined with several size hints.
 pub struct Spliced {}
 
 impl<T: Sample, G: Ruled> Call<T, G> for Spliced {
@@ -235,7 +240,8 @@ impl<T: Sample, G: Ruled> Call<T, G> for Spliced {
 struct Walked {
     // The index of the first call that yielded a wrong item, or `None` if there is no such call.
     wrong: Option<usize>,
-    // The number of remaining items of the range, as `len` and `size_hint` return it.
+    // The number of remaining items of the range. The first part is the result of `len`, and the
+    // second part is the result of `size_hint`.
     remaining: (usize, (usize, Option<usize>)),
 }
 
@@ -252,8 +258,8 @@ impl Walked {
     }
 }
 
-// Calls `splice` on the range of `plan`, then `next` and `next_back` in the order that `plan`
-// specifies, and finally `finish`.
+// Calls `splice` on the range of `plan`, then calls `next` and `next_back` in the order that `plan`
+// specifies, and finally calls `finish`.
 fn splice<T: Sample, A: Allocator, G: Growth, I: Iterator<Item = T>>(
     list: &mut ThinVec<T, A, G>,
     plan: &Plan,
@@ -298,8 +304,8 @@ fn walk<T: Sample, A: Allocator, G: Growth, I>(
     }
 }
 
-// Asserts that a failed `finish` returned the expected cause, and all new items that it did not
-// move into the list. Before the call, the iterator had `count` new items.
+// Asserts that a failed `finish` returned both the expected cause and all new items that it did not
+// move into the list. Before the call, the iterator over the new items had `count` items.
 fn given_back<T: Sample, A: Allocator, G: Ruled, R: Abort>(
     rt: &R,
     case: &Case<T, G>,

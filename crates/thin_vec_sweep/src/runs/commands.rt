@@ -1,6 +1,7 @@
-//! Tests of the commands, each of which describes a call on a list. Random runs must produce all
-//! possible replies. Two other runs must have results that were computed by hand. Each kind of
-//! difference between a list and its model must be detected.
+//! Tests of the commands, each of which describes a call on a list. Random runs must produce every
+//! possible reply to every command, and two other runs must have results that were computed by
+//! hand. Commands are also executed on a model of the list. Another test checks that each kind of
+//! difference between a list and its model is detected.
 use crate::runs::compared::both;
 use crate::runs::judges::{EACH_SECOND, Evens};
 use crate::runs::model::Model;
@@ -15,7 +16,8 @@ use thin_testing::{Refusing, Ruled};
 use thin_vec::{Doubling, Growth, PowerBytes, ThinVec, ThinVecError};
 
 // All possible replies to the commands. Each line consists of the name of a command, the variant of
-// its reply, and the error in the reply, or `None`.
+// its reply, and the error that the reply contains. If the reply contains no error, the last part
+// is `None`.
 const REPLIES: &str = "\
     Push Done None\n\
     Push Returned Some(OutOfMemory)\n\
@@ -118,8 +120,9 @@ fn random_runs_get_each_reply_of_each_command(rt: HostRuntime) {
     assert_eq!(rt; replies.len(), REPLIES.lines().count());
 }
 
-// Returns an `Order`, which describes a command by plain numbers. The order has no steps (calls to
-// `next` and `next_back` on a range).
+// Returns an `Order`, which describes a command by plain numbers. The number of steps (calls to
+// `next` and `next_back` on a range) is 0. The other fields of the order are the arguments of this
+// function.
 const fn plain(kind: Kind, at: usize, to: usize, count: usize, lower: usize, number: u64) -> Order {
     Order {
         kind,
@@ -159,8 +162,9 @@ const WORKED: [(&[u64], usize); 6] = [
     (&[1, 9], 6),
 ];
 
-// Returns the commands of a run with the growth rule `PowerBytes`. The results of the run were
-// computed by hand: a block of 32, 64 or 128 bytes has 4, 12 or 28 slots of 4 bytes, respectively.
+// Returns the commands of a run whose results were computed by hand for the growth rule
+// `PowerBytes`. A block of 32, 64 or 128 bytes consists of a header and 4, 12 or 28 slots of 4
+// bytes, respectively.
 fn worked_powers() -> [Order; 9] {
     [
         plain(Kind::Push, 0, 0, 0, 0, 1),
@@ -187,8 +191,8 @@ const WORKED_POWERS: [(&[u32], usize); 9] = [
     (&[1, 7, 8, 9, 6], 20),
 ];
 
-// Returns whether `list` has the expected items and the expected capacity, both of which `worked`
-// contains.
+// Returns whether `list` has the expected items and the expected capacity. `worked` is the pair of
+// these expected values.
 fn is_worked<T: Eq, A: Allocator, G: Growth>(
     list: &ThinVec<T, A, G>,
     worked: &(&[T], usize),
@@ -197,8 +201,9 @@ fn is_worked<T: Eq, A: Allocator, G: Growth>(
     list.as_slice() == *items && list.capacity() == *capacity
 }
 
-// Executes each command both on a `ThinVec` and on a model. After each command, asserts that they
-// agree, and that the list has the items and the capacity in `worked`.
+// Executes each command both on a `ThinVec` and on a model. After each command, asserts that the
+// list and the model agree, and that the list has the items and the capacity in `worked`, which
+// were computed by hand.
 fn assert_worked<'a, T: Numbered<Lender<'a>>, G: Ruled, J: Judge<T>, R: Abort>(
     rt: &R,
     alloc: Lender<'a>,
@@ -238,8 +243,9 @@ fn run_under_power_bytes_reaches_states_computed_by_hand(rt: HostRuntime) {
     );
 }
 
-// Executes a command of the kind `kind` on an empty list and on `model`. Returns the variant of the
-// reply, or `Never` if the two replies, or the list and the model after the command, differ.
+// Executes a command of the kind `kind` on an empty list, and the same command on `model`. If the
+// two replies are equal and the list and `model` agree after the command, returns the variant of
+// the reply. Otherwise, returns `Never`.
 fn form_against_model<'a, R: Abort>(
     rt: &R,
     alloc: Lender<'a>,

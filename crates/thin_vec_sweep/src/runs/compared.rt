@@ -1,5 +1,5 @@
-//! Functions that compare the runner, which executes commands on a `ThinVec`, with the model, which
-//! executes them on a `Vec`.
+//! Compares the runner with the model. The runner executes a command on a `ThinVec`. The model, a
+//! simple program that specifies the commands, executes the same command on a `Vec`.
 use crate::runs::model::Model;
 use crate::runs::orders::{Order, command_of};
 use crate::runs::samples::{Lender, Numbered};
@@ -28,8 +28,9 @@ fn has_its_blocks<'a, T: Numbered<Lender<'a>>, G: Ruled>(
     blocks == alloc.blocks()
 }
 
-// Lets the runner execute the command that `order` describes. The allocator refuses request `nth`,
-// or no request if `nth` is 0. Returns the parts of the reply, and whether a request was refused.
+// Lets the runner execute the command that `order` describes. The allocator refuses request number
+// `nth`, or no request if `nth` is 0. Returns two values: the reply, divided into its parts, and
+// whether a request was refused.
 fn shown_by_runner<'a, T: Numbered<Lender<'a>>, G: Ruled, J: Judge<T>>(
     alloc: Lender<'a>,
     list: &mut ThinVec<T, Lender<'a>, G>,
@@ -45,9 +46,9 @@ fn shown_by_runner<'a, T: Numbered<Lender<'a>>, G: Ruled, J: Judge<T>>(
     Ok((show(alloc, reply)?, refused))
 }
 
-/// Lets the runner and the model execute the same command. The allocator refuses request `nth` of
-/// the runner, or no request if `nth` is 0. Returns the variant of the reply (`Never` if the
-/// results differ), and the cause of the failure, if any.
+/// Lets the runner and the model execute the same command. For the runner, the allocator refuses
+/// request number `nth`, or no request if `nth` is 0. Returns two values: the variant of the reply
+/// (or `Never` if the runner and the model differ), and the cause of the failure, if any.
 pub fn both<'a, T: Numbered<Lender<'a>>, G: Ruled, J: Judge<T>>(
     alloc: Lender<'a>,
     list: &mut ThinVec<T, Lender<'a>, G>,

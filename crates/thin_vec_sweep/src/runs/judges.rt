@@ -1,12 +1,13 @@
-//! The judges of the runs. Commands contain no closures. Instead, a judge makes the decisions that
-//! a method such as `retain` leaves to its closure.
+//! The judges that the runs use. A judge replaces the closure of a call such as `retain`: it
+//! decides which items are kept or removed.
 ghost use Rattle.std.specs.Prelude.{◌≡◌, ◌==◌, ◌/◌, ◌%◌};
 
 use std::mem;
 use thin_runner::judge::Judge;
 
-/// A judge whose decisions are the binary digits of a number, beginning with the last digit: 1 is
-/// `true`, and 0 is `false`. Its method `same`, which compares two items, also swaps them.
+/// A judge makes the decisions that a method such as `retain` leaves to its closure. The decisions
+/// of this judge are the binary digits of a number, beginning with the last digit: 1 is `true`, and
+/// 0 is `false`. When this judge compares two items, it also swaps them.
 #[derive(Clone, Copy)]
 pub struct Digits {
     /// The number whose binary digits are the decisions that the judge has not made yet.
@@ -14,7 +15,8 @@ pub struct Digits {
 }
 
 /// A judge that decides `true`, then `false`, then `true`, and so on. After 64 decisions, every
-/// decision is `false`.
+/// decision is `false`. A judge makes the decisions that a method such as `retain` leaves to its
+/// closure.
 pub const EACH_SECOND: Digits = Digits {
     digits: 0x5555_5555_5555_5555,
 };
@@ -68,9 +70,10 @@ impl<T> Judge<T> for Digits {
     }
 }
 
-/// A judge that decides `true` for even numbers, and considers `x` and `y` equal if
-/// `x / 2 == y / 2`. Its methods `keep` and `key` also halve the item, and `same` sets the kept
-/// item to 0.
+/// A judge makes the decisions that a method such as `retain` leaves to its closure. This judge
+/// decides `true` for even numbers, and considers `x` and `y` equal if `x / 2 == y / 2`. Three of
+/// its methods also change items: `keep` and `key` halve the item, rounding down, and `same` sets
+/// the kept item to 0.
 #[derive(Clone, Copy)]
 pub struct Evens;
 

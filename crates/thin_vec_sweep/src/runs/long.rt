@@ -1,5 +1,5 @@
-//! Long runs of commands, and a run that fails. These runs are not compared with the model, which
-//! would be too slow for long runs.
+//! Long runs of commands, and a run that fails. Unlike random runs, these runs are not compared
+//! with the model, a simple program that would be too slow for long runs.
 use crate::runs::judges::EACH_SECOND;
 use crate::runs::samples::{Lender, put};
 use std::alloc::Global;
@@ -63,8 +63,8 @@ fn steps<R: Abort>(rt: &R, alloc: Global, count: u32) -> Vec<Step, Global> {
     steps
 }
 
-// Returns commands that need memory for one item or for thousands of items. Before each of them, a
-// `ShrinkToFit` removes the spare capacity.
+// Returns commands that need memory: some of them for one item, and others for thousands of items.
+// Before each of these commands, a `ShrinkToFit` removes the spare capacity.
 fn long_commands<R: Abort>(rt: &R, alloc: Global) -> Vec<Command<u32, Global>, Global> {
     let many = || numbers(rt, alloc, 6000);
     let mut commands = Vec::new(alloc);
@@ -136,8 +136,8 @@ fn earlier_reply<'a, R: Abort>(rt: &R, alloc: Lender<'a>) -> Replies<'a> {
     replies
 }
 
-// Returns whether `replies` contains exactly one reply, which reports a capacity overflow, as the
-// reply of `earlier_reply` does.
+// Returns whether `replies` contains exactly one reply, and this reply reports a capacity overflow,
+// like the reply that `earlier_reply` makes.
 fn has_earlier_alone(replies: &Replies<'_>) -> bool {
     match replies.as_slice() {
         [left] => left.refusal() == Some(ThinVecError::CapacityOverflow),

@@ -1,5 +1,5 @@
-//! The model: a short and slow program that specifies the commands. It represents a list by its
-//! capacity and a `Vec` of its items.
+//! The model: a short and slow program that specifies the commands. It represents a list as two
+//! values: a `Vec` of the items, and the capacity.
 mod filling;
 mod refused;
 
@@ -14,8 +14,8 @@ use thin_runner::judge::Judge;
 use thin_testing::Ruled;
 use thin_vec::{ThinVec, ThinVecError};
 
-// The greatest capacity that the model allows. The true limit is larger, but no test requests a
-// capacity between the two.
+// The greatest capacity that the model allows. It is lower than the true limit, but no test
+// requests a capacity between the two limits.
 const LIMIT: usize = 1_000_000_000_000;
 
 /// The model of a list: its items and its capacity.
@@ -27,7 +27,7 @@ pub struct Model<T, A: Allocator, G> {
 }
 
 // Calls `next` and `next_back` on an iterator over `items`, in the order that the steps of `order`
-// specify. Returns the results.
+// specify. Returns the results of these calls.
 fn walked<T: Drop, A: Allocator + Copy>(
     alloc: A,
     items: Vec<T, A>,
@@ -45,8 +45,8 @@ fn walked<T: Drop, A: Allocator + Copy>(
     Ok(answers)
 }
 
-// Returns the start and the end of the range that a command on a list of `len` items replaces, and
-// the number of new items.
+// Returns three numbers for a command on a list of `len` items: the start and the end of the range
+// that the command replaces, and the number of new items.
 fn range_of(len: usize, order: Order) -> (usize, usize, usize) {
     let at = order.at;
     match order.kind {
@@ -85,8 +85,8 @@ fn shown_out<T: Drop, A: Allocator + Copy>(
     }
 }
 
-// Returns the reply to a command that may need more capacity: `Done` if `made` is true, and
-// otherwise a capacity overflow.
+// Returns the reply to a command that may need more capacity. The reply is `Done` if `made` is
+// true. Otherwise, it reports a capacity overflow.
 fn shown_room<T: Drop, A: Allocator + Copy>(alloc: A, made: bool) -> Shown<T, A> {
     if made {
         Shown::plain(alloc, Form::Done, None)
@@ -112,8 +112,9 @@ fn shown_sifted<T: Drop, A: Allocator + Copy>(
     Ok(Shown::with_answers(Form::Answers, alloc, answers))
 }
 
-// Asks the judge whether `item` remains in the list. The kind of the command determines which
-// method of the judge is called.
+// Asks the judge whether `item` remains in the list. The judge makes the decision that a method
+// such as `retain` leaves to its closure. The kind of the command determines which method of the
+// judge is called.
 fn stays<T, J: Judge<T>>(judge: &mut J, kind: Kind, item: &mut T) -> bool {
     match kind {
         Kind::Retain => judge.look(item),
@@ -122,8 +123,8 @@ fn stays<T, J: Judge<T>>(judge: &mut J, kind: Kind, item: &mut T) -> bool {
     }
 }
 
-// Returns whether a command of the kind `kind` considers `later` a duplicate of `kept`, the last
-// item that it kept.
+// Returns whether a command of the kind `kind` considers `later` a duplicate of `kept`. The item
+// `kept` is the last item that the command kept.
 fn is_same<T: Eq, J: Judge<T>>(judge: &mut J, kind: Kind, later: &mut T, kept: &mut T) -> bool {
     match kind {
         Kind::Dedup => *later == *kept,
@@ -243,8 +244,9 @@ impl<T: Numbered<A>, A: Allocator + Copy, G: Ruled> Model<T, A, G> {
         Ok(Shown::with_items(Form::List, None, alloc, copy, capacity))
     }
 
-    // Appends `item` to the list if it is kept, and to `answers` otherwise. If `asked` is the kind
-    // of a command, the judge decides. If `asked` is `None`, the item is kept.
+    // Appends `item` to the list if it is kept, and to `answers` otherwise. If `asked` is `None`,
+    // the item is kept. If `asked` is the kind of a command, the judge decides whether the item is
+    // kept. This is the decision that a method such as `retain` leaves to its closure.
     fn sift_one<J: Judge<T>>(
         &mut self,
         asked: Option<Kind>,
@@ -262,9 +264,9 @@ impl<T: Numbered<A>, A: Allocator + Copy, G: Ruled> Model<T, A, G> {
         }
     }
 
-    // Asks the judge about each item, in order, and removes the items that it does not keep. An
-    // `ExtractIf` asks only about its range, until `order.count` items have been removed. Returns
-    // the reply.
+    // Asks the judge about the items, in order, and removes the items that the judge does not keep.
+    // If the command is an `ExtractIf`, the judge is asked only about the items of the range, until
+    // `order.count` items have been removed. Returns the reply.
     fn sift<J: Judge<T>>(
         &mut self,
         alloc: A,
@@ -284,8 +286,8 @@ impl<T: Numbered<A>, A: Allocator + Copy, G: Ruled> Model<T, A, G> {
         shown_sifted(alloc, order, answers)
     }
 
-    // Appends `item` to the list, unless the command considers it a duplicate of the last item of
-    // the list.
+    // Appends `item` to the list, unless it is a duplicate of the last item of the list. The kind
+    // of the command determines when two items are duplicates.
     fn put_other<J: Judge<T>>(
         &mut self,
         kind: Kind,
@@ -354,9 +356,10 @@ impl<T: Numbered<A>, A: Allocator + Copy, G: Ruled> Model<T, A, G> {
         }
     }
 
-    /// Executes a command on the model, and compares the reply with `given`, the reply of the
-    /// runner. If a request of the runner was refused, it was request `nth`. Returns the variant of
-    /// the reply (`Never` if the replies differ), and the cause of the failure, if any.
+    /// Executes a command on the model, and compares the reply of the model with `given`, the reply
+    /// of the runner. If a request of the runner was refused, this was request number `nth`.
+    /// Returns two values: the variant of the reply (or `Never` if the replies differ), and the
+    /// cause of the failure, if any.
     pub fn follow<J: Judge<T>>(
         &mut self,
         alloc: A,

@@ -64,8 +64,9 @@ pub const KINDS: [Kind; 25] = [
     Kind::Splice,
 ];
 
-/// A description of a command by plain numbers. The runner executes a command that is made from the
-/// order. The model executes the order itself.
+/// An order: a description of a command by plain numbers. The runner executes a command that is
+/// made from the order. The model, a simple program that specifies the commands, executes the order
+/// itself.
 #[derive(Clone, Copy, Debug)]
 pub struct Order {
     pub kind: Kind,
@@ -73,20 +74,20 @@ pub struct Order {
     pub at: usize,
     /// The end of the range on which the command acts.
     pub to: usize,
-    /// The number of calls to `next` in an `ExtractIf`, or the number of new items of a command
-    /// such as `Extend`.
+    /// The number of calls to `next` if the command is an `ExtractIf`. If the command takes a
+    /// vector or a list of new items, as an `Extend` does, this is the number of these items.
     pub count: usize,
     /// A number whose meaning depends on the command:
     ///
-    /// - `Extend` and `Splice`: the lower bound of the size hint
-    /// - `Reserve` and `ReserveExact`: the number of additional items
-    /// - `Resize`: the new length
+    /// - For `Extend` and `Splice`, it is the lower bound of the size hint.
+    /// - For `Reserve` and `ReserveExact`, it is the number of items for which room is reserved.
+    /// - For `Resize`, it is the new length.
     pub lower: usize,
-    /// The number of steps, each of which takes an item from the front or from the back of the
-    /// range.
+    /// The number of steps. Each step takes an item from the front or from the back of the range.
     pub steps: usize,
-    /// The number from which the first new item is made. Its binary digits also describe the steps,
-    /// beginning with the last digit: 1 is a step from the front, and 0 is a step from the back.
+    /// The number from which the first new item is made. Its binary digits, beginning with the last
+    /// digit, also determine the steps over the range: 1 is a step from the front, and 0 is a step
+    /// from the back.
     pub number: u64,
 }
 
@@ -133,8 +134,8 @@ fn with_item<T: Drop, A: Allocator, G: Growth>(order: Order, item: T) -> Command
     }
 }
 
-// Returns the command that `order` describes, with the vector `items` and, if it is a `Splice`,
-// with `steps`. The command must take a vector of items.
+// Returns the command that `order` describes, with the vector `items`. If the command is a
+// `Splice`, it also contains `steps`. The command must be one that takes a vector of items.
 fn with_items<T: Drop, A: Allocator, G: Growth>(
     order: Order,
     steps: Vec<Step, A>,

@@ -1,5 +1,5 @@
 //! Random runs of commands. Each command is executed both on a `ThinVec` and on a model, and the
-//! results are compared.
+//! results are compared. The model is a simple program that specifies the commands.
 use crate::runs::compared::both;
 use crate::runs::judges::{Digits, EACH_SECOND};
 use crate::runs::model::Model;
@@ -35,8 +35,8 @@ impl Dice {
         usize::try_from(self.below(limit)).unwrap_or(0)
     }
 
-    // Returns a random value for the field `lower` of an `Order`: usually a small number, and
-    // sometimes a number greater than every possible capacity.
+    // Returns a random value for the field `lower` of an `Order`. Usually, the value is a small
+    // number. Sometimes, it is greater than every possible capacity.
     fn claim(&mut self) -> usize {
         if self.below(9) == 0 {
             usize::MAX
@@ -45,8 +45,8 @@ impl Dice {
         }
     }
 
-    // Returns the number of the request to refuse, or 0 if no request is to be refused. It is
-    // random but small, because most commands make few requests.
+    // Returns the number of the request that is to be refused, or 0 if no request is to be refused.
+    // The number is random but small, because most commands make few requests.
     fn refused(&mut self) -> u64 {
         let few = self.below(4);
         if self.below(2) == 0 {
@@ -56,7 +56,8 @@ impl Dice {
         }
     }
 
-    // Returns a random number whose binary digits are the decisions of a judge.
+    // Returns a random number whose binary digits are the decisions of a judge. A judge makes the
+    // decisions that a method such as `retain` leaves to its closure.
     fn digits(&mut self) -> u64 {
         if self.below(4) == 0 {
             EACH_SECOND.digits
@@ -81,10 +82,10 @@ impl Dice {
     }
 }
 
-/// The record of an executed command:
+/// The record of an executed command. It consists of four parts:
 ///
 /// - the command
-/// - the number of the request that was to be refused, or 0
+/// - the number of the request that was to be refused, or 0 if there is no such request
 /// - the variant of the reply
 /// - the cause of the failure, if the command failed
 pub type Done = (Order, u64, Form, Option<ThinVecError>);
@@ -106,9 +107,9 @@ fn is_alike<'a, T: Numbered<Lender<'a>>, G: Ruled, J: Judge<T> + From<u64>>(
     Ok(form != Form::Never)
 }
 
-// Executes `commands` random commands on a new list, and appends their records to `done`. Stops at
-// the first command on which `ThinVec` and the model disagree. Returns whether there is no such
-// command.
+// Executes `commands` random commands on a new list, and appends a record of each command to
+// `done`. Stops at the first command on which `ThinVec` and the model disagree. Returns whether
+// they agree on all commands.
 fn are_alike<'a, T: Numbered<Lender<'a>>, G: Ruled, J: Judge<T> + From<u64>>(
     alloc: Lender<'a>,
     dice: &mut Dice,
@@ -125,9 +126,9 @@ fn are_alike<'a, T: Numbered<Lender<'a>>, G: Ruled, J: Judge<T> + From<u64>>(
     Ok(true)
 }
 
-// Executes up to 30 random commands, which `seed` determines, and replaces the contents of `done`
-// with their records. Returns whether `ThinVec` and the model agree on all of them, and no block is
-// allocated at the end.
+// Executes up to 30 random commands, which `seed` determines. Clears `done`, and then records each
+// executed command in it. Returns `true` if `ThinVec` and the model agree on every command, and if
+// all blocks have been freed at the end.
 fn runs_alike<'a, T: Numbered<Lender<'a>>, G: Ruled, J: Judge<T> + From<u64>>(
     alloc: Lender<'a>,
     seed: u64,
@@ -140,9 +141,9 @@ fn runs_alike<'a, T: Numbered<Lender<'a>>, G: Ruled, J: Judge<T> + From<u64>>(
     Ok(alike && alloc.blocks() == 0)
 }
 
-/// Executes the random commands that `seed` determines, and replaces the contents of `done` with
-/// their records. Asserts that `ThinVec` and the model agree on all of them, and that all blocks
-/// have been freed at the end.
+/// Executes the random commands that `seed` determines. Clears `done`, and then records each
+/// executed command in it. Asserts that `ThinVec` and the model agree on every command, and that
+/// all blocks have been freed at the end.
 pub fn assert_alike<'a, T: Numbered<Lender<'a>>, G: Ruled, J: Judge<T> + From<u64>, R: Abort>(
     rt: &R,
     alloc: Lender<'a>,
@@ -153,12 +154,13 @@ pub fn assert_alike<'a, T: Numbered<Lender<'a>>, G: Ruled, J: Judge<T> + From<u6
     assert!(rt; alike, "seed {seed}, done {done:?}");
 }
 
-// The number of runs for each of the 20 pairs of an item type and a growth rule. There are 100,000
-// runs in total.
+// The number of runs for each pair of an item type and a growth rule. There are 20 such pairs, so
+// there are 100,000 runs in total.
 const RUNS: u64 = 5_000;
 
-// Three counts: the executed commands, those in which a request was to be refused, and those in
-// which a request really was refused. Some commands end before the request that was to be refused.
+// Three counts: the executed commands, the commands in which a request was to be refused, and the
+// commands in which a request was actually refused. The last two counts differ, because some
+// commands did not make the request that was to be refused.
 #[derive(Debug, Drop)]
 struct Tally {
     commands: u64,
@@ -205,9 +207,9 @@ fn assert_all_from<'a, T: Numbered<Lender<'a>>, G: Ruled, R: Abort>(
     tally
 }
 
-// Asserts that `commands` commands were executed, that a request was to be refused in `named` of
-// them, and that a request really was refused in more than 2 percent of them. The first two numbers
-// were computed by another program.
+// Asserts that `commands` commands were executed, and that a request was to be refused in `named`
+// of them. These two numbers were computed by another program. Also asserts that a request really
+// was refused in more than 2 percent of the commands.
 fn assert_tally<R: Abort>(rt: &R, tally: &Tally, commands: u64, named: u64) {
     assert_eq!(rt; (tally.commands, tally.named), (commands, named));
     assert!(rt; tally.refused > commands / 50, "{tally:?}");
@@ -259,8 +261,8 @@ fn each_seed_makes_its_own_run(rt: HostRuntime) {
     assert_eq!(rt; counted, (217, 187, 12));
 }
 
-// Returns a box that owns a block, which no command allocates. As long as the block exists, each
-// run must report a difference between the list and the model.
+// Returns a box that owns a block. No command allocates this block. So each run must report a
+// difference between the list and the model as long as the block exists.
 fn block<'a, R: Abort>(rt: &R, alloc: Lender<'a>) -> Box<u64, Lender<'a>> {
     Box::new(alloc, 1).ok().expect(rt, "memory")
 }

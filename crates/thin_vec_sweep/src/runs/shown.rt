@@ -1,5 +1,6 @@
-//! The type `Shown`: a reply to a command, divided into parts. The replies of the runner and of the
-//! model are compared part by part.
+//! The parts of a reply to a command (`Shown`). The runner executes a command on a `ThinVec`. The
+//! model, a simple program that specifies the commands, executes the same command on a `Vec`. The
+//! two replies are compared part by part.
 use crate::runs::samples::{one, put};
 use std::alloc::{AllocError, Allocator};
 use thin_runner::command::{Command, Reply, Step};
@@ -22,24 +23,27 @@ pub enum Form {
     Never,
 }
 
-/// The place where a command acts: an index, or a range with steps (calls to `next` and
-/// `next_back`). For an index, all fields except `start` are 0.
+/// Says where a command acts: at an index, or on a range. Also contains the steps over the range.
+/// Each step is a call to `next` or `next_back`. If the command has only an index, all fields
+/// except `start` are 0.
 #[derive(Clone, Copy, PartialEq, Eq)]
 pub struct Place {
     /// The index at which the command acts, or the start of the range on which it acts.
     pub start: usize,
     /// The end of the range on which the command acts.
     pub end: usize,
-    /// The lower bound of the size hint for a `Splice`, the number of calls to `next` for an
-    /// `ExtractIf`, and 0 for any other command.
+    /// A number whose meaning depends on the command. For a `Splice`, it is the lower bound of the
+    /// size hint. For an `ExtractIf`, it is the number of calls to `next`. For any other command,
+    /// it is 0.
     pub claim: usize,
-    /// The steps over the range, as a binary number. The first digit is always 1. Each further
-    /// digit is one step, in order: 1 from the front, or 0 from the back.
+    /// The steps over the range, represented by a binary number. The first digit is always 1. Each
+    /// further digit is one step, in order: 1 is a step from the front, and 0 is a step from the
+    /// back.
     pub walk: u64,
 }
 
 impl Place {
-    /// Returns the `Place` of a command that has only an index.
+    /// Returns the `Place` of a command that acts at the index `start`, and not on a range.
     pub const fn index(start: usize) -> Place {
         Place {
             start,
@@ -72,17 +76,20 @@ pub struct Shown<T, A: Allocator> {
     pub form: Form,
     /// The cause of the failure, if the command failed.
     pub cause: Option<ThinVecError>,
-    /// The results of the calls to `next` and `next_back`. If the command removes or replaces one
-    /// item, this vector contains only the old item, or `None` if there was none.
+    /// If the command makes an iterator, this vector contains the results of the calls to `next`
+    /// and `next_back`. If the command removes or replaces one item, this vector contains only the
+    /// old item, or `None` if there was no such item.
     pub answers: Vec<Option<T>, A>,
-    /// The items in the reply: the items of a list, the items that a failed command returned, or
-    /// the new items of a command whose index or range is out of bounds.
+    /// The items in the reply. If the reply contains a list, these are the items of this list. If
+    /// the command failed, these are the items that it returned. If the index or the range is out
+    /// of bounds, these are the new items of the command.
     pub items: Vec<T, A>,
     /// The capacity of the list in the reply, or the number of items that a failed splice had
     /// stored in a temporary vector.
     pub number: usize,
     /// Whether the failed command had taken an item from the iterator and found no room for it. If
-    /// so, `items` contains this item directly after those from the temporary vector.
+    /// so, this item is also in `items`, directly after the items that had been stored in a
+    /// temporary vector.
     pub in_hand: bool,
     /// If the reply is `OutOfRange`, the index or the range that is out of bounds.
     pub place: Place,
@@ -194,8 +201,8 @@ fn show_list<T: Drop, A: Allocator + Copy, G: Growth>(
     }
 }
 
-// Returns the parts of the reply to a command that failed before it had moved all new items into
-// the list.
+// Returns the parts of the reply to a command that failed before it moved all new items into the
+// list.
 fn show_stopped<T: Drop, A: Allocator + Copy>(
     answers: Vec<Option<T>, A>,
     cause: ThinVecError,

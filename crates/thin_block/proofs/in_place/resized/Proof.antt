@@ -51,8 +51,9 @@ use Rattle.thin_block.specs.contracts.in_place.resized.Key as key
 use Rattle.thin_block.proofs.in_place.resized.Statement as stated
 use Rattle.thin_block.proofs.in_place.resized.Code as code
 
--- `gives k` is the code that assigns the local variable with the index `k` to the variable with the
--- index 0, which contains the result, and then returns.
+-- `gives k` is the code that returns the value of the local variable with the index `k`. The code
+-- assigns this value to the variable with the index 0, which holds the result of the function, and
+-- then returns.
 abbrev gives : ℕ → Body
 gives k = seq (assign (place 0 []) (rv_opd (copy (place k [])))) return
 
@@ -170,8 +171,9 @@ module _ (E : El) (Y : Al) {M : Type 1} {𝓤 : Ura M} (𝓛 : Logic 𝓤) (at_m
       let live : κ ⊑ Y.row.lives = ⊑_trans κ κA Y.row.lives out leA in
       move ! (1 ∷ []) $ split ! $ split3 ! $ move ! (3 ∷ []) $ fsplit ! $ fsplit ! $
       keep ! (6 ∷ 1 ∷ 3 ∷ 4 ∷ 5 ∷ []) $
-      -- The `requires` clauses are now available as facts. Proof context, in order: the block; the
-      -- reference to the allocator; the lifetime tokens of this reference, of `T` and of `A`.
+      -- From here on, the `requires` clauses are available as facts. The proof context now
+      -- contains, in this order: [the block; the shared reference to the allocator; the lifetime
+      -- tokens of this reference, of `T` and of `A`].
       enter ! C Λ (here E Y) (vs x) _ $ alloc_all ! (λ l. pass_all ! refl (
         (tt, tt),
         (

@@ -84,7 +84,8 @@ module _ (E : El) (m : ℕ) where
     (stay_dropped (plain (λ _. usize)) yes, tt),
   )
 
-  -- A value of the type `Runs` contains one list of items for each word.
+  -- A value of the type `Runs` lists the items of several words. Each inner list contains the items
+  -- of one word.
   abbrev Runs : Type 0
   Runs = List (List (el_x E))
 
@@ -167,8 +168,9 @@ module _ (E : El) (m : ℕ) {M : Type 1} {𝓤 : Ura M} (𝓛 : Logic 𝓤) (at_
     abbrev To : Fml
     To = Made g o
 
-    -- `Then xss at` is the right to join the words from the offset `at` onward with the words
-    -- before them. The list `xss` contains the items of each of these words.
+    -- `Then xss at` is the right to join the words from the offset `at` onward with all words
+    -- before this offset. The list `xss` contains, for each word from the offset `at` onward, the
+    -- list of its items.
     abbrev Then : Runs E m → ℕ → SProp 𝓤
     Then xss at = wand 𝓤 (sem 𝓛 (Made xss at)) (sem 𝓛 To)
 
@@ -182,8 +184,9 @@ module _ (E : El) (m : ℕ) {M : Type 1} {𝓤 : Ura M} (𝓛 : Logic 𝓤) (at_
         feq_i ! (List Val) (vunit ∷ []) (vunit ∷ []) refl $ nothing ! $ nothing ! $ fjoin ! $
         nothing ! $ fjoin ! $ join ! $ move ! (2 ∷ 0 ∷ []) $ join ! $ join ! $ done !
 
-    -- A state of the loop: the number `i` of the words that have been made, the items `xss` of the
-    -- other words, and a proof that `i + length xss` equals `n`.
+    -- A value of the type `Left` is a state of the loop. It consists of the number `i` of words
+    -- that have been made, the items `xss` of the words that have not been made yet, and a proof
+    -- that `i + length xss` equals the total number `n` of words.
     abbrev Left : Type 0
     Left = (i : ℕ) × ((xss : Runs E m) × (i + length xss ≡ n))
 
@@ -248,9 +251,10 @@ module _ (E : El) (m : ℕ) {M : Type 1} {𝓤 : Ura M} (𝓛 : Logic 𝓤) (at_
           sets ! (bin ! (get ! refl) (size_lit ! (record { fits = fs })) (record { fits = fm }))
           refl (tt, record { fits = fm }) $
           sets ! (bin ! (get ! refl) (get ! refl) tt) refl (tt, tt) $ fsplit ! $ fsplit ! $
-          -- The next word's items have been separated. Proof context, in order: these items; the
-          -- right to convert their memory into memory for the word; the items of the later words;
-          -- the right to join the later words with the preceding words; the lifetime tokens.
+          -- The proof has separated the items of the next word from the items after them. The proof
+          -- context now contains, in this order: [the items of the next word; the right to convert
+          -- the memory of these items into memory for the word; the items of the later words; the
+          -- right to join the later words with the words before them; the lifetime tokens].
           use1 𝓛 (exists (λ (v : Val). ‵ (fat full_share σ b at v) ⊛ ‵
           ((Arr E m).own_val xs (v ∷ [])))) (part_out 𝓛 (Arr E m) refl full_share xs b at) $
           pick ! (λ v. split ! $ move ! (1 ∷ []) $

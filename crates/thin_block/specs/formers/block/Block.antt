@@ -1,5 +1,6 @@
--- This file defines the type former of `Block`, which states which values a block contains. It lets
--- the prover accept a type `T` that has a field of the type `Block<T, A>`.
+-- This file defines the type former of `Block`. The type former states which values a block
+-- contains. Because of this type former, the prover accepts a type `T` that has a field of the type
+-- `Block<T, A>`.
 use Rattle.std.specs.Prelude.{◌≡◌, ℕ, suc, max, ◌+◌, ◌≤◌, List, [], ◌∷◌, map, length, Option}
 use Rattle.std.specs.declared.option.Option.TheVariants.{Some, None}
 use mathlib.Core.Path.{PathP, refl, sym, ap, ◌∙◌}
@@ -36,8 +37,8 @@ use Rattle.std.specs.Coded.{coded_option}
 use Rattle.thin_block.specs.declared.block.Block.{Block}
 use Rattle.thin_block.specs.contracts.block.Block as C
 
--- `on_slot h x` is the slot `x` after the function `h` has been applied to its item, if there is
--- one.
+-- `on_slot h x` is the slot `x` after the function `h` has been applied to its item. An empty slot
+-- remains empty.
 abbrev pub on_slot : {X Y : Type 0} → (X → Y) → Option X → Option Y
 on_slot h None = None
 on_slot h (Some x) = Some (h x)
@@ -45,35 +46,35 @@ on_slot h (Some x) = Some (h x)
 -- The type former `g` states which values of a type `X` an item contains. From `g`, this module
 -- constructs the type former of slots.
 module _ (g : Former {0}) where
-  -- `slot_count a n` is `n` plus the number of values in a slot of the shape `a`. The shape is
-  -- everything about a slot except for its values.
+  -- `slot_count a n` is `n` plus the number of values in a slot of the shape `a`. The shape of a
+  -- slot describes everything about the slot except for its values.
   abbrev pub slot_count : Option g.Shape → Count → Count
   slot_count None n = n
   slot_count (Some a) n = g.count a n
 
-  -- `slot_put X o n t` is the row of the values in the slot `o`, followed by the `n` values of the
-  -- row `t`.
+  -- `slot_put X o n t` prepends the values in the slot `o` to the row `t` of `n` values. All values
+  -- have the type `X`.
   abbrev pub slot_put : (X : Type 0) (o : Option (g.Of X)) (n : Count) → Row X n
       → Row X (slot_count (on_slot (g.shape X) o) n)
   slot_put X None n t = t
   slot_put X (Some y) n t = g.put X y n t
 
-  -- `slot_get X a n v` splits the row `v` into a slot of the shape `a`, which contains the first
-  -- values, and a row of the other `n` values.
+  -- `slot_get X a n v` splits the row `v` of values of the type `X` into two parts: a slot of the
+  -- shape `a`, and a row of `n` values. The slot contains the first values of `v`.
   abbrev pub slot_get : (X : Type 0) (a : Option g.Shape) (n : Count) → Row X (slot_count a n)
       → Option (g.Of X) × Row X n
   slot_get X None n v = (None, v)
   slot_get X (Some a) n v = let r : g.Of X × Row X n = g.get X a n v in (Some r.0, r.1)
 
-  -- If the values in the slot `o` are prepended to the row `t`, then `slot_get` splits the result
-  -- into `o` and `t` again.
+  -- Suppose that the values in the slot `o` are prepended to the row `t`. Then splitting the
+  -- resulting row with `slot_get` returns `o` and `t` again.
   pub slot_get-put : (X : Type 0) (o : Option (g.Of X)) (n : Count) (t : Row X n)
       → slot_get X (on_slot (g.shape X) o) n (slot_put X o n t) ≡ (o, t)
   slot_get-put X None n t = refl
   slot_get-put X (Some y) n t = λ i. (Some (g.get-put X y n t i).0, (g.get-put X y n t i).1)
 
-  -- If `slot_get` splits the row `v` into a slot and a shorter row, then prepending the slot's
-  -- values to the shorter row restores `v`.
+  -- Suppose that `slot_get` splits the row `v` of values into a slot and a shorter row. Then
+  -- prepending the values in the slot to the shorter row restores `v`.
   pub slot_put-get : (X : Type 0) (a : Option g.Shape) (n : Count) (v : Row X (slot_count a n))
       → ◌≡◌ {A = (b : Option g.Shape) × Row X (slot_count b n)} (
         on_slot (g.shape X) (slot_get X a n v).0,
@@ -83,8 +84,8 @@ module _ (g : Former {0}) where
   slot_put-get X None n v = refl
   slot_put-get X (Some a) n v = λ i. (Some (g.put-get X a n v i).0, (g.put-get X a n v i).1)
 
-  -- Splitting a row with `slot_get` and then applying `h` to all values has the same result as
-  -- applying `h` before splitting.
+  -- Splitting a row of values with `slot_get` and then applying the function `h` to all values has
+  -- the same result as applying `h` first and then splitting the row.
   pub slot_get-map : (X Y : Type 0) (h : X → Y) (a : Option g.Shape) (n : Count)
       (v : Row X (slot_count a n))
       → slot_get Y a n (over h (slot_count a n) v) ≡ (
@@ -117,27 +118,29 @@ module _ {g : Former {0}} (w : Weighed g) where
   slot_weight X μ None = 0
   slot_weight X μ (Some y) = w.weight X μ y
 
-  -- If the values in the slot `o` are prepended to the row `t`, then the depth of the new row is
-  -- the maximum of the depths of `o` and `t`. A row is as deep as its deepest value.
+  -- Suppose that the values in the slot `o` are prepended to the row `t`. Then the depth of the new
+  -- row is the maximum of the depth of `o` and the depth of `t`. The depth of a row is the greatest
+  -- depth of a value in the row, or 0 if the row is empty.
   pub slot_puts : (X : Type 0) (μ : X → ℕ) (o : Option (g.Of X)) (n : Count) (t : Row X n)
       → deepest μ (slot_count g (on_slot (g.shape X) o) n) (slot_put g X o n t) ≡ max
       (slot_weight X μ o) (deepest μ n t)
   slot_puts X μ None n t = none_max (deepest μ n t)
   slot_puts X μ (Some y) n t = w.puts X μ y n t
 
-  -- `w_slot` adds depths to the type former of slots. It consists of the function `slot_weight` and
-  -- the lemma `slot_puts` about this function.
+  -- `w_slot` adds depths to the type former of slots. It consists of the function `slot_weight`,
+  -- which computes the depth of a slot, and the lemma `slot_puts` about this function.
   abbrev pub w_slot : Weighed (slot g)
   w_slot = record { weight = slot_weight; puts = slot_puts }
 
 module _ {X Y Z : Type 0} (d : Block X Z) where
-  -- `Fits ys` holds if the block `d` of this module could have the slots `ys`: `ys` is at least as
-  -- long as the stored length of `d`, and is empty if and only if `d` has no allocation.
+  -- The block `d` is a parameter of this module. `Fits ys` holds if `ys` is a possible list of
+  -- slots for `d`. This is the case if the length of `ys` is at least the stored length of `d`, and
+  -- if `ys` is empty exactly when `d` has no allocation.
   abbrev pub Fits : List (Option Y) → Type 0
   Fits ys = (d.len ≤ length ys) × (is_some d.alloc ≡ any ys)
 
-  -- `holding ys` is the block `d` of this module with the slots `ys`. The second argument is a
-  -- proof of `Fits ys`.
+  -- `holding ys` is the block `d` of this module after its slots have been replaced with `ys`. The
+  -- second argument is a proof that `d` may have the slots `ys`.
   abbrev pub holding : (ys : List (Option Y)) → Fits ys → Block Y Z
   holding ys sound = record {
     at = d.at;
@@ -150,20 +153,21 @@ module _ {X Y Z : Type 0} (d : Block X Z) where
     sound = sound;
   }
 
-  -- If `ys` has as many slots as the block `d` of this module, then `Fits ys` holds: `d` could have
-  -- the slots `ys`.
+  -- If the length of `ys` is the number of slots of the block `d`, then `Fits ys` holds: the slots
+  -- of `d` may be replaced with `ys`.
   pub fits : (ys : List (Option Y)) → length ys ≡ length d.slots → Fits ys
   fits ys e = (let le = d.sound.0 in omega (arith, e, le), d.sound.1 ∙ sym (any_same d.slots ys e))
 
-  -- If the lists `ys` and `zs` are equal, then any proof of `Fits ys` equals any proof of
-  -- `Fits zs`.
+  -- `Fits ys` states that the block `d` of this module may have the slots `ys`. If the lists `ys`
+  -- and `zs` are equal, then each proof `p` of `Fits ys` equals each proof `q` of `Fits zs`.
   pub Fits-along : (ys zs : List (Option Y)) (e : ys ≡ zs) (p : Fits ys) (q : Fits zs)
       → PathP (λ i. Fits (e i)) p q
   Fits-along ys zs e = is_prop→PathP (λ i. Fits (e i))
       (λ i p q j. (le_prop p.0 q.0 j, Coded-set coded_bool _ _ p.1 q.1 j))
 
-  -- If the lists `ys` and `zs` are equal, then the block `d` with the slots `ys` equals the block
-  -- `d` with the slots `zs`, whatever the proofs `p` and `q` are.
+  -- Suppose that the lists `ys` and `zs` are equal. Then the block `d` with the slots `ys` equals
+  -- the block `d` with the slots `zs`. It does not matter which proofs `p` and `q` show that `d`
+  -- may have these slots.
   abbrev pub holding_along : (ys zs : List (Option Y)) (e : ys ≡ zs) (p : Fits ys) (q : Fits zs)
       → holding ys p ≡ holding zs q
   holding_along ys zs e p q = λ i. holding (e i) (Fits-along ys zs e p q i)
@@ -182,16 +186,16 @@ module _ (g : Former {0}) (Z : Type 0) where
   length_got X (a ∷ as') n v =
       ap suc (length_got X as' n ((slot g).get X a (list_count (slot g) as' n) v).1)
 
-  -- `got X a n v` splits the row `v` into a block of the shape `a`, which contains the first
-  -- values, and a row of the other `n` values. The shape is everything about a block except for its
-  -- values.
+  -- `got X a n v` splits the row `v` of values of the type `X` into two parts: a block of the shape
+  -- `a`, and a row of `n` values. The block contains the first values of `v`. The shape of a block
+  -- describes everything about the block except for its values.
   abbrev pub got : (X : Type 0) (a : Block g.Shape Z) (n : Count)
       → Row X (list_count (slot g) a.slots n) → Block (g.Of X) Z × Row X n
   got X a n v = let r : List (Option (g.Of X)) × Row X n = list_get (slot g) X a.slots n v in
       (holding a r.0 (fits a r.0 (length_got X a.slots n v)), r.1)
 
-  -- If the values in the block `d` are prepended to the row `t`, then `got` splits the result into
-  -- `d` and `t` again.
+  -- Suppose that the values in the block `d` are prepended to the row `t`. Then splitting the
+  -- resulting row with `got` returns `d` and `t` again.
   pub got-put : (X : Type 0) (d : Block (g.Of X) Z) (n : Count) (t : Row X n)
       → got X (mapped (g.shape X) d) n ((list (slot g)).put X d.slots n t) ≡ (d, t)
   got-put X d n t = λ i. (
@@ -200,8 +204,8 @@ module _ (g : Former {0}) (Z : Type 0) where
     ((list (slot g)).get-put X d.slots n t i).1,
   )
 
-  -- If `got` splits the row `v` into a block and a shorter row, then prepending the block's values
-  -- to the shorter row restores `v`.
+  -- Suppose that `got` splits the row `v` of values into a block and a shorter row. Then prepending
+  -- the values in the block to the shorter row restores `v`.
   pub put-got : (X : Type 0) (a : Block g.Shape Z) (n : Count)
       (v : Row X (list_count (slot g) a.slots n))
       → ◌≡◌ {A = (b : Block g.Shape Z) × Row X (list_count (slot g) b.slots n)} (
@@ -215,8 +219,8 @@ module _ (g : Former {0}) (Z : Type 0) where
     ((list (slot g)).put-get X a.slots n v i).1,
   )
 
-  -- Splitting a row with `got` and then applying `h` to all values has the same result as applying
-  -- `h` before splitting.
+  -- Splitting a row of values with `got` and then applying the function `h` to all values has the
+  -- same result as applying `h` first and then splitting the row.
   pub got-map : (X Y : Type 0) (h : X → Y) (a : Block g.Shape Z) (n : Count)
       (v : Row X (list_count (slot g) a.slots n))
       → got Y a n (over h (list_count (slot g) a.slots n) v)
@@ -252,8 +256,8 @@ the_weighed w Z = record {
   puts = λ X μ d. List-puts (w_slot w) X μ d.slots;
 }
 
--- `the_empty Z z` is a block without slots and without an allocation. Its items have the type `⊥`,
--- which has no values. The argument `z` is not used.
+-- `the_empty Z z` is a block without slots and without an allocation. Its allocator has the type
+-- `Z`, and its items have the type `⊥`, which has no values. The argument `z` is not used.
 abbrev pub the_empty : (Z : Type 0) → Z → Block ⊥ Z
 the_empty Z z = record {
   at = null_ptr;
@@ -266,8 +270,8 @@ the_empty Z z = record {
   sound = (omega arith, refl);
 }
 
--- Under the type former `this`, each item contains exactly one value, namely itself. So the values
--- in the slots `xs` are the items in these slots, in order.
+-- The type former `this` states that each item contains exactly one value, which is the item
+-- itself. So under `this`, the values in the slots `xs` are the items in these slots, in order.
 pub items_listed : (X : Type 0) (xs : List (Option X))
     → listed _ (children (list (slot this)) X xs) ≡ items_in xs
 items_listed X [] = refl
@@ -278,8 +282,8 @@ items_listed X (Some x ∷ xs) = ap (λ l. x ∷ l) (items_listed X xs)
 abbrev pub the_items : (Z X : Type 0) → Block X Z → List X
 the_items Z X d = items_in d.slots
 
--- Under the type former `this`, each item contains exactly one value, namely itself. So the values
--- in the block `d` are its items, in order.
+-- The type former `this` states that each item contains exactly one value, which is the item
+-- itself. So under `this`, the values in the block `d` are the items of `d`, in order.
 pub the_items_listed : (Z X : Type 0) (d : Block X Z)
     → listed _ (children (the_former this Z) X d) ≡ the_items Z X d
 the_items_listed Z X d = items_listed X d.slots
@@ -290,28 +294,30 @@ pub codes_of : {X Y : Type 0} (c : X → Gv) (c' : Y → Gv) (h : X → Y) → (
     → (xs : List X) → code_l c' (map h xs) ≡ code_l c xs
 codes_of = codes_placed
 
--- If `a` and `b` are equal encodings, then the pair of `a` and `c` equals the pair of `b` and `c`.
+-- If the encodings `a` and `b` are equal, then the pair of `a` and `c` equals the pair of `b` and
+-- `c`.
 first : {a b c : Gv} → a ≡ b → gcons a c ≡ gcons b c
 first {c = c} e = λ i. gcons (e i) c
 
--- If `a` and `b` are equal encodings, then the pair of `c` and `a` equals the pair of `c` and `b`.
+-- If the encodings `a` and `b` are equal, then the pair of `c` and `a` equals the pair of `c` and
+-- `b`.
 second : {a b c : Gv} → a ≡ b → gcons c a ≡ gcons c b
 second {c = c} e = λ i. gcons c (e i)
 
 module _ (R R' : RattleType) (h : R.Denot → R'.Denot) (a : Alike R R' h) where
-  -- The types `R` and `R'` have the same size, because `Alike R R' h` states that each item `y` has
-  -- the same layout as `h y`.
+  -- The item types `R` and `R'` have the same size, because this module assumes `Alike R R' h`. One
+  -- part of this assumption is that each item `y` has the same layout as the item `h y`.
   abbrev width : type_size R' ≡ type_size R
   width = λ i. size (lone (a.mir_same i))
 
-  -- If each item `y` has the same layout as `h y` and owns the same memory, then applying `h` to
-  -- the item in the slot `x` does not change which memory the slot owns.
+  -- Suppose that each item `y` has the same layout as the item `h y`, and owns the same memory.
+  -- Then applying `h` to the item in the slot `x` does not change which memory the slot owns.
   place_placed : (x : Option R.Denot) (b o : ℕ) → place R' (on_slot h x) b o ≡ place R x b o
   place_placed None b o = λ i. room_for (raw (lone (a.mir_same i))) (block_ptr b o)
   place_placed (Some x) b o = lies_placed R R' h a full_share (block_ptr b o) x
 
-  -- If each item `y` has the same layout as `h y` and owns the same memory, then applying `h` to
-  -- the items in the slots `xs` does not change which memory these slots own.
+  -- Suppose that each item `y` has the same layout as the item `h y`, and owns the same memory.
+  -- Then applying `h` to the items in the slots `xs` does not change which memory these slots own.
   places_placed : (xs : List (Option R.Denot)) (b o : ℕ)
       → places R' (map (on_slot h) xs) b o ≡ places R xs b o
   places_placed [] b o = refl
@@ -319,8 +325,8 @@ module _ (R R' : RattleType) (h : R.Denot → R'.Denot) (a : Alike R R' h) where
       (λ i. fsep (place_placed x b o i) (places R' (map (on_slot h) xs) b (o + width i)))
       ∙ ap (fsep (place R x b o)) (places_placed xs b (o + type_size R))
 
-  -- If each item `y` has the same layout as `h y` and owns the same memory, then applying `h` to
-  -- the items of a block does not change which memory the block owns.
+  -- Suppose that each item `y` has the same layout as the item `h y`, and owns the same memory.
+  -- Then applying `h` to the items of a block does not change which memory the block owns.
   pub block_placed : {D : Type 0} (t : D → Ty → Ptr → Fml) (p : Ptr) (n : ℕ)
       (xs : List (Option R.Denot)) (w : Option D) → block_owns t R' p n (map (on_slot h) xs)
       w ≡ block_owns t R p n xs w
@@ -330,15 +336,17 @@ module _ (R R' : RattleType) (h : R.Denot → R'.Denot) (a : Alike R R' h) where
       λ i. fsep (frame (t w) (record R { mir = a.mir_same i }) n (length-map xs (on_slot h) i) b o)
       (places_placed xs b (o + 16) i)
 
-  -- If shared references to `y` and to `h y` lend the same memory for every item `y`, then applying
-  -- `h` to the item in the slot `x` does not change what a shared reference to the slot lends.
+  -- Suppose that for every item `y`, shared references to `y` and to `h y` lend the same memory.
+  -- Then applying `h` to the item in the slot `x` does not change what a shared reference to the
+  -- slot lends.
   place_lent_placed : (x : Option R.Denot) (p : Ptr)
       → place_lent R' (on_slot h x) p ≡ place_lent R x p
   place_lent_placed None p = refl
   place_lent_placed (Some x) p = lent_at_placed R R' h a p x
 
-  -- If shared references to `y` and to `h y` lend the same memory for every item `y`, then applying
-  -- `h` to the items in the slots `xs` does not change what shared references to these slots lend.
+  -- Suppose that for every item `y`, shared references to `y` and to `h y` lend the same memory.
+  -- Then applying `h` to the items in the slots `xs` does not change what shared references to
+  -- these slots lend.
   places_lent_placed : (xs : List (Option R.Denot)) (b o : ℕ) → places_lent R' (map (on_slot h) xs)
       b o ≡ places_lent R xs b o
   places_lent_placed [] b o = refl
@@ -347,8 +355,9 @@ module _ (R R' : RattleType) (h : R.Denot → R'.Denot) (a : Alike R R' h) where
       (places_lent R' (map (on_slot h) xs) b (o + width i)))
       ∙ ap (beside (place_lent R x (block_ptr b o))) (places_lent_placed xs b (o + type_size R))
 
-  -- If shared references to `y` and to `h y` lend the same memory for every item `y`, then applying
-  -- `h` to the items of a block does not change what a shared reference to the block lends.
+  -- Suppose that for every item `y`, shared references to `y` and to `h y` lend the same memory.
+  -- Then applying `h` to the items of a block does not change what a shared reference to the block
+  -- lends.
   pub block_lent_placed : {D : Type 0} (p : Ptr) (n : ℕ) (xs : List (Option R.Denot)) (w : Option D)
       → block_lent R' p n (map (on_slot h) xs) w ≡ block_lent R p n xs w
   block_lent_placed null_ptr n xs w = refl
@@ -358,8 +367,9 @@ module _ (R R' : RattleType) (h : R.Denot → R'.Denot) (a : Alike R R' h) where
       (places_lent_placed xs b (o + 16) i)
 
 module _ (A : RattleType) (G : Ghosts A.Denot) (R R' : RattleType) (h : R.Denot → R'.Denot) where
-  -- If applying `h` to an item changes neither its layout, nor the memory it owns, nor what a
-  -- shared reference to it lends, then the same is true of applying `h` to all items of a block.
+  -- Suppose that applying `h` to an item changes neither the layout of the item, nor the memory
+  -- that the item owns, nor what a shared reference to the item lends. Then the same is true of a
+  -- block if `h` is applied to all its items.
   pub the_places : Alike R R' h → Alike (C.the_row R A G) (C.the_row R' A G)
       ((the_former this A.Denot).map R.Denot R'.Denot h)
   the_places a = record {
@@ -371,15 +381,15 @@ module _ (A : RattleType) (G : Ghosts A.Denot) (R R' : RattleType) (h : R.Denot 
         (block_lent_placed R R' h a d.at d.len d.slots d.alloc i) κ;
   }
 
-  -- If `h` does not change the encoding of any item, then applying `h` to the item in a slot does
-  -- not change the encoding of the slot.
+  -- If the function `h` does not change the encoding of any item, then applying `h` to the item in
+  -- a slot does not change the encoding of the slot.
   slot_recoded : Recodes R R' h → (x : Option R.Denot) → (coded_option R'.coded).code (on_slot h x)
       ≡ (coded_option R.coded).code x
   slot_recoded e None = refl
   slot_recoded e (Some x) = second (e x)
 
-  -- If `h` does not change the encoding of any item, then applying `h` to all items of a block does
-  -- not change the encoding of the block.
+  -- If the function `h` does not change the encoding of any item, then applying `h` to each item of
+  -- a block does not change the encoding of the block.
   pub the_codes_placed : Recodes R R' h → Recodes (C.the_row R A G) (C.the_row R' A G)
       ((the_former this A.Denot).map R.Denot R'.Denot h)
   the_codes_placed e d =

@@ -1,5 +1,5 @@
 -- If `all_granted` succeeds, then no reply reports a failed call, because `all_granted` returns an
--- error at the first such reply.
+-- error at the first reply that reports one.
 use Rattle.std.proofs.Common.{◌≡◌, None, sym, ◌∙◌, ap, rules}
 use Rattle.std.proofs.lemmas.List.{get_or_default}
 use Rattle.std.proofs.lemmas.List.Elements.{All-from_all_within, AllWithin-more, AllWithin-upto}

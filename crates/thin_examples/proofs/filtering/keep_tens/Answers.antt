@@ -1,5 +1,6 @@
--- The closure of `keep_tens` has no state, and returns `number / 10` without changing `number`. So
--- the list keeps the numbers that the spec function `dedup` keeps if it compares these quotients.
+-- The closure that `keep_tens` passes to `dedup_by_key` has no state. It returns `number / 10` and
+-- does not change the number. So after the call, the list contains the numbers that the spec
+-- function `dedup` keeps if it compares the values of `number / 10`.
 use Rattle.std.proofs.Common.{rules}
 use Rattle.thin_vec.proofs.EditLemmas.{deduped_dedup}
 use Rattle.thin_examples.proofs.filtering.keep_tens.Goals as goal

@@ -1,5 +1,5 @@
--- `room_for_eight` cannot fail with `CapacityOverflow`, because an allocation for eight numbers is
--- not too large.
+-- `room_for_eight` cannot fail with `CapacityOverflow`, because the allocation for eight numbers
+-- does not exceed the maximum size of an allocation.
 use Rattle.std.proofs.Common.{arith}
 use Rattle.thin_vec.proofs.FewLemmas.{few_items}
 use Rattle.thin_examples.proofs.growing.room_for_eight.Goals as goal

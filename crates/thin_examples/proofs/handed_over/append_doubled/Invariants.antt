@@ -1,5 +1,6 @@
--- In the loop of `append_doubled`, the list contains its old items, followed by `2 * x` for each
--- number `x` that has been read so far. It has room for all numbers that have not been read yet.
+-- In the loop of `append_doubled`, the list contains its old items, followed by the doubles of the
+-- numbers that the loop has already read. The list has room for the doubles of the numbers that
+-- have not been read yet.
 use Rattle.std.proofs.Common.{◌≡◌, ◌+◌, ◌*◌, ◌++◌, ◌≤◌, length, map, take}
 use Rattle.thin_examples.proofs.handed_over.append_doubled.Given as goal
 

@@ -1,5 +1,6 @@
--- `hand_over_odd` extracts the odd numbers from `list` one by one, and pushes each of them to
--- `other`. When `next` returns `None`, `list` contains only the even numbers.
+-- In `hand_over_odd`, the calls to `next` extract the odd numbers from `list` one by one, and each
+-- of them is pushed to `other`. When `next` returns `None`, all odd numbers have been pushed, and
+-- `list` contains the even numbers.
 use Rattle.std.proofs.Common.{◌≡◌, ℕ, ◌-◌, ◌%◌, ◌==◌, ◌++◌, Bool, List, ap, arith, length, rules, take, ◌∙◌}
 use Rattle.std.proofs.Math.Seq.{take-length}
 use Rattle.std.proofs.lemmas.List.{append-nil, drop_all}

@@ -1,5 +1,5 @@
--- In the loop of `count_even`, `count` is the number of even numbers before the current number, and
--- at most the index of the current number.
+-- In the loop of `count_even`, the variable `count` is the number of even numbers before the
+-- current number. So `count` is at most the index of the current number.
 use Rattle.std.proofs.Common.{◌≡◌, ◌%◌, ◌==◌, ◌≤◌, length, take}
 use Rattle.std.specs.Prelude.{filter}
 use Rattle.thin_examples.proofs.loops.count_even.Given as goal

@@ -1,5 +1,5 @@
--- In the loop of `carried_over`, the items of the `Vec`, followed by the items that have not been
--- yielded yet, are the old items of `list`.
+-- In the loop of `carried_over`, the items of the `Vec`, followed by the items that the iterator
+-- over `list` has not yielded yet, are the old items of `list`.
 use Rattle.std.proofs.Common.{◌≡◌, ◌++◌, length}
 use Rattle.thin_examples.proofs.walks.carried_over.Given as goal
 

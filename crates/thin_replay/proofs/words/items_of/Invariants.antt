@@ -1,5 +1,5 @@
--- The loop invariant of `items_of`, which parses words as numbers and collects the numbers in a
--- `Vec`.
+-- This file contains the loop invariant of `items_of`. This function parses words as numbers, and
+-- collects the numbers in a `Vec`.
 use Rattle.std.proofs.Common.{take}
 use Rattle.thin_replay.specs.Words.{SpellAll}
 use Rattle.thin_replay.proofs.words.items_of.Given as goal

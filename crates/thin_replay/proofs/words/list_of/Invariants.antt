@@ -1,5 +1,5 @@
--- The loop invariant of `list_of`, which parses words as numbers and collects the numbers in a
--- `ThinVec`.
+-- This file contains the loop invariant of `list_of`. This function parses words as numbers, and
+-- collects the numbers in a `ThinVec`.
 use Rattle.std.proofs.Common.{take}
 use Rattle.thin_replay.specs.Words.{SpellAll}
 use Rattle.thin_replay.proofs.words.list_of.Given as goal

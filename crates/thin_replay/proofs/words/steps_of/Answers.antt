@@ -19,8 +19,8 @@ loop-letter-preserved c =
     c.loop-letter.steps.items c.in_ok-step_of.field-0 c.loop-letter-test.true
     c.loop-letter.invariant (search rules))
 
--- After the loop, all letters have been parsed. So there is one step for each letter of the word,
--- in the same order.
+-- After the loop, all letters have been parsed. So the list of steps contains one step for each
+-- letter of the word, in the same order.
 pub returns : goal.returns
 returns c = record {
   steps = inr (rw (← c.as_bytes-letters.ensures.value)

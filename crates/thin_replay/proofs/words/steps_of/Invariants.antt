@@ -1,5 +1,5 @@
--- The loop invariant of `steps_of`, which parses each letter of a word as a step. A step is a call
--- to `next` or `next_back`.
+-- This file contains the loop invariant of `steps_of`. This function parses each letter of a word
+-- as a step, which is a call to `next` or `next_back`.
 use Rattle.std.proofs.Common.{take}
 use Rattle.std.specs.List.{AllZip}
 use Rattle.thin_replay.specs.Words.{IsStep}

@@ -5,8 +5,8 @@ use Rattle.std.proofs.lemmas.List.Sorted.{answers_always}
 use Rattle.thin_rows.proofs.EntriesLemmas.{searched}
 use Rattle.thin_rows.proofs.row.place.Goals as goal
 
--- The search returns the index of the entry of the column or, if there is none, the index at which
--- it would be inserted.
+-- If there is an entry of the given column, the search returns the index of this entry. Otherwise,
+-- the search returns the index at which such an entry would be inserted.
 pub returns : goal.returns
 returns g c =
     let told = c.binary_search_by_key.ensures in

@@ -1,5 +1,5 @@
--- All commands that the loop in `run` has taken from the vector `commands` have been carried out.
--- The vector `replies` has room for the remaining replies.
+-- Before each iteration of the loop in `run`, all commands that were taken from the vector
+-- `commands` have run. The vector `replies` has room for the replies to the remaining commands.
 use Rattle.std.proofs.Common.{◌≤◌, ◌+◌, length, vec_len}
 use Rattle.std.specs.Vec.{vec_capacity}
 use Rattle.std.specs.Vec.Iter.{into_iter_items}

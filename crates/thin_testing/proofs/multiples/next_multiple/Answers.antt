@@ -1,5 +1,6 @@
--- If `cap * times` exceeds `usize::MAX`, `next_multiple` uses `usize::MAX` instead. A block of
--- either capacity is too large to be allocated, so the result is `None` in both cases.
+-- `next_multiple` multiplies `cap` by `times`. If the product exceeds `usize::MAX`, the function
+-- continues with `usize::MAX` instead of the product. A block of either capacity would be too large
+-- to be allocated, so the result is `None` in both cases.
 use Rattle.std.proofs.Common.{◌≡◌, ℕ, ◌-◌, ◌*◌, ◌≤◌, ◌^◌, Some, inl, inr, max, min, mul_comm, refl, sym, ap, ◌∙◌, arith}
 use Rattle.std.proofs.lemmas.Bool.{cases_lt, false≢true}
 use Rattle.std.specs.Mem.{type_size}

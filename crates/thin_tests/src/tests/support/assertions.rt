@@ -1,5 +1,6 @@
-//! Assertions that many tests share. A test that contains such an assertion itself takes one or two
-//! seconds longer to prove.
+//! Assertions that many tests share. A call to one of these functions takes almost no time to
+//! prove. If a test contained the assertion itself, the proof of the test would take one or two
+//! seconds longer.
 ghost use Rattle.std.specs.Prelude.{◌≡◌, length};
 
 use std::alloc::{Allocator, Global};
@@ -25,8 +26,8 @@ pub fn assert_text<D: Debug>(rt: &impl Abort, alloc: Global, value: &D, line: &s
     assert_same(rt, text.as_str(), line);
 }
 
-/// Asserts that the list has `len` items. The contract tells the prover this length, so that tests
-/// can prove that a range is within the list.
+/// Asserts that the list has `len` items. After a call to this function, the prover knows the
+/// length of the list. Tests need this to prove that a range is within the list.
 pub fn assert_len<T, A: Allocator, G: Growth>(rt: &impl Abort, list: &ThinVec<T, A, G>, len: usize)
     ensures len { length list.now.items ≡ len }
 {

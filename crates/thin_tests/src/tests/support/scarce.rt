@@ -3,8 +3,9 @@ use crate::tests::support::counted::Counted;
 use std::alloc::AllocError;
 use std::cell::Cell;
 
-/// An item that adds 1 to the cell `drops` when it is dropped. Each clone subtracts 1 from the cell
-/// `granted`. While this cell contains 0, cloning fails.
+/// An item that counts its drops in the cell `drops`, and that can be cloned only a limited number
+/// of times. Each successful call to `clone` subtracts 1 from the number in the cell `granted`.
+/// While this number is 0, the item cannot be cloned.
 #[derive(Drop)]
 pub struct Scarce<'a> {
     drops: &'a Cell<u32>,

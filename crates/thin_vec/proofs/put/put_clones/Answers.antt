@@ -7,8 +7,8 @@ use Rattle.std.proofs.Common.{ap, arith, ◌∙◌, refl, ◌+◌}
 use Rattle.thin_vec.proofs.list.ClonesLemmas.{lays-more}
 use Rattle.thin_vec.proofs.put.put_clones.Goals as goal
 
--- If the slots hold clones of the first `i` items before an iteration, then they hold clones of the
--- first `i + 1` items after it.
+-- If the slots hold clones of the first `i` items before an iteration of the loop, then they hold
+-- clones of the first `i + 1` items after this iteration.
 pub loop-i-preserved : goal.loop-i-preserved
 loop-i-preserved g c =
     let was = c.loop-i.invariant in

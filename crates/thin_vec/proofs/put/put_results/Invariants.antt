@@ -1,4 +1,4 @@
--- The loop of `put_results` calls the closure `make` `count` times, and puts the results into the
+-- The loop of `put_results` calls the closure `make` `count` times. It puts the results into the
 -- slots from index `start` onward.
 use Rattle.std.proofs.Common.{◌≡◌, List, length}
 use Rattle.std.specs.Fn.{Called}
@@ -9,7 +9,7 @@ use Rattle.thin_block.specs.Slots.{full, laid}
 use Rattle.thin_vec.proofs.put.put_results.Given as goal
 
 -- When the loop variable is `i`, the first `i` slots from index `start` onward hold the results of
--- `i` calls to `make`, and `i` moves have been counted.
+-- `i` calls to `make`, in order, and `i` moves have been counted.
 abbrev pub invariant-loop-i : goal.invariant-loop-i
 invariant-loop-i g l = record {
   placed : (xs : List g.row.T.Denot) × (l.block.slots ≡ laid l.start (full xs) l.fn.block.slots)

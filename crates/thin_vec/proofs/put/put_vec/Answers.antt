@@ -1,5 +1,6 @@
--- Each iteration removes the last item of the vector and puts it directly before the items from
--- earlier iterations. So the slots finally hold all items in order.
+-- Each iteration of the loop removes the last item of the vector and puts it directly before the
+-- items that earlier iterations put into slots. When the vector is empty, all items are in slots,
+-- in order.
 use Rattle.std.proofs.lemmas.Grind.{common_steps}
 use Rattle.thin_block.specs.Cost.{moving}
 use Rattle.thin_block.specs.Slots.{full, laid}

@@ -1,5 +1,6 @@
--- Before each iteration, each item that has been removed from the vector is in its final slot, and
--- one move has been counted for it.
+-- Before each iteration of the loop, each item that was already removed from the vector is in the
+-- slot in which it will stay, and one move has been counted for it. Each iteration reduces the
+-- number of items in the vector.
 use Rattle.std.proofs.Common.{◌≡◌, ◌-◌, length}
 use Rattle.thin_block.specs.Block.{seen}
 use Rattle.thin_block.specs.Cost.{moving}

@@ -1,6 +1,8 @@
 -- This file defines the type former of `ThinVec`, which says that a list contains exactly its
--- items. It is sound because the items fill the first slots of the block, whatever their values
--- are.
+-- items. Because of the type former, the prover accepts types that contain lists of themselves,
+-- such as trees. The proof that the type former is sound uses the following fact, which
+-- `specs/Shapes.antt` proves: whether the items of a block are in its first slots depends only on
+-- which slots are filled, and not on the values of the items.
 use Rattle.std.specs.Prelude.{◌≡◌, ℕ, ◌-◌, List, [], ◌∷◌, Option, length, map}
 use Rattle.std.specs.declared.option.Option.TheVariants.{Some, None}
 use mathlib.Core.Path.{refl, sym, ap, ◌∙◌}
@@ -32,7 +34,9 @@ use Rattle.thin_vec.specs.declared.list.ThinVec.TheView.{view, invariant}
 use Rattle.thin_vec.specs.contracts.list.ThinVec as C
 use Rattle.thin_vec.specs.contracts.list.ThinVec.TheInside as I
 
--- `the_former` is the type former of lists.
+-- A type former says which values are contained in each value of a type. `the_former g Z Q` is the
+-- type former of lists whose items have the type former `g`. `Z` is the type of the allocator, and
+-- `Q` is the type of the growth rule.
 abbrev pub the_former : Former {0} → Type 0 → Type 0 → Former {0}
 the_former g Z Q =
     via (pair (list g) (const (ℕ × (Z × Cost)))) (λ X. Thin (g.Of X) Z)
@@ -40,9 +44,10 @@ the_former g Z Q =
     (λ X p. record { items = p.0; capacity = p.1.0; alloc = p.1.1.0; cost = p.1.1.1 })
     (λ X v. refl) (λ X p. refl)
 
--- If `w` computes how deeply the values in an item are nested, `the_weighed w Z Q` computes this
--- depth for lists of such items: the greatest depth of an item, or 0 if the list is empty. `Z` and
--- `Q` are the types of the allocator and the growth rule.
+-- A depth function computes how deeply values are nested in a value of a recursive type. Let `w` be
+-- a depth function for items. Then `the_weighed w Z Q` is a depth function for lists of such items.
+-- The depth of a list is the depth of its deepest item, or 0 if the list is empty. `Z` is the type
+-- of the allocator, and `Q` is the type of the growth rule.
 abbrev pub the_weighed : {g : Former {0}} → Weighed g → (Z Q : Type 0) → Weighed (the_former g Z Q)
 the_weighed w Z Q =
     record {
@@ -50,23 +55,27 @@ the_weighed w Z Q =
       puts = λ X μ v. List-puts w X μ v.items;
     }
 
--- `the_empty Z Q z q` is the empty list of capacity 0 with the allocator `z`. The type `⊥` of its
--- items has no values. The growth rule `q` is not used.
+-- `the_empty Z Q z q` is a list without items, with the capacity 0 and the allocator `z`. `Z` is
+-- the type of the allocator, and `Q` is the type of the growth rule `q`, which is not used. The
+-- item type `⊥` has no values.
 pub the_empty : (Z Q : Type 0) → Z → Q → Thin ⊥ Z
 the_empty Z Q z q = record { items = []; capacity = 0; alloc = z; cost = no_cost }
 
--- `the_items Z Q X v` is the list of the items of `v`, in order. `Z` is the type of the allocator,
--- and `Q` is the type of the growth rule.
+-- `the_items Z Q X v` contains the items of the list `v`, in order. `X` is the type of the items,
+-- `Z` is the type of the allocator, and `Q` is the type of the growth rule.
 abbrev pub the_items : (Z Q X : Type 0) → Thin X Z → List X
 the_items Z Q X v = v.items
 
--- According to the type former of `ThinVec`, a list contains exactly its items, in order.
+-- According to the type former of `ThinVec`, the values that the list `v` contains are exactly its
+-- items, in order.
 pub the_items_listed : (Z Q X : Type 0) (v : Thin X Z)
     → listed _ (children (the_former this Z Q) X v) ≡ the_items Z Q X v
 the_items_listed Z Q X v = list-listed X v.items
 
--- `fields Z Q` is the type former of the three fields of `ThinVec`: the block, the allocator of the
--- type `Z`, and the growth rule `Q`. Together, the fields contain exactly the items in the block.
+-- The struct `ThinVec` has three fields: the block, the allocator and the growth rule. (The field
+-- for the growth rule contains no data.) `fields Z Q` is the type former of these fields. It says
+-- that they contain exactly the items in the block. `Z` is the type of the allocator, and `Q` is
+-- the type of the growth rule.
 abbrev fields : Type 0 → Type 0 → Former {0}
 fields Z Q =
     via (pair (block.the_former this Z) (const Z)) (λ X. Inside X Z Q) (λ X a. (a.block, a.alloc))
@@ -75,8 +84,8 @@ fields Z Q =
 -- These lemmas are about applying a function `h` to each item in a row of slots. Empty slots stay
 -- empty.
 module _ {X Y : Type 0} (h : X → Y) where
-  -- If the function `h` is applied to each item in a row of slots, the items of the new row are the
-  -- results, in the same order.
+  -- Suppose that the function `h` is applied to each item in a row of slots `s`. Then the items of
+  -- the new row are the results of applying `h` to the items of `s`, in the same order.
   items_in-map : (s : List (Option X)) → items_in (map (on_slot h) s) ≡ map h (items_in s)
   items_in-map [] = refl
   items_in-map (None ∷ s) = items_in-map s
@@ -109,8 +118,8 @@ module _ {X Y : Type 0} (h : X → Y) where
     len = p.len ∙ sym (count-map s);
   }
 
-  -- If applying the function `h` to each item of `s` results in a row whose first `n` slots alone
-  -- are filled, then exactly the first `n` slots of `s` are filled.
+  -- If exactly the first `n` slots of a row are filled after `h` is applied to each item, then
+  -- exactly these slots were filled before.
   packed_from : (s : List (Option X)) (n : ℕ) → IsPacked (map (on_slot h) s) n → IsPacked s n
   packed_from s n p = record {
     row = from_shape s _
@@ -120,26 +129,29 @@ module _ {X Y : Type 0} (h : X → Y) where
   }
 
   module _ {Z : Type 0} (b : Block X Z) (a : Z) where
-    -- If `b` is the block of a list with the allocator `a`, then so is `block.mapped h b`, the
-    -- result of applying `h` to each item of `b`.
+    -- Let `block.mapped h b` be the block `b` after the function `h` has been applied to each of
+    -- its items. If `b` is the block of a list with the allocator `a`, then so is `block.mapped h
+    -- b`.
     thin_to : IsThin b a → IsThin (block.mapped h b) a
     thin_to t = record { packed = packed_to b.slots b.len t.packed; from = t.from }
 
-    -- Let `block.mapped h b` be the result of applying `h` to each item of `b`. If it is the block
-    -- of a list with the allocator `a`, then so is `b`.
+    -- Let `block.mapped h b` be the block `b` after the function `h` has been applied to each of
+    -- its items. If `block.mapped h b` is the block of a list with the allocator `a`, then so is
+    -- `b`.
     thin_from : IsThin (block.mapped h b) a → IsThin b a
     thin_from t = record { packed = packed_from b.slots b.len t.packed; from = t.from }
 
--- According to the type formers of rows and lists, a row of slots `s` and the list `items_in s` of
--- its items contain the same values in the same order.
+-- Let `items_in s` be the list of the items in the row of slots `s`. The type formers of rows and
+-- of lists say which values a row and a list contain. According to them, `s` and `items_in s`
+-- contain the same values in the same order.
 items_in-held : (X : Type 0) (s : List (Option X))
     → held (list this) X (items_in s) ≡ held (list (slot this)) X s
 items_in-held X [] = refl
 items_in-held X (None ∷ s) = items_in-held X s
 items_in-held X (Some x ∷ s) = λ i. (one_more (items_in-held X s i).0, (x, (items_in-held X s i).1))
 
--- `gcons a c` encodes a pair whose parts have the encodings `a` and `c`. If `a` and `b` are equal,
--- then so are `gcons a c` and `gcons b c`.
+-- `gcons a c` is the encoding of a pair whose parts have the encodings `a` and `c`. If the
+-- encodings `a` and `b` are equal, then so are `gcons a c` and `gcons b c`.
 first : {a b c : Gv} → a ≡ b → gcons a c ≡ gcons b c
 first {c = c} e = λ i. gcons (e i) c
 
@@ -156,8 +168,9 @@ module _ (Z Q : RattleType) (G : AllocatorGhosts Z.Denot) (K : GrowthGhosts Q.De
   }
 
   module _ (R S : RattleType) (h : R.Denot → S.Denot) where
-    -- If applying `h` to an item changes neither its memory layout nor the memory that it owns or
-    -- lends, then the same is true of applying `h` to each item of a list.
+    -- Suppose that applying the function `h` to an item does not change the memory layout of the
+    -- item. Suppose also that it changes neither the memory that the item owns nor the memory that
+    -- the item lends. Then the same is true of a list if `h` is applied to each of its items.
     pub the_places : Alike R S h → Alike (C.the_row R Z Q G K) (C.the_row S Z Q G K)
         ((the_former this Z.Denot Q.Denot).map R.Denot S.Denot h)
     the_places a = view_places (fields Z.Denot Q.Denot) (the_former this Z.Denot Q.Denot)

@@ -1,5 +1,6 @@
-//! The commands `Splice` and `Extend` in the model. The model treats an `Extend` as a splice at the
-//! end of the list, without calls to `next` and `next_back`.
+//! The commands `Splice` and `Extend` in the model. The model is a program that specifies the
+//! commands. It treats an `Extend` as a splice at the end of the list, without calls to `next` and
+//! `next_back`.
 use super::{Model, walked};
 use crate::runs::orders::{Kind, Order};
 use crate::runs::samples::{Numbered, samples};
@@ -9,8 +10,8 @@ use thin_testing::Ruled;
 use thin_vec::ThinVecError;
 
 impl<T: Numbered<A>, A: Allocator + Copy, G: Ruled> Model<T, A, G> {
-    // Returns `order`, with two changes if it describes an `Extend`: the range is empty and at the
-    // end of the list, and there are no steps (calls to `next` and `next_back`).
+    // If `order` is an `Extend`, returns it with an empty range at the end of the list, and without
+    // steps (calls to `next` and `next_back`). Otherwise, returns `order` unchanged.
     pub(crate) fn placed(&self, order: Order) -> Order {
         let len = self.items.len();
         if order.kind == Kind::Extend {
@@ -25,11 +26,13 @@ impl<T: Numbered<A>, A: Allocator + Copy, G: Ruled> Model<T, A, G> {
         }
     }
 
-    // Increases the capacity of the model as a splice does, and returns whether this succeeded.
+    // Increases the capacity of the model in the same way as a splice increases the capacity of a
+    // list. Returns whether this succeeded.
     //
-    // If there are no items after the range, the splice makes room as the size hint says, and then
-    // for each new item separately. If there are items after the range, the splice makes room as
-    // the size hint says, and then for all new items at once, but only if they fill the range.
+    // If there are no items after the range, the splice first makes room for as many items as the
+    // size hint says, and then for each new item separately. If there are items after the range,
+    // the splice makes room only if the new items fill the whole range: first for as many items as
+    // the size hint says, and then for all new items at once.
     fn make_rooms(&mut self, order: Order) -> bool {
         let len = self.items.len();
         let gap = order.to.saturating_sub(order.at);
@@ -45,8 +48,8 @@ impl<T: Numbered<A>, A: Allocator + Copy, G: Ruled> Model<T, A, G> {
         made
     }
 
-    // Replaces the range of `order` with the first `placed` of its new items. Returns the reply,
-    // which contains the remaining new items.
+    // Replaces the range of the splice `order` with new items: the first `placed` of the new items
+    // that `order` describes. Returns the reply of the model, which contains the other new items.
     fn fill(
         &mut self,
         alloc: A,
@@ -106,9 +109,10 @@ impl<T: Numbered<A>, A: Allocator + Copy, G: Ruled> Model<T, A, G> {
             && (given.in_hand || given.number == 0 || has_ended)
     }
 
-    // Increases the capacity of the model to the one that the list had when the request was
-    // refused. If the reply `given` contains an item that was taken from the iterator, the command
-    // had made room for `placed` items. Otherwise, the capacity is unchanged.
+    // Increases the capacity of the model to the capacity that the list had when the request was
+    // refused. If the reply `given` contains items that the command took from the iterator but did
+    // not move into the list, the command had already made room for the first `placed` new items.
+    // Otherwise, the capacity is unchanged.
     fn make_first_rooms(&mut self, order: Order, placed: usize, given: &Shown<T, A>) {
         if given.number > 0 || given.in_hand {
             let first = Order {

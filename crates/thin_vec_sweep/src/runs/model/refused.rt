@@ -1,5 +1,6 @@
-//! The part of the model for commands in which an allocation request is refused. It specifies the
-//! items and the capacity of the list afterwards, and the reply.
+//! The model is a program that specifies the commands. This file specifies what a command does if
+//! one of its allocation requests is refused: the items and the capacity of the list after the
+//! command, and the reply.
 use super::Model;
 use crate::runs::orders::{Kind, Order};
 use crate::runs::samples::{Numbered, samples};
@@ -8,7 +9,8 @@ use std::alloc::{AllocError, Allocator};
 use thin_testing::Ruled;
 use thin_vec::ThinVecError;
 
-// Returns `Refused` if the command can have the reply `Refused`, and `Never` otherwise.
+// Returns `Refused` if the command that `order` describes can have the reply `Refused`, and `Never`
+// otherwise.
 fn form_of(order: Order) -> Form {
     let may_be = match order.kind {
         Kind::Drain | Kind::Splice => order.steps > 0,
@@ -31,8 +33,8 @@ impl<T: Numbered<A>, A: Allocator + Copy, G: Ruled> Model<T, A, G> {
         }
     }
 
-    // Executes a command whose allocation request `nth` was refused, and returns the reply. `given`
-    // is the reply of the runner.
+    // Executes a command whose allocation request number `nth` was refused, and returns the reply
+    // of the model. `given` is the reply of the runner to the same command.
     pub(crate) fn refuse(
         &mut self,
         alloc: A,

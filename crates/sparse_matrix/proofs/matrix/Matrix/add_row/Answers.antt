@@ -1,5 +1,5 @@
--- Each iteration of the loop in `add_row` adds one number of a row of `other`. So after the loop,
--- all numbers of this row have been added.
+-- The loop in `add_row` adds a row of `other` to a row of `self`, one number per iteration. This
+-- proof shows that all numbers of the row have been added after the loop.
 use Rattle.std.proofs.Common.{◌≡◌, ap, arith, length, ◌∙◌}
 use Rattle.std.specs.Prelude.{slice_index_or}
 use Rattle.thin_rows.specs.Table.{row_of}

@@ -1,5 +1,5 @@
--- At each point of the loop in `add_row`, the visited entries of the row of `other` have been added
--- to the matrix, and nothing else has changed.
+-- The loop in `add_row` adds the entries of a row of `other` to the matrix. All entries that the
+-- loop has visited so far have been added, and nothing else in the matrix has changed.
 use Rattle.std.proofs.Common.{◌≡◌, ◌≢◌, ℕ, length}
 use Rattle.thin_rows.specs.Table.{row_of}
 use Rattle.sparse_matrix.specs.Numbers.{added, number_at}

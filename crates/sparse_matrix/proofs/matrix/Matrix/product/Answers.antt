@@ -1,4 +1,4 @@
--- `row_product` sums over the entries of a row, and `dot` sums over all columns. Both sums are
+-- `row_product` sums over the entries of a row, and `dot` sums over all columns. The two sums are
 -- equal, because a column without an entry contributes 0.
 use Rattle.std.proofs.Common.{◌≡◌, ℕ, ◌<◌, ◌-◌, ◌^◌, ap, arith, length, min, slice_index, slice_index_or, ◌∙◌}
 use Rattle.std.proofs.lemmas.Grind.{common_steps, elements}

@@ -1,5 +1,5 @@
--- Each iteration of the loop in `set_column` writes one number of a row of `other`. So after the
--- loop, all numbers of this row have been written.
+-- The loop in `set_column` writes a row of `other` into a column of `self`, one number per
+-- iteration. This proof shows that all numbers of the row have been written after the loop.
 use Rattle.std.proofs.Common.{◌≡◌, ap, arith, length, sym, ◌∙◌}
 use Rattle.thin_rows.specs.Table.{row_of}
 use Rattle.sparse_matrix.specs.Numbers.{number_at}

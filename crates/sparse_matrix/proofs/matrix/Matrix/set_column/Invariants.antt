@@ -1,5 +1,6 @@
--- At each point of the loop in `set_column`, the visited entries of the row of `other` have been
--- written into the column of the matrix, and nothing else has changed.
+-- The loop in `set_column` writes the entries of a row of `other` to a column of the matrix. All
+-- entries that the loop has visited so far have been written, and nothing else in the matrix has
+-- changed.
 use Rattle.std.proofs.Common.{◌≡◌, ◌≢◌, ℕ, length}
 use Rattle.thin_rows.specs.Table.{row_of}
 use Rattle.sparse_matrix.specs.Numbers.{number_at}

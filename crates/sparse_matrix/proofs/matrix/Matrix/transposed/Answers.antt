@@ -1,5 +1,5 @@
 -- After the loop in `transposed`, each row of `self` equals the column of the result with the same
--- index. At an index at which `self` has no row, all numbers of `self` and of the result are 0.
+-- index. This also holds for an index at which `self` has no row, because all numbers there are 0.
 use Rattle.std.proofs.Common.{◌≡◌, arith, inl, inr, length, sym, ◌∙◌}
 use Rattle.std.proofs.lemmas.Bool.{cases_lt}
 use Rattle.sparse_matrix.proofs.NumberLemmas.{no_row}

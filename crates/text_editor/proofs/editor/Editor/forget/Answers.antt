@@ -1,5 +1,6 @@
--- After a call to `forget`, repeated calls to `undo` restore only the first `count` of the texts
--- that they would have restored before.
+-- `forget` removes the oldest changes of an editor, so that at most `count` changes remain. This
+-- proof shows that repeated calls to `undo` then restore the first `count` of the texts that they
+-- would have restored before the call to `forget`.
 use Rattle.std.proofs.Common.{◌≡◌, ℕ, ◌-◌, ap, arith, drop, length, rules, sym, take, ◌∙◌}
 use Rattle.std.proofs.lemmas.List.{take_all}
 use Rattle.text_editor.proofs.ChangesLemmas.{AllFit-drop, length-texts_of, texts_of-drop}

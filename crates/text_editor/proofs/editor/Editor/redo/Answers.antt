@@ -1,5 +1,5 @@
--- If `redo` fails because `step` fails, then there was a change to redo, so the error is not
--- `NothingToRedo`.
+-- If `redo` fails because the function `step` fails, then there was a change to redo. So the error
+-- is not `NothingToRedo`.
 use Rattle.std.proofs.Common.{ap, rules, ◌∙◌}
 use Rattle.text_editor.proofs.ChangesLemmas.{no_text}
 use Rattle.text_editor.specs.History.{History}

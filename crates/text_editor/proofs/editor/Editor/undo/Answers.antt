@@ -1,5 +1,5 @@
--- If `undo` fails because `step` fails, then there was a change to undo, so the error is not
--- `NothingToUndo`.
+-- If `undo` fails because the function `step` fails, then there was a change to undo. So the error
+-- is not `NothingToUndo`.
 use Rattle.std.proofs.Common.{ap, rules, ◌∙◌}
 use Rattle.text_editor.proofs.ChangesLemmas.{no_text}
 use Rattle.text_editor.specs.History.{History}

@@ -74,9 +74,9 @@ free_block_spec 𝓤 𝓛 𝓜 𝓡 wired T A LT LA g d dd met md =
     let bytes_are : bytes ≡ size_of_block = said.1.1.1.1.0 in
     let align_is : al ≡ align_of_block = said.1.1.1.1.1 in
     move ! (0 ∷ 3 ∷ []) $ block_had E Y ! x z.0.4.0 (λ b o at told fits.
-    -- The block has been split. Proof context, in order: the header; the slots; the resources of
-    -- the other arguments; the lifetime token of the reference to the allocator; the other lifetime
-    -- tokens.
+    -- The block has been split into its header and its slots. The proof context holds, in this
+    -- order: [the header; the slots; what the other arguments own; the lifetime token of the shared
+    -- reference to the allocator; the other lifetime tokens].
     rewrite ! 0 (λ (u : Option A.Denot). ‵ (header (t E Y) Rt x.len cap u b o))
     from refl $ move ! (1 ∷ []) $
     rewrite ! 0 (λ (ys : List (Option T.Denot)). ‵ (places Rt ys b (o + 16))) bare refl $

@@ -1,5 +1,5 @@
--- This file contains the ghost argument of the call to `move_run_charging`: the old cost of the
--- target block, plus one move for each moved item.
+-- This file contains the ghost argument with which `move_run_to` calls `move_run_charging`: the
+-- recorded cost of the target block before this call, plus one move for each moved item.
 use Rattle.thin_block.specs.Cost.{moving}
 use Rattle.thin_block.proofs.block.Block.move_run_to.Given as goal
 

@@ -8,8 +8,8 @@ use Rattle.thin_block.proofs.SlotsLemmas.{packed-filled, packed-le, packed-empti
 use Rattle.thin_block.proofs.block.Block.remake.Goals as goal
 use Rattle.thin_block.proofs.block.Block.remake.Goals.{then-len-gt0, else-len-gt0}
 
--- The precondition of this call holds, because the items fill the first slots of the old block, and
--- all slots of the new block are empty.
+-- The precondition of the call to `move_run_charging` holds, because the items fill the first slots
+-- of the old block, and all slots of the new block are empty.
 pub move_run_charging-requires : goal.move_run_charging-requires
 move_run_charging-requires g c κs within =
     let old = c.args.self.now.slots in
@@ -36,8 +36,8 @@ move_run_charging-requires g c κs within =
       ),
     )
 
--- When `release` frees the old block, all its slots are empty: the items have been moved out, or
--- there were no items.
+-- When `release` frees the old block, all slots of the block are empty. Either the items have been
+-- moved out of the block, or the block had no items.
 pub release-requires-clause-empty : goal.release-requires-clause-empty
 release-requires-clause-empty g c =
     let old = c.args.self.now.slots in

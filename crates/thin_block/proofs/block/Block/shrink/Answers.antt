@@ -9,14 +9,14 @@ use Rattle.thin_block.proofs.Outcomes.{on-ok}
 use Rattle.thin_block.proofs.block.Block.shrink.Goals as goal
 
 -- A block of the new capacity is small enough to be allocated, because the new capacity is less
--- than the old one.
+-- than the old capacity.
 pub resize-requires-clause-fits : goal.resize-requires-clause-fits
 resize-requires-clause-fits g c =
     let smaller = c.requires.smaller in
     let whole = c.cap-whole.ensures.value in
     fits-less (param 0 g.row.T) c.args.cap c.cap-whole.result c.cap-whole.ensures.fits (omega arith)
 
--- If `shrink` succeeds, the new list of slots consists of the first `cap` old slots.
+-- If `shrink` succeeds, the new list of slots consists of the first `cap` slots of the old block.
 pub returns-clause-ok : goal.returns-clause-ok
 returns-clause-ok g c =
     let smaller = c.requires.smaller in

@@ -1,5 +1,7 @@
 -- This file proves the contract of `swap`, which exchanges the items in two slots. The two slots
--- may be the same slot.
+-- may be the same slot. The proof separates the slots of the exchanged items from the other slots,
+-- and joins all slots again at the end. The proof assumes the laws of separation logic, which the
+-- type `Logic` states.
 use Rattle.std.proofs.Common.{◌≡◌, ℕ, Some, ◌+◌, ◌*◌, ◌<◌, List, ◌∷◌, [], ◌++◌, length, refl, sym, ap, ◌∙◌, arith, w64}
 use lib.ListN.{set, length-set}
 use mir.Val.{vint, vunit}
@@ -66,10 +68,12 @@ swap_spec 𝓤 𝓛 𝓜 𝓡 wired T A LT LA g d dd met md =
       | inr apart ↦
           let p = two_slots E 𝓛 b (o + 16) x.slots i j apart low low' in
           takes_two E ! b (o + 16) x.slots i j p (one.1, two.1) (λ v v' good good'.
-          -- The slots `i` and `j` have been separated. Proof context, in order: the bytes and the
-          -- resources of the item in slot `j`; those of the item in slot `i`; the other slots; the
-          -- header; the block's pointer; the right to close the borrow, with its token; two ghost
-          -- resources; the other lifetime tokens.
+          -- The slots `i` and `j` have been separated from the other slots. The proof context now
+          -- contains, in this order: [the bytes of the item in slot `j`; the resources that this
+          -- item owns; the bytes of the item in slot `i`; the resources that this item owns; the
+          -- other slots; the header; the block's pointer; the right to close the borrow of the
+          -- block, with the lifetime token of this borrow; two ghost resources that record the
+          -- value of the block; the other lifetime tokens].
           sets ! (of_opd ! (load ! (through ! refl (stop !)) (look ! 2 refl))) refl good $
           sets ! (of_opd ! (load ! (through ! refl (stop !)) (look ! 0 refl))) refl good' $
           assigns ! (of_opd ! (get ! refl)) (through ! refl (stop !)) (store ! 2 refl good') $
@@ -89,10 +93,12 @@ swap_spec 𝓤 𝓛 𝓜 𝓡 wired T A LT LA g d dd met md =
           says_all ! (_ ∷ []) refl $ done !)
       | inl same ↦
           takes_item E ! b (o + 16) x.slots i low one.1 (λ v good.
-          -- The slots `i` and `j` are the same. Proof context, in order: the bytes and the
-          -- resources of the item in this slot; the other slots; the header; the block's pointer;
-          -- the right to close the borrow, with its token; two ghost resources; the other lifetime
-          -- tokens.
+          -- In this case, the slots `i` and `j` are the same slot. This slot has been separated
+          -- from the other slots. The proof context now contains, in this order: [the bytes of the
+          -- item; the resources that the item owns; the other slots; the header; the block's
+          -- pointer; the right to close the borrow of the block, with the lifetime token of this
+          -- borrow; two ghost resources that record the value of the block; the other lifetime
+          -- tokens].
           let Bits = λ (k : ℕ). ‵ (fat full_share (layout T) b (k * sz E + (o + 16)) v) in
           sets ! (of_opd ! (load ! (through ! refl (stop !)) (look ! 0 refl))) refl good $
           rewrite ! 0 Bits same refl $

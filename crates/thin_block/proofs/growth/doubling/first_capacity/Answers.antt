@@ -1,5 +1,5 @@
--- This file proves the contract of `first_capacity`. The code caps the size of an item at
--- `usize::MAX`, which does not change whether the size exceeds `usize::MAX / 8`.
+-- The code compares the item size with a bound after capping the size at `usize::MAX`. The capped
+-- size exceeds the bound if and only if the real size exceeds the bound.
 use Rattle.std.proofs.Common.{arith}
 use Rattle.std.specs.Mem.{type_size}
 use Rattle.thin_block.proofs.SizesLemmas.{first_one, first_many}

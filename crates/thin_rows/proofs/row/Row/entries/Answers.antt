@@ -1,5 +1,6 @@
--- This file proves the contract of `entries`. The list in which a row stores its entries contains
--- exactly the entries of the map that it represents, in increasing order of columns.
+-- This file proves the contract of `entries`. The method returns the list in which a row stores its
+-- entries. In contracts, a row is a map. The list contains exactly the entries of this map, in
+-- increasing order of their columns.
 use Rattle.std.proofs.Common.{nat_cmp, ap, sym, ◌∙◌}
 use Rattle.std.specs.FinMap.{entries, entries-from_sorted}
 use Rattle.thin_rows.proofs.row.Row.entries.Goals as goal

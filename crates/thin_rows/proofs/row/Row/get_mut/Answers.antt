@@ -1,5 +1,6 @@
--- This file proves the contract of `get_mut`. The list that a row stores has the same entries as
--- the map that it represents, in the same order. So an entry has the same index in both.
+-- This file proves the contract of `get_mut`. A row stores its entries in a list, which represents
+-- a map. The list and the map have the same entries in the same order. So each entry has the same
+-- index in both.
 use Rattle.std.proofs.Common.{nat_cmp, refl, sym}
 use Rattle.std.specs.FinMap.{entries-from_sorted}
 use Rattle.thin_rows.proofs.RowLemmas.{get_gap}

@@ -1,5 +1,5 @@
--- This file proves the contract of `len`. The stored list and the map that it represents have the
--- same number of entries.
+-- `len` returns the number of entries in the stored list. This is also the number of entries of the
+-- map that the row represents.
 use Rattle.std.proofs.Common.{sym, ap, ◌∙◌}
 use Rattle.std.specs.FinMap.{len}
 use Rattle.thin_rows.proofs.RowLemmas.{len_is}

@@ -1,5 +1,5 @@
--- This file proves the contract of `new`. The list of entries is empty, and so it represents the
--- empty map.
+-- This file proves the contract of `new`. The new row is the empty map, because its list has no
+-- entries, and such a list represents the empty map.
 use Rattle.std.proofs.Common.{ap, ◌∙◌}
 use Rattle.std.specs.FinMap.{from_sorted}
 use Rattle.thin_rows.proofs.RowLemmas.{none_stored}

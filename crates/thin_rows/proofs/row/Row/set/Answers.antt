@@ -1,5 +1,6 @@
--- This file proves the contract of `set`. The call overwrites the entry of the column, or inserts
--- one. In both cases, the map that the list represents then has the new value at the column.
+-- This file proves the contract of `set`. If the stored list has an entry of the column, `set`
+-- overwrites this entry. Otherwise, it inserts a new entry. In both cases, the list then represents
+-- the old map with the new value at the column.
 use Rattle.std.proofs.Common.{inl, inr, ◌≡◌, ◌+◌, sym, ap, ◌∙◌, length, length-set, arith, refl, Some}
 use Rattle.std.proofs.lemmas.Bool.{cases_lt, false≢true}
 use Rattle.std.specs.FinMap.{len}
@@ -10,8 +11,7 @@ use Rattle.thin_rows.proofs.RowLemmas.{get_at, get_gap, insert_is, insert_rises,
 use Rattle.thin_rows.proofs.RowTypeLemmas.{failure_tells, ruled_of_same}
 use Rattle.thin_rows.proofs.row.Row.set.Goals as goal
 
--- If the column has an entry, `set` overwrites this entry. The row satisfies its invariant
--- afterwards.
+-- If the column has an entry, overwriting this entry preserves the invariant of the row.
 pub invariant_of-self : goal.invariant_of-self
 invariant_of-self g c =
     let row = c.self.inside.entries in
@@ -41,8 +41,8 @@ returns-in-Ok-clause-columns g c =
     rw (c.replace-column.ensures.after, ← c.self.view_is)
     (set_is row.items c.self.invariant.rising c.args.column c.in-Ok.at place c.args.value)
 
--- If the column has no entry, `set` inserts one at the index that the search returned. The row
--- satisfies its invariant afterwards.
+-- If the column has no entry, inserting an entry at the index that the search returned preserves
+-- the invariant of the row.
 pub invariant_of-self-in-Err : goal.invariant_of-self-in-Err
 invariant_of-self-in-Err g c =
     let row = c.self.inside.entries in
@@ -65,8 +65,9 @@ returns-in-Err-insert-clause-succeeds g c some =
     rw (← c.self.view_is, get_gap row.items c.self.invariant.rising c.args.column c.in-Err.at gap)
     at some
 
--- If `set` cannot insert a new entry, the list of entries was full. The error is `CapacityOverflow`
--- if and only if the capacity for one more entry would be too large.
+-- Suppose that `set` cannot insert a new entry. Then the list of entries was full before the call,
+-- so its capacity equals the number of its entries. The error is `CapacityOverflow` if and only if
+-- the capacity for one more entry would be too large.
 pub returns-in-Err-insert-clause-overflow : goal.returns-in-Err-insert-clause-overflow
 returns-in-Err-insert-clause-overflow g c =
     let row = c.self.inside.entries in

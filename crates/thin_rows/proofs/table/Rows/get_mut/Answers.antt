@@ -1,5 +1,5 @@
--- This file proves the contract of `get_mut`, which borrows one row of the table. Writing back an
--- unchanged row does not change the table.
+-- This file proves the contract of `get_mut`, which borrows one row of the table. The proof uses
+-- the fact that the table does not change if this row is written back unchanged.
 use Rattle.std.proofs.Common.{◌≡◌, ap, slice_index_or, slice_set, sym, ◌∙◌}
 use Rattle.std.proofs.lemmas.List.{set-get_or}
 use Rattle.std.proofs.lemmas.Option.{get_or_from_slice_get}
@@ -9,8 +9,8 @@ use borrow.Follows.Closed.{read_of}
 use Rattle.thin_rows.specs.Table.{value_at}
 use Rattle.thin_rows.proofs.table.Rows.get_mut.Goals as goal
 
--- If there is an entry at `row` and `column`, the returned reference borrows its value. Writing
--- through the reference changes nothing else in the table.
+-- If there is an entry at `row` and `column`, the returned reference borrows the value of this
+-- entry. Writing through the reference changes nothing else in the table.
 pub returns : goal.returns
 returns g c =
     let rows = c.self.inside.rows.items in

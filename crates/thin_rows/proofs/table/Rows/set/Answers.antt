@@ -1,5 +1,6 @@
--- This file proves the contract of the method `set` of a table, which calls `set` on one of the
--- rows. If this call fails, nothing changes, and both methods return the same cause.
+-- This file proves the contract of the method `set` of a table, which calls the method `set` of one
+-- of its rows. If this call fails, neither the row nor the table changes, and both methods return
+-- the same cause.
 use Rattle.std.proofs.Common.{◌≡◌, ◌+◌, subst, ℕ, List, OnErr, Result, Ok, Err, Some, slice_get, slice_set, sym, ap, ◌∙◌}
 use Rattle.std.proofs.lemmas.List.{set-get_or}
 use Rattle.std.proofs.lemmas.Option.{get_or_from_slice_get}
@@ -11,8 +12,9 @@ use Rattle.thin_rows.specs.EntryType.{entry_type}
 use Rattle.thin_rows.specs.Table.{row_of}
 use Rattle.thin_rows.proofs.table.Rows.set.Goals as goal
 
--- If a failed call leaves the item `old` at index `i` of `xs` unchanged, so that `new` equals
--- `old`, then writing `new` to index `i` does not change `xs`.
+-- A call changes the item at index `i` of the list `xs` from `old` to `new`, and returns `result`.
+-- Suppose that a failed call does not change the item: if `result` is an error, then `new` equals
+-- `old`. So if the call fails, then writing `new` to index `i` does not change `xs`.
 left : {X Y E : Type 0} (result : Result Y E) (xs : List X) (i : ℕ) (old new : X)
     → slice_get xs i ≡ Some old → OnErr result (new ≡ old) → OnErr result (slice_set xs i new ≡ xs)
 left (Ok _) xs i old new there same = tt

@@ -1,5 +1,6 @@
--- This file proves the contract of `with_rows`. This contract and that of `with_capacity` use two
--- item types of the same size and alignment. So both agree about the error `CapacityOverflow`.
+-- This file proves the contract of `with_rows`. This contract and the contract of `with_capacity`
+-- use different item types, but these types have the same size and alignment. So both contracts
+-- agree about the error `CapacityOverflow`.
 use Rattle.std.proofs.Common.{◌≡◌, ◌∙◌, ap, arith, refl, replicate}
 use Rattle.std.specs.FinMap as map
 use Rattle.thin_rows.proofs.RowTypeLemmas.{error_tells, made_tells}

@@ -1,5 +1,5 @@
--- Each iteration of the loop in `with_rows` adds an empty row to a list, whose capacity is the
--- number of rows of the table.
+-- Each iteration of the loop in `with_rows` adds one empty row to the list. The capacity of the
+-- list is the number of rows of the finished table.
 use Rattle.std.proofs.Common.{◌≡◌, replicate}
 use Rattle.std.specs.FinMap as map
 use Rattle.thin_rows.proofs.table.Rows.with_rows.Given as goal

@@ -1,4 +1,4 @@
--- The length and the capacity of a clone are both equal to the length of the original list.
+-- The length and the capacity of a clone both equal the length of the original list.
 use Rattle.std.proofs.Common.{arith, rules}
 use Rattle.std.proofs.lemmas.List.Elements.{length_all_zip}
 use Rattle.thin_runner.proofs.steps.Setting.clone.Goals as goal

@@ -1,5 +1,5 @@
--- The closure that is passed to `dedup_by` calls the method `same` of the judge. So the judge
--- determines which items are kept.
+-- The closure that is passed to `dedup_by` calls the method `same` of the judge, which is a value
+-- that makes decisions about items. So the judge determines which items `dedup_by` keeps.
 use Rattle.std.proofs.Common.{rules}
 use Rattle.thin_runner.proofs.JudgedLemmas.{deduped-by}
 use Rattle.thin_runner.proofs.steps.Setting.dedup_by.Goals as goal

@@ -1,5 +1,5 @@
--- The closure that is passed to `dedup_by_key` calls the method `key` of the judge. So the judge
--- determines which items are kept.
+-- The closure that is passed to `dedup_by_key` calls the method `key` of the judge, which is a
+-- value that makes decisions about items. So the judge determines which items `dedup_by_key` keeps.
 use Rattle.std.proofs.Common.{rules}
 use Rattle.thin_runner.proofs.JudgedLemmas.{deduped-by-keys}
 use Rattle.thin_runner.proofs.steps.Setting.dedup_by_key.Goals as goal

@@ -1,5 +1,6 @@
--- Each call to `next` asks the judge that the closure owns. When the `ExtractIf` is dropped, the
--- items that have not been tested remain in the list.
+-- The closure of the `ExtractIf` owns a judge, which decides whether an item is removed. Each call
+-- to `next` asks this judge. When the `ExtractIf` is dropped, the items that have not been tested
+-- remain in the list.
 use Rattle.std.proofs.Common.{ℕ, ◌≡◌, ◌+◌, ◌-◌, ◌++◌, ◌∷◌, [], false, suc, take, slice_range, ap, arith, refl, rules, sym, ◌∙◌, append_assoc}
 use Rattle.std.proofs.lemmas.List.{append-nil}
 use Rattle.thin_vec.specs.Edits.ExtractIf.{extract_callee, extract_rest, extract_tail}

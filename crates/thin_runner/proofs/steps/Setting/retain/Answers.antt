@@ -1,5 +1,5 @@
--- The closure that is passed to `retain` calls the method `look` of the judge. So the judge
--- determines which items are kept.
+-- The closure that is passed to `retain` calls the method `look` of the judge, which is a value
+-- that makes decisions about items. So the judge determines which items `retain` keeps.
 use Rattle.std.proofs.Common.{rules}
 use Rattle.thin_runner.proofs.JudgedLemmas.{looked, retained-by}
 use Rattle.thin_runner.proofs.steps.Setting.retain.Goals as goal

@@ -1,5 +1,5 @@
--- The closure that is passed to `retain_mut` calls the method `keep` of the judge. So the judge
--- determines which items are kept.
+-- The closure that is passed to `retain_mut` calls the method `keep` of the judge, which is a value
+-- that makes decisions about items. So the judge determines which items `retain_mut` keeps.
 use Rattle.std.proofs.Common.{rules}
 use Rattle.thin_runner.proofs.JudgedLemmas.{retained-by}
 use Rattle.thin_runner.proofs.steps.Setting.retain_mut.Goals as goal

@@ -1,5 +1,6 @@
--- The results of all steps on the `Drain` are the results in `answers`, followed by the results of
--- the remaining steps. The vector `answers` has room for them.
+-- Before each iteration of the loop, `answers` contains the results of the steps so far. These
+-- results, followed by the results that the remaining steps will return, are the results of all
+-- steps on the `Drain`. The vector `answers` has room for the remaining results.
 use Rattle.std.proofs.Common.{◌≡◌, ◌++◌, ◌≤◌, ◌+◌, length, vec_len}
 use Rattle.std.specs.Vec.{vec_capacity}
 use Rattle.std.specs.Vec.Iter.{into_iter_items}

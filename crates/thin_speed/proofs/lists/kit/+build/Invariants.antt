@@ -1,5 +1,6 @@
--- `build` makes a tree of `Vec`s. It terminates because it calls itself only with a smaller depth.
--- In its loop, the depth is greater than 0.
+-- The function `build` makes a tree of `Vec`s. It terminates, because it calls itself only with a
+-- smaller depth. These calls are in a loop. The loop invariant states that the depth is greater
+-- than 0, so subtracting 1 from it does not overflow.
 use Rattle.std.proofs.Common.{◌<◌}
 use Rattle.thin_speed.proofs.lists.kit.+build.Given as goal
 

@@ -1,6 +1,7 @@
--- `allocate` returns an error if `refuses` returns true. Otherwise, it returns the answer of the
--- inner allocator, and `granted` counts the block if this answer is `Ok`. The proof assumes the
--- laws of the separation logic (`Logic`).
+-- `allocate` first calls `refuses`. If `refuses` returns `true`, `allocate` returns an error.
+-- Otherwise, `allocate` asks the inner allocator for a block, and returns its answer. If this
+-- answer is `Ok`, the function `granted` counts the block. The proof assumes the laws of the
+-- separation logic (`Logic`).
 use Rattle.std.proofs.Common.{◌≡◌, ℕ, zero, suc, ◌+◌, ◌^◌, ◌<◌, true, false, Bool, List, [], ◌∷◌, Ok, Err, refl, w64, Bor}
 use seplogic.Ra.Ura.{Ura}
 use mir.Syntax.{Ty, Args, Fn, Body, seq, skip, a_type, dnil, dcons}
@@ -138,8 +139,10 @@ module _ (Z : Al) {M : Type 1} {𝓤 : Ura M} (𝓛 : Logic 𝓤) (at_mem : Memo
         fsplit ! $ use1 𝓛 (‵ (hidden_shr Row κ₁ r.now.counts c.0 c.1)) (id⊢ 𝓤 _) $
         shr_dup ! Row the_row_laws.shr_laws r.now.counts c.0 c.1 κ₁ $
         keep ! (0 ∷ 7 ∷ 3 ∷ 8 ∷ 1 ∷ []) $
-        -- The next step enters the body of `allocate`. Proof context, in order: the shared counts;
-        -- the token of `κ₁`; the inner allocator; the token of `κ₂`; a copy of the shared counts.
+        -- At this point, the proof has five resources, in this order: the shared reference to the
+        -- counts, the token of the lifetime `κ₁`, the inner allocator, the token of the lifetime
+        -- `κ₂`, and a copy of the shared reference to the counts. The next step enters the body of
+        -- `allocate`.
         enter ! 𝓣.C 𝓣.Λ (here Z) vs _ $
         alloc_all ! (λ l. pass_all ! refl
         ((tt, tt), ((tt, record { fits = fn }), ((tt, record { fits = fa }), tt))) $

@@ -1,5 +1,6 @@
--- `deallocate` calls `returned`, which subtracts 1 from the number of blocks. Then the inner
--- allocator frees the block. The proof assumes the laws of the separation logic (`Logic`).
+-- `deallocate` first calls `returned`, which subtracts 1 from the number of blocks. Then it calls
+-- the method `deallocate` of the inner allocator, which frees the block. The proof assumes the laws
+-- of the separation logic (`Logic`).
 use Rattle.std.proofs.Common.{◌≡◌, ℕ, ◌+◌, ◌^◌, ◌<◌, List, [], ◌∷◌, refl, w64, Bor}
 use seplogic.Ra.Ura.{Ura}
 use mir.Syntax.{Ty, Args, Fn, a_type, dnil, dcons}

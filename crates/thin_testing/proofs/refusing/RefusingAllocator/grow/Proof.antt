@@ -1,5 +1,6 @@
--- `grow` returns an error if `refuses` returns true. Otherwise, it returns the result of calling
--- `grow` on the inner allocator. The proof assumes the laws of the separation logic (`Logic`).
+-- `grow` first calls `refuses`. If `refuses` returns `true`, `grow` returns an error, and the block
+-- does not change. Otherwise, `grow` calls the method `grow` of the inner allocator, and returns
+-- its result. The proof assumes the laws of the separation logic (`Logic`).
 use Rattle.std.proofs.Common.{◌≡◌, ℕ, zero, suc, ◌+◌, ◌^◌, ◌<◌, false, Bool, List, [], ◌∷◌, refl, w64, Bor}
 use seplogic.Ra.Ura.{Ura}
 use mir.Syntax.{Args, Fn, Body, seq, skip, a_type, dnil, dcons}
@@ -122,16 +123,17 @@ module _ (Z : Al) (X : RattleType) {M : Type 1} {𝓤 : Ura M} (𝓛 : Logic �
     abbrev block : Ptr → Fml
     block x = block_with_items (token Z r.now.inner) (param 1 X) x len old xs
 
-    -- `p` is the address of the inner allocator, and `c` is the address of the counts. Both are
-    -- fields of `Refusing`.
+    -- `p` is the address of the inner allocator, and `c` is the address of the counts. The inner
+    -- allocator and the counts are fields of `Refusing`.
     abbrev p : ℕ × ℕ
     p = (r.ref_ptr.0, r.ref_ptr.1 + up (align (α Z)) 0)
 
     abbrev c : ℕ × ℕ
     c = (r.ref_ptr.0, r.ref_ptr.1 + up 8 (up (align (α Z)) 0 + size (α Z)))
 
-    -- `left b o y` describes the block after a call to `grow` with the result `y`. If `y` is an
-    -- error, it is still the old block, at the offset `o` of the allocation `b`.
+    -- `left b o y` describes the block that the caller owns after a call to `grow` with the result
+    -- `y`. If `y` is `Ok`, this is the block at the address that `y` contains. If `y` is an error,
+    -- it is still the old block, which is at the offset `o` of the allocation `b`.
     abbrev left : ℕ → ℕ → Answer.Denot → Fml
     left b o = left_by Z X (Grows X) 𝓛 at_mem run κ κT q qT p r.now.inner b o len old new xs
 
@@ -176,8 +178,10 @@ module _ (Z : Al) (X : RattleType) {M : Type 1} {𝓤 : Ura M} (𝓛 : Logic �
         use1 𝓛 (‵ (seen Z κ p h)) (id⊢ 𝓤 _) $ move ! (1 ∷ []) $ fsplit ! $
         use1 𝓛 (‵ (hidden_shr Row κ r.now.counts c.0 c.1)) (id⊢ 𝓤 _) $
         keep ! (0 ∷ 8 ∷ 2 ∷ 10 ∷ 6 ∷ 9 ∷ []) $
-        -- The next step enters the body of `grow`. Proof context, in order: the shared counts; the
-        -- token of `κ`; the inner allocator; the block; the token of `κT`; the token of `ρ`.
+        -- At this point, the proof has six resources, in this order: the shared reference to the
+        -- counts, the token of the lifetime `κ`, the inner allocator, the block, the token of the
+        -- lifetime `κT`, and the token of the lifetime `ρ`. The next step enters the body of
+        -- `grow`.
         enter ! 𝓣.C 𝓣.Λ (here Z X) (vs x) _ $
         alloc_all ! (λ l. pass_all ! refl (
           (tt, tt),

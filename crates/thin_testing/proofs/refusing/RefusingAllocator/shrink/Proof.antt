@@ -1,5 +1,6 @@
--- `shrink` returns an error if `refuses` returns true. Otherwise, it returns the result of calling
--- `shrink` on the inner allocator. The proof assumes the laws of the separation logic (`Logic`).
+-- `shrink` first calls `refuses`. If `refuses` returns `true`, `shrink` returns an error, and the
+-- block does not change. Otherwise, `shrink` calls the method `shrink` of the inner allocator, and
+-- returns its result. The proof assumes the laws of the separation logic (`Logic`).
 use Rattle.std.proofs.Common.{◌≡◌, ℕ, zero, suc, ◌+◌, ◌^◌, ◌<◌, false, Bool, List, [], ◌∷◌, refl, w64, Bor}
 use seplogic.Ra.Ura.{Ura}
 use mir.Syntax.{Args, Fn, Body, seq, skip, a_type, dnil, dcons}
@@ -122,21 +123,23 @@ module _ (Z : Al) (X : RattleType) {M : Type 1} {𝓤 : Ura M} (𝓛 : Logic �
     abbrev block : Ptr → Fml
     block x = block_with_items (token Z r.now.inner) (param 1 X) x len old xs
 
-    -- `p` is the address of the inner allocator, and `c` is the address of the counts. Both are
-    -- fields of `Refusing`.
+    -- `p` is the address of the inner allocator, and `c` is the address of the counts. The inner
+    -- allocator and the counts are fields of `Refusing`.
     abbrev p : ℕ × ℕ
     p = (r.ref_ptr.0, r.ref_ptr.1 + up (align (α Z)) 0)
 
     abbrev c : ℕ × ℕ
     c = (r.ref_ptr.0, r.ref_ptr.1 + up 8 (up (align (α Z)) 0 + size (α Z)))
 
-    -- `left b o y` describes the block after a call to `shrink` with the result `y`. If `y` is an
-    -- error, it is still the old block, at the offset `o` of the allocation `b`.
+    -- `left b o y` describes the block that the caller owns after a call to `shrink` with the
+    -- result `y`. If `y` is `Ok`, this is the block at the address that `y` contains. If `y` is an
+    -- error, it is still the old block, which is at the offset `o` of the allocation `b`.
     abbrev left : ℕ → ℕ → Answer.Denot → Fml
     left b o = left_by Z X (Shrinks X) 𝓛 at_mem run κ κT q qT p r.now.inner b o len old new xs
 
-    -- The block `left b o y` and the tokens of the three lifetimes imply the postcondition of
-    -- `shrink`, whether the request was refused or passed on to the inner allocator.
+    -- Suppose that the caller owns the block that `left` describes, and the tokens of the lifetimes
+    -- `κ`, `κT` and `ρ`. Then the postcondition of `shrink` holds. The lemma applies both to a
+    -- request that was refused and to a request that was passed on to the inner allocator.
     ends : (b o : ℕ) (y : Bool) (b' o' : ℕ)
         → Sq 𝓛 (‵ (left b o (result_of y b' o')) ∷ ‵ (flft κ q) ∷ ‵ (flft κT qT) ∷ ‵ (flft ρ s)
         ∷ []) (prop (Post (block_ptr b o) (answer_val y b' o')))
@@ -176,8 +179,10 @@ module _ (Z : Al) (X : RattleType) {M : Type 1} {𝓤 : Ura M} (𝓛 : Logic �
         use1 𝓛 (‵ (seen Z κ p h)) (id⊢ 𝓤 _) $ move ! (1 ∷ []) $ fsplit ! $
         use1 𝓛 (‵ (hidden_shr Row κ r.now.counts c.0 c.1)) (id⊢ 𝓤 _) $
         keep ! (0 ∷ 8 ∷ 2 ∷ 10 ∷ 6 ∷ 9 ∷ []) $
-        -- The next step enters the body of `shrink`. Proof context, in order: the shared counts;
-        -- the token of `κ`; the inner allocator; the block; the token of `κT`; the token of `ρ`.
+        -- At this point, the proof has six resources, in this order: the shared reference to the
+        -- counts, the token of the lifetime `κ`, the inner allocator, the block, the token of the
+        -- lifetime `κT`, and the token of the lifetime `ρ`. The next step enters the body of
+        -- `shrink`.
         enter ! 𝓣.C 𝓣.Λ (here Z X) (vs x) _ $
         alloc_all ! (λ l. pass_all ! refl (
           (tt, tt),

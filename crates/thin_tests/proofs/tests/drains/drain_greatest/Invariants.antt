@@ -1,5 +1,5 @@
--- In the loop of `drain_greatest`, `greatest` is the maximum of `least` and all items that have
--- been yielded so far.
+-- In the loop of `drain_greatest`, the variable `greatest` is the maximum of `least` and all items
+-- that have been yielded so far.
 use Rattle.std.proofs.Common.{◌≡◌, max}
 use Rattle.std.specs.List.{fold}
 use Rattle.thin_tests.proofs.tests.drains.drain_greatest.Given as goal

@@ -1,6 +1,6 @@
--- Each iteration pushes the item `next` to the vector `held`. Then `draw_spare` pushes items of the
--- iterator until `held` is full. If `draw_spare` returns an item, the following iteration pushes
--- it.
+-- Each iteration of the loop pushes the item `next` to the vector `held`. Then `draw_spare` pushes
+-- items of the iterator until `held` is full. If `draw_spare` also returns an item, this item is
+-- `next` in the following iteration.
 use Rattle.std.proofs.Common.{[], ◌++◌, ◌∷◌, ◌∙◌, ap, arith, length, refl, subst}
 use Rattle.std.proofs.lemmas.List.{append-nil, length_push}
 use Rattle.std.specs.Iterator.{YieldsThen}

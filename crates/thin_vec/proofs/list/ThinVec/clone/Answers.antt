@@ -1,5 +1,6 @@
--- `clone` calls `from_fitting_slice`, which requires that a block for all items is small enough to
--- be allocated. This is true, because the original list has such a block.
+-- `clone` calls `from_fitting_slice`, which requires that a block with one slot for each item is
+-- small enough to be allocated. This is true, because the block of the original list has at least
+-- one slot for each item.
 use Rattle.std.proofs.Common.{ap, arith, length}
 use denote.Param.{param}
 use Rattle.thin_block.proofs.CapacityLemmas.{fits-less}

@@ -1,5 +1,6 @@
--- `close` calls `into_closed`, which removes the gaps between the items of the open block. Then it
--- puts the block back into the list, which now contains these items in order.
+-- `close` calls `into_closed`, which removes the gap between the items of the open block and
+-- preserves the order of the items. Then `close` puts the block back into the list. So the list
+-- contains the items of the open block, in order.
 use Rattle.std.proofs.Common.{ap, sym, ◌∙◌, rules}
 use Rattle.thin_vec.specs.Open.{items_of}
 use Rattle.thin_vec.proofs.ListLemmas.{Settled, settled, thin-room, thin_of-becomes}

@@ -1,5 +1,6 @@
--- `dedup_by_key` calls `dedup_those` with a test that compares two keys, which the closure `key`
--- returns. So the guarantees of `dedup_those` about the test are also true for `key`.
+-- `dedup_by_key` calls `dedup_those` with a test that compares the keys of two items. The closure
+-- `key` returns these keys. So what `dedup_those` guarantees about the test also holds for `key`.
+-- The list never becomes longer.
 use Rattle.std.specs.Fn.{ComparesKeys}
 use Rattle.thin_vec.proofs.edits.DedupLemmas.{deduped-through, few-deduped}
 use Rattle.thin_vec.proofs.list.ThinVec.dedup_by_key.Goals as goal

@@ -1,5 +1,6 @@
--- `extend` reserves room for the lower bound of the size hint, and then calls `extend_unhinted`.
--- The contracts of these two calls imply the clauses about the capacity, the cost and the error.
+-- `extend` first reserves room for the lower bound of the iterator's size hint, and then calls
+-- `extend_unhinted`. The clauses about the capacity, the cost and the cause of a failure follow
+-- from the contracts of these two calls.
 use Rattle.std.proofs.lemmas.Grind.{common_steps}
 use Rattle.std.proofs.Common.{◌≡◌, ◌++◌, ◌∙◌, Err, ap, arith, length, subst}
 use Rattle.std.proofs.lemmas.List.{append-nil}

@@ -1,5 +1,5 @@
--- In each iteration, `extend_reserved` moves items of the iterator into the empty slots of the
--- list. If it also returns an item, this item is pushed to the list.
+-- In each iteration of the loop, `extend_reserved` moves items of the iterator into the empty slots
+-- of the list. If `extend_reserved` also returns an item, this item is pushed to the list.
 use Rattle.std.proofs.lemmas.Grind.{common_steps}
 use Rattle.std.proofs.Common.{Err, ◌++◌, ◌∷◌, [], ◌-◌, ◌∙◌, ap, arith, append_assoc, length, length-append, refl, subst, sym, ◌+◌, inr}
 use Rattle.std.proofs.lemmas.List.{length_push}

@@ -1,5 +1,6 @@
--- Before each iteration, the list contains its old items, followed by all items that the iterator
--- has yielded so far. Its capacity is the old one, or the growth rule has chosen it.
+-- Before each iteration of the loop, the list contains its old items, followed by all items that
+-- the iterator has yielded so far. The capacity has not changed, or the growth rule has chosen a
+-- new one.
 use Rattle.std.proofs.Common.{◌≡◌, ◌+◌, ◌≤◌, List, ◌++◌, length}
 use Rattle.std.specs.Iterator.{IsFinite, Yields, size}
 use denote.Param.{param}

@@ -1,5 +1,5 @@
--- `put_iter` moves items of the iterator into the slots directly after the last item. Then
--- `set_len` stores the new length.
+-- `put_iter` moves items of the iterator into the slots directly after the last item of the list.
+-- Then `set_len` stores the new length, which includes the moved items.
 use Rattle.thin_block.proofs.BlockLemmas.{slots-are, then-len}
 use Rattle.std.proofs.lemmas.Grind.{common_steps}
 use Rattle.std.proofs.Common.{◌++◌, ◌-◌, ◌≡◌, ◌∙◌, ap, arith, length, length-append}
@@ -12,8 +12,9 @@ use Rattle.thin_vec.proofs.PutLemmas.{filled-fits, filled-room}
 use Rattle.thin_vec.proofs.ThinVecLemmas.{within-kept}
 use Rattle.thin_vec.proofs.list.ThinVec.fill_spare.Goals as goal
 
--- After the call to `put_iter`, the block contains the yielded items in the slots directly after
--- the old items, and its cost counts one more move for each yielded item.
+-- After the call to `put_iter`, `fill_spare` puts the block back into the list. At this point, the
+-- block differs from the old block in two ways: the yielded items are in the slots directly after
+-- the old items, and the cost counts one more move for each yielded item.
 stored : (g : _) (c : goal.After-set_len g) → seen c.replace-none.new.dest
     ≡ record (seen c.self.inside.block) {
       slots = laid c.len-len.result (full c.put_iter-block.ensures.filled.0.items)

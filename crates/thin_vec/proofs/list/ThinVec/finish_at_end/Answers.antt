@@ -1,5 +1,6 @@
--- No item follows the replaced range. So `close` leaves only the items before the range in the
--- list, and `extend` appends the items of the iterator.
+-- No item follows the replaced range. So after the call to `close`, the list contains only the
+-- items before the range. Then `extend` appends the items of the iterator. The clauses of the
+-- contract of `finish_at_end` follow from the contracts of `close` and `extend`.
 use Rattle.std.proofs.Common.{◌≡◌, ◌*◌, ◌++◌, ◌∙◌, ap, arith, length, length-append, refl, subst, sym}
 use Rattle.std.specs.Iterator.{size}
 use Rattle.std.specs.Prelude.{MatchOption}
@@ -23,8 +24,8 @@ left g c =
     c.close.ensures.changes
     ∙ closed-left c.args.block c.args.self.now c.requires.none c.requires.no_tail
 
--- `HasTaken` holds for the lists before and after the call to `extend`. It describes how adding
--- items of an iterator may change the capacity and the cost.
+-- `HasTaken` describes how adding items of an iterator may change the capacity and the cost of a
+-- list. It holds for the list before the call to `extend` and the list after this call.
 taken : (g : _) (c : After-extend g)
     → HasTaken g.G.Growth.rule (param 0 g.row.T) (left_of c.args.block c.args.self.now.alloc)
     c.extend.new.self (2 * length c.args.block.tail) (g.I.Iterator.remaining c.args.iter)
@@ -40,8 +41,8 @@ taken g c =
     } in
     subst (λ z. HasTaken g.G.Growth.rule (param 0 g.row.T) z w n more) (left g c) now
 
--- The call to `extend` did not change the capacity, or the growth rule has chosen the new capacity.
--- So `IsExtended` holds.
+-- `IsExtended` holds for the capacity of the list after the call to `extend`: either this call did
+-- not change the capacity, or the growth rule has chosen the new capacity.
 ruled : (g : _) (c : After-extend g)
     → IsExtended g.G.Growth.rule (param 0 g.row.T) (left_of c.args.block c.args.self.now.alloc)
     c.extend.new.self.capacity (length c.extend.new.self.items)

@@ -1,6 +1,6 @@
--- `fill_gap` fills the empty slots of the range with items of the iterator. Then `insert_hinted`
--- fills a new gap, whose size is the lower bound of the size hint. Finally, `insert_held` inserts
--- the remaining items.
+-- The items of the iterator are inserted in up to three steps. First, `fill_gap` fills the empty
+-- slots of the replaced range. Then `insert_hinted` fills a new gap, whose size is the lower bound
+-- of the size hint. Finally, `insert_held` inserts the remaining items.
 use Rattle.std.proofs.Common.{[], Err, None, Ok, Some, inl, inr, ◌-◌, ◌*◌, ◌∙◌, ap, arith, length, refl, subst, sym}
 use denote.Param.{param}
 use Rattle.thin_vec.specs.Edits.Finish.{HasTaken}

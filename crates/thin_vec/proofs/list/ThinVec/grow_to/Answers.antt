@@ -9,8 +9,8 @@ use Rattle.thin_vec.proofs.ListLemmas.{Settled, thin_of-becomes}
 use Rattle.thin_vec.proofs.ThinVecLemmas.{within-settled}
 use Rattle.thin_vec.proofs.list.ThinVec.grow_to.Goals as goal
 
--- Even if the growth fails, the resulting block is the block of a list with the same items, and has
--- at most `cap` slots.
+-- Whether or not the growth succeeds, the resulting block is the block of a list with the same
+-- items, and it has at most `cap` slots.
 tried : (g : _) (c : goal.After-grow g)
     → Settled c.grow.new.self c.self.inside.alloc
     (items_in c.self.inside.block.slots) (length c.grow.new.self.slots)

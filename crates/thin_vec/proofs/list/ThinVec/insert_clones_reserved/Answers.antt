@@ -1,6 +1,6 @@
--- If an item cannot be cloned, `drop_range` drops the clones that were made before. Each of the
--- calls to `open_wide`, `close` and `drop_range` moves every item from index `at` onward at most
--- once.
+-- If a clone fails, `drop_range` drops the clones that were made before, so the list contains its
+-- old items again. Each of the calls to `open_wide`, `close` and `drop_range` moves every item from
+-- index `at` onward at most once.
 use Rattle.std.proofs.Common.{◌≡◌, ◌+◌, ◌-◌, ◌++◌, ◌∙◌, [], ap, arith, drop, eqb, length, length-append, sym, take}
 use Rattle.std.proofs.lemmas.List.{length-drop, length-take-le}
 use Rattle.std.proofs.lemmas.List.Elements.{length_all_zip}

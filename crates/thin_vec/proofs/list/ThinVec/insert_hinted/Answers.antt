@@ -1,5 +1,5 @@
--- `open_wide` makes a gap at index `at`. The number of its slots is the lower bound of the size
--- hint. Then `fill_gap` fills the gap with items of the iterator.
+-- `open_wide` makes a gap of empty slots at index `at`. The number of these slots is the lower
+-- bound of the iterator's size hint. Then `fill_gap` fills the gap with items of the iterator.
 use Rattle.std.proofs.Common.{Err, Some, ◌≡◌, ◌+◌, ◌-◌, ◌*◌, ◌≤◌, ◌++◌, ◌∙◌, ap, arith, drop, length, refl, subst, sym, take}
 use Rattle.std.proofs.lemmas.Bool.{false≢true}
 use Rattle.std.proofs.lemmas.List.{length-drop, length-take-le}
@@ -12,8 +12,8 @@ use Rattle.thin_vec.proofs.edits.FinishLemmas.{IsWide, wide-taken}
 use Rattle.thin_vec.proofs.list.ThinVec.insert_hinted.Goals.{After-fill_gap}
 use Rattle.thin_vec.proofs.list.ThinVec.insert_hinted.Goals as goal
 
--- After the call to `open_wide`, the block has a gap at index `at`. The number of its slots is the
--- lower bound of the size hint.
+-- After the call to `open_wide`, the block has a gap of empty slots at index `at`. The number of
+-- these slots is the lower bound of the size hint.
 wide : (g : _) (c : After-fill_gap g)
     → IsWide c.open_wide-block.result c.reserve.new.self c.args.at c.size_hint-hint.result.0
 wide g c = record {
@@ -24,8 +24,10 @@ wide g c = record {
   cost = c.open_wide-block.ensures.other_cost;
 }
 
--- If opening and closing the gap takes at most `n` moves, then `HasTaken` holds with the bound `n`
--- on the moves of old items.
+-- `HasTaken` describes how adding items of an iterator changed a list, and bounds the number of
+-- moves of old items. Suppose that opening and closing the gap takes at most `n` moves. Then
+-- `HasTaken` holds, with the bound `n`, for the list before the call to `insert_hinted` and the
+-- list after this call.
 taken : (g : _) (c : After-fill_gap g) (n : _)
     → c.fill_gap.ensures.filled.1.cost.0 + (length c.reserve.new.self.items - c.args.at) ≤ n
     → HasTaken g.G.Growth.rule (param 0 g.row.T) c.args.self.now c.fill_gap.new.self n
@@ -45,8 +47,8 @@ taken g c n few =
     (wide-taken c.fill_gap.ensures.filled rule T n left u c.args.at hint (wide g c)
     (ap (λ z. z.alloc) c.open_wide-block.ensures.changes) few)
 
--- The items after the gap are the old items from index `at` onward. Their number is the old length
--- minus `at`.
+-- The items after the gap are the items of the old list from index `at` onward. So their number is
+-- the length of the old list minus `at`.
 tail : (g : _) (c : After-fill_gap g) → length c.open_wide-block.result.tail
     ≡ length c.args.self.now.items - c.args.at
 tail g c = omega (

@@ -1,5 +1,6 @@
--- `next` yields the items in order, and `next_back` yields them in reverse order. The block of the
--- list satisfies the invariant of an `IntoIter` that has not yielded any item yet.
+-- Calls to `next` yield the items in order, and calls to `next_back` yield the items in reverse
+-- order. The block of the list satisfies the invariant of an `IntoIter` that has not yielded any
+-- item yet.
 use Rattle.std.proofs.Common.{arith, ◌∙◌}
 use Rattle.thin_vec.proofs.convert.IntoIterLemmas.{rest_in_order, rest_in_reverse}
 use Rattle.thin_vec.proofs.list.ThinVec.into_iter.Goals as goal

@@ -1,5 +1,6 @@
--- `open` splits the items of the list into the front, the middle run and the tail. The returned
--- block contains these parts in order, with no empty slots between them.
+-- `open` splits the items of the list into three parts: the front (the items before index `start`),
+-- the middle run (the items `start..end`), and the tail (the items from index `end` onward). The
+-- block that is returned holds these parts in order, with no empty slot between them.
 use Rattle.std.proofs.Common.{◌≡◌, ◌≤◌, ap, sym, ◌∙◌, subst, arith, drop, length, take, rules}
 use Rattle.std.specs.Prelude.{slice_range}
 use Rattle.thin_block.specs.Slots.{items_in}
@@ -8,8 +9,8 @@ use Rattle.thin_vec.proofs.ListLemmas.{thin_of-becomes}
 use Rattle.thin_vec.proofs.OpenBlockLemmas.{Found, open-step, opened, opened-seen}
 use Rattle.thin_vec.proofs.list.ThinVec.open.Goals as goal
 
--- `replace` returns the old block of the list. So this block satisfies `IsThin`, as the block of
--- every list does.
+-- `replace` returns the old block of the list. So this block satisfies `IsThin`, the invariant of a
+-- list's block.
 was : (g : _) (c : goal.After-replace-block g) → IsThin c.replace-block.result c.self.inside.alloc
 was g c = subst (λ b. IsThin b c.self.inside.alloc)
     (sym c.replace-block.ensures.value) c.self.invariant

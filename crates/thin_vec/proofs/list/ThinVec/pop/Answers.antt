@@ -1,4 +1,5 @@
--- If the list is not empty, it has a last item, as `pop_last` requires. So `pop` returns this item.
+-- If the list is not empty, it has a last item, as `pop_last` requires. So `pop` returns this item,
+-- and the list is one item shorter afterwards.
 use Rattle.std.proofs.Common.{arith}
 use Rattle.std.proofs.lemmas.Grind.{common_steps}
 use Rattle.thin_vec.proofs.list.ThinVec.pop.Goals as goal

@@ -1,6 +1,7 @@
--- `replace_range_from_copies` guarantees the same about the capacity and the error as `reserve`,
--- which it calls. Only `replace_range_from_copies` requires `Copy`, but this does not affect the
--- capacity.
+-- `replace_range_from_copies` calls `reserve`, and guarantees the same about the capacity and the
+-- error as `reserve` does. Only `replace_range_from_copies` requires the item type to be `Copy`.
+-- This makes no difference here, because both contracts depend only on the size and the alignment
+-- of an item.
 use Rattle.std.proofs.Common.{◌≡◌, ◌+◌, ◌-◌, ◌∙◌, Ok, ap, arith, length, refl}
 use denote.Param.{copied}
 use Rattle.thin_block.proofs.CapacityLemmas.{ruled-at}

@@ -1,6 +1,7 @@
 -- `replace_range_from_list` calls `reserve` with the number of items by which the list becomes
--- longer, or with 0 if it does not become longer. So `reserve` determines the capacity and the
--- error.
+-- longer. This is the number of new items minus the length of the range, or 0 if there are fewer
+-- new items than items in the range. So the list gets the capacity that `reserve` chooses. If
+-- `reserve` fails, its error is returned.
 use Rattle.std.proofs.Common.{◌≡◌, ◌-◌, Ok, ap, arith, length}
 use denote.Param.{param}
 use Rattle.thin_vec.specs.ThinVec.{capacity_for}

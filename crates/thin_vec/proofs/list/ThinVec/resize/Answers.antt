@@ -1,5 +1,5 @@
--- If the list becomes shorter, `truncate` keeps the first `len` items. Otherwise `reserve` makes
--- room, and `resize_reserved` appends clones of `value` and finally `value` itself.
+-- If `len` is at most the old length, `truncate` keeps the first `len` items. Otherwise `reserve`
+-- makes room, and `resize_reserved` appends clones of `value` and finally `value` itself.
 use Rattle.std.proofs.lemmas.Grind.{common_steps}
 use Rattle.std.proofs.Common.{◌≡◌, ◌+◌, ◌-◌, ◌++◌, ap, arith, length, replicate, subst, sym, take, take_all, ◌∙◌}
 use Rattle.std.specs.Prelude.{OnOk}

@@ -1,5 +1,5 @@
--- If the list does not become longer, its capacity does not change. Otherwise `reserve` determines
--- the new capacity, which `push_results_reserved` does not change.
+-- If the list does not become longer, its capacity does not change. Otherwise, `reserve` determines
+-- the new capacity, and `push_results_reserved` does not change the capacity again.
 use Rattle.std.proofs.Common.{Ok, ◌-◌, ap, arith, subst, sym, ◌∙◌}
 use denote.Param.{param}
 use Rattle.thin_vec.specs.List.Capacity.{Reserves}

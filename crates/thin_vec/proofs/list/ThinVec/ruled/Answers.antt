@@ -1,5 +1,5 @@
 -- `ruled` makes a list whose block is `Block::none()`, which has no slots. So the list is empty,
--- and its capacity is 0, as `IsWithin` allows.
+-- and its capacity is 0. Both are within the limits that `IsWithin` states.
 use Rattle.std.proofs.Common.{ap, length, arith, ◌∙◌}
 use Rattle.thin_block.specs.Slots.{items_in}
 use Rattle.thin_vec.proofs.ThinVecLemmas.{within-none}

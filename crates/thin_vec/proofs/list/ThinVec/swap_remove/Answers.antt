@@ -1,6 +1,6 @@
--- `take_replacing` takes the item at `index` out of its slot, and moves the last item into this
--- slot if it is a different item. The specification function `swap_remove` describes the same
--- change.
+-- `take_replacing` takes the item at `index` out of its slot. If this item is not the last item,
+-- the last item is moved into the slot. So the list changes as the specification function
+-- `swap_remove` says, and the capacity does not change.
 use Rattle.std.proofs.Common.{◌-◌, sym, ap, ◌∙◌, length, arith, ◌≡◌}
 use Rattle.std.specs.List.{slice_get, swap_remove}
 use Rattle.thin_block.proofs.BlockLemmas.{then-len}

@@ -1,5 +1,6 @@
--- `advance_last` is called if at most one untested item remains. There are three cases: no untested
--- item remains, the test keeps the item, or the test decides to remove it.
+-- `advance_last` is called if at most one untested item remains. The clause `advances` holds in
+-- each of three cases: no untested item remains, the test keeps the item, or the test decides to
+-- remove the item.
 use Rattle.std.proofs.Common.{◌++◌, ◌∙◌, ap, arith, drop, rules, sym, take}
 use Rattle.std.proofs.lemmas.List.{append-nil}
 use Rattle.thin_block.specs.Cost.{moving}

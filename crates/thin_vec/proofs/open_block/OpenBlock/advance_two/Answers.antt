@@ -1,5 +1,6 @@
--- `advance_two` first tests two items. There are three cases: the first is to be removed, only the
--- second is to be removed, or both are kept. If both are kept, later items are tested.
+-- `advance_two` first tests two items. The clause `advances` holds in each of three cases: the
+-- first item is to be removed, the second item is to be removed, or both are kept. If both are
+-- kept, the later items are tested up to the first item to be removed.
 use Rattle.std.proofs.Common.{◌≡◌, ◌++◌, ◌∙◌, ap, arith, drop, rules, sym, take}
 use Rattle.std.proofs.lemmas.List.{append-nil}
 use Rattle.thin_block.specs.Cost.{moving}

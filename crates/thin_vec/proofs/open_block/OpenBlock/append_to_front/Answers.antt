@@ -1,5 +1,5 @@
--- `append_to_front` writes `value` into the first empty slot after the front items. So `value`
--- becomes the last front item, and one move is counted.
+-- `append_to_front` puts `value` into the first slot of the gap, directly after the front items. So
+-- `value` becomes the last front item, at the cost of one move.
 use Rattle.std.proofs.Common.{◌≡◌, ◌+◌, ◌-◌, ap, ◌∙◌, arith, rules}
 use Rattle.thin_block.specs.Cost.{moving}
 use Rattle.thin_vec.specs.OpenBlock.{open_of}

@@ -1,5 +1,6 @@
--- `dedup_last` is called if at most one untested item remains. There are three cases: no untested
--- item remains, the item is removed, or the item is kept.
+-- `dedup_last` is called if at most one untested item remains. The clause `dedups` holds in each of
+-- three cases: no untested item remains, the item is removed, or the item is kept. In each case, no
+-- item remains to be tested after the call.
 use Rattle.std.proofs.Common.{rules}
 use Rattle.thin_vec.proofs.edits.DedupLemmas.{dedups-goes, dedups-stays, dedups-start}
 use Rattle.thin_vec.proofs.open_block.OpenBlock.dedup_last.Goals as goal

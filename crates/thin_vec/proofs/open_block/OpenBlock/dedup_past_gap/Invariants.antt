@@ -1,6 +1,6 @@
--- `Dedups` describes the iterations that have been carried out. The block still has a gap after its
--- front items, at least one item is in front of the gap, and each iteration reduces the number of
--- untested items.
+-- `Dedups` describes what all iterations of the loop so far have done: some of the untested items
+-- were tested, and were then either kept or removed. The block still has a gap after its front
+-- items, and there is at least one front item. Each iteration reduces the number of untested items.
 use Rattle.std.proofs.Common.{◌<◌, length}
 use Rattle.thin_vec.specs.OpenBlock.Dedup.{Dedups}
 use Rattle.thin_vec.proofs.open_block.OpenBlock.dedup_past_gap.Given as goal

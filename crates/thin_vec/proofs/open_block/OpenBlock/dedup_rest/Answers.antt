@@ -1,5 +1,5 @@
--- The items before the first item to be removed remain in their slots. If there is an item to be
--- removed, `dedup_rest` drops it, and `dedup_past_gap` tests the items after it.
+-- The items before the first item to be removed become front items. If there is an item to be
+-- removed, it is dropped, and `dedup_past_gap` tests the items after it.
 use Rattle.std.proofs.Common.{◌≡◌, [], sym, ap, ◌∙◌, arith, rules}
 use Rattle.thin_vec.proofs.edits.DedupLemmas.{deduped-ends, deduped-goes}
 use Rattle.std.proofs.lemmas.List.{nil_from_length}

@@ -1,5 +1,6 @@
--- `dedup_two` ends when it has removed one item, or when no untested item remains. There are four
--- cases: the first, the second or a later item is removed, or no item is removed.
+-- A call to `dedup_two` ends when it has removed one item, or when no item remains to be tested.
+-- The clause `dedups` holds in each of four cases: the first item is removed, the second item is
+-- removed, a later item is removed, or no item is removed.
 use Rattle.std.proofs.Common.{◌≡◌, ◌∷◌, [], ap, false, refl, sym, ◌∙◌, arith, rules}
 use Rattle.std.proofs.lemmas.List.{append-nil, nil_from_length}
 use Rattle.thin_vec.proofs.edits.DedupLemmas.{run-count, run-ends, run-goes, dedups-goes, dedups-run, dedups-two}
@@ -14,8 +15,8 @@ returns-then-test_last-clause-dedups g c =
     c.take_first-later.result c.test_last.new.later c.test_last.new.self.front
     (search rules) (search rules) (search rules) (search rules)
 
--- If the test keeps the next item and decides to remove the item after it, `dedup_two` keeps the
--- first of these items and drops the second. So the clause `dedups` holds.
+-- If the test keeps the next item and decides to remove the item after it, `dedup_two` appends the
+-- first of these items to the kept items, and drops the second. So the clause `dedups` holds.
 pub returns-then-goes-clause-dedups : goal.returns-then-goes-clause-dedups
 returns-then-goes-clause-dedups g c =
     dedups-two g.J.PairTest.tests c.args.self.now c.take_first.new.self c.args.test.now
@@ -26,8 +27,9 @@ returns-then-goes-clause-dedups g c =
     c.test_next-goes.result c.test_next-goes.ensures.asked (search rules)
     c.if-goes.true c.take_first.result (search rules) (search rules) (search rules)
 
--- If the test keeps the next two items and decides to remove a later one, `dedup_two` drops that
--- item, and moves all items before it to the end of the kept items. So the clause `dedups` holds.
+-- If the test keeps the next two items and decides to remove a later item, `dedup_two` moves all
+-- items before that item to the end of the kept items, and drops that item. So the clause `dedups`
+-- holds.
 pub returns-then-rest_len-gt0-clause-dedups : goal.returns-then-rest_len-gt0-clause-dedups
 returns-then-rest_len-gt0-clause-dedups g c =
     let R = g.J.PairTest.tests in

@@ -1,5 +1,5 @@
--- `put_iter` puts the items that the iterator yields into the gap directly after the front items.
--- So they become front items, and each of them shortens the gap by one slot.
+-- `put_iter` puts the items that the iterator yields into the gap of empty slots directly after the
+-- front items. So these items become front items, and each of them shortens the gap by one slot.
 use Rattle.std.proofs.Common.{◌≡◌, ◌-◌, ◌++◌, ◌≤◌, ◌∙◌, ap, arith, length, sym}
 use Rattle.thin_block.proofs.BlockLemmas.{slots-are}
 use Rattle.thin_block.specs.Block.{seen}
@@ -9,8 +9,9 @@ use Rattle.thin_vec.proofs.OpenBlockLemmas.{fill-step}
 use Rattle.thin_vec.proofs.PutLemmas.{filled-fits, filled-room}
 use Rattle.thin_vec.proofs.open_block.OpenBlock.fill.Goals as goal
 
--- After the call to `fill`, the yielded items are in the slots directly after the front items, and
--- one move has been counted for each of them.
+-- After the call to `fill`, the block differs from the old block in two ways: the yielded items are
+-- in the slots directly after the front items, and the cost counts one more move for each yielded
+-- item.
 stored : (g : _) (c : goal.After-self-1 g) → seen c.replace-none.new.dest
     ≡ record (seen c.self.inside.block) {
       slots = laid c.self.inside.front_end (full c.put_iter-block.ensures.filled.0.items)

@@ -1,5 +1,6 @@
--- `move_run_to` moves the items of the list `other` into the gap directly after the front items. So
--- they become front items, and all slots of `other` are then empty.
+-- `move_run_to` moves the items of the list `other` into the gap of empty slots directly after the
+-- front items of the open block. So these items become front items, and all slots of `other` are
+-- then empty.
 use Rattle.thin_block.proofs.BlockLemmas.{then-len}
 use Rattle.thin_block.specs.Cost.{moving}
 use Rattle.thin_block.specs.Slots.{full, items_in, laid, run}
@@ -15,8 +16,7 @@ move_run_to-requires-clause-filled g c = λ i low high.
     thin-filled c.other.inside.block c.other.inside.alloc i c.other.invariant
     (omega (arith, high, c.len-count.ensures.value, c.other.invariant.packed.len))
 
--- The local variable `count` of `fill_from_list` is the number of items in the block of the list
--- `other`.
+-- `count` is the number of items in the block of the list `other`.
 count : (g : _) (c : goal.After-self-1 g)
     → c.len-count.result ≡ length (items_in c.other.inside.block.slots)
 count g c = c.len-count.ensures.value ∙ c.other.invariant.packed.len

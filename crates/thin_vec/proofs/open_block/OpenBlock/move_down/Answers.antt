@@ -7,8 +7,8 @@ use Rattle.thin_block.specs.Cost.{moving}
 use Rattle.thin_vec.proofs.RetainLemmas.{moving-more}
 use Rattle.thin_vec.proofs.open_block.OpenBlock.move_down.Goals as goal
 
--- If `done` items have been moved to the end of the front items before an iteration, then
--- `done + 1` items have been moved there after it.
+-- If `done` items have been moved to the end of the front items before an iteration of the loop,
+-- then `done + 1` items have been moved there after this iteration.
 pub loop-done-preserved : goal.loop-done-preserved
 loop-done-preserved g c =
     let n = c.loop-done.done in

@@ -1,5 +1,5 @@
--- After `done` iterations, the first `done` middle items have been moved to the end of the front
--- items, and `done` moves have been counted.
+-- After `done` iterations of the loop, the first `done` middle items have been moved to the end of
+-- the front items, and `done` moves have been counted.
 use Rattle.std.proofs.Common.{◌≡◌, ◌++◌, drop, take}
 use Rattle.thin_block.specs.Cost.{moving}
 use Rattle.thin_vec.proofs.open_block.OpenBlock.move_down.Given as goal

@@ -1,5 +1,5 @@
 -- The slot of the first middle item is not empty. This item is moved into the empty slot directly
--- after the front items, and becomes a front item.
+-- after the front items, so it becomes a front item.
 use Rattle.thin_block.specs.Block.{Seen}
 use Rattle.std.proofs.Common.{Some, ◌≤◌, ◌++◌, ap, ◌∙◌, arith, length, take, drop, rules, ◌≡◌}
 use lib.ListN.{set}

@@ -1,5 +1,5 @@
--- There is no gap, so the middle items directly follow the front items. The first `k` middle items
--- remain in their slots and become front items.
+-- Since there is no gap, the middle items directly follow the front items. So the first `k` middle
+-- items become front items and stay in their slots.
 use Rattle.std.proofs.Common.{◌≤◌, ◌++◌, ap, ◌∙◌, arith, length, take, drop}
 use Rattle.thin_vec.specs.OpenBlock.{open_of}
 use Rattle.thin_vec.proofs.OpenBlockLemmas.{Found}

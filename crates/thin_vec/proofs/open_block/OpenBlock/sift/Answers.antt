@@ -1,5 +1,5 @@
--- The items before the first item to be removed remain in their slots. If there is an item to be
--- removed, `sift` drops it, and `sift_past_gap` tests the items after it.
+-- The items before the first item to be removed are kept, and stay in their slots. If there is an
+-- item to be removed, `sift` drops this item, and `sift_past_gap` tests the items after it.
 use Rattle.std.proofs.Common.{◌≡◌, [], ap, sym, ◌∙◌, arith, rules}
 use Rattle.std.proofs.lemmas.List.{nil_from_length}
 use Rattle.thin_vec.proofs.RetainLemmas.{sifted-ends, sifted-goes}

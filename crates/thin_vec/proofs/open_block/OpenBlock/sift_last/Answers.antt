@@ -1,5 +1,6 @@
--- `sift_last` is called if at most one untested item remains. There are three cases: no untested
--- item remains, the item is kept, or the item is removed.
+-- `sift_last` is called if at most one untested item remains. The clause `sifts` holds in each of
+-- three cases: no untested item remains, the item is kept, or the item is removed. In each case, no
+-- item remains to be tested after the call.
 use Rattle.std.proofs.Common.{◌∙◌, ap, arith, length, sym}
 use Rattle.std.proofs.lemmas.Bool.{false≢true}
 use Rattle.std.proofs.lemmas.List.{nil_from_length}

@@ -1,5 +1,6 @@
--- `Sifts` describes the iterations that have been carried out. The block still has a gap after its
--- front items, and each iteration reduces the number of untested items.
+-- `Sifts` describes what all iterations of the loop so far have done: some of the untested items
+-- were tested, and were then either kept or removed. The block still has a gap after its front
+-- items. Each iteration reduces the number of untested items.
 use Rattle.std.proofs.Common.{length}
 use Rattle.thin_vec.specs.OpenBlock.Sift.{Sifts}
 use Rattle.thin_vec.proofs.open_block.OpenBlock.sift_past_gap.Given as goal

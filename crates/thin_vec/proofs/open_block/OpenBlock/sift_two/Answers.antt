@@ -1,5 +1,5 @@
--- There are two cases: `sift_two` removes an item, or it keeps all items. In both cases, the number
--- of untested items decreases.
+-- The clause `sifts` holds whether `sift_two` removes an item or keeps all items. In both cases,
+-- fewer items remain to be tested after the call than before it.
 use Rattle.std.proofs.Common.{◌∙◌, ap, arith, length, sym}
 use Rattle.std.proofs.lemmas.Bool.{false≢true}
 use Rattle.thin_vec.proofs.RetainLemmas.{advanced-count, advanced-ends, advanced-goes, none-left}
@@ -22,16 +22,16 @@ returns-else-advance_two-clause-sifts g c =
     (none-left c.advance_two.new.self.rest
     (λ some. false≢true (sym c.if-advance_two.false ∙ c.advance_two.ensures.goes.1 some)))
 
--- If `sift_two` removes an item, it has tested at least this item. So the number of untested items
--- has decreased.
+-- If `sift_two` removes an item, at least this item was tested during the call. So fewer items
+-- remain to be tested than before the call.
 pub returns-then-advance_two-clause-less : goal.returns-then-advance_two-clause-less
 returns-then-advance_two-clause-less g c =
     let few = advanced-count g.J.Test.tests c.args.test.now c.advance_two.new.test c.args.self.now
     c.advance_two.new.self c.requires.gap c.advance_two.ensures.advances in
     omega (arith, few, ap length c.take_first.ensures.rest)
 
--- If no item is removed, no untested item remains. Before the call, there were at least two. So the
--- number of untested items has decreased.
+-- If no item is removed, then no item remains to be tested after the call. Before the call, at
+-- least two items remained. So the number of untested items has decreased.
 pub returns-else-advance_two-clause-less : goal.returns-else-advance_two-clause-less
 returns-else-advance_two-clause-less g c =
     let none = none-left c.advance_two.new.self.rest

@@ -1,5 +1,5 @@
--- The slot at index `rest_start` holds the first middle item. `take_first` empties this slot, which
--- becomes part of the gap after the front items.
+-- The slot at index `rest_start` holds the first middle item. `take_first` empties this slot, so
+-- the slot becomes part of the gap after the front items.
 use Rattle.std.proofs.Common.{◌≡◌, ◌<◌, ◌+◌, ◌∷◌, List, ap, sym, ◌∙◌, arith, length}
 use Rattle.thin_vec.specs.OpenBlock.{open_of}
 use Rattle.thin_vec.proofs.OpenBlockLemmas.{Found, first-left, first-seen, first-step, rest-filled}

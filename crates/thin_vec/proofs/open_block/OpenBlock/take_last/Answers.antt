@@ -1,5 +1,5 @@
--- The slot at index `rest_end - 1` holds the last middle item. `take_last` empties this slot, which
--- becomes part of the gap before the tail items.
+-- The slot at index `rest_end - 1` holds the last middle item. `take_last` empties this slot, so
+-- the slot becomes part of the gap before the tail items.
 use Rattle.std.proofs.Common.{◌≡◌, ◌<◌, ◌+◌, ◌∷◌, ◌++◌, ◌-◌, [], List, ap, sym, ◌∙◌, arith, length}
 use Rattle.thin_vec.specs.OpenBlock.{open_of}
 use Rattle.thin_vec.proofs.OpenBlockLemmas.{Found, last-left, last-seen, last-step, rest-filled}

@@ -1,5 +1,5 @@
--- The slot at index `rest_start + k` holds the item to be tested. After the test, it holds the item
--- as the test left it. Nothing else has changed.
+-- The slot at index `rest_start + k` holds the item to be tested. After the test, this slot holds
+-- the item as the test left it, and nothing else has changed.
 use Rattle.std.proofs.Common.{◌<◌, ◌+◌, refl, ap, sym, ◌∙◌, arith, length}
 use Rattle.thin_block.specs.Lends.{with_item}
 use Rattle.thin_vec.specs.OpenBlock.{open_of}
@@ -19,7 +19,8 @@ slot_mut-requires g c =
 low : (g : _) (c : goal.After-self-1 g) → c.args.k < length (open_of c.self.inside).rest
 low g c = omega (arith, c.requires.in_bounds, ap (λ v. length v.rest) c.self.view_is)
 
--- After the test, the middle item at index `k` is as the test left it. Nothing else has changed.
+-- After the test, the slot of the middle item at index `k` holds the item as the test left it, and
+-- nothing else has changed.
 facts : (g : _) (c : goal.After-self-1 g) → Written c.self.inside c.self.invariant
     (with_item c.self.inside.block (c.self.inside.rest_start + c.args.k) c.test.new.item)
     c.args.k (low g c) c.slot_mut.result.now c.test.new.item

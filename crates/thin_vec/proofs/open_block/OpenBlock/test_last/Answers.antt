@@ -1,5 +1,5 @@
--- The last front item is the last kept item. After the test, its slot holds the item as the test
--- left it. Nothing else has changed.
+-- The last front item is the last kept item, and its slot is not empty. After the test, this slot
+-- holds the item as the test left it, and nothing else has changed.
 use Rattle.std.proofs.Common.{◌-◌, refl, ap, sym, ◌∙◌, arith, length}
 use Rattle.thin_block.specs.Lends.{with_item}
 use Rattle.thin_vec.proofs.open_block.DedupLemmas.{WrittenLast, last-filled, write-last-step}
@@ -12,7 +12,8 @@ slot_mut-requires g c =
           (omega (arith, c.requires.some, ap (λ v. length v.front) c.self.view_is));
     }
 
--- After the test, the last front item is as the test left it. Nothing else has changed.
+-- After the test, the slot of the last front item holds the item as the test left it, and nothing
+-- else has changed.
 facts : (g : _) (c : goal.After-self-1 g) → WrittenLast c.self.inside
     (with_item c.self.inside.block (c.self.inside.front_end - 1) c.test.new.kept)
     c.slot_mut.result.now c.test.new.kept

@@ -1,5 +1,6 @@
--- Before each iteration, the first `kept` middle items have been kept, and only middle items have
--- changed. Each iteration reduces the number of untested items.
+-- Before each iteration of the loop, `kept` is the number of middle items that have been kept so
+-- far, and nothing except middle items has changed. Each iteration reduces the number of untested
+-- items.
 use Rattle.std.proofs.Common.{◌≡◌, ◌-◌, length}
 use Rattle.thin_vec.proofs.edits.DedupLemmas.{PairStays}
 use Rattle.thin_vec.proofs.open_block.OpenBlock.test_pairs.Given as goal

@@ -1,5 +1,5 @@
--- Each iteration tests the next item, and counts it if it is kept. The loop ends at the first item
--- to be removed.
+-- Each iteration of the loop tests the next item. If this item is kept, then the number of kept
+-- items increases by 1. If it is to be removed, then the loop ends.
 use Rattle.std.proofs.Common.{arith, refl, rules}
 use Rattle.thin_vec.proofs.RetainLemmas.{stays-goes, stays-more, stays-start}
 use Rattle.std.proofs.lemmas.Grind.{common_steps}

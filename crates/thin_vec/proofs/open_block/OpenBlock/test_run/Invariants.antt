@@ -1,5 +1,5 @@
--- Before each iteration, the middle items `k..at` have been tested and kept, and only middle items
--- have changed. Each iteration reduces the number of untested items.
+-- Before each iteration of the loop, the middle items `k..at` have been tested and kept, and only
+-- middle items have changed. Each iteration reduces the number of untested items.
 use Rattle.std.proofs.Common.{◌≡◌, ◌-◌, length}
 use Rattle.thin_vec.proofs.RetainLemmas.{Stays}
 use Rattle.thin_vec.proofs.open_block.OpenBlock.test_run.Given as goal

@@ -11,8 +11,8 @@ use Rattle.thin_vec.specs.declared.open_block.OpenBlock.TheInside.{Inside}
 use Rattle.thin_vec.proofs.OpenBlockLemmas.{Found, reached, spare-empty, tail-filled, widen-step, widened, widened-seen}
 use Rattle.thin_vec.proofs.open_block.OpenBlock.widen.Goals as goal
 
--- If the view `v` of the open block `h` has at least `k` empty slots after the tail items, then `h`
--- has at least `k` slots from index `h.len` onward.
+-- `v` is how contracts see the open block `h`. If `v` has at least `k` empty slots after its tail
+-- items, then `h` has at least `k` slots from index `h.len` onward.
 fits : {T A : Type 0} (h : Inside T A) (v : Open T A) (k : ℕ) → Shows h (open_of h) → open_of h ≡ v
     → reach v + k ≤ v.capacity → h.len + k ≤ (open_of h).capacity
 fits h v k shows is room =
@@ -33,8 +33,8 @@ open_gap-opened-requires-clause-filled g c = λ j low high.
     subst (λ b. IsSome (slot b.slots j)) (sym c.replace-block.ensures.value)
     (tail-filled c.self.inside (open_of c.self.inside) o j low (omega (arith, high, o.tail)))
 
--- After the call to `widen`, the tail items have been moved up by `count` slots, and one move has
--- been counted for each of them. Nothing else has changed.
+-- After the call to `widen`, the tail items have been moved up by `count` slots, and the cost
+-- counts one more move for each of them. Nothing else in the block has changed.
 stored : (g : _) (c : goal.After-self-2-1 g)
     → let h = c.self.inside in
     seen c.replace-none.new.dest ≡ record (seen h.block) {

@@ -1,5 +1,5 @@
--- `test_neighbours` splits a slice of two items into two slices of one item each, and passes both
--- items to the test, which can change them.
+-- `test_neighbours` splits the slice of two slots into two slices of one item each, and passes both
+-- items to the test. After the test, the two slots hold the items as the test left them.
 use Rattle.std.proofs.Common.{arith, rules}
 use Rattle.thin_vec.proofs.open_block.DedupLemmas.{parts-of}
 use Rattle.std.proofs.lemmas.Grind.{common_steps}

@@ -1,5 +1,6 @@
--- This file proves that `next_capacity` computes the rule `doubling`. Unlike the rule, the code
--- limits capacities to `usize::MAX`. Both return `None` for a capacity above this limit.
+-- This file proves that `next_capacity` returns the result of the rule `doubling`. Unlike the rule,
+-- the code limits the doubled capacity to `usize::MAX`. If the doubled capacity exceeds this limit,
+-- both the code and the rule return `None`.
 use Rattle.std.proofs.Common.{◌≡◌, ℕ, ◌*◌, ◌-◌, ◌^◌, ◌∙◌, ap, min}
 use Rattle.std.specs.Mem.{type_size}
 use Rattle.std.specs.Align.{type_align}

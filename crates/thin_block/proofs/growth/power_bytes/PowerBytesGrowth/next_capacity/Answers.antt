@@ -1,6 +1,6 @@
--- This file proves that `next_capacity` computes the rule `power_bytes`. Unlike the rule, the code
--- limits sizes and capacities to `usize::MAX`. If a size or a capacity exceeds this limit, both
--- return `None`.
+-- This file proves that `next_capacity` returns the result of the rule `power_bytes`. Unlike the
+-- rule, the code limits sizes and capacities to `usize::MAX`. If a size or a capacity exceeds this
+-- limit, both the code and the rule return `None`.
 use Rattle.std.proofs.Common.{◌≡◌, ◌+◌, ◌*◌, ◌^◌, ◌<◌, ◌≤◌, ◌∙◌, ap, max, subst, sym}
 use Rattle.std.specs.Mem.{type_size}
 use Rattle.std.specs.Align.{type_align}

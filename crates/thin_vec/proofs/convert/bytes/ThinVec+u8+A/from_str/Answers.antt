@@ -1,5 +1,6 @@
--- `from_str` calls `from_copies`, whose contract computes the capacity from the size and the
--- alignment of the item type. Here, they are equal to those of `u8`, so both contracts name the
+-- `from_str` calls `from_copies`, and fails with the same error. The contract of `from_copies`
+-- computes the capacity from the size and the alignment of a generic item type. In this call, the
+-- item type has the size and the alignment of `u8`. So the contracts of both functions name the
 -- same capacity.
 use Rattle.std.proofs.Common.{◌∙◌, ap, length, refl, arith}
 use Rattle.std.specs.Borrow.{u8}

@@ -1,5 +1,6 @@
--- `write_all` calls `reserve_run`, whose contract computes the capacity from the size and the
--- alignment of the item type. Here, they are equal to those of `u8`, so both contracts name the
+-- `write_all` reserves capacity with a call to `reserve_run`. The contract of `reserve_run`
+-- computes the capacity from the size and the alignment of a generic item type. In this call, the
+-- item type has the size and the alignment of `u8`. So the contracts of both functions name the
 -- same capacity.
 use Rattle.std.proofs.Common.{◌+◌, ◌∙◌, Some, ap, length, refl, sym}
 use Rattle.std.specs.Borrow.{u8}

@@ -1,5 +1,6 @@
--- `extend_from_vec_reserved` is called on an empty list. The function `put_vec` fills the slots
--- from slot 0 onward, so the list then contains exactly the items of the vector.
+-- Before the call to `extend_from_vec_reserved`, the list has no items. The function `put_vec` puts
+-- the items of the vector into the slots of the list, beginning with slot 0. So after the call, the
+-- list contains exactly the items of the vector.
 use Rattle.std.proofs.Common.{◌≡◌, [], ◌++◌, ◌∙◌, ap, arith, length, sym, rules}
 use Rattle.thin_block.proofs.BlockLemmas.{then-len}
 use Rattle.thin_block.specs.Slots.{items_in}

@@ -1,5 +1,6 @@
--- The new list is empty at first. The function `put_array` fills the slots from slot 0 onward, so
--- the list then contains exactly the items of the array.
+-- At first, the new list has no items. The function `put_array` puts the items of the array into
+-- the slots of the list, beginning with slot 0. So the new list contains exactly the items of the
+-- array.
 use Rattle.std.proofs.lemmas.Grind.{common_steps}
 use Rattle.std.proofs.Common.{◌++◌, ap, arith, length, sym, ◌∙◌}
 use Rattle.thin_block.proofs.BlockLemmas.{then-len}

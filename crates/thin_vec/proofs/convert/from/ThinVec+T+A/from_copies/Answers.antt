@@ -1,5 +1,6 @@
--- `from_copies` calls `with_capacity`, and fails with `CapacityOverflow` in the same cases. The
--- additional bound `Copy` on the item type makes no difference.
+-- `from_copies` calls `with_capacity`, and fails with `CapacityOverflow` in the same cases. Unlike
+-- `with_capacity`, it requires the item type to be `Copy`. This makes no difference, because the
+-- error depends only on the number of items and on the size and the alignment of an item.
 use Rattle.std.proofs.Common.{length, refl}
 use Rattle.thin_block.proofs.CapacityLemmas.{exact-at}
 use Rattle.thin_vec.proofs.list.ReservesLemmas.{tells-made, tells-same}

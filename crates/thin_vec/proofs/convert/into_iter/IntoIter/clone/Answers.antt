@@ -1,5 +1,6 @@
--- `clone` calls `from_fitting_slice`, which requires that a block for all items is small enough to
--- be allocated. The iterator's own block has at least this capacity.
+-- `clone` calls `from_fitting_slice`, which requires that a block for all items of the slice is
+-- small enough to be allocated. This holds because the number of items is at most the capacity of
+-- the iterator's own block.
 use Rattle.std.proofs.Common.{ap, arith, length}
 use denote.Param.{param}
 use Rattle.thin_block.proofs.CapacityLemmas.{fits-less}

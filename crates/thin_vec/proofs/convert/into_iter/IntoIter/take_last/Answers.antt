@@ -1,5 +1,5 @@
--- Slot `end - 1` holds the last remaining item. `take_last` empties this slot and decreases `end`
--- by 1, so all other items remain.
+-- Slot `end - 1` holds the last item that has not been yielded yet. `take_last` empties this slot
+-- and decreases `end` by 1, so all other items remain.
 use Rattle.std.proofs.Common.{◌-◌, ◌<◌, ◌≤◌, ◌∷◌, ◌++◌, [], ap, sym, ◌∙◌, arith, length, take, refl, rules}
 use Rattle.thin_block.specs.Slots.{items_in}
 use Rattle.thin_vec.proofs.convert.IntoIterLemmas.{Walking, last-item, settle-last, walked-filled}

@@ -1,5 +1,5 @@
--- The test of `dedup_by_key` calls the closure first for the later item, and then for the last kept
--- item. It returns whether the two keys are equal.
+-- To compare two items, `dedup_by_key` calls its closure first for the later item, and then for the
+-- last kept item. The items count as equal if the two keys that the closure returned are equal.
 use Rattle.std.proofs.Common.{rules}
 use Rattle.thin_vec.proofs.edits.dedup.KeyingPairTest.test.Goals as goal
 

@@ -1,6 +1,6 @@
--- `from_iter` makes a list whose capacity is the lower bound of the size hint, and then calls
--- `extend_unhinted`. The clauses about the list and the error follow from the contracts of these
--- two steps.
+-- `from_iter` makes a list whose capacity is the lower bound of the iterator's size hint, and then
+-- calls `extend_unhinted`. The clauses about the list and about the cause of a failure follow from
+-- the contracts of these two steps.
 use Rattle.std.specs.Iterator.{Yields}
 use Rattle.std.specs.Option.{option_to_list}
 use Rattle.std.proofs.Common.{None, [], refl, Some, inl, inr, ◌++◌, ◌≡◌, ◌∙◌, ap, arith, length, subst, sym}

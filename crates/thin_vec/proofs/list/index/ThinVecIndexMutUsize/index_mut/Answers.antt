@@ -1,5 +1,6 @@
--- `index_mut` borrows one slot, which holds the item at `index`. When the borrow ends, this slot
--- holds the item that was written through the reference.
+-- `index_mut` borrows one slot, which holds the item at `index`. When the borrow ends, the slot
+-- holds the item that was written through the reference. So the invariant of the list holds, and
+-- the list contains the written item at `index`.
 use Rattle.std.proofs.Common.{◌<◌, ap, arith, length, refl, sym, ◌∙◌}
 use Rattle.std.specs.List.{slice_get}
 use Rattle.std.proofs.lemmas.Option.{get_or_from_slice_get}
