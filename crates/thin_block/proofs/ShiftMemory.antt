@@ -65,8 +65,9 @@ module _ (E : El) {M : Type 1} {𝓤 : Ura M} (𝓛 : Logic 𝓤) (b o : ℕ) (s
   abbrev Room : ℕ → ℕ → Fml
   Room n at = froom (ty_array (elτ E) n) b at
 
-  -- `Moves Was Is` holds if the memory `Was` can be separated from the other slots before a move,
-  -- and the memory `Is` can be joined with them after the move.
+  -- `Moves Was Is` is about a move of items. It holds if, before the move, the memory `Was` of the
+  -- affected slots can be separated from the memory of the other slots, and if, after the move, the
+  -- memory `Is` of the affected slots can be joined with it again.
   pub record Moves (Was Is : Fml) : Type 1 where
     pub Rest : Fml
     pub out : ent 𝓤 (sem 𝓛 (Row o slots)) (sep 𝓤 (sem 𝓛 Was) (sem 𝓛 Rest))
@@ -210,8 +211,8 @@ module _ (E : El) {M : Type 1} {𝓤 : Ura M} (𝓛 : Logic 𝓤) (b o : ℕ) (s
   abbrev pub Was : Fml
   Was = fsep (Items src) (Room k dst)
 
-  -- `Is` is the memory after the move: the items at their new address, and empty slots at the old
-  -- address.
+  -- The formula `Is` describes the memory after the move: the items are at their new address, and
+  -- the slots that they left are empty.
   abbrev pub Is : Fml
   Is = fsep (Items dst) (Room k src)
 

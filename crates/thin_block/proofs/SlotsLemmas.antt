@@ -396,9 +396,9 @@ module _ {T : Type 0} (s : List (Option T)) (n : ℕ) (packed : IsPacked s n) wh
       ∙ (ap (λ (k : ℕ). full xs ++ drop k (empty c)) long ∙ ap (λ (l : Row). full xs ++ l)
       (drop-replicate n c None))
 
-  -- Suppose that exactly the first `n` slots of `s` are filled, and that `length s ≤ c`. If the
-  -- items in these `n` slots are moved to the start of a list of `c` empty slots, then this list
-  -- becomes `s`, followed by `c - length s` empty slots.
+  -- Suppose that the first `n` slots of `s` are filled, that its other slots are empty, and that
+  -- `length s ≤ c`. If the `n` items are moved to the start of `c` empty slots, then the result is
+  -- `s`, followed by `c - length s` empty slots.
   pub packed-grown : (c : ℕ) → length s ≤ c
       → laid 0 (run 0 n s) (empty c) ≡ s ++ empty (c - length s)
   packed-grown c more =

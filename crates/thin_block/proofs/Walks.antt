@@ -37,8 +37,8 @@ module _ {M : Type 1} {𝓤 : Ura M} (𝓛 : Logic 𝓤) where
   abbrev pub then_runs : Calls 𝓤 H → Loops 𝓤 H → Env 𝓤 H → Body → Post 𝓤 H → Post 𝓤 H
   then_runs C Λ E b q = any_q (after_seq 𝓤 H (Wp 𝓤 H C Λ E b (post 𝓤 H q)) (post 𝓤 H q))
 
-  -- `out_of_block q` is the condition that must hold at the end of an inner block of statements, so
-  -- that `q` holds after this block.
+  -- `out_of_block q` is the condition that must hold at the end of an inner block of statements for
+  -- `q` to hold after this block.
   abbrev pub out_of_block : Post 𝓤 H → Post 𝓤 H
   out_of_block q = any_q (after_block 𝓤 H (post 𝓤 H q))
 

@@ -172,9 +172,8 @@ at_size s t p q es e all =
     subst (λ (x : ℕ × (ℕ × ℕ)). AtAny x.0 x.1.0 x.1.1) (λ i. (sym es i, pair (e i))) all
 
 -- `tested x y z u v` is the result of `in_words` for an item size. The booleans `x`, `y`, `z`, `u`
--- and `v` say whether this size is 1, 2, 4, 8 or 16, in this order. If the result is a pair, it
--- contains two numbers: the number of items that make a word, and the number of words that take as
--- many bytes as the header.
+-- and `v` say whether the size equals 1, 2, 4, 8 and 16, respectively. If the result is `Some`, it
+-- contains two numbers: how many items form a word, and how many words are as large as the header.
 abbrev tested : Bool → Bool → Bool → Bool → Bool → Option (ℕ × ℕ)
 tested x y z u v = if x then Some (8, 2) else (if y then Some (4, 2) else
     (if z then Some (2, 2) else (if u then Some (1, 2) else (if v then Some (1, 1) else None))))

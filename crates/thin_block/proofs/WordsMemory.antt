@@ -191,8 +191,9 @@ module _ {M : Type 1} {𝓤 : Ura M} (𝓛 : Logic 𝓤) (τ : Ty) (m k b : ℕ)
       rewrite ! 0 (λ (n : ℕ). ‵ (froom (ty_array τ pad) b n)) (past_is τ c o) refl $
       move ! (2 ∷ 0 ∷ []) $ fjoin ! $ move ! (1 ∷ 0 ∷ []) $ done !
 
-  -- If `c` slots fit into `w` words, then memory for the slots can be converted into memory for the
-  -- words. This uses up `slots_way`, the right to do so.
+  -- If `c` slots fit into `w` words, then the memory of the slots, together with `slots_way`, can
+  -- be converted into memory for the words. `slots_way` consists of the right to convert the
+  -- memory, and of the memory after the last slot.
   slots_in : (w c o : ℕ) → c ≤ w * m → ent 𝓤 (sep 𝓤 (H.room (ty_array τ c) b o)
       (sem 𝓛 (slots_way τ m w c b o))) (H.room (ty_array ω w) b o)
   slots_in w c o le =
@@ -565,11 +566,10 @@ module _ {M : Type 1} {𝓤 : Ura M} (𝓛 : Logic 𝓤) (T : RattleType) (L : L
         qed 𝓛 (‵ (places (R E) (full xs ++ empty j) b o) ∷ ‵ (slots_way τ' m w c b o) ∷ []) ∵
         use1 𝓛 (‵ (places (R E) (full xs) b o) ⊛ ‵ (places (R E) (empty j) b after))
         (cut E 𝓛 b (full xs) (empty j) o after last) $ split ! $ move ! (2 ∷ []) $ fsplit ! $
-        -- The previous steps have separated the filled slots from the empty slots, and have split
-        -- `slots_way` into its two parts. The proof context now holds these entries, in this order:
-        -- the rights (`ways`) to convert memory for items into memory for words, one right for each
-        -- word; the memory after the last slot, which belongs to no slot; the filled slots; the
-        -- empty slots.
+        -- The previous steps have separated the filled slots from the empty slots. They have also
+        -- split `slots_way` into the rights (`ways`) to convert memory for items into words, and
+        -- the unused memory after the last slot. The proof context now holds these entries, in this
+        -- order: the rights; the unused memory; the filled slots; the empty slots.
         move ! (2 ∷ 0 ∷ []) $
         use2 𝓛 (‵ (runs_at (R E) N (chunks n xs) b o) ⊛ ‵ (ways τ' m v b after))
         (to_runs n w v xs o after long total at_after) $ split ! $ move ! (3 ∷ 1 ∷ 2 ∷ []) $

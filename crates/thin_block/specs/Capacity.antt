@@ -50,8 +50,9 @@ Fits R c = IsTrue (fits (type_size R) (type_align R) c)
 unfoldable pub first : ℕ → ℕ
 first s = if nat_lt (2 ^ 61 - 1) s then 1 else 4
 
--- `in_words s` is `Some (m, k)` if `m` items of `s` bytes form one word, and `k` words are as large
--- as the header. It is `None` for all sizes except 1, 2, 4, 8 and 16.
+-- A word consists of `m` items, and has 8 or 16 bytes. For items of `s` bytes, `in_words s` is
+-- `Some (m, k)`, where `k` is the number of words that are as large as the header. It is `None` if
+-- `s` is not 1, 2, 4, 8 or 16.
 abbrev pub in_words : ℕ → Option (ℕ × ℕ)
 in_words s = if s == 1 then Some (8, 2) else (if s == 2 then Some (4, 2) else
     (if s == 4 then Some (2, 2) else (if s == 8 then Some (1, 2) else

@@ -10,8 +10,8 @@ use Rattle.std.specs.Int.{IsPowerOfTwo}
 use Rattle.thin_block.specs.Capacity.{fits, first, items_offset}
 
 -- A growth rule is a function of the size of an item, the alignment of an item, the old capacity,
--- and the required capacity. The required capacity exceeds the old capacity. The rule returns the
--- new capacity, or `None` if the new capacity is too large.
+-- and the required capacity. It is used only if the required capacity exceeds the old capacity. It
+-- returns the new capacity, or `None` if this capacity would be too large.
 abbrev pub Rule : Type 0
 Rule = ℕ → ℕ → ℕ → ℕ → Option ℕ
 

@@ -1,6 +1,6 @@
--- This file describes the resources that a block owns, and those that a shared reference to a block
--- lends. `R` is the item type with its layout. An address consists of an allocation `b` and an
--- offset `o`. No public contract uses this file.
+-- This file describes the resources that a block owns, and the resources to which a shared
+-- reference to a block gives access. `R` is the item type with its layout. An address consists of
+-- an allocation `b` and an offset `o`. No public contract uses this file.
 use Rattle.std.specs.Prelude.{◌≡◌, ℕ, zero, suc, ◌+◌, ◌-◌, ◌*◌, List, [], ◌∷◌, length, Bool, true, false, Option}
 use Rattle.std.specs.declared.option.Option.TheVariants.{Some, None}
 use Rattle.std.specs.Int.{div_ceil}
@@ -57,8 +57,9 @@ abbrev pub whole_of : Ty → ℕ → Ty
 whole_of τ c = ty_struct []
     (tcons (ty_int w64) (tcons (ty_int w64) (tcons (ty_array τ c) tnil)))
 
--- `bare R` is the compiled type of an item of the type `R`, with all field names erased. If two
--- item types have the same layout, then `bare` gives the same type for both of them.
+-- `bare R` is the compiled type of an item of the type `R`, with all field names erased. So if the
+-- compiled types of two item types differ only in field names, then `bare` gives the same type for
+-- both.
 abbrev pub bare : RattleType → Ty
 bare R = raw (lone R.mir)
 

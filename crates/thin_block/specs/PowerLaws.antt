@@ -15,7 +15,7 @@ use Rattle.thin_block.specs.Capacity.{fits, items_offset}
 use Rattle.thin_block.specs.Growth.{FillsPower, IsGrown, KeepsLaw, doubled_to, doubling, fitting, least_power, power_bytes}
 use Rattle.thin_block.specs.GrowthLaws.{doubling_law, fitting_is}
 
--- The next lemmas are about the least power of two.
+-- The next lemmas are about the least power of two that is at least a given number.
 
 -- Each number `n` is less than `2 ^ n`.
 below_power : (n : ℕ) → n < 2 ^ n

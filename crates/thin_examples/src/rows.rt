@@ -35,12 +35,12 @@ pub const ROWS: [u32; 35] = [
 /// the error of a call that failed unexpectedly.
 pub type Outcome = Result<Checks, ThinVecError>;
 
-/// Runs worked example number `number`. If there is no such example, returns a counter that has
-/// counted no comparisons.
+/// Runs the worked example `number`, and returns the counter of its comparisons. If there is no
+/// such example, the counter has counted no comparisons.
 ///
 /// # Errors
 ///
-/// Fails if one of the calls in the example fails unexpectedly.
+/// Fails if a call in the example fails that should succeed.
 pub fn row<A: Allocator + Copy>(alloc: A, number: u32) -> Outcome {
     match number {
         1 => row_1(alloc),

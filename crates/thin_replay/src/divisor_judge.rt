@@ -6,16 +6,16 @@ use crate::line_error::LineError;
 use crate::words::number_of;
 use thin_runner::judge::Judge;
 
-/// A judge that computes a number for each item, and divides this number by `divisor`. The number
-/// is `item + stride * n`, where `n` is the number of earlier decisions of the judge.
+/// A judge that computes a number for each item and divides it by `divisor`. The number is
+/// `item + stride * n`, where `n` is the number of earlier decisions of the judge.
 ///
-/// - The judge chooses an item if the number is divisible by `divisor`.
+/// - The judge chooses an item if its number is divisible by `divisor`.
 /// - The key of an item is the quotient, rounded down.
-/// - A later item is a duplicate of a kept item if the number for the later item and the kept item
-///   itself have the same remainder modulo `divisor`.
+/// - A later item is a duplicate of a kept item if its number is congruent to the kept item modulo
+///   `divisor`. (For the kept item, no number is computed.)
 ///
-/// After each decision, the judge adds `added` to the items that it may change. All sums and
-/// products are modulo 2^64.
+/// After each decision, the judge adds `added` to every item that was passed to it by mutable
+/// reference. All sums and products are modulo 2^64.
 #[derive(Clone, Copy)]
 pub struct DivisorJudge {
     divisor: u64,

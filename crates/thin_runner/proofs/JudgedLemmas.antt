@@ -54,8 +54,8 @@ module _ {T : Type 0} where
   abbrev pub Leaves : List Bool → List T → T × Verdicts T → Type 0
   Leaves flags ys b = (flags ≡ flags_of b.1) × (ys ≡ b.0 ∷ left_at true b.1)
 
--- In this module, `R` describes a closure that compares two items, and returns the decision of a
--- judge. If the closure is in the state `s`, this judge is `judge_of s`.
+-- In this module, `R` describes a closure that compares two items by asking a judge. When the
+-- closure is in the state `s`, the judge is in the state `judge_of s`.
 module _ {S T J : Type 0} (R : S → T → T → Bool → S → T → T → Type 0) (judge_of : S → J)
     (same : J → T → T → Bool × T × T × J)
     (told : (s : S) (x k : T) (b : Bool) (u : S) (x' k' : T) → R s x k b u x' k'

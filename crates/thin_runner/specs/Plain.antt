@@ -14,10 +14,9 @@ use Rattle.thin_runner.specs.declared.command.Reply.{Reply}
 use Rattle.thin_runner.specs.declared.command.Reply.TheVariants.{Answers, Done, Item, List as Made, Other, OutOfRange}
 use Rattle.thin_runner.specs.declared.command.Step.TheVariants.{Front}
 
--- `Seen T A G` is the type of the part of a reply that the main theorem determines. For the reply
--- `Answers`, this part is the list of the results in the vector of the reply. For any other reply,
--- this part is the whole reply. `T` is the item type, `A` is the allocator type, and `G` is the
--- growth rule.
+-- The main theorem determines a part of each reply, and `Seen T A G` is the type of this part. For
+-- the reply `Answers`, the part is the list of the results. For any other reply, the part is the
+-- whole reply. `T` is the item type, `A` is the allocator type, and `G` is the growth rule.
 pub data Seen (T A G : Type 0) : Type 0 where
   says : Reply T A G → Seen T A G
   yields : List (Option T) → Seen T A G

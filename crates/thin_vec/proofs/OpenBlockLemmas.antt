@@ -343,8 +343,9 @@ module _ {T A : Type 0} where
       len = h.len;
     }
 
-    -- `last-seen ys` is how contracts see the open block `last-left` if `ys` is the list of the
-    -- remaining middle items. The gap after these items is one slot longer than in `h`.
+    -- `last-left` is `h` without its last middle item. If `ys` is the list of the other middle
+    -- items, then `last-seen ys` is how contracts see `last-left`. The gap after the middle items
+    -- is one slot longer than in `h`.
     abbrev pub last-seen : List T → Open T A
     last-seen ys = record {
       front = v.front;

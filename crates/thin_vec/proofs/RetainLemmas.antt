@@ -280,9 +280,9 @@ module _ {S T : Type 0} (R : S → T → Bool → S → T → Type 0) where
       ap suc (stay-count xs h.2 t ys
       (subst (λ (a : Verdicts T). Asked R h.2 xs a t) (sym (cons-tail h.6)) h.5))
 
-  -- `Stops` describes the end of a sequence of tests: if any items `b` follow the kept items, then
-  -- the first of them was tested, and is to be removed. The list `e` is `b` as this test left it.
-  -- Both lists have the same length.
+  -- `Stops R u b t e` describes the end of a sequence of tests. If the list `b` of the items after
+  -- the kept items is not empty, then its first item was tested and is to be removed. The list `e`
+  -- is `b` after this test. The lemma says that `e` and `b` have the same length.
   stop-count : (u : S) (b : List T) (t : S) (e : List T) → Stops R u b t e → length e ≡ length b
   stop-count u [] t e h = ap length h.0
   stop-count u (x ∷ b) t e h = ap length h.2
@@ -497,9 +497,9 @@ module _ {S T : Type 0} (R : S → T → Bool → S → T → Type 0) where
     moved : w.cost ≡ moving h.count v.cost
     moved = ap (λ u. u.cost) h.now ∙ moving-after v.gap h.count v.cost gap
 
-    -- `Sifts` relates an open block before some tests and removals to the open block after them. If
-    -- the last tested item, `value`, is removed from the open block `w` after the tests, then
-    -- `Sifts` relates the open block `v` before the tests to the resulting open block `z`.
+    -- `Sifts` relates an open block to the open block after some tests and removals. Suppose that
+    -- `Sifts` relates `v` to `w`, and that the last tested item, `value`, is the first middle item
+    -- of `w`. If this item is removed, which turns `w` into `z`, then `Sifts` relates `v` to `z`.
     pub advanced-goes : (value : T) (z : Open T A) → w.rest ≡ value ∷ z.rest
         → z ≡ record w { rest = z.rest; gap = w.gap + 1 } → Sifts R s v t z
     advanced-goes value z rest same =
@@ -584,8 +584,8 @@ module _ {S T : Type 0} (R : S → T → Bool → S → T → Type 0) where
         { front = v.front ++ take m ys; gap = w.gap; rest = w.rest }
 
     -- Suppose that `value`, the first item after the kept items, was removed, and that all later
-    -- items were then tested. Then `IsSifted` relates the open block `v` before all tests to the
-    -- open block `z` after them.
+    -- items were then tested. Then `IsSifted` relates `v`, the open block before the first test, to
+    -- `z`, the open block after the last test.
     pub sifted-goes : (value : T) (u : S) (z : Open T A) → Passed → drop m ys ≡ value ∷ w.rest
         → Sifts R t w u z → z.rest ≡ [] → IsSifted R s v u z
     unfolding part-goes

@@ -23,10 +23,10 @@ module _ {T A : Type 0} where
         cost = h.block.cost;
       }
 
-  -- `Shows h v` states that the value `v` describes the open block `h`. The slots of `h` contain
-  -- the items of the three parts of `v` (the front, the middle run and the tail), and empty slots
-  -- between these parts. The indices that are stored in `h` say where each part begins and ends.
-  -- The last part ends at or before the end of the block.
+  -- `Shows h v` states that the value `v` describes the open block `h`. The slots of `h` hold the
+  -- items of the three parts of `v`: the front, the middle run and the tail. The slots between
+  -- these parts are empty. The indices that are stored in `h` say where each part begins and ends.
+  -- The tail ends at or before the end of the block.
   pub record Shows (h : Inside T A) (v : Open T A) : Type 0 where
     pub row : h.block.slots ≡ row_of v
     pub front : length v.front ≡ h.front_end

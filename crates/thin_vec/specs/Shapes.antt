@@ -64,9 +64,9 @@ unfolding head_of
 none_first s [] m e = all_none (None ∷ s) m e
 none_first s (y ∷ ys) m e = let n : 2 ≡ 1 = ap head_of e in absurd (omega (arith, n))
 
--- Suppose that the row of slots `s` holds `n` items, and that `map is_some s` consists of `n` times
--- `true`, followed by `m` times `false`. Then `s` consists of `n` filled slots, followed by `m`
--- empty slots.
+-- Suppose that the row of slots `s` holds `n` items, and that `map is_some s` consists of `n`
+-- copies of `true`, followed by `m` copies of `false`. Then `s` consists of `n` filled slots,
+-- followed by `m` empty slots.
 pub from_shape : {X : Type 0} (s : List (Option X)) (m : ℕ)
     → map is_some s ≡ shape (length (items_in s)) m → s ≡ full (items_in s) ++ empty m
 unfolding head_of

@@ -59,9 +59,10 @@ pub struct SpliceRefused<T, I, A: Allocator = Global> {
     /// The items that were collected from the iterator, but could not be moved into the list. The
     /// vector uses the allocator that was passed to `finish`.
     pub held: Vec<T, A>,
-    /// The last item that was taken from the iterator, after the items in `held`. There was no room
-    /// for this item. `in_hand` is `None` if the call could not reserve room for as many items as
-    /// the size hint promises, or for the items in `held`.
+    /// The item that was taken from the iterator last, after the items in `held`, and for which
+    /// there was no room. It is `None` if the call failed to reserve room for several items at
+    /// once: either for the number of items that the size hint promises, or for the items in
+    /// `held`.
     pub in_hand: Option<T>,
     /// The rest of the iterator, which yields the items that have not been taken yet. If `held` is
     /// not empty and `in_hand` is `None`, the iterator has returned `None`, and `next` must not be

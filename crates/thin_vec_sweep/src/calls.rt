@@ -152,7 +152,7 @@ pub fn every_copying<T: Sample + Copy, R: Abort>(rt: &R, scope: &Scope) {
     sweep::<MakeSecond<FromCopies>, T, Doubling, R>(rt, scope);
 }
 
-/// Tests calls that compare, hash or print a list, on the lists in `scope`.
+/// Tests the calls that compare, hash or print lists, for each list in `scope`.
 pub fn every_comparing<T: Sample + Ord + Hash + Debug, R: Abort>(rt: &R, scope: &Scope) {
     sweep::<Compare, T, PowerBytes, R>(rt, scope);
     sweep::<Print, T, PowerBytes, R>(rt, scope);

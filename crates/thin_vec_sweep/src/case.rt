@@ -162,10 +162,10 @@ impl<T: Sample, G: Ruled> Case<T, G> {
         self.requests != self.at.refused
     }
 
-    /// Returns the expected outcome of a growth of the list to `capacity`, during a call that may
-    /// grow the list several times. Also updates the expected capacity and the expected number of
-    /// requests. If `capacity` is already the expected capacity, the list does not grow, and no
-    /// request is expected. `capacity` is `None` if the capacity overflows.
+    /// Returns the expected outcome of growing the list to `capacity`, in a call that may grow the
+    /// list several times. Also updates the expected capacity and the expected number of requests.
+    /// If the expected capacity is already `capacity`, the list does not grow, and no request is
+    /// expected. If computing the new capacity overflows, `capacity` is `None`.
     pub fn further_growth(&mut self, capacity: Option<usize>) -> Verdict {
         let Some(wanted) = capacity else {
             return Verdict::Overflow;
@@ -187,7 +187,8 @@ impl<T: Sample, G: Ruled> Case<T, G> {
     }
 
     // Returns the expected outcome of a call that requests `blocks` blocks and then clones `clones`
-    // items. Sets the expected number of requests and, on success, the expected number of clones.
+    // items. Also stores the expected number of requests and, if the call is expected to succeed,
+    // the expected number of clones.
     fn verdict(&mut self, blocks: u64, clones: usize) -> Verdict {
         let refused = self.at.refused;
         let clones = clones as u64;

@@ -1,5 +1,5 @@
 //! The types of the items in the lists under test: types of 0 to 512 bytes, a type whose values are
-//! counted, and a list type.
+//! counted by a ledger, and a list type.
 ghost use Rattle.std.proofs.Common.{rules};
 ghost use Rattle.std.specs.Cmp.Rules.{comparing};
 ghost use Rattle.std.specs.Prelude.{◌==◌};

@@ -62,8 +62,8 @@ impl Walk {
     }
 }
 
-/// Returns how many steps are taken over `count` items, if `count` is greater than 6. Five numbers
-/// of steps are tried, and `number` (0 to 4) selects one of them.
+/// Returns a number of steps to take over `count` items. This function is for more than 6 items.
+/// There are five choices, and `number` (0 to 4) selects one of them.
 pub fn some_steps(count: usize, number: usize) -> usize {
     match number {
         0 => count / 2,

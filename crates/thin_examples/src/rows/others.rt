@@ -20,9 +20,9 @@ pub fn row_21<A: Allocator + Copy>(alloc: A) -> Outcome {
     Ok(checks)
 }
 
-// Calls the method `set` of the table to write `value` at row 1 and column `column`. Checks that
-// the method returns `before`, the value that the column had before the call. If the table does not
-// have three rows, does nothing.
+// Writes `value` to row 1 of the table, at column `column`, with the method `set`. Checks that the
+// method returns `before`, the old value at this place. If the number of rows is not 3, does
+// nothing.
 fn set<A: Allocator>(
     checks: &mut Checks,
     table: &mut Rows<char, A>,

@@ -119,7 +119,7 @@ pub fn row_19<A: Allocator + Copy>(alloc: A) -> Outcome {
     Ok(checks)
 }
 
-/// Checks that `clear` and pushes into reserved room do not change the capacity. Also checks that
+/// Checks that neither `clear` nor a push into reserved room changes the capacity, and that
 /// `shrink_to_fit` reduces the capacity to the length.
 pub fn row_23<A: Allocator + Copy>(alloc: A) -> Outcome {
     let mut checks = Checks::new();

@@ -18,8 +18,8 @@ module _ {T J : Type 0} where
       let a = key j later in let b = key a.2 kept in (a.0 == b.0, a.1, b.1, b.2)
 
 module _ {T J : Type 0} (ask : J → T → Bool × T × J) where
-  -- The function `ask` tests one item. `asked j xs` is the list of the verdicts if `ask` tests the
-  -- items `xs` in order, and the judge is in the state `j` before the first test.
+  -- The function `ask` tests one item. `asked j xs` is the list of the verdicts that `ask` returns
+  -- if it tests the items `xs` in order, starting with the judge in the state `j`.
   abbrev pub asked : J → List T → Verdicts T
   asked j [] = []
   asked j (x ∷ xs) = let a = ask j x in (a.0, a.1) ∷ asked a.2 xs

@@ -9,11 +9,11 @@ use Rattle.thin_runner.specs.commands.Items.{Grows}
 
 module _ {T A J : Type 0} (here : Setting T A J) where
   -- `RefusesClone old k sources cause new` holds if a call may fail with `cause` and turn the list
-  -- `old` into `new`. The call needs room for `k` more items, and clones the items `sources`.
+  -- `old` into `new`. The call needs room for `k` more items, and clones the items `sources`. On
+  -- failure, the items of the list are unchanged.
   --
-  -- The call does not change the items of the list. There are two cases. In the first case, nothing
-  -- else changes, either. In the second case, the call makes room, and then fails to clone one of
-  -- the items `sources`. Each item that was cloned before the failure counts as one move.
+  -- Either nothing else changes, or the call makes room and then fails to clone one of the items
+  -- `sources`. In the second case, each item that was cloned before the failure counts as one move.
   abbrev pub RefusesClone : Thin T A → ℕ → List T → ThinVecError → Thin T A → Type 0
   RefusesClone old k sources cause new =
       ((capacity_for here.rule here.R old k ≡ None) ↔ (cause ≡ CapacityOverflow))

@@ -85,6 +85,6 @@ module _ {T A : Type 0} (rule : Rule) (R : RattleType) (old : Thin T A) (a b : �
     -- the list `new` is full: its length equals its capacity.
     pub at_end : b ≡ length old.items → (held ≡ [])
         × (IsSome in_hand → length new.items ≡ new.capacity)
-    -- If no item follows the range, and `in_hand` is `None`, then the call placed no item. The list
-    -- `new` is the list `old` without the items of the range.
+    -- If no item follows the range, and `in_hand` is `None`, then the call placed no item, so `new`
+    -- is `old` without the items of the range.
     pub unchanged : b ≡ length old.items → in_hand ≡ None → new ≡ cut old a b

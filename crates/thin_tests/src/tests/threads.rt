@@ -1,5 +1,6 @@
-//! Tests that lists and values made from lists can be passed to functions with the bounds `Send`
-//! and `Sync`. No thread is started, because the compiler checks these bounds.
+//! Tests that lists, and values such as iterators that are made from lists, can be passed to
+//! functions with the bounds `Send` and `Sync`. No thread is started, because the compiler checks
+//! these bounds.
 ghost use Rattle.std.specs.Prelude.{◌≡◌};
 
 use crate::tests::support::assertions::assert_same;

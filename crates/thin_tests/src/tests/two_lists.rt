@@ -1,5 +1,5 @@
-//! Tests of `append` and `split_off`. They check which items both lists have after a call that
-//! succeeds, and after a call to `append` that fails.
+//! Tests of `append` and `split_off`. They check which items each of the two lists has after a
+//! successful call, and after a call to `append` that fails.
 use crate::tests::support::assertions::{assert_counts, assert_list, assert_same};
 use crate::tests::support::items::{list_of, refusing_nth};
 use thin_vec::ThinVecError;

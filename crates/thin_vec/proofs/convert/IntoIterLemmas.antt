@@ -185,9 +185,9 @@ module _ {T A : Type 0} where
     abbrev gap : ℕ
     gap = length b.slots - end
 
-    -- Suppose that the slots are `start` empty slots, the items `ys`, and `k` empty slots. If slot
-    -- `start` holds `v`, then `v` is the first item of `ys`. If this slot is emptied, then
-    -- `start + 1` empty slots precede the other items.
+    -- Suppose that the slots are `start` empty slots, then the slots of the items `ys`, and then
+    -- `k` empty slots. If slot `start` holds `v`, then `v` is the first item of `ys`. If this slot
+    -- is emptied, then the other items of `ys` follow `start + 1` empty slots.
     first-of : (ys : List T) (k : ℕ) → 0 < length ys
         → slot (empty start ++ (full ys ++ empty k)) start ≡ Some v
         → (ys ≡ v ∷ drop 1 ys)

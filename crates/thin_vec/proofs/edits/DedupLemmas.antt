@@ -89,8 +89,8 @@ module _ {S T : Type 0} (R : OnPairs S T) where
       → AskedLast R s k (x ∷ []) (false ∷ []) (k' ∷ []) t
   last-goes s t k x x' k' h = (true, x', k', t, [], h, refl, (refl, refl, refl))
 
-  -- If the item `x` is tested against the kept item `k` and is kept, then both items are kept. The
-  -- test left `k` as `k'` and `x` as `x'`.
+  -- Suppose that the item `x` is tested against the kept item `k`, that the test keeps `x`, and
+  -- that it leaves the items as `k'` and `x'`. Then the list of the kept items is `k' ∷ x' ∷ []`.
   pub last-stays : (s t : S) (k x x' k' : T) → R s x k false t x' k'
       → AskedLast R s k (x ∷ []) (true ∷ []) (k' ∷ x' ∷ []) t
   last-stays s t k x x' k' h = (false, x', k', t, [], h, refl, (x' ∷ [], (refl, refl, refl), refl))
@@ -321,8 +321,8 @@ module _ {S T : Type 0} (R : OnPairs S T) where
 
   module _ {A : Type 0} (v w : Open T A) where
     -- `Moved front cost` holds if the open block `w` has the front items `front` and the cost
-    -- `cost`, and otherwise differs from the open block `v` only in its first gap and its middle
-    -- items.
+    -- `cost`, and if, apart from these, it differs from the open block `v` at most in its first gap
+    -- and its middle items.
     abbrev Moved : List T → Cost → Type 0
     Moved front cost = w ≡ record v
         { front = front; gap = w.gap; rest = w.rest; cost = cost }
@@ -614,9 +614,10 @@ module _ {J S T : Type 0} (R : OnPairs S T) (inside : J → S) where
 
 -- In this module, the function `E` says whether an item is a duplicate of the last kept item.
 module _ {S T : Type 0} (E : T → T → Bool) where
-  -- Suppose that the items `xs` follow the kept item `k`, and that the function `E` tested them.
-  -- Then the flags `f`, which say which of these items are kept, are `unlike_from E k xs`. The list
-  -- `ys` of the kept items, including `k`, is `dedup_from E k xs`.
+  -- Suppose that the items `xs` follow the kept item `k`, and that each of them was compared with
+  -- the last kept item by `E`. Let the flags `f` say which of the items `xs` are kept. Then `f` is
+  -- `unlike_from E k xs`, and the list `ys` of the kept items, including `k`, is
+  -- `dedup_from E k xs`.
   last-compares : (xs : List T) (s t : S) (k : T) (f : List Bool) (ys : List T)
       → AskedLast (Compares E) s k xs f ys t → (f ≡ unlike_from E k xs) × (ys ≡ dedup_from E k xs)
   last-compares [] s t k f ys h = (h.0, h.1)

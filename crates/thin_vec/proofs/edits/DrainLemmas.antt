@@ -1,4 +1,4 @@
--- These lemmas state what calls to `next` and `next_back` on a `Drain` yield, and what these calls
+-- These lemmas state which items `next` and `next_back` yield on a `Drain`, and what these calls
 -- leave unchanged.
 use Rattle.std.proofs.Common.{[], ◌∷◌, ap, refl, subst, ◌∙◌, length}
 use Rattle.std.proofs.iter.runs.Sources.{as_is, as_is_back, from_back, from_front}

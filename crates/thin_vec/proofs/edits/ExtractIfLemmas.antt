@@ -129,9 +129,9 @@ module _ {F T : Type 0} (R : F → T → Bool → F → T → Type 0) where
       pub picked-room : m ≤ length ys
       picked-room = omega (arith, reached, ap length now, length-append h.left h.end)
 
-      -- Suppose that the tests kept the first `m` items of the list `xs`. If `item` is extracted
-      -- from the later items, then `item` is also extracted from the whole list `xs`. (`item` is
-      -- `None` if no item is extracted.)
+      -- Suppose that the tests kept the first `m` items of the list `xs`. If the search through the
+      -- later items yields `item`, then the search through the whole list `xs` also yields `item`.
+      -- (`item` is `None` if nothing is extracted.)
       whole : (item : Option T) (rest : List T) → ExtractsNext R (of h.between) h.after item (of t)
           [] rest → ExtractsNext R (of s) xs item (of t) (take m ys) rest
       whole item rest e =

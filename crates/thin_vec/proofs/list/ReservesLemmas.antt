@@ -21,10 +21,10 @@ tells-ok x named n is = record {
   overflow = (λ e. ok-err x CapacityOverflow e, λ none. absurd (none-some none is));
 }
 
--- `TellsOverflowOf R m r` states that making a list for exactly `m` items of the type `R` returns
--- `CapacityOverflow` (as the result `r`) if and only if the capacity of the list would be too
--- large. If `m` items of the type `R` and `n` items of the type `S` need the same capacity, then
--- `TellsOverflowOf` for `R`, `m` and `Ok x` implies `TellsOverflowOf` for `S`, `n` and `Ok y`.
+-- `TellsOverflowOf R m r` states that `r`, the result of making a list for exactly `m` items of the
+-- type `R`, is `CapacityOverflow` if and only if the capacity would be too large. If `m` items of
+-- `R` and `n` items of `S` need the same capacity, then `TellsOverflowOf R m (Ok x)` implies
+-- `TellsOverflowOf S n (Ok y)`.
 pub tells-made : {X : Type 0} {x y : X} (R S : RattleType) (m n : ℕ)
     → exact_capacity R 0 m ≡ exact_capacity S 0 n
     → TellsOverflowOf R m (let r : Result X ThinVecError = Ok x in r)

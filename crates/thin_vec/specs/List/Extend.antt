@@ -51,11 +51,11 @@ IsKeptOrRuled rule R c d n = (d ≡ c) ⊎ IsRuled rule R d n
 
 -- `IsExtended rule R v d n left` states that `d` is a possible capacity of a list after a call that
 -- added items of an iterator. The list was `v` before the call, and has `n` items after it. The
--- items have the type `R`, and the iterator could yield at most `left` items. There are two cases.
--- In the first case, `d` is the old capacity, or a capacity that the growth rule `rule` may choose
--- for a list that needs room for at most `n` items (`IsKeptOrRuled`). In the second case, `d` is
--- the capacity that the call `reserve(h)` gives to `v`, where `h` is a possible lower bound in the
--- size hint of the iterator.
+-- items have the type `R`, and the iterator could yield at most `left` items.
+--
+-- Either `d` is the old capacity, or one that the growth rule `rule` may choose for a list that
+-- needs room for at most `n` items (`IsKeptOrRuled`). Or `d` is the capacity that the call
+-- `reserve(h)` gives to `v`, where `h` is a lower bound that the iterator's size hint may report.
 abbrev pub IsExtended : {T A : Type 0} → Rule → RattleType → Thin T A → ℕ → ℕ → Count → Type 0
 IsExtended rule R v d n left =
     IsKeptOrRuled rule R v.capacity d n
@@ -82,11 +82,10 @@ module _ {T A : Type 0} where
     -- case, the new capacity is at least as large as a capacity that the growth rule chooses if a
     -- block of the old capacity has to grow.
     pub loose : IsLoose rule R v.capacity w.capacity
-    -- There are three cases. In the first case, the capacity does not change. In the second case,
-    -- the new capacity is one that the growth rule may choose for a list that needs room for at
-    -- most `length w.items` items. In the third case, the new capacity is the one that the call
-    -- `reserve(h)` gives to `v`, where `h` is a possible lower bound in the size hint of the
-    -- iterator.
+    -- The new capacity is one of three: the old capacity; a capacity that the growth rule may
+    -- choose for a list that needs room for at most `length w.items` items; or the capacity that
+    -- the call `reserve(h)` gives to `v`, where `h` is a lower bound that the iterator's size hint
+    -- may report.
     pub ruled : IsExtended rule R v w.capacity (length w.items) left
 
   -- `CostsAdding v w n` bounds the recorded cost of a call that added items to a list and changed

@@ -250,8 +250,9 @@ impl<T: Drop, A: Allocator, G: Growth> ThinVec<T, A, G> {
         requires can_next { I.can_next iter }
         requires finite { IsFinite (I.remaining iter) }
 
-        // `IsFinished` states how the call changes the list, when it succeeds, and what it returns
-        // on failure. All `ensures` clauses of `Splice::finish` follow from this clause.
+        // `IsFinished` states under which conditions the call succeeds, how the call changes the
+        // list, and what it returns on failure. All other `ensures` clauses of `Splice::finish`
+        // follow from this clause.
         ensures { IsFinished I.next_gives I.can_next I.remaining G.rule T.row block self.old.alloc
             iter self.new result }
     {

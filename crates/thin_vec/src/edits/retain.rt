@@ -1,8 +1,8 @@
 //! The methods `retain` and `retain_mut`, which keep the items for which a closure returns true,
 //! and drop the other items.
 //!
-//! No item moves before the first item is removed. The removed items leave a gap of empty slots.
-//! When the next item is removed, or when all items have been tested, the items that were kept
+//! No item is moved before the first item is removed. The removed items leave a gap of empty slots.
+//! When the next item is removed, or when all items have been tested, the items that have been kept
 //! since the previous removal are moved down to the start of the gap. The `dedup` methods work in
 //! the same way.
 ghost use Rattle.std.specs.Prelude.{◌≡◌, ◌<◌, ◌≤◌, length};

@@ -103,8 +103,8 @@ fn add_from_last<T: Sample, G: Ruled, R: Abort>(rt: &R, case: &mut Case<T, G>, m
     case.items.append(&mut new).expect(rt, "memory");
 }
 
-// For each `k` from 0 to 6, the number of test cases on a range of `k` items. Each range is tried
-// once.
+// Entry `k` is the number of test cases for each range of `k` items, for `k` from 0 to 6. It is
+// always 1.
 const EACH_RANGE: Cases = [1; 7];
 
 /// A test that calls `extend_from_within` with each range of a list of at most 6 items, and with

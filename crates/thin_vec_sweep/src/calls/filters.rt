@@ -81,10 +81,10 @@ impl<T: Sample, G: Ruled> Call<T, G> for RetainMut {
     }
 }
 
-// Returns the items that remain after the test `RetainMut` on a list of `count` items, as the
-// numbers from which they were made. The closure replaces the first item with a new item, and each
-// later item with the item that was originally before it. `pattern` determines at which indices the
-// written items are kept.
+// Computes which items remain after the test case `RetainMut` for a list of `count` items. Returns
+// the numbers from which these items were made. The closure overwrites the first item with a new
+// item, and every other item with the original item of the preceding index. `pattern` determines
+// the indices whose items are kept.
 fn moved_up<R: Abort>(rt: &R, global: Global, count: usize, pattern: usize) -> Vec<u64, Global> {
     let mut left = Vec::new(global);
     let mut number = FRESH;
@@ -172,9 +172,10 @@ impl<T: Sample, G: Ruled> Call<T, G> for DedupBy {
     }
 }
 
-// Returns the items that remain after the test `DedupBy` on a list of `count` items, as the numbers
-// from which they were made. The closure swaps each later item with the last item that was kept
-// before it. Then `pattern` determines whether the item at the later index is removed.
+// Computes which items remain after the test case `DedupBy` for a list of `count` items. Returns
+// the numbers from which these items were made. For each item after the first, the closure swaps
+// the item with the last kept item. Then `pattern` determines whether the item that is now at the
+// later index is removed.
 fn exchanged<R: Abort>(rt: &R, global: Global, count: usize, pattern: usize) -> Vec<u64, Global> {
     let mut left = Vec::new(global);
     let mut last = number_at(0);

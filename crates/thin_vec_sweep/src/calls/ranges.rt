@@ -178,8 +178,8 @@ impl Extraction {
     }
 }
 
-// Returns two numbers for test case number `number` on a range of `width` items. The first says how
-// many times `next` is called. The second selects the results of the closure.
+// Returns two values for the test case `number` on a range of `width` items: how many times `next`
+// is called, and the index of the pattern that determines the results of the closure.
 fn calls_and_pattern(width: usize, number: usize) -> (usize, usize) {
     if width >= EXTRACTIONS.len() {
         return (some_steps(width, number % 5), number / 5);

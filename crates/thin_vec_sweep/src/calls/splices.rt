@@ -70,9 +70,9 @@ struct Plan {
 }
 
 impl Plan {
-    // Returns test case number `argument`. When `finish` reads the size hint, it may already have
-    // moved new items into the range. One of the size hints is chosen so that it is exact at that
-    // moment.
+    // Returns the plan for the test case `argument`. When `finish` reads the size hint of the
+    // iterator, it may already have moved new items into the range. One of the possible size hints
+    // states exactly how many items the iterator has left at that moment.
     fn new<T: Sample, G: Ruled, R: Abort>(rt: &R, case: &Case<T, G>, argument: usize) -> Plan {
         let shape = case.at.shape;
         let range = shape.ranged_case(&cases(shape), argument);
@@ -97,8 +97,8 @@ impl Plan {
     }
 }
 
-// Returns the number of the walk that test case number `number` uses on a list of at most 6 items.
-// A walk is a sequence of calls to `next` and `next_back`.
+// A walk is a sequence of calls to `next` and `next_back`, and each walk has an index. Returns the
+// index of the walk for the test case `number`, if the list has at most 6 items.
 fn few_steps(number: usize) -> usize {
     let crossed = SHORT_WALKS.saturating_mul(FILLS);
     match number.checked_sub(crossed) {

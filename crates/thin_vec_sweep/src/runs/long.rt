@@ -145,8 +145,8 @@ fn has_earlier_alone(replies: &Replies<'_>) -> bool {
     }
 }
 
-// Asserts that a run fails if its first allocation request is refused. The run must drop its
-// commands, but keep the reply to an earlier command.
+// Asserts that a run fails if its first request for memory is refused. Also asserts that the run
+// drops its commands, and that a reply from before the run is kept.
 fn assert_refused<'a, R: Abort>(rt: &R, alloc: Lender<'a>) {
     let mut list = ThinVec::new(alloc);
     let mut replies = earlier_reply(rt, alloc);

@@ -136,8 +136,8 @@ module _ (E : El) (Y : Al) {M : Type 1} {𝓤 : Ura M} (𝓛 : Logic 𝓤) (at_m
       fjoin ! $ nothing ! $ fjoin ! $ join ! $ move ! (3 ∷ 4 ∷ []) $ join ! $
       move ! (3 ∷ 0 ∷ []) $ join ! $ join ! $ done !
 
-  -- `from Ev x k` says that the postcondition holds after all but the first `k` statements of the
-  -- function body have run. `Ev` is the environment of the local variables, and `x` is the address
+  -- `from Ev x k` says that the postcondition holds once the statements of the function body after
+  -- the first `k` have run. `Ev` is the environment of the local variables, and `x` is the address
   -- of the old block.
   abbrev from : Env 𝓤 H → Ptr → ℕ → After 𝓤 H
   from Ev x k = then_runs 𝓛 C Λ Ev (after k (here E Y).body) (at_ret Ev (Post x))

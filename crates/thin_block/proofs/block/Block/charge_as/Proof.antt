@@ -1,8 +1,7 @@
 -- This file proves the contract of `charge_as`, which changes only ghost state and does nothing at
 -- run time. Each block has a recorded cost, which counts requests for memory, copied items and
--- moves. The function sets the recorded cost of the block to the cost of the block `from`, but adds
--- 1 to the count of requests, and adds `from.len()` to the count of copied items. The proof assumes
--- the laws of separation logic, which the type `Logic` states.
+-- moves. The function sets the recorded cost of the block to that of the block `from`, plus 1
+-- request and `from.len()` copied items.
 use Rattle.std.proofs.Common.{ℕ, ◌∷◌, [], ◌++◌, refl}
 use mir.Val.{vptr, vunit}
 use mir.MapTy.{inst_fn}

@@ -83,10 +83,10 @@ slice_mut_spec 𝓤 𝓛 𝓜 𝓡 wired T A LT LA g d dd met md =
     (‵ (places (R E) (full xs) b here) ⊛ ‵ (around E 𝓛 b (o + 16) x.slots i k))
     (run_out E 𝓛 b (o + 16) x.slots i k (omega arith) (full xs) items.1) $ split ! $
     use1 𝓛 (‵ (cells (mem (R E)) xs b here)) (to_cells E 𝓛 b xs here) $
-    -- The items of the slice have been separated from the other slots. The proof context now
-    -- contains, in this order: [the items; the other slots; the header; the block's pointer; the
+    -- The slots of the slice have been separated from the other slots. The proof context now holds,
+    -- in this order: the items of the slice; the other slots; the header; the block's pointer; the
     -- right to close the borrow of the block, with the lifetime token of this borrow; two ghost
-    -- resources that record the value of the block; the other lifetime tokens].
+    -- resources that record the value of the block; the other lifetime tokens.
     let Rest : Fml = fsep (around E 𝓛 b (o + 16) x.slots i k)
     (Waiting E Y 𝓛 x b o r.ref_ptr.0 r.ref_ptr.1 at) in
     let Back : List T.Denot → Type 1 =

@@ -41,8 +41,8 @@ taken g c =
     } in
     subst (λ z. HasTaken g.G.Growth.rule (param 0 g.row.T) z w n more) (left g c) now
 
--- `IsExtended` holds for the capacity of the list after the call to `extend`: either this call did
--- not change the capacity, or the growth rule has chosen the new capacity.
+-- After the call to `extend`, `IsExtended` holds for the capacity of the list: either the call did
+-- not change the capacity, or the growth rule chose the new one.
 ruled : (g : _) (c : After-extend g)
     → IsExtended g.G.Growth.rule (param 0 g.row.T) (left_of c.args.block c.args.self.now.alloc)
     c.extend.new.self.capacity (length c.extend.new.self.items)

@@ -8,7 +8,8 @@ use Rattle.thin_vec.proofs.RetainLemmas.{moving-after, moving-none, one-stays, r
 use Rattle.std.proofs.lemmas.Grind.{common_steps}
 use Rattle.thin_vec.proofs.open_block.OpenBlock.advance_two.Goals as goal
 
--- If the test decides to remove the first item, no item is moved. So the clause `advances` holds.
+-- If the test decides to remove the first item, then no item is kept and no item is moved. This is
+-- the case `count = 0` of the clause `advances`.
 pub returns-then-not-test-clause-advances : goal.returns-then-not-test-clause-advances
 returns-then-not-test-clause-advances g c =
     let R = g.J.Test.tests in
