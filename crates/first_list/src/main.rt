@@ -7,8 +7,7 @@ use std::alloc::Allocator;
 use std::io;
 use thin_vec::{ThinVec, ThinVecError, thin_vec};
 
-/// Returns a list with the items 3, 4 and 5. Fails if the allocator cannot allocate memory for the
-/// list.
+/// Returns the list 3, 4, 5. Fails if the allocator has no memory.
 fn first_list<A: Allocator>(alloc: A) -> Result<ThinVec<u32, A>, ThinVecError>
     ensures items { IfOk result (λ list. list.items ≡ 3 ∷ 4 ∷ 5 ∷ []) }
 {

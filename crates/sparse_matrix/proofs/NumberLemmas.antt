@@ -67,8 +67,8 @@ module _ (t : Table ℕ) (i j : ℕ) where
       (λ k l other. ap (λ o. unwrap_or o 0) (columns_unchanged t i j k l v other))
       (λ k l other. ap (λ o. unwrap_or o 0) (rows_unchanged t i j k l v other))
 
-  -- If the entry at row `i` and column `j` of the table `t` is removed, then the number at this
-  -- place becomes `v`, which is 0. All other numbers are unchanged.
+  -- Suppose that `v` is 0. If the entry at row `i` and column `j` of the table `t` is removed, then
+  -- the number at this place becomes `v`. All other numbers are unchanged.
   pub number-without_value : (v : ℕ) → v ≡ 0 → (k l : ℕ)
       → number_at (without_value t i j) k l ≡ (if k == i && l == j then v else number_at t k l)
   number-without_value v zero =
@@ -93,9 +93,10 @@ pub still_small : (t u : Table ℕ) (i j v : ℕ) → v < 2 ^ 64
 still_small t u i j v fits small told k l =
     rw (told k l) (either_below (k == i && l == j) v (number_at t k l) (2 ^ 64) fits (small k l))
 
--- A call with the result `result` either writes `v` at row `i` and column `j` of the table `t`, or
--- fails and changes nothing. Suppose that `t` has a row `i`, and that `u` is the table after the
--- call. If `v` and all numbers of `t` are less than `2 ^ 64`, then so are all numbers of `u`.
+-- Suppose that a call returns `result`. If the call succeeds, it writes `v` at row `i` and column
+-- `j` of the table `t`, which has a row `i`. If the call fails, it changes nothing. Let `u` be the
+-- table after the call. If `v` and all numbers of `t` are less than `2 ^ 64`, then so are all
+-- numbers of `u`.
 pub small_if_written : {X E : Type 0} (result : Result X E) (t u : Table ℕ) (i j v : ℕ)
     → i < length t → v < 2 ^ 64 → ((k l : ℕ) → number_at t k l < 2 ^ 64)
     → OnOk result (u ≡ with_value t i j v) → OnErr result (u ≡ t)

@@ -12,9 +12,9 @@ use Rattle.thin_rows.proofs.TableLemmas.{in_order, is_listed, listed}
 never : {P : Type 0} {x : ℕ} → None ≡ Some x → P
 never e = cc
 
--- In this module, a loop writes the entries of `row` into a matrix. Before the loop, the matrix
--- contains the number `old j` at the place where an entry of column `j` is written. If the number
--- `v` is written at a place with the number `u`, then the new number at this place is `write u v`.
+-- In this module, a loop writes the entries of `row` into a matrix, each at its own place. Before
+-- the loop, the number at the place for column `j` is `old j`. If the number at a place is `u`,
+-- then writing `v` at this place changes the number to `write u v`.
 module _ (write : ℕ → ℕ → ℕ) (row : Columns ℕ) (old : ℕ → ℕ) where
   abbrev column : ℕ → ℕ
   column k = (slice_index_or (columns.entries row) k (0, 0)).0
@@ -32,9 +32,9 @@ module _ (write : ℕ → ℕ → ℕ) (row : Columns ℕ) (old : ℕ → ℕ) w
   pub none_written : IsWritten 0 old
   none_written = record { done = λ k less. absurd (omega arith); left = λ j none. refl }
 
-  -- `IsWritten n now` holds if `now j` is the number at each column `j` after the first `n` entries
-  -- have been written. If the entry at index `n` is then written, and `next j` is the number at
-  -- each column `j` after this write, then `IsWritten (n + 1) next` holds.
+  -- Suppose that `IsWritten n now` holds: after the first `n` entries have been written, the number
+  -- at each column `j` is `now j`. If the entry at index `n` is written next, and the number at
+  -- each column `j` is then `next j`, then `IsWritten (n + 1) next` holds.
   pub one_more : (n : ℕ) (now next : ℕ → ℕ) → n < length (columns.entries row) → IsWritten n now
       → next (column n) ≡ write (now (column n)) (number n)
       → ((j : ℕ) → j ≢ column n → next j ≡ now j) → IsWritten (n + 1) next
@@ -52,9 +52,9 @@ module _ (write : ℕ → ℕ → ℕ) (row : Columns ℕ) (old : ℕ → ℕ) w
         ∙ h.left j (λ k less. none k (omega (arith, less)));
   }
 
-  -- This is the lemma `one_more` for a list `entries` that equals the list of the entries of `row`:
-  -- if `IsWritten n now` holds, and the entry at index `n` is written next, then
-  -- `IsWritten (n + 1) next` holds.
+  -- Suppose that `entries` is the list of the entries of `row`, and that `IsWritten n now` holds.
+  -- If the entry at index `n` is written next, and the number at each column `j` is then `next j`,
+  -- then `IsWritten (n + 1) next` holds.
   pub next_written : (entries : List (ℕ × ℕ)) → entries ≡ columns.entries row → (n : ℕ)
       (now next : ℕ → ℕ) → n < length entries → IsWritten n now
       → next (slice_index_or entries n (0, 0)).0
@@ -63,9 +63,9 @@ module _ (write : ℕ → ℕ → ℕ) (row : Columns ℕ) (old : ℕ → ℕ) w
       → IsWritten (n + 1) next
   next_written entries is = rw is one_more
 
-  -- Suppose that all `n` entries of `row` have been written, and that `now j` is the number at
-  -- column `j` afterward. If `write (old j) 0` is `old j`, then `now j` is `write (old j) v`. Here,
-  -- `v` is the number of `row` in column `j`, or 0 if `row` has no entry there.
+  -- Suppose that all `n` entries of `row` have been written, and that `now j` is the resulting
+  -- number at column `j`. Let `v` be the number of `row` in column `j`, or 0 if `row` has no entry
+  -- there. If `write (old j) 0` is `old j`, then `now j` is `write (old j) v`.
   pub all_written : (n : ℕ) (now : ℕ → ℕ) → n ≡ length (columns.entries row) → IsWritten n now
       → (j : ℕ) → write (old j) 0 ≡ old j
       → now j ≡ write (old j) (unwrap_or (columns.get row j) 0)

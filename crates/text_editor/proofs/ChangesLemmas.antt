@@ -66,9 +66,10 @@ module _ (changes rest : List Change) (change : Change) (text after : List ℕ)
       ap (λ (cs : List Change). texts_along cs text) turned
       ∙ ap (λ (t : List ℕ). t ∷ texts_along (reverse rest) t) (sym made)
 
-  -- `AllFit changes text` states that each change fits the text to which it is applied, if
-  -- `changes` are applied from the last to the first. If the last change, `change`, fits `text`,
-  -- and `AllFit rest after` holds for the other changes, then `AllFit changes text` holds.
+  -- `AllFit changes text` is about applying `changes` to `text`, the last change first. It states
+  -- that each change fits the text to which it is applied. If the last change, `change`, fits
+  -- `text`, and `AllFit rest after` holds for the other changes and the text after `change`, then
+  -- `AllFit changes text` holds.
   pub AllFit-last : Fits change text → AllFit rest after → AllFit changes text
   AllFit-last fits all =
       subst (λ (cs : List Change). FitAlong cs text) (sym turned)
@@ -102,8 +103,8 @@ texts_along-take (suc k) (change ∷ changes) text =
     ap (λ (ts : List (List ℕ)). changed change text ∷ ts)
     (texts_along-take k changes (changed change text))
 
--- If all changes of a list fit a text when they are applied in order, then the first `k` changes
--- fit the text, too.
+-- Suppose that `changes` are applied to `text` in order. If each change fits the text to which it
+-- is applied, then this also holds for the list of the first `k` changes.
 FitAlong-take : (k : ℕ) (changes : List Change) (text : List ℕ) → FitAlong changes text
     → FitAlong (take k changes) text
 FitAlong-take zero changes text all = tt
@@ -134,8 +135,9 @@ module _ (m : ℕ) (changes : List Change) (text : List ℕ) where
       ap (λ (cs : List Change). texts_along cs text) (reverse-drop m changes)
       ∙ texts_along-take (length changes - m) (reverse changes) text
 
-  -- If all changes of a list fit a text when they are applied from the last to the first, then the
-  -- list without its first `m` changes fits the text, too.
+  -- Suppose that `changes` are applied to `text` from the last to the first. If each change fits
+  -- the text to which it is applied, then this also holds for the list without its first `m`
+  -- changes.
   pub AllFit-drop : AllFit changes text → AllFit (drop m changes) text
   AllFit-drop all =
       subst (λ (cs : List Change). FitAlong cs text) (sym (reverse-drop m changes))

@@ -54,8 +54,8 @@ module _ (E : El) (g : Ghosts (el_x E)) (d : Dict) {M : Type 1} {𝓤 : Ura M} (
     abbrev pub Slice : Fml
     Slice = (ShrSlice (named 0) κ₀ (copied 0 E.row)).own_val s (shr_slice_vals s)
 
-    -- `IsCopy z` holds if `z` has the same slots in memory as `r`, and all of them are filled with
-    -- the items of the slice.
+    -- `IsCopy z` holds if `z` consists of the same slots in memory as `r`, the first argument of
+    -- the call, and if all these slots are filled with the items of the slice.
     pub record IsCopy (z : (Row E).Denot) : Type 0 where
       pub same : SamePlaces r z
       pub items : slots_items z ≡ s.now
@@ -70,11 +70,13 @@ module _ (E : El) (g : Ghosts (el_x E)) (d : Dict) {M : Type 1} {𝓤 : Ura M} (
         use0 𝓛 (raw (fact 𝓤 (slots_len r ≡ length s.now)))
         (fact_i 𝓤 (slots_len r ≡ length s.now) (emp 𝓤) long) $
         use0 𝓛 (raw (fact 𝓤 (κ₁ ⊑ E.row.lives))) (fact_i 𝓤 (κ₁ ⊑ E.row.lives) (emp 𝓤) le) $ join ! $
-        -- The required facts have been joined into one entry. Proof context, in order: the facts;
-        -- the lifetime tokens; the value of type `Slots`; the slice.
+        -- The previous steps have joined the facts that the call requires into one entry. The proof
+        -- context now holds these entries, in this order: the facts; the lifetime tokens; the value
+        -- of type `Slots`; the slice.
         nothing ! $ move ! (5 ∷ 0 ∷ []) $ fjoin ! $ move ! (4 ∷ 0 ∷ []) $ fjoin ! $
-        -- The arguments of the call have been joined into one entry. Proof context, in order: the
-        -- arguments; the required facts; the lifetime tokens.
+        -- The previous steps have joined the arguments of the call into one entry. The proof
+        -- context now holds these entries, in this order: the arguments; the required facts; the
+        -- lifetime tokens.
         nothing ! $ move ! (4 ∷ 0 ∷ []) $ join ! $ move ! (3 ∷ 0 ∷ []) $ join ! $ join ! $ done !
 
     pub Copied-gives : (v : Val) → slots_ptr r ≡ block_ptr b o

@@ -152,17 +152,18 @@ module _ {M : Type 1} {𝓤 : Ura M} (𝓛 : Logic 𝓤) (R : RattleType) where
       move ! (2 ∷ 4 ∷ []) $ join ! $ move ! (2 ∷ 0 ∷ []) $ join ! $ move ! (1 ∷ 0 ∷ []) $ join ! $
       by ! (apply∗ 𝓤 rooms (H.room (whole R c) b o))
 
--- `header` states what a block owns besides its slots. If the block has an allocator, the block
--- owns its header and the right to free the allocation. Otherwise, the block owns a share of the
--- static header.
+-- `header t R n c a b o` states what a block with the length `n` and `c` slots for items of type
+-- `R` owns besides these slots. If the option `a` contains an allocator, the block owns its header
+-- and the right (`t`) to free the allocation. Otherwise, the block owns a share of the static
+-- header. The header is at the offset `o` of the allocation `b`.
 abbrev pub header : {D : Type 0} → (D → Ty → Ptr → Fml) → RattleType → ℕ → ℕ
     → Option D → ℕ → ℕ → Fml
 header t R n c None b o = fsep (lent_at usize (block_ptr b o) 0 [])
     (lent_at usize (block_ptr b (o + 8)) 0 [])
 header t R n c (Some a) b o = frame (t a) R n c b o
 
--- If `is_some a` equals `any xs`, and the list `xs` of slots is not empty, then the option `a`
--- contains an allocator.
+-- Suppose that the option `a` contains an allocator exactly if the list `xs` of slots is not empty
+-- (`any xs`). If `xs` is not empty, then `a` is `Some h` for an allocator `h`.
 pub alloc_there : {D X : Type 0} (a : Option D) (xs : List X) → is_some a ≡ any xs → 0 < length xs
     → (h : D) × (a ≡ Some h)
 alloc_there (Some h) xs is some = (h, refl)

@@ -48,18 +48,18 @@ others [] = []
 others (s ∷ ss) = ss
 
 module _ {n : ℕ} where
-  -- The proof of a function chooses which arguments the function gives back to its caller.
-  -- `dropped ss ks` is the choice to give back none of the arguments for the parameters `ss`. For
-  -- each of these parameters, `ks` contains the lifetimes of the references whose final values the
-  -- contract may mention.
+  -- `dropped ss ks` states that a function gives none of the arguments for the parameters `ss` back
+  -- to its caller. The proof of the function makes this choice. For each parameter, `ks` contains
+  -- the lifetimes of certain references: those whose final values the contract may mention.
   abbrev pub dropped : (ss : List (Slot n)) (ks : Kepts ss) → Stays ss ks
   dropped [] ks = tt
   dropped (s ∷ ss) ks = (stay_dropped s ks.0, dropped ss ks.1)
 
 module _ {M : Type 1} {𝓤 : Ura M} (𝓛 : Logic 𝓤) {n : ℕ} where
-  -- `AllSilent ss ks` holds if the contract says nothing about the values that the arguments for
-  -- the parameters `ss` have after the call. For each parameter, `ks` contains the lifetimes of the
-  -- references whose final values a contract is allowed to mention.
+  -- `AllSilent ss ks` holds if the contract of a function says nothing about the values of its
+  -- arguments after the call. The list `ss` contains the parameters. For each parameter, `ks`
+  -- contains the lifetimes of certain references: those whose final values a contract is allowed to
+  -- mention.
   abbrev pub AllSilent : (ss : List (Slot n)) → Kepts ss → Type 1
   AllSilent [] ks = Unit {1}
   AllSilent (s ∷ ss) ks = Silent 𝓛 n s ks.0 × AllSilent ss ks.1
@@ -74,7 +74,8 @@ module _ {M : Type 1} {𝓤 : Ura M} (𝓛 : Logic 𝓤) {n : ℕ} where
 
 module _ {M : Type 1} {𝓤 : Ura M} {𝓛 : Logic 𝓤} {K : Type 0} {Γ : List (Item 𝓤)}
     {G : Goal 𝓤 𝓛.H} where
-  -- Splits a conjunction of facts in the proof context into single facts for the rest of the proof.
+  -- Removes the entry for the facts `φs` from the proof context. The rest of the proof may use each
+  -- of these facts.
   pub heard_all : K → (φs : List (Type 0)) → (Shown φs → Seq K 𝓛 Γ G)
       → Seq K 𝓛 (raw (Facts 𝓤 φs) ∷ Γ) G
   heard_all k [] next = drop k $ next tt
@@ -124,15 +125,15 @@ module _ (E : El) (Y : Al) {n : ℕ} (ss : List (Slot (suc n))) where
   abbrev pub on_block : List (Slot (suc n))
   on_block = mut_ref_to (0 ∷ []) tt (plain (λ _. Br E Y)) ∷ ss
 
-  -- The proof of a method chooses which arguments the method gives back to its caller.
-  -- `block_stays ks` is the choice to give back only the `&mut Block`. For each other parameter,
-  -- `ks` contains the lifetimes of the references whose final values the contract may mention.
+  -- `block_stays ks` states that a method gives only the `&mut Block` back to its caller. The proof
+  -- of the method makes this choice. For each other parameter, `ks` contains the lifetimes of
+  -- certain references: those whose final values the contract may mention.
   abbrev pub block_stays : (ks : Kepts ss) → Stays on_block (yes, ks)
   block_stays ks = (stay_ref (0 ∷ []) tt (plain (λ _. Br E Y)), dropped ss ks)
 
-  -- Suppose that the contract of a method says nothing about the values that the arguments other
-  -- than `self` have after the call. Then the method need not give these arguments back to its
-  -- caller.
+  -- The list `ss` contains all parameters of a method except `self`. If the contract says nothing
+  -- about the values of their arguments after the call (`AllSilent`), then the method need not give
+  -- these arguments back to its caller.
   pub goes : {M : Type 1} {𝓤 : Ura M} (𝓛 : Logic 𝓤) (ks : Kepts ss) → AllSilent 𝓛 ss ks
       → AllGo 𝓛 (suc n) on_block (yes, ks) (block_stays ks)
   goes 𝓛 ks silent =
@@ -238,9 +239,9 @@ module _ {M : Type 1} {𝓤 : Ura M} {𝓛 : Logic 𝓤} {K : Type 0} {Γ : List
   token_out k n κs qs = step (λ s.
       use1 𝓛 (‵ (flft κs.0 qs.0) ⊛ raw (toks 𝓛 n κs.1 qs.1)) (id⊢ 𝓤 _) $ split k $ s)
 
--- Suppose that a function does not give `m` of its arguments back to its caller. At the end of the
--- proof of the function, `blanks m` has to be proved about these arguments. It consists of one
--- trivially true formula for each argument.
+-- `blanks m` consists of `m` trivially true formulas, one for each argument that a function does
+-- not give back to its caller. At the end of the proof of the function, `blanks m` has to be
+-- proved.
 abbrev pub blanks : ℕ → Fml
 blanks zero = ftrue
 blanks (suc m) = fsep ftrue (blanks m)

@@ -28,8 +28,9 @@ number_send = search sendable
 number_sync : IsSync usize
 number_sync = search sendable
 
--- The rights to convert memory for items of the type `τ` into memory for `w` words do not depend on
--- the thread that owns these rights. Each word is a struct of `m` items.
+-- `ways τ m w b o` contains one right for each of `w` words: the right to convert memory for `m`
+-- items of the type `τ` into memory for one word. These rights do not depend on the thread that
+-- owns them.
 ways_Keyless : (τ : Ty) (m w b o : ℕ) → Keyless (ways τ m w b o)
 ways_Keyless τ m zero b o = tt
 ways_Keyless τ m (suc w) b o = ((tt, tt), ways_Keyless τ m w b (o + size (word_of τ m)))

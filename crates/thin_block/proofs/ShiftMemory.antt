@@ -65,9 +65,10 @@ module _ (E : El) {M : Type 1} {𝓤 : Ura M} (𝓛 : Logic 𝓤) (b o : ℕ) (s
   abbrev Room : ℕ → ℕ → Fml
   Room n at = froom (ty_array (elτ E) n) b at
 
-  -- `Moves Was Is` is about a move of items. It holds if, before the move, the memory `Was` of the
-  -- affected slots can be separated from the memory of the other slots, and if, after the move, the
-  -- memory `Is` of the affected slots can be joined with it again.
+  -- `Moves Was Is` is about a move of items. The affected slots have the memory `Was` before the
+  -- move, and the memory `Is` after the move. `Moves Was Is` holds if `Was` can be separated from
+  -- the memory of the other slots before the move, and if `Is` can be joined with the memory of the
+  -- other slots after the move.
   pub record Moves (Was Is : Fml) : Type 1 where
     pub Rest : Fml
     pub out : ent 𝓤 (sem 𝓛 (Row o slots)) (sep 𝓤 (sem 𝓛 Was) (sem 𝓛 Rest))
@@ -225,9 +226,10 @@ module _ (E : El) {M : Type 1} {𝓤 : Ura M} (𝓛 : Logic 𝓤) (b o : ℕ) (s
       let same : length mid * s ≡ m * s = ap (λ (n : ℕ). n * s) count in
       omega arith
 
-  -- If `k` adjacent slots somewhere above a run of `k` items are empty, then the memory of the
-  -- items and of these slots can be split off from the memory of the other slots. After the items
-  -- have been moved up into these slots, the memory of all slots can be put back together.
+  -- Suppose that the slots `from..from + k` hold items, and that the slots `to..to + k` are empty.
+  -- The empty slots are above the items, and `m` slots are in between. Then the memory of the items
+  -- and of the empty slots can be separated from the memory of the other slots. After the items
+  -- have been moved up into the empty slots, the memory of all slots can be put back together.
   goes_over : (m : ℕ) → to ≡ from + k + m → to + k ≤ length slots
       → run to k slots ≡ empty k → Moves Was Is
   goes_over m apart within gap =
@@ -285,9 +287,10 @@ module _ (E : El) {M : Type 1} {𝓤 : Ura M} (𝓛 : Logic 𝓤) (b o : ℕ) (s
             rewrite ! 0 (λ (l : S). ‵ (Row o l)) result refl $ done !;
       }
 
-  -- If `k` adjacent slots somewhere below a run of `k` items are empty, then the memory of the
-  -- items and of these slots can be split off from the memory of the other slots. After the items
-  -- have been moved down into these slots, the memory of all slots can be put back together.
+  -- Suppose that the slots `from..from + k` hold items, and that the slots `to..to + k` are empty.
+  -- The empty slots are below the items, and `m` slots are in between. Then the memory of the items
+  -- and of the empty slots can be separated from the memory of the other slots. After the items
+  -- have been moved down into the empty slots, the memory of all slots can be put back together.
   goes_back : (m : ℕ) → from ≡ to + k + m → from + k ≤ length slots
       → run to k slots ≡ empty k → Moves Was Is
   goes_back m apart within gap =
@@ -401,9 +404,9 @@ module _ (E : El) {M : Type 1} {𝓤 : Ura M} (𝓛 : Logic 𝓤) (b o : ℕ) (s
       slides_down (from - to) (omega arith) source
       (empty-run slots to (from - to) within gap.1)
 
-  -- Suppose that all slots through which the items are moved are empty. Then `IsShifted` holds. It
-  -- states that the new address of the items is `distance up` slots above the old address if `up`
-  -- is true, and `distance up` slots below the old address otherwise.
+  -- Suppose that all slots through which the items are moved are empty. Then `IsShifted` holds: the
+  -- distance between the old and the new address of the items is `distance up` slots. The new
+  -- address is above the old address if `up` is true, and below it otherwise.
   pub shifted : (up : Bool) → GapAbove up → GapBelow up → IsShifted (R E) up (distance up)
       (block_ptr b src) (block_ptr b dst)
   shifted true above below = let le : from ≤ to = (above refl).0 in

@@ -195,9 +195,9 @@ module _ (R : RattleType) (c : ℕ) where
   unfolding fits
   closed e = e
 
-  -- The code of `fits` divides the number of bytes that are available for items by the item size
-  -- `size`. If the capacity `c` is at most this quotient, then `Small` holds for `c` items of type
-  -- `R`.
+  -- The code of `fits` divides the number of bytes that are available for items by `size`, which is
+  -- the size of an item, capped at `usize::MAX`. If the capacity `c` is at most this quotient, then
+  -- `Small` holds for `c` items of type `R`.
   pub divided : (size : ℕ) → size ≡ capped (type_size R) → 0 < size
       → c ≤ (2 ^ 63 - block_align (type_align R) - 16) / size → Small (type_size R) (type_align R) c
   divided size is some few =
@@ -211,9 +211,9 @@ module _ (R : RattleType) (c : ℕ) where
       ∙ ap (λ (k : ℕ). c * k) (sym is) in
       omega arith
 
-  -- The code of `fits` divides the number of bytes that are available for items by the item size
-  -- `size`. If `Small` holds for `c` items of type `R`, then the capacity `c` is at most this
-  -- quotient.
+  -- The code of `fits` divides the number of bytes that are available for items by `size`, which is
+  -- the size of an item, capped at `usize::MAX`. If `Small` holds for `c` items of type `R`, then
+  -- the capacity `c` is at most this quotient.
   pub dividing : (size : ℕ) → size ≡ capped (type_size R) → 0 < size
       → Small (type_size R) (type_align R) c → c ≤ (2 ^ 63 - block_align (type_align R) - 16) / size
   dividing size is some room =
@@ -288,9 +288,9 @@ unfolding fitting
 fitting_past s a n many = λ i. if fits_no s a n many i then Some n else None
 
 -- The code of `Doubling` computes a number `d`. If the old capacity `c` is 0, then `d` is
--- `first s`. Otherwise, `d` is `2 * c`, capped at `usize::MAX`. If `c < w`, the cap makes no
--- difference: the code chooses the same capacity as the function `doubling`, which does not cap
--- `2 * c`.
+-- `first s`. Otherwise, `d` is the lesser of `2 * c` and `usize::MAX`. If `c` is less than the
+-- required capacity `w`, then the code chooses the same capacity as the function `doubling`, which
+-- does not cap `2 * c`.
 pub doubling_is : (s a c w d : ℕ) → c < w → (c ≡ 0 → d ≡ first s)
     → ((c ≡ 0 → ⊥) → d ≡ min (c * 2) (2 ^ 64 - 1)) → fitting s a (max w d) ≡ doubling s a c w
 unfolding doubling

@@ -38,9 +38,8 @@ module _ {T : Type 0} where
   filled-within (x ∷ s) zero is = omega arith
   filled-within (x ∷ s) (suc i) is = let low = filled-within s i is in omega arith
 
-  -- If the slots `i..i + k` of the list `s` are filled, then there is a list `xs` of items such
-  -- that `run i k s`, the list of these slots, is `full xs`: the slots hold the items `xs`, in
-  -- order.
+  -- `run i k s` is the list of the slots `i..i + k` of `s`. If all these slots are filled, then
+  -- there is a list `xs` of items such that `run i k s` is `full xs`.
   pub full-run : (s : List (Option T)) (i k : ℕ) → i + k ≤ length s
       → ((j : ℕ) → i ≤ j → j < i + k → IsSome (slot s j)) → (xs : List T) × (run i k s ≡ full xs)
   full-run [] zero zero le filled = ([], refl)
@@ -55,8 +54,8 @@ module _ {T : Type 0} where
       (λ j p q. filled (suc j) (omega arith) (omega arith)) in
       (item.0 ∷ rest.0, λ n. item.1 n ∷ rest.1 n)
 
-  -- If each of the slots `i..i + k` of the list `s` is empty, then `run i k s`, the list of these
-  -- slots, is `empty k`: a list of `k` empty slots.
+  -- `run i k s` is the list of the slots `i..i + k` of `s`. If all these slots are empty, then
+  -- `run i k s` is `empty k`, a list of `k` empty slots.
   pub empty-run : (s : List (Option T)) (i k : ℕ) → i + k ≤ length s
       → ((j : ℕ) → i ≤ j → j < i + k → slot s j ≡ None) → run i k s ≡ empty k
   empty-run [] zero zero le bare = refl
@@ -117,9 +116,9 @@ module _ {T : Type 0} where
   laid-none i s = ap (λ (k : ℕ). take i s ++ drop k s) (let e : i + 0 ≡ i = omega arith in
       e) ∙ take-append-drop i s
 
-  -- `laid i ys s` is the list `s` with the slots `i..i + length ys` replaced with `ys`. If `k` is
-  -- the index directly after these slots, and `k < length s`, then setting slot `k` of
-  -- `laid i ys s` to `y` results in `laid i (ys ++ y ∷ []) s`.
+  -- `laid i ys s` is the list `s` with the slots `i..i + length ys` replaced with `ys`. Let `k` be
+  -- the index directly after these slots. If `k < length s`, and slot `k` of `laid i ys s` is set
+  -- to `y`, then the result is `laid i (ys ++ y ∷ []) s`.
   pub laid-one : (i : ℕ) (ys s : List (Option T)) (k : ℕ) (y : Option T) → k ≡ i + length ys
       → k < length s → set (laid i ys s) k y ≡ laid i (ys ++ y ∷ []) s
   laid-one i ys s k y e within =

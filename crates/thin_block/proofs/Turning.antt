@@ -60,8 +60,8 @@ module _ (Rw : RattleType) (c : ℕ) where
   abbrev τ₀ : Ty
   τ₀ = lone Rw.mir
 
-  -- The number of items in a word depends only on the size of the item type. The names of the
-  -- fields of this type do not matter.
+  -- `words_of Rw` says how items of type `Rw` are grouped into words. It depends only on `s₀`, the
+  -- size of `Rw`, and not on the names of the fields of this type.
   pub same_words : words_of Rw ≡ in_words s₀
   same_words = ap in_words (size-raw τ₀)
 
@@ -88,7 +88,8 @@ module _ (Rw : RattleType) (c : ℕ) where
   pub asked_align : align (asked Rw c) ≡ block_align a₀
   asked_align = align_for (words_of Rw) (sym same_words)
 
--- Section: splitting the memory of a block into its parts.
+-- The next lemmas split the memory of a block into its parts, and put the parts back together. The
+-- block has `c` slots for items of type `E`, and begins at the offset `o` of the allocation `b`.
 module _ {M : Type 1} {𝓤 : Ura M} (𝓛 : Logic 𝓤) (E : El) (b c o : ℕ) where
   open 𝓛 use {H}
 
@@ -152,8 +153,8 @@ module _ {M : Type 1} {𝓤 : Ura M} (𝓛 : Logic 𝓤) (E : El) (b c o : ℕ) 
       use1 𝓛 (‵ (froom (asked (R E) c) b o))
       (gather_for (words_of (R E)) (sym (same_words (R E) c))) $ done !
 
--- The next lemmas are about a block whose header takes as many bytes as `k` items. The memory of
--- such a block can be used as one array of items that begins at the start of the block.
+-- In this module, the header of a block takes as many bytes as `k` items. The memory of such a
+-- block can be used as one array of items, which begins at the start of the block.
 module _ {M : Type 1} {𝓤 : Ura M} (𝓛 : Logic 𝓤) (E : El) (b : ℕ) (k : ℕ)
     (hd : k * type_size (R E) ≡ 16) (o : ℕ) where
   open 𝓛 use {H}
@@ -349,9 +350,9 @@ module _ {M : Type 1} {𝓤 : Ura M} (𝓛 : Logic 𝓤) (T : RattleType) (L : L
     asked_words : words_of (R Item) ≡ Some (m, k)
     asked_words = same_words (R Item) c ∙ is
 
-    -- Splits a block, except for its slots, into three parts: uninitialized memory for `k` words at
-    -- the address of the header, the right to convert memory for the slots into memory for words,
-    -- and the right to free the block.
+    -- Splits everything that a block owns besides its slots into three parts: uninitialized memory
+    -- for `k` words at the address of the header; the right to convert memory for the slots into
+    -- memory for words; the right to free the block.
     pub header_apart : ent 𝓤 (sem 𝓛 (frame t (R Item) n c b o))
         (sep 𝓤 (H.room units b o) (sep 𝓤 (sem 𝓛 Rest) (sem 𝓛 Right)))
     header_apart =

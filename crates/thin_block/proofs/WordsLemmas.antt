@@ -153,8 +153,8 @@ in_words_by s a m k c any room l = record {
   any = any;
 }
 
--- `AtAny s m k` holds if, for every alignment `a` that divides the item size `s`, `m` items make a
--- word, and the header takes as many bytes as `k` words (`InWords s a m k`).
+-- `AtAny s m k` states that `InWords s a m k` holds for every alignment `a` that divides the item
+-- size `s`: `m` items make a word, and the header takes as many bytes as `k` words.
 abbrev AtAny : ℕ → ℕ → ℕ → Type 0
 AtAny s m k = (w : Width) → Dv (bytes w) s → InWords s (bytes w) m k
 
@@ -163,17 +163,17 @@ abbrev pair : Option (ℕ × ℕ) → ℕ × ℕ
 pair None = (0, 0)
 pair (Some p) = p
 
--- `AtAny` states that items of a given size can be grouped into words. If `AtAny` holds for the
--- item size `t` and the two numbers in the pair `p`, then it also holds for an equal size `s` and
--- an equal pair `q`.
+-- `AtAny` states that items of a given size can be grouped into words. Suppose that the item sizes
+-- `s` and `t` are equal, and that the pairs `p` and `q` are equal. If `AtAny` holds for `t` and the
+-- two numbers in `p`, then it also holds for `s` and the two numbers in `q`.
 at_size : (s t : ℕ) (p q : ℕ × ℕ) → s ≡ t → ◌≡◌ {A = Option (ℕ × ℕ)} (Some p) (Some q)
     → AtAny t p.0 p.1 → AtAny s q.0 q.1
 at_size s t p q es e all =
     subst (λ (x : ℕ × (ℕ × ℕ)). AtAny x.0 x.1.0 x.1.1) (λ i. (sym es i, pair (e i))) all
 
--- `tested x y z u v` is the result of `in_words` for an item size. The booleans `x`, `y`, `z`, `u`
--- and `v` say whether the size equals 1, 2, 4, 8 and 16, respectively. If the result is `Some`, it
--- contains two numbers: how many items form a word, and how many words are as large as the header.
+-- `tested x y z u v` is the result of `in_words` for an item size. The five booleans say whether
+-- this size is 1, 2, 4, 8 or 16, in this order. If the result is `Some (m, k)`, then `m` items make
+-- a word, and the header takes as many bytes as `k` words.
 abbrev tested : Bool → Bool → Bool → Bool → Bool → Option (ℕ × ℕ)
 tested x y z u v = if x then Some (8, 2) else (if y then Some (4, 2) else
     (if z then Some (2, 2) else (if u then Some (1, 2) else (if v then Some (1, 1) else None))))

@@ -83,7 +83,8 @@ module _ {M : Type 1} {𝓤 : Ura M} (𝓛 : Logic 𝓤) (τ : Ty) (m k b : ℕ)
   abbrev units : Ty
   units = ty_array ω k
 
-  -- A word ends where its last item ends.
+  -- If `m` items begin at the offset `o`, then they end at the offset `past τ m o`. A word of these
+  -- items ends there, too. The size of a word is `u`.
   after_run : (o : ℕ) → past τ m o ≡ o + u
   after_run o = past_is τ m o ∙ ap (λ (n : ℕ). o + n) (sym hd.size)
 
@@ -91,8 +92,8 @@ module _ {M : Type 1} {𝓤 : Ura M} (𝓛 : Logic 𝓤) (τ : Ty) (m k b : ℕ)
   one_more : (w : ℕ) → m + w * m ≡ suc w * m
   one_more w = omega (arith, suc-mul w m)
 
-  -- Splits memory for `w` words into memory for the items of these words, and the rights (`ways`)
-  -- to convert the memory for the items back into memory for words.
+  -- Splits memory for `w` words into two parts: memory for the items of these words, and the rights
+  -- (`ways`) to convert the first part back into memory for words.
   pub ways_out : (w o : ℕ) → ent 𝓤 (H.room (ty_array ω w) b o)
       (sep 𝓤 (H.room (ty_array τ (w * m)) b o) (sem 𝓛 (ways τ m w b o)))
   ways_out zero o =
@@ -108,10 +109,10 @@ module _ {M : Type 1} {𝓤 : Ura M} (𝓛 : Logic 𝓤) (τ : Ty) (m k b : ℕ)
       split ! $ move ! (2 ∷ []) $
       use1 𝓛 (‵ (froom (ty_array τ (w * m)) b (o + u)) ⊛ ‵ (ways τ m w b (o + u)))
       (ways_out w (o + u)) $ split ! $
-      -- The previous steps have split the memory for the words. The proof context now holds these
-      -- entries, in this order: memory for the items of all words except the first; the right to
-      -- convert this memory back into memory for these words; memory for the items of the first
-      -- word; the right to convert this memory back into memory for the first word.
+      -- The previous steps have split the memory for the words into memory for their items, and the
+      -- rights to convert this memory back. The proof context now holds these entries, in this
+      -- order: memory for the items of all words except the first; the rights for these words;
+      -- memory for the items of the first word; the right for the first word.
       rewrite ! 0 (λ (n : ℕ). ‵ (froom (ty_array τ (w * m)) b n)) (sym (after_run o)) refl $
       move ! (2 ∷ 0 ∷ []) $ use2 𝓛 (‵ (froom (ty_array τ (m + w * m)) b o))
       (room_glue 𝓛 τ m (w * m) b o) $
@@ -140,7 +141,7 @@ module _ {M : Type 1} {𝓤 : Ura M} (𝓛 : Logic 𝓤) (τ : Ty) (m k b : ℕ)
       use2 𝓛 (‵ (froom (ty_array ω w) b (o + u))) (ways_in w (o + u)) $ move ! (1 ∷ 0 ∷ []) $
       by ! (𝓛.laws.room_cons ω w b o)
 
-  -- The header takes as many bytes as `k` words.
+  -- `k` words of the size `u` take 16 bytes in total, as many as the header.
   header_bytes : k * u ≡ 16
   header_bytes = ap (λ (n : ℕ). k * n) hd.size ∙ hd.room
 
@@ -191,9 +192,9 @@ module _ {M : Type 1} {𝓤 : Ura M} (𝓛 : Logic 𝓤) (τ : Ty) (m k b : ℕ)
       rewrite ! 0 (λ (n : ℕ). ‵ (froom (ty_array τ pad) b n)) (past_is τ c o) refl $
       move ! (2 ∷ 0 ∷ []) $ fjoin ! $ move ! (1 ∷ 0 ∷ []) $ done !
 
-  -- If `c` slots fit into `w` words, then the memory of the slots, together with `slots_way`, can
-  -- be converted into memory for the words. `slots_way` consists of the right to convert the
-  -- memory, and of the memory after the last slot.
+  -- Suppose that `c` slots fit into `w` words. Then the memory of the slots and `slots_way` can
+  -- together be converted into memory for the words. `slots_way` consists of the rights to convert
+  -- the memory, one for each word, and of the unused memory directly after the last slot.
   slots_in : (w c o : ℕ) → c ≤ w * m → ent 𝓤 (sep 𝓤 (H.room (ty_array τ c) b o)
       (sem 𝓛 (slots_way τ m w c b o))) (H.room (ty_array ω w) b o)
   slots_in w c o le =
@@ -240,8 +241,8 @@ module _ {M : Type 1} {𝓤 : Ura M} (𝓛 : Logic 𝓤) (τ : Ty) (m k b : ℕ)
         move ! (2 ∷ 3 ∷ 1 ∷ []) $ use3 𝓛 (‵ (froom units b o)) (header_in o) $
         by ! (room_glue 𝓛 ω k w b o)
 
--- The type `Words` has a const argument: the number of items in a word. `number_of_items m` is this
--- argument if each word has `m` items.
+-- `number_of_items m` is the const argument of the type `Words` for words of `m` items. This
+-- argument is the number of items in a word.
 abbrev pub number_of_items : ℕ → RattleType
 number_of_items m = param 1 (number m)
 
@@ -329,7 +330,8 @@ module _ {M : Type 1} {𝓤 : Ura M} (𝓛 : Logic 𝓤) (T : RattleType) (L : L
   named : u' ≡ type_size (R W)
   named = size-raw (layout W.row)
 
-  -- The next lemmas are about the memory of one word.
+  -- `fields` lists the two fields of a word: the array of its `m` items, and an array of length 0,
+  -- which takes no bytes. The next lemmas are about the memory of one word.
   abbrev fields : List Member
   fields = record { row = ArrayAt (R E) N; ty = ty_array σ m }
       ∷ record { row = Array u64 0; ty = ty_array (ty_int w64) 0 } ∷ []
@@ -357,9 +359,9 @@ module _ {M : Type 1} {𝓤 : Ura M} (𝓛 : Logic 𝓤) (T : RattleType) (L : L
     abbrev Rooms : SProp 𝓤
     Rooms = rooms_for 𝓤 H fields zero b o
 
-    -- The array of items is the only field of a word that takes any bytes. So if memory for all
-    -- fields of a word can be converted into memory for the word, then memory for the items alone
-    -- can be converted, too.
+    -- Suppose that memory for all fields of a word can be converted into memory for the word. Then
+    -- memory for the items alone can also be converted into memory for the word, because the array
+    -- of items is the only field that takes any bytes.
     way_out : ent 𝓤 (RoomBack 𝓤 H (the_type (R E) N).name fields b o) (sem 𝓛 (way τ' m b o))
     way_out =
         qed 𝓛 (raw (RoomBack 𝓤 H (the_type (R E) N).name fields b o) ∷ []) ∵
@@ -392,7 +394,8 @@ module _ {M : Type 1} {𝓤 : Ura M} (𝓛 : Logic 𝓤) (T : RattleType) (L : L
         rewrite ! 0 (λ (n : ℕ). ‵ (part_at (Array (R E) m) full_share xs b n)) at_start refl $
         done !
 
-  -- The next lemmas are about the memory of several adjacent words.
+  -- `chunks n xs` is the list of the first `n` chunks of `m` items in `xs`. The next lemmas are
+  -- about the memory of several adjacent words.
   abbrev chunks : ℕ → List X → List (List X)
   chunks n xs = first_chunks m n xs
 
@@ -417,8 +420,9 @@ module _ {M : Type 1} {𝓤 : Ura M} (𝓛 : Logic 𝓤) (T : RattleType) (L : L
         ap (λ (n : ℕ). n * s) (length-map (take m xs) Some ∙ first_long) in
         let e = wide in omega arith
 
-  -- Groups the slots that hold the items `xs` by word, and combines each group with the right
-  -- (`way`) to convert it into memory for a word. The rights for the next `j` words are left over.
+  -- Groups the slots that hold the items `xs` into `n` words, and combines the slots of each word
+  -- with the right (`way`) to convert them into memory for a word. There are `w` such rights, and
+  -- `w` is `j + n`. So `j` rights are left over.
   to_runs : (n w j : ℕ) (xs : List X) (o at : ℕ) → length xs ≡ n * m → w ≡ j + n → at ≡ n * u' + o
       → ent 𝓤 (sep 𝓤 (sem 𝓛 (places (R E) (full xs) b o)) (sem 𝓛 (ways τ' m w b o)))
       (sep 𝓤 (sem 𝓛 (runs_at (R E) N (chunks n xs) b o)) (sem 𝓛 (ways τ' m j b at)))
@@ -448,8 +452,9 @@ module _ {M : Type 1} {𝓤 : Ura M} (𝓛 : Logic 𝓤) (T : RattleType) (L : L
       (to_runs n (j + n) j (rest m xs) far at (rest_long n xs o long) refl
       (omega (arith, ea, suc-mul n u'))) $ split ! $ move ! (2 ∷ 0 ∷ []) $ fjoin ! $ done !
 
-  -- Converts `n` adjacent words into slots that hold the items `xs`, and into the rights to convert
-  -- the slots back. The rights (`ways`) for the next `j` words are joined with these rights.
+  -- Converts `n` adjacent words into slots that hold the items `xs`, and into `n` rights to convert
+  -- these slots back. Together with the rights (`ways`) for the `j` words after them, these are the
+  -- rights for all `w` words.
   of_runs : (n w j : ℕ) (xs : List X) (o at : ℕ) → length xs ≡ n * m → w ≡ j + n → at ≡ n * u' + o
       → ent 𝓤 (sep 𝓤 (sem 𝓛 (places (R W) (full (words n xs)) b o)) (sem 𝓛 (ways τ' m j b at)))
       (sep 𝓤 (sem 𝓛 (places (R E) (full xs) b o)) (sem 𝓛 (ways τ' m w b o)))
@@ -472,9 +477,9 @@ module _ {M : Type 1} {𝓤 : Ura M} (𝓛 : Logic 𝓤) (T : RattleType) (L : L
       (of_runs n (j + n) j (rest m xs) far at (rest_long n xs o long) refl
       (omega (arith, ea, suc-mul n u'))) $ split ! $
       -- The previous steps have converted all words into slots. They have also produced the rights
-      -- (`ways`) to convert the slots back. The proof context now holds these entries, in this
-      -- order: the slots of all words except the first; the rights for these words and for the next
-      -- `j` words; the slots of the first word; the right for the first word.
+      -- (`ways`) to convert these slots back. The proof context now holds these entries, in this
+      -- order: the slots of all words except the first; the rights for these words and for the `j`
+      -- words after them; the slots of the first word; the right for the first word.
       move ! (2 ∷ 0 ∷ []) $ use2 𝓛 (‵ (places (R E) (full c ++ full (rest m xs)) b o))
       (glue E 𝓛 b (full c) (full (rest m xs)) o far (next n xs o long)) $
       rewrite ! 0 (λ (l : List (Option X)). ‵ (places (R E) l b o)) (sym (parted xs)) refl $

@@ -28,9 +28,9 @@ block_align a = max 8 a
 abbrev pub block_bytes : ℕ → ℕ → ℕ → ℕ
 block_bytes s a c = next_multiple_of (items_offset a + c * s) (block_align a)
 
--- `is_small s a c` is true if neither `c` nor the size in bytes of a block for `c` items of size
--- `s` and alignment `a` exceeds `isize::MAX`. std's `Layout::from_size_align` sets the same limit
--- on sizes.
+-- `is_small s a c` is true if two numbers are at most `isize::MAX`: the capacity `c`, and the size
+-- in bytes of a block for `c` items of size `s` and alignment `a`. std's `Layout::from_size_align`
+-- sets the same limit on sizes.
 abbrev pub is_small : ℕ → ℕ → ℕ → Bool
 is_small s a c = nat_lt c (2 ^ 63) && nat_lt (block_bytes s a c) (2 ^ 63)
 
@@ -44,15 +44,16 @@ fits s a c = is_small s a c
 abbrev pub Fits : RattleType → ℕ → Type 0
 Fits R c = IsTrue (fits (type_size R) (type_align R) c)
 
--- `first s` is the capacity that the rule `Doubling` chooses for the first block of a list, unless
--- the list needs room for more items. An item takes `s` bytes. `first s` is 1 if `s` exceeds
--- `usize::MAX / 8`, and 4 otherwise, as in the Rust crate thin-vec.
+-- `first s` is the least capacity that the rule `Doubling` chooses for the first block of a list.
+-- An item takes `s` bytes. `first s` is 1 if `s` exceeds `usize::MAX / 8`, and 4 otherwise, as in
+-- the Rust crate thin-vec. The rule chooses a greater capacity if the list needs room for more
+-- items.
 unfoldable pub first : ℕ → ℕ
 first s = if nat_lt (2 ^ 61 - 1) s then 1 else 4
 
--- A word consists of `m` items, and has 8 or 16 bytes. For items of `s` bytes, `in_words s` is
--- `Some (m, k)`, where `k` is the number of words that are as large as the header. It is `None` if
--- `s` is not 1, 2, 4, 8 or 16.
+-- `in_words s` says whether items of `s` bytes form words of 8 or 16 bytes. If `s` is 1, 2, 4, 8 or
+-- 16, then `in_words s` is `Some (m, k)`: a word consists of `m` items, and the header is as large
+-- as `k` words. Otherwise, it is `None`.
 abbrev pub in_words : ℕ → Option (ℕ × ℕ)
 in_words s = if s == 1 then Some (8, 2) else (if s == 2 then Some (4, 2) else
     (if s == 4 then Some (2, 2) else (if s == 8 then Some (1, 2) else

@@ -9,9 +9,10 @@ use denote.RattleType.{RattleType}
 use Rattle.std.specs.Int.{IsPowerOfTwo}
 use Rattle.thin_block.specs.Capacity.{fits, first, items_offset}
 
--- A growth rule is a function of the size of an item, the alignment of an item, the old capacity,
--- and the required capacity. It is used only if the required capacity exceeds the old capacity. It
--- returns the new capacity, or `None` if this capacity would be too large.
+-- `Rule` is the type of growth rules. A growth rule is a function of the size of an item, the
+-- alignment of an item, the old capacity, and the required capacity. It returns the new capacity,
+-- or `None` if this capacity would be too large. It is used only if the required capacity exceeds
+-- the old capacity.
 abbrev pub Rule : Type 0
 Rule = ℕ → ℕ → ℕ → ℕ → Option ℕ
 
@@ -38,9 +39,9 @@ KeepsLaw rule = (s a c w n : ℕ) → c < w → w < 2 ^ 64 → rule s a c w ≡ 
 unfoldable pub fitting : ℕ → ℕ → ℕ → Option ℕ
 fitting s a n = if fits s a n then Some n else None
 
--- `doubling` is the growth rule `Doubling`. It chooses twice the old capacity, or `first_capacity`
--- if the old capacity is 0, but never less than the required capacity. `reserve` in the Rust crate
--- thin-vec uses the same rule.
+-- `doubling` is the growth rule `Doubling`. It chooses the greater of two numbers: the required
+-- capacity, and twice the old capacity. If the old capacity is 0, the second number is the result
+-- of `first_capacity` instead. `reserve` in the Rust crate thin-vec uses the same rule.
 unfoldable pub doubling : Rule
 doubling s a c w = fitting s a (max w (if c == 0 then first s else 2 * c))
 
@@ -54,11 +55,13 @@ doubled_to (suc more) n p = if nat_le n p then p else doubled_to more n (2 * p)
 unfoldable pub least_power : ℕ → ℕ
 least_power n = doubled_to n n 1
 
--- `power_bytes s a c w` is the capacity that the rule `PowerBytes` chooses for items of size `s`
--- and alignment `a`, if the old capacity is `c` and the required capacity is `w`. The rule rounds
--- the total size of the header and `max w (2 * c)` items up to a power of two, and chooses the
--- greatest capacity for which a block fits into the rounded size. If this capacity is too large,
--- the result is `None`. If `s` is 0, the rule is the same as `doubling`.
+-- `power_bytes s a c w` is the capacity that the rule `PowerBytes` chooses, or `None` if this
+-- capacity is too large. The size and the alignment of an item are `s` and `a`, the old capacity is
+-- `c`, and the required capacity is `w`.
+--
+-- The rule rounds the total size of the header and `max w (2 * c)` items up to a power of two. It
+-- chooses the greatest capacity for which a block fits into the rounded size. If `s` is 0, the rule
+-- is the same as `doubling`.
 unfoldable pub power_bytes : Rule
 power_bytes s a c w = if s == 0 then doubling s a c w else fitting s a
     ((least_power (items_offset a + max w (2 * c) * s) - items_offset a) / s)

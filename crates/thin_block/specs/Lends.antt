@@ -54,14 +54,14 @@ module _ {X Z : Type 0} where
   with_items b i ws = with_slots b (over b.slots i ws) (length-over b.slots i ws)
 
 module _ (T A : RattleType) (g : Ghosts A.Denot) (b : MutBor (Block T.Denot A.Denot)) where
-  -- The parameter `b` of this module is a `&mut` to a block. `LendsItem i r` holds if `r` is a
-  -- `&mut` to the item in slot `i` of this block, and if this slot will contain the final value of
-  -- `r` after the borrow has ended.
+  -- `LendsItem i r` holds if `r` is a `&mut` to the item in slot `i` of a block, and if this slot
+  -- will contain the final value of `r` after the borrow has ended. The parameter `b` of this
+  -- module is a `&mut` to this block.
   abbrev pub LendsItem : ℕ → MutBor T.Denot → Fml
   LendsItem i r = Lends (the_row T A g) T b r (with_item b.now i)
 
-  -- The parameter `b` of this module is a `&mut` to a block. `LendsItems i r` holds if `r` is a
-  -- `&mut` to the items in adjacent slots of this block, starting at slot `i`, and if these slots
-  -- will contain the final items of `r` after the borrow has ended.
+  -- `LendsItems i r` holds if `r` is a `&mut` to the items in adjacent slots of a block, starting
+  -- at slot `i`, and if these slots will contain the final items of `r` after the borrow has ended.
+  -- The parameter `b` of this module is a `&mut` to this block.
   abbrev pub LendsItems : ℕ → MutBor (List T.Denot) → Fml
   LendsItems i r = Lends (the_row T A g) (Array T 0) b r (with_items b.now i)

@@ -77,15 +77,16 @@ word_of τ m = ty_struct [] (tcons (ty_array τ m) (tcons (ty_array (ty_int w64)
 abbrev pub words_of : RattleType → Option (ℕ × ℕ)
 words_of R = in_words (size (bare R))
 
--- Memory for a block of `c` slots for items of the type `τ` is requested as memory for one value of
--- the type `asked_for w τ c`. If the items form words, `w` is `Some`, and this type is an array of
--- words. Otherwise, `w` is `None`, and this type is the type of the whole block.
+-- `asked_for w τ c` is the type that is used to request memory for a block of `c` slots for items
+-- of the type `τ`. The memory is requested as memory for one value of this type. If the items form
+-- words, `w` is `Some`, and this type is an array of words. Otherwise, `w` is `None`, and this type
+-- is the type of the whole block.
 abbrev pub asked_for : Option (ℕ × ℕ) → Ty → ℕ → Ty
 asked_for None τ c = whole_of τ c
 asked_for (Some w) τ c = ty_array (word_of τ w.0) (w.1 + div_ceil c w.0)
 
--- Memory for a block of `c` slots for items of the type `R` is requested as memory for one value of
--- the type `asked R c`.
+-- `asked R c` is the type that is used to request memory for a block of `c` slots for items of the
+-- type `R`. The memory is requested as memory for one value of this type.
 abbrev pub asked : RattleType → ℕ → Ty
 asked R c = asked_for (words_of R) (bare R) c
 
@@ -124,10 +125,10 @@ ways τ m (suc w) b o = fsep (way τ m b o) (ways τ m w b (o + size (word_of τ
 abbrev pub header_way : Ty → ℕ → ℕ → ℕ → ℕ → Fml
 header_way τ m k b o = fwand (header_room b o) (froom (ty_array (word_of τ m) k) b o)
 
--- Suppose that `m` items of the type `τ` form one word. Then `slots_way τ m w c b o` contains
--- everything that is needed to convert the memory of `c` slots into memory for `w` words: one right
--- for each word, and the unused memory directly after the last slot. The first slot is at the
--- offset `o` of the allocation `b`.
+-- `slots_way τ m w c b o` contains everything that is needed to convert the memory of `c` slots
+-- into memory for `w` words: one right for each word, and the unused memory directly after the last
+-- slot. Each word consists of `m` items of the type `τ`. The first slot is at the offset `o` of the
+-- allocation `b`.
 abbrev pub slots_way : Ty → ℕ → ℕ → ℕ → ℕ → ℕ → Fml
 slots_way τ m w c b o = fsep (ways τ m w b o) (froom (ty_array τ (w * m - c)) b (o + c * size τ))
 

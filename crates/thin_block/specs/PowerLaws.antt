@@ -22,9 +22,9 @@ below_power : (n : ℕ) → n < 2 ^ n
 below_power zero = omega arith
 below_power (suc n) = omega (arith, below_power n, pow_more 2 n)
 
--- Suppose that `p` is a power of two with `p / 2 < max 1 n`, and that `b` is the result of the test
--- `n <= p`. If `p < n`, suppose also that `next` is the least power of two that is at least `n`.
--- Then `if b then p else next` is the least power of two that is at least `n`.
+-- Suppose that `p` is a power of two with `p / 2 < max 1 n`. Let `b` be the result of the test
+-- `n <= p`. If this test fails, let `next` be the least power of two that is at least `n`. Then
+-- `if b then p else next` is the least power of two that is at least `n`.
 one_step : (b : Bool) (n p next : ℕ) → nat_le n p ≡ b → IsPowerOfTwo p → p / 2 < max 1 n
     → (p < n → IsNextPowerOfTwo n next) → IsNextPowerOfTwo n (if b then p else next)
 one_step true n p next e power half later = (power, leb-true n p e, half)

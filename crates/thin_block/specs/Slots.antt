@@ -31,8 +31,8 @@ module _ {T : Type 0} where
   items_in (None ∷ s) = items_in s
   items_in (Some x ∷ s) = x ∷ items_in s
 
-  -- If `xs` has at most `c` items, `front xs c` is a row of `c` slots. The first slots hold the
-  -- items of `xs`, and the other slots are empty.
+  -- `front xs c` is a row of `c` slots. The first slots hold the items of `xs`, and the other slots
+  -- are empty. The list `xs` must have at most `c` items.
   abbrev pub front : List T → ℕ → List (Option T)
   front xs c = full xs ++ empty (c - length xs)
 
@@ -56,7 +56,7 @@ module _ {T : Type 0} where
   emptied i k s = laid i (empty k) s
 
   -- `moved from to k s` is the row `s` after the contents of the slots `from..from + k` have been
-  -- moved to the slots `to..to + k`. The slots that are only in the first range are empty
-  -- afterwards.
+  -- moved to the slots `to..to + k`. Afterwards, each slot in `from..from + k` that is not in
+  -- `to..to + k` is empty.
   unfoldable pub moved : ℕ → ℕ → ℕ → List (Option T) → List (Option T)
   moved from to k s = laid to (run from k s) (emptied from k s)

@@ -33,8 +33,8 @@ struct Header {
 /// A block cannot be dropped: the caller must empty every slot and then call `release`, which frees
 /// the memory.
 ///
-/// Contracts also mention the allocator that the memory came from and three counters, which the
-/// block does not store.
+/// Contracts also mention three counters, and the allocator that the memory came from. The block
+/// stores neither the counters nor the allocator.
 pub struct Block<T, A: Allocator> {
     // A pointer to the capacity. The length and then the slots follow the capacity in memory. If
     // the block has no allocation, this is a pointer to `NO_BLOCK`.

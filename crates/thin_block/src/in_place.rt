@@ -20,9 +20,9 @@ use std::alloc::{AllocError, Allocator};
 use std::marker::PhantomData;
 use std::mem::{ManuallyDrop, replace};
 
-// If the items of a block form at least this many words of 8 bytes, the allocator resizes the
-// block, and may leave the items at their address. For fewer words, it is cheaper to allocate a new
-// block.
+// A size in words of 8 bytes. If the items of a block form whole words, and have at least this size
+// in total, then the allocator resizes the block, and may leave the items at their address. If the
+// items take fewer words, it is cheaper to allocate a new block.
 pub(crate) const LONG: usize = 32;
 
 // Resizes an allocation from `held` to `wanted` values of the type `T`. Calls `alloc.grow` if

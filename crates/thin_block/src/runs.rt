@@ -14,7 +14,7 @@ impl<T, A: Allocator> Block<T, A> {
     ghost use Rattle.thin_block.specs.Block.{seen};
 
     /// Moves the `k` items in the slots `from..from + k` to the slots `to..to + k`. The two ranges
-    /// of slots may overlap. The slots of the second range that are not in the first range must be
+    /// of slots may overlap. Each slot in `to..to + k` that is not in `from..from + k` must be
     /// empty.
     pub fn move_run(&mut self, from: usize, to: usize, k: usize)
         requires source { from + k ≤ length self.old.slots }

@@ -10,9 +10,9 @@ module _ {F J T : Type 0} (R : F → T → Bool → F → T → Type 0) (state :
     (keeps : J → T → Bool × (T × J))
     (one : (f : F) (x : T) (b : Bool) (g : F) (y : T) → R f x b g y
     → keeps (state f) x ≡ (b, (y, state g))) where
-  -- If the closure and the keeper make the same decisions and write the same values, then `qs`, the
-  -- closure's results for the items `xs`, equals the list of the keeper's results. A result is a
-  -- decision and the new value of the item.
+  -- Let `qs` be the list of the closure's results for the items `xs`. If the closure and the keeper
+  -- make the same decisions and write the same values, then `qs` equals the list of the keeper's
+  -- results for these items. A result consists of a decision and the new value of the item.
   answers-are : (f : F) (xs : List T) (qs : List (Bool × T)) (t : F) → Asked R f xs qs t
       → qs ≡ asked_by keeps (state f) xs
   answers-are f [] qs t a = a.0

@@ -15,8 +15,9 @@ kind_of node = (out-Node node).kind
 abbrev pub children_of : Node → Thin Node Global
 children_of node = (out-Node node).children
 
--- Suppose that each child of `node` has been replaced with a number, its node count. Then
--- `count_step node` is 1 plus the sum of these numbers.
+-- `count_step node` is 1 plus the sum of the node counts of the children. In `node`, each child has
+-- been replaced with its node count, which is the number of nodes in the tree whose root is this
+-- child.
 abbrev pub count_step : Node-F ℕ → ℕ
 count_step node = 1 + sum node.children.items
 

@@ -25,7 +25,8 @@ impl Checks {
         self.compared
     }
 
-    /// Returns whether at least one value was compared and every compared value was as expected.
+    /// Returns true if at least one comparison was counted, and no comparison was counted as wrong.
+    /// Otherwise, returns false.
     pub fn is_ok(&self) -> bool {
         self.compared > 0 && self.wrong == 0
     }

@@ -5,8 +5,8 @@ ghost use Rattle.thin_vec.specs.ThinVec.{HasRoomFor};
 use std::alloc::Allocator;
 use thin_vec::{Growth, ThinVec};
 
-/// Appends `value` to the list and returns `None`. If there is no room for `value`, leaves the list
-/// unchanged and returns `Some(value)`.
+/// Tries to append `value` to the list. If this succeeds, returns `None`. If there is no room for
+/// `value`, leaves the list unchanged and returns `Some(value)`.
 pub fn push_or_return<T: Drop, A: Allocator, G: Growth>(
     list: &mut ThinVec<T, A, G>,
     value: T,

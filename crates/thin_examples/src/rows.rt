@@ -36,11 +36,11 @@ pub const ROWS: [u32; 35] = [
 pub type Outcome = Result<Checks, ThinVecError>;
 
 /// Runs the worked example `number`, and returns the counter of its comparisons. If there is no
-/// such example, the counter has counted no comparisons.
+/// such example, returns a counter that has not counted any comparisons.
 ///
 /// # Errors
 ///
-/// Fails if a call in the example fails that should succeed.
+/// Fails if a call in the example fails unexpectedly.
 pub fn row<A: Allocator + Copy>(alloc: A, number: u32) -> Outcome {
     match number {
         1 => row_1(alloc),

@@ -67,7 +67,7 @@ pub fn set_and_read<A: Allocator>(
     Ok(counts.get(row, column).copied())
 }
 
-/// Removes and returns the count at `row` and `column`. Returns 0 if there is no count.
+/// Removes the count at `row` and `column`, and returns it. If there is no such count, returns 0.
 pub fn take<A: Allocator>(counts: &mut Rows<u32, A>, row: usize, column: usize) -> u32
     requires in_bounds { row < length counts.old }
     ensures value { result ≡ unwrap_or (value_at counts.old row column) 0 }

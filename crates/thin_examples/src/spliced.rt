@@ -8,9 +8,9 @@ use thin_vec::{Growth, SpliceRefused, ThinVec};
 
 /// Replaces the items at the indices `range.0..range.1` with the items that `iter` yields.
 ///
-/// The type `I` of the iterator is generic. Some iterators borrow a value: for example, an iterator
-/// over a slice borrows the slice. A caller can prove a splice with such an iterator by calling a
-/// generic function like this one.
+/// Some iterators borrow a value: for example, an iterator over a slice borrows the slice. To prove
+/// a splice with such an iterator, call a function whose iterator type is generic, such as this
+/// function with its type `I`.
 ///
 /// # Errors
 ///
@@ -38,8 +38,8 @@ pub fn splice_by<T: Drop, A: Allocator, G: Growth, I: Iterator<Item = T>>(
 /// # Errors
 ///
 /// Fails if there is no room for the numbers. On failure, the items at the indices `start..end` are
-/// removed. Some of the first numbers, or none of them, are inserted in their place. The other
-/// numbers are dropped.
+/// removed. For some `k`, which may be 0, the first `k` numbers are inserted in their place. The
+/// other numbers are not inserted.
 pub fn splice_numbers<A: Allocator, G: Growth>(
     list: &mut ThinVec<u32, A, G>,
     start: usize,

@@ -6,8 +6,8 @@ ghost use Rattle.thin_vec.specs.ThinVec.{HasRoomFor};
 use std::alloc::Allocator;
 use thin_vec::{Growth, ThinVec, ThinVecError};
 
-/// Shrinks the capacity to `most` or to the length of the list, whichever is greater. If the
-/// capacity is at most `most`, nothing changes.
+/// If the capacity is greater than `most`, shrinks it to `most` or to the length of the list,
+/// whichever is greater. Otherwise, changes nothing.
 ///
 /// # Errors
 ///

@@ -47,8 +47,8 @@ impl Node {
         self.children.push(child)
     }
 
-    /// Returns the number of nodes in the tree whose root is this node. Returns `u64::MAX` if there
-    /// are more nodes than that.
+    /// Returns the number of nodes in the tree whose root is this node. If there are more than
+    /// `u64::MAX` nodes, returns `u64::MAX`.
     pub fn count(&self) -> u64
         ensures value { result ≡ min (node_count self.now) (2 ^ 64 - 1) }
     {

@@ -63,10 +63,10 @@ Says words (Splice start end steps items lower) = BeginsForm words (codes "splic
     × (SpellsSteps (word words 3) steps.items
     × (Spells (word words 4) lower × SpellAll (drop 5 words) items.items))))
 
--- If `command` calls methods of a judge, `SaysJudge words command judge` holds if the last three
--- words spell the divisor, the stride and the addend of `judge`, and `judge` has made no decisions
--- yet. For every other command, the predicate holds for any `judge`. A judge makes decisions in
--- place of a closure.
+-- `SaysJudge words command judge` states that the words describe the judge. If `command` calls
+-- methods of a judge, the last three words must spell the divisor, the stride and the addend of
+-- `judge`, and `judge` must not have made any decisions yet. Otherwise, `SaysJudge` holds for any
+-- `judge`. A judge makes decisions in place of a closure.
 abbrev pub SaysJudge : {A G : Type 0} → Words → Command ℕ A G → DivisorJudge → Type 0
 SaysJudge words Retain judge = SpellsJudge (word words 1) (word words 2) (word words 3) judge
 SaysJudge words RetainMut judge = SpellsJudge (word words 1) (word words 2) (word words 3) judge

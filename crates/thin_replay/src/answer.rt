@@ -56,8 +56,8 @@ pub fn write_reply(out: &mut impl Write, reply: Reply<u64>) -> io::Result<()> {
     }
 }
 
-// Writes the items and the capacity of the list `other`, which was passed to `append`. If the call
-// to `append` failed, first writes the cause of the failure.
+// Writes the items and the capacity of `other`, the list that was passed to `append`. If the call
+// to `append` failed, writes the cause `refused` of the failure before them.
 fn write_other(
     out: &mut impl Write,
     other: &ThinVec<u64>,

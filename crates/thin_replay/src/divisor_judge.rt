@@ -9,10 +9,10 @@ use thin_runner::judge::Judge;
 /// A judge that computes a number for each item and divides it by `divisor`. The number is
 /// `item + stride * n`, where `n` is the number of earlier decisions of the judge.
 ///
-/// - The judge chooses an item if its number is divisible by `divisor`.
+/// - The judge chooses an item if the number of the item is divisible by `divisor`.
 /// - The key of an item is the quotient, rounded down.
-/// - A later item is a duplicate of a kept item if its number is congruent to the kept item modulo
-///   `divisor`. (For the kept item, no number is computed.)
+/// - To compare a later item with a kept item, the judge computes a number for the later item only.
+///   The later item is a duplicate if this number is congruent to the kept item modulo `divisor`.
 ///
 /// After each decision, the judge adds `added` to every item that was passed to it by mutable
 /// reference. All sums and products are modulo 2^64.

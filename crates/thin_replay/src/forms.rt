@@ -41,7 +41,7 @@ pub static NOTES: [&str; 5] = [
     "DIVISOR, STRIDE and ADDED describe a closure, as crates/thin_replay/README.md says.",
 ];
 
-/// Returns the form in `FORMS` whose first word is `name`, if there is one.
+/// Returns the form in `FORMS` whose first word is `name`, or `None` if there is no such form.
 pub fn form_of(name: &str) -> Option<&'static str> {
     for form in &FORMS {
         if form.split_whitespace().next() == Some(name) {

@@ -15,8 +15,8 @@ pub enum LineError {
     /// field contains the form that the line should have.
     #[error("the form is `{0}`")]
     WrongForm(&'static str),
-    /// A word is not a number from 0 to 2^64 - 1. The field is the placeholder for this word in the
-    /// forms that `help` prints, such as `INDEX`.
+    /// A word is not a number from 0 to 2^64 - 1. The field is a placeholder, such as `INDEX`. It
+    /// stands for this word in the forms that `help` prints.
     #[error("{0} is not a number from 0 to 18446744073709551615")]
     NotANumber(&'static str),
     /// The divisor of a judge is 0.

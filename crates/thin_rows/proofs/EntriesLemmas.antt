@@ -51,8 +51,8 @@ module _ {V : Type 0} where
   all_above c (e ∷ entries) h (suc k) d inside =
       all_above c entries (both_hold _ _ h).1 k d (omega arith)
 
-  -- If the columns of the entries are strictly increasing, then the column at an index `i` is less
-  -- than the column at any later index `k`. The default entry `d` is never used, because both
+  -- If the columns of the entries are strictly increasing, and `i < k`, then the column at index
+  -- `i` is less than the column at index `k`. The default entry `d` is never used, because both
   -- indices are in bounds.
   pub columns_rise : (entries : List (ℕ × V)) → IsRising entries → (i k : ℕ) (d : ℕ × V) → i < k
       → k < length entries → column_at entries i d < column_at entries k d

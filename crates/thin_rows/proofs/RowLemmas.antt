@@ -11,7 +11,7 @@ use Rattle.thin_rows.specs.Entries.{IsGapFor, IsPlaceOf, IsRising}
 use Rattle.thin_rows.proofs.EntriesLemmas.{find_at, find_gap, put_at, put_gap, stays, without_at, without_gap}
 
 -- `stays c k` says whether an entry of column `k` is kept when the entry of column `c` is removed.
--- If `nat_cmp q k` is `Equal`, then `stays c k` equals `stays c q`.
+-- If `nat_cmp` compares the columns `q` and `k` as equal, then `stays c k` equals `stays c q`.
 alike : (c q k : ℕ) → nat_cmp q k ≡ Equal → stays c k ≡ stays c q
 alike c q k e = ap (stays c) (sym (ranked q k Equal (sym e)))
 

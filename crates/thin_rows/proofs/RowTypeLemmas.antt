@@ -11,8 +11,8 @@ use Rattle.thin_vec.specs.declared.ThinVecError.TheVariants.{CapacityOverflow}
 use Rattle.thin_vec.specs.List.Capacity.{TellsOverflow, TellsOverflowOf}
 use Rattle.thin_vec.specs.Growth.{Rule, exact_capacity, ruled_capacity}
 
--- If the types `R` and `S` have the same size and alignment, then `exact_capacity` returns the same
--- capacity for both types. Here, `c` is the old capacity, and `w` is the required capacity.
+-- Suppose that the types `R` and `S` have the same size and alignment. If the old capacity is `c`,
+-- and the required capacity is `w`, then `exact_capacity` returns the same capacity for both types.
 pub exact_of_same : (R S : RattleType) (c w : ℕ) → type_size R ≡ type_size S
     → type_align R ≡ type_align S → exact_capacity R c w ≡ exact_capacity S c w
 unfolding exact_capacity
@@ -37,9 +37,10 @@ no_error same = cc
 pub same_cause : {X E : Type 0} {d e : E} → IsErrOf {T = X} (Err d) e → d ≡ e
 same_cause same = cc
 
--- Suppose that `result` is the error `cause`, and that the types `R` and `S` have the same size and
--- alignment. Suppose also that `cause` is `CapacityOverflow` if and only if a block for `w` items
--- of the type `R` is too large. Then the same holds for a block for `w` items of the type `S`.
+-- Suppose that the types `R` and `S` have the same size and alignment, and that `result` is the
+-- error `cause`. Suppose also that `cause` is `CapacityOverflow` if and only if a block for `w`
+-- items of the type `R` is too large. Then `result` is `CapacityOverflow` if and only if a block
+-- for `w` items of the type `S` is too large.
 pub error_tells : {X Y : Type 0} (R S : RattleType) (w : ℕ) (cause : ThinVecError)
     (result : Result Y ThinVecError) → type_size S ≡ type_size R → type_align S ≡ type_align R
     → IsErrAnd result (λ e. e ≡ cause) → TellsOverflowOf {X = X} R w (Err cause)
@@ -54,8 +55,8 @@ error_tells R S w cause (Err e) size align passed told = record {
 }
 
 -- `TellsOverflow a r` says that the result `r` is the error `CapacityOverflow` if and only if the
--- capacity `a` is `None`. If `a` equals `b`, and `cause` is `CapacityOverflow` if and only if `b`
--- is `None`, then `TellsOverflow a (Err cause)` holds.
+-- capacity `a` is `None`. Suppose that `a` equals `b`, and that `cause` is `CapacityOverflow` if
+-- and only if `b` is `None`. Then `TellsOverflow a (Err cause)` holds.
 pub failure_tells : {X Y : Type 0} {a b : Option ℕ} {cause : ThinVecError} → a ≡ b
     → IsErrOf {T = X} (Err cause) CapacityOverflow ↔ (b ≡ None)
     → TellsOverflow a (let r : Result Y ThinVecError = Err cause in r)
@@ -67,10 +68,9 @@ failure_tells same told = record {
 }
 
 -- `TellsOverflowOf R w r` says that the result `r` is the error `CapacityOverflow` if and only if
--- the capacity for `w` items of the type `R` is too large. Suppose that the types `R` and `S` have
--- the same size and alignment. If `TellsOverflowOf R w` holds for `Ok x`, then
--- `TellsOverflowOf S w` holds for `Ok y`. Since `Ok x` and `Ok y` are not errors, both statements
--- say that the capacity is not too large.
+-- the capacity for `w` items of the type `R` is too large. If the types `R` and `S` have the same
+-- size and alignment, then `TellsOverflowOf R w (Ok x)` implies `TellsOverflowOf S w (Ok y)`. Both
+-- say that the capacity is not too large, because `Ok x` and `Ok y` are not errors.
 pub made_tells : {X Y : Type 0} (R S : RattleType) (w : ℕ) (x : X) (y : Y)
     → type_size S ≡ type_size R → type_align S ≡ type_align R
     → TellsOverflowOf R w (Ok x) → TellsOverflowOf S w (Ok y)

@@ -51,8 +51,9 @@ module _ {V : Type 0} where
   pub outside : (t : Table V) (i j : ℕ) → length t ≤ i → value_at t i j ≡ None
   outside t i j past = ap (λ r. map.get r j) (get_or_past t i map.empty past) ∙ get-empty nat_cmp j
 
-  -- Suppose that row `i` of the table `t` is replaced with `row`. If `row` and the old row have the
-  -- same value at column `l`, then the value at column `l` of each row `k` does not change.
+  -- Suppose that row `i` of the table `t` is replaced with `row`, and that `row` and the old row
+  -- have the same value at column `l`. Then, for each row `k`, the value at row `k` and column `l`
+  -- does not change.
   other_columns : (t : Table V) (i k l : ℕ) (row : Columns V)
       → map.get row l ≡ value_at t i l → value_at (set t i row) k l ≡ value_at t k l
   other_columns t i k l row same = elim (cases_eq k i) [
@@ -75,8 +76,8 @@ module _ {V : Type 0} where
     | inr past ↦ outside (set t i row) i l (omega (arith, past, length-set t i row))
   ]
 
-  -- If the table `t` has a row `i`, then writing the value `v` at row `i` and column `j` makes `v`
-  -- the value there.
+  -- If the table `t` has a row `i`, and the value `v` is written at row `i` and column `j`, then
+  -- the new table has the value `v` at this row and column.
   pub written : (t : Table V) (i j : ℕ) (v : V) → i < length t
       → value_at (with_value t i j v) i j ≡ Some v
   written t i j v inside =

@@ -56,10 +56,9 @@ module _ {T A : Type 0} where
     copied = inr (ap (λ c. c.grown) new.cost);
   }
 
-  -- Among other facts, `IsAmortised m w` says that growing the list `w` has copied fewer than
-  -- `2 * m` items, or no items at all. If `IsAmortised m w` holds, and `m` is not 0, then the
-  -- number of copied items is less than `2 * m` in both cases. The field `amortised` of the main
-  -- theorem states this bound.
+  -- `IsAmortised m w` implies that growing the list `w` has copied fewer than `2 * m` items, or no
+  -- items at all. If `IsAmortised m w` holds, and `m` is greater than 0, then the number of copied
+  -- items is less than `2 * m`. The field `amortised` of the main theorem states this bound.
   pub copied-run : (w : Thin T A) (m : ℕ) → IsAmortised (0 + m) w → 0 < m → w.cost.grown < 2 * m
   copied-run w m a some = below a.copied
     where
@@ -70,15 +69,15 @@ module _ {T A : Type 0} where
   same-amortised : (m : ℕ) (v w : Thin T A) → IsAmortised m v → w ≡ v → IsAmortised (m + 0) w
   same-amortised m v w a same = let e : m + 0 ≡ m = omega arith in rw (same, e) a
 
--- Let `c` be the capacity of a list, and `k` its cost. Growing the list has copied `k.grown` items.
--- If the list is cheap (`IsCheapAt c k`), and `c ≤ m`, then `k.grown + c < 2 * (m + 1)`.
+-- Suppose that a list has the capacity `c` and the cost `k`. Growing the list has copied `k.grown`
+-- items. If the list is cheap (`IsCheapAt c k`), and `c ≤ m`, then `k.grown + c < 2 * (m + 1)`.
 copied-growing : (c m : ℕ) (k : Cost) → IsCheapAt c k → c ≤ m → k.grown + c < 2 * (m + 1)
 copied-growing zero m k h few = let z = h.none refl in omega (arith, z.1)
 copied-growing (suc c) m k h few =
     let copied : k.grown < suc c = h.grown (omega arith) in omega (arith, copied, few)
 
--- If `g` is 0 or less than `2 * m`, and `g'` equals `g`, then `g'` is 0 or less than
--- `2 * (m + more)`.
+-- Let `g` and `g'` be the values of the counter `grown` of a list before and after a call. If `g`
+-- is 0 or less than `2 * m`, and `g'` equals `g`, then `g'` is 0 or less than `2 * (m + more)`.
 copied-kept : (m more : ℕ) {g g' : ℕ} → (g < 2 * m) ⊎ (g ≡ 0) → g' ≡ g
     → (g' < 2 * (m + more)) ⊎ (g' ≡ 0)
 copied-kept m more (inl few) same = inl (omega (arith, few, same))
@@ -86,9 +85,9 @@ copied-kept m more (inr none) same = inr (same ∙ none)
 
 module _ {T A G J : Type 0} (here : Setting T A J) (law : KeepsLaw here.rule) where
   -- `IsAmortised m v` says that growing the list `v` has copied few items compared with `m`.
-  -- Suppose that it holds, and that `command`, which is a push or a pop, turns `v` into `w`. If
-  -- `command` is a successful push, then `IsAmortised (m + 1) w` holds. Otherwise,
-  -- `IsAmortised m w` holds.
+  -- Suppose that it holds. Suppose also that `command` is a push or a pop, gets the reply `reply`,
+  -- and turns `v` into `w`. If `command` is a successful push, then `IsAmortised (m + 1) w` holds.
+  -- Otherwise, `IsAmortised m w` holds.
   step-amortised : (m : ℕ) (v w : Thin T A) (command : Command T A G) (reply : Reply T A G)
       → IsPushOrPop command → IsAmortised m v → Steps here v command reply w
       → IsAmortised (m + accepted (command ∷ []) (reply ∷ [])) w
@@ -130,8 +129,9 @@ module _ {T A G J : Type 0} (here : Setting T A J) (law : KeepsLaw here.rule) wh
   step-amortised m v w Pop reply only a s = absurd s.1
   step-amortised m v w command reply only a s = absurd only
 
-  -- If each successful push of a run counts as 1, and each other command as 0, then the sum is
-  -- `accepted commands replies`, the number of successful pushes. A run is a sequence of commands.
+  -- A run is a sequence of commands. Suppose that each successful push of a run counts as 1, and
+  -- each other command as 0. Then the sum is `accepted commands replies`, the number of successful
+  -- pushes.
   accepted-counted : (commands : List (Command T A G)) (replies : List (Reply T A G))
       → counted (λ c r. accepted (c ∷ []) (r ∷ [])) commands replies ≡ accepted commands replies
   accepted-counted (Push x ∷ commands) (Done ∷ replies) =
@@ -140,9 +140,9 @@ module _ {T A G J : Type 0} (here : Setting T A J) (law : KeepsLaw here.rule) wh
       omega (arith, accepted-counted commands replies)
   accepted-counted commands replies = refl
 
-  -- `IsAmortised n w` says that growing the list `w` has copied few items compared with `n`. If
-  -- `IsAmortised 0 v` holds, and a run of pushes and pops turns the list `v` into `w`, then
-  -- `IsAmortised n w` holds, where `n` is the number of successful pushes.
+  -- `IsAmortised n w` says that growing the list `w` has copied few items compared with `n`.
+  -- Suppose that `IsAmortised 0 v` holds, that a run of pushes and pops turns the list `v` into
+  -- `w`, and that `n` pushes of this run succeed. Then `IsAmortised n w` holds.
   pub runs-amortised : (v w : Thin T A) (commands : List (Command T A G))
       (replies : List (Reply T A G)) → All IsPushOrPop commands → IsAmortised 0 v
       → Runs here v commands replies w → IsAmortised (0 + accepted commands replies) w

@@ -21,9 +21,10 @@ module _ {T A : Type 0} where
   abbrev pub grown : Thin T A → ℕ → List T → ℕ → Thin T A
   grown v c xs m = record v { items = xs; capacity = c; cost = moving m (cost_at v c) }
 
-  -- Suppose that the list `w` has the items `xs` and the allocator of the list `v`. If the cost of
-  -- `w` is the cost of `v`, plus the cost of the change of capacity, plus `m` moves, then `w` is
-  -- `grown v w.capacity xs m`: the list `v` after these changes.
+  -- Suppose that the list `w` has the items `xs` and the allocator of the list `v`. Suppose also
+  -- that the cost of `w` is the cost of `v`, plus the cost of the change of capacity, plus `m`
+  -- moves. Then `w` equals `grown v w.capacity xs m`, which describes `v` after a call that makes
+  -- these changes.
   pub is-grown : (v w : Thin T A) (xs : List T) (m : ℕ) → w.items ≡ xs → w.cost
       ≡ moving m (cost_at v w.capacity) → w.alloc ≡ v.alloc → w ≡ grown v w.capacity xs m
   is-grown v w xs m items cost alloc = λ i. record {
@@ -34,10 +35,12 @@ module _ {T A : Type 0} where
   }
 
   module _ (rule : Rule) where
-    -- Suppose that a call that clones the items `sources` fails. Then either the list does not
-    -- change at all, or the call reserves room for `k` more items and then fails to clone an item,
-    -- for which `infallible` does not hold. Each item that is cloned before the failure counts as
-    -- one move.
+    -- Suppose that a call that clones the items `sources` fails. Then there are two possibilities:
+    --
+    -- - The list does not change.
+    -- - The call reserves room for `k` more items of the type `R`, and then fails to clone an item.
+    --   Each item that was cloned before this item counts as one move. The predicate `infallible`,
+    --   which states that cloning an item cannot fail, does not hold for this item.
     pub refuses-clone : (R : RattleType) (k : ℕ) {infallible : T → Type 0} {sources : List T}
         {v w : Thin T A} → w.items ≡ v.items → w.alloc ≡ v.alloc
         → (w ≡ v) ⊎ (capacity_for rule R v k ≡ Some w.capacity)

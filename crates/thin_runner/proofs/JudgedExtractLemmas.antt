@@ -16,9 +16,9 @@ use Rattle.thin_runner.specs.commands.Ranges.{walked}
 use Rattle.thin_runner.specs.declared.command.Step.TheVariants.{Front}
 
 module _ {T : Type 0} where
-  -- `goes item` is the list of the verdicts on `item`, which is the result of a call to `next`. For
-  -- `Some x`, the list contains one verdict, which says that `x` is removed. For `None`, the list
-  -- is empty.
+  -- `goes item` is a list of verdicts. Here, `item` is the result of a call to `next`. If `item` is
+  -- `Some x`, the list contains one verdict, which says that `x` is removed. If `item` is `None`,
+  -- the list is empty.
   abbrev pub goes : Option T → Verdicts T
   goes None = []
   goes (Some x) = (false, x) ∷ []
@@ -60,9 +60,9 @@ module _ {T : Type 0} where
   few-goes None = refl
   few-goes (Some x) = refl
 
-  -- A kept item is moved if an item before it is removed. So if the verdicts `a` remove no item,
-  -- then `a ++ b` causes the moves for `a` plus the moves for `b`. Otherwise, `a ++ b` causes the
-  -- moves for `a`, plus one move for each item that `b` keeps.
+  -- A kept item is moved if an item before it is removed. If the verdicts `a` remove no item, then
+  -- the number of moves for `a ++ b` is the number for `a` plus the number for `b`. Otherwise, it
+  -- is the number for `a`, plus one for each item that `b` keeps.
   pub moves-append : (a b : Verdicts T) → moved_down (flags_of (a ++ b))
       ≡ moved_down (flags_of a) + (if length (left_at false a) == 0 then moved_down
       (flags_of b) else trues (flags_of b))
@@ -85,12 +85,12 @@ module _ {S T J : Type 0} (R : S → T → Bool → S → T → Type 0) (judge_o
   -- items `rest` have not been tested yet.
   module _ (t : S) (k : ℕ) (item : Option T) (rest : List T) where
     -- Suppose that the items `xs` are untested, and that a call to `next` keeps the items `kept`,
-    -- returns `item`, and leaves the items `rest` untested. Then the verdicts of this call and of
-    -- `k` more calls are, in this order:
+    -- returns `item`, and leaves the items `rest` untested. Then this call and `k` more calls
+    -- together cause the following verdicts, in this order:
     --
     -- - the verdicts that keep the items `kept`
-    -- - the verdict that removes `item`, if it is not `None`
-    -- - the verdicts of the `k` calls
+    -- - the verdict that removes `item`, if `item` is not `None`
+    -- - the verdicts of the `k` more calls
     pub extracts-by : (s : S) (xs kept : List T) → ExtractsNext R s xs item t kept rest
         → extracting ask (judge_of s) (suc k) xs
         ≡ stay kept ++ (goes item ++ extracting ask (judge_of t) k rest)
@@ -152,8 +152,9 @@ module _ {S T J : Type 0} (R : S → T → Bool → S → T → Type 0) (judge_o
             ∙ ap (left_at false) (none-left (judge_of t) k) in
             subst (λ l. handed_out (suc k) l ≡ None ∷ handed_out k l) (sym empty) refl
 
--- Suppose that `m` moves are added to the cost `c`, and that `k` more moves are then added if
--- `gone` is not 0. The result is the same as if all these moves were added at once.
+-- Suppose that `m` moves are added to the cost `c`. If `gone`, the number of removed items, is not
+-- 0, then `k` more moves are added. The result is the same as if all these moves were added at
+-- once.
 charged : (gone m k : ℕ) (c : Cost)
     → (if gone == 0 then moving m c else moving k (moving m c))
     ≡ moving (m + (if gone == 0 then 0 else k)) c
@@ -189,9 +190,10 @@ module _ {T : Type 0} (asked : Verdicts T) (start : List T) (before : Cost) wher
     pub out : at.out ≡ length (left_at false done)
     pub paid : at.paid ≡ moving (moved_down (flags_of done)) before
 
-  -- Suppose that the next verdicts, `now`, first keep `k` items and then only remove items. These
-  -- verdicts add `k` moves to the cost if an item was extracted before, and no moves otherwise. The
-  -- new cost is `before`, plus the moves for all verdicts so far, including `now`.
+  -- Suppose that in the state `at`, the next verdicts are `now`, which first keep `k` items and
+  -- then only remove items. If an item was extracted before, these verdicts add `k` moves to the
+  -- cost `at.paid`. Otherwise, they add no moves. The new cost is `before`, the cost before the
+  -- first call to `next`, plus the moves for all verdicts so far, including `now`.
   paid-next : (at : Stand T) (h : IsExtracting at) (now : Verdicts T) (k : ℕ)
       → moved_down (flags_of now) ≡ 0 → trues (flags_of now) ≡ k
       → (if at.out == 0 then at.paid else moving k at.paid)
@@ -317,8 +319,9 @@ module _ {T A : Type 0} (v w : Thin T A) (a b : ℕ) (asked : Verdicts T) where
         cost = paid i;
       }
 
--- In this module, `ask` is the method of a judge that decides for each item whether it is
--- extracted. The lemmas show that an extraction does not increase the number of items in the list.
+-- In this module, `ask` is a method of a judge. For each item, the method decides whether the item
+-- is extracted. The lemmas show that an extraction does not increase the number of items in the
+-- list.
 module _ {T J : Type 0} (ask : J → T → Bool × T × J) where
   stay-length : (xs : List T) → length (stay xs) ≡ length xs
   stay-length xs = length-map xs (λ (x : T). (true, x))

@@ -15,17 +15,18 @@ use Rattle.thin_runner.specs.commands.Filters.{asked, asked_last, asked_pairs, s
 
 module _ {S T J : Type 0} (R : S → T → Bool → S → T → Type 0) (judge_of : S → J)
     (ask : J → T → Bool × T × J) where
-  -- `R` describes the calls to a closure whose state contains a judge. `AsksJudge` holds if each of
-  -- these calls has the same effect as the method `ask` of this judge.
+  -- `AsksJudge` holds if each call to a closure has the same effect as the method `ask` of a judge.
+  -- The state of the closure contains this judge. The relation `R` describes the calls to the
+  -- closure.
   abbrev pub AsksJudge : Type 0
   AsksJudge = (s : S) (x : T) (b : Bool) (u : S) (y : T) → R s x b u y
       → (b, y, judge_of u) ≡ ask (judge_of s) x
 
 module _ {S T J : Type 0} (R : S → T → Bool → S → T → Type 0) (judge_of : S → J)
     (ask : J → T → Bool × T × J) (told : AsksJudge R judge_of ask) where
-  -- Suppose that a closure returns the decisions of the judge in its state. If calls to the closure
-  -- for the items of `xs` result in the list `verdicts`, and change the state from `s` to `t`, then
-  -- `verdicts` contains the decisions of this judge on the items.
+  -- Suppose that a closure returns the decisions of the judge in its state. Suppose also that calls
+  -- to the closure for the items of `xs` result in the list `verdicts`, and change the state from
+  -- `s` to `t`. Then `verdicts` contains the decisions of this judge on the items.
   pub asked-by : (s t : S) (xs : List T) (verdicts : Verdicts T) → Asked R s xs verdicts t
       → verdicts ≡ asked ask (judge_of s) xs
   asked-by s t [] verdicts a = a.0
@@ -48,9 +49,10 @@ module _ {S T J : Type 0} (R : S → T → Bool → S → T → Type 0) (judge_o
 -- This module is about methods such as `dedup_by`, which compare each item with the last item kept
 -- before it.
 module _ {T : Type 0} where
-  -- The pair `b` consists of a first item and the verdicts on the later items. `Leaves flags ys b`
-  -- holds if `flags` says for each later item whether its verdict keeps it, and `ys` is the first
-  -- item, followed by the later items that are kept.
+  -- `Leaves flags ys b` holds if `flags` and `ys` agree with the pair `b`, which consists of a
+  -- first item and the verdicts on the later items. The list `flags` must say for each later item
+  -- whether its verdict keeps it. The list `ys` must contain the first item, followed by the later
+  -- items that are kept.
   abbrev pub Leaves : List Bool → List T → T × Verdicts T → Type 0
   Leaves flags ys b = (flags ≡ flags_of b.1) × (ys ≡ b.0 ∷ left_at true b.1)
 
@@ -60,9 +62,10 @@ module _ {S T J : Type 0} (R : S → T → T → Bool → S → T → T → Type
     (same : J → T → T → Bool × T × T × J)
     (told : (s : S) (x k : T) (b : Bool) (u : S) (x' k' : T) → R s x k b u x' k'
     → (b, x', k', judge_of u) ≡ same (judge_of s) x k) where
-  -- Suppose that a closure returns the decisions of a judge, and compares each item of `xs` with
-  -- the last item kept before that item, beginning with `k`. Then `flags` says which items of `xs`
-  -- the judge keeps, and `ys` contains `k` and these items, as they are after the comparisons.
+  -- Suppose that a closure asks a judge to compare each item of `xs` with the last item kept before
+  -- it. For the first item of `xs`, this kept item is `k`. Then `flags` says for each item of `xs`
+  -- whether the judge keeps it. The list `ys` contains `k` and the kept items, with their values
+  -- after the comparisons.
   pub asked-last-by : (s t : S) (k : T) (xs : List T) (flags : List Bool) (ys : List T)
       → AskedLast R s k xs flags ys t → Leaves flags ys (asked_last same (judge_of s) k xs)
   asked-last-by s t k [] flags ys a = (a.0, a.1)
@@ -82,9 +85,9 @@ module _ {S T J : Type 0} (R : S → T → T → Bool → S → T → T → Type
       answered by false m e = let h =
           by a.1 m.0 m.1 in (e ∙ ap (λ l. true ∷ l) h.0, m.2 ∙ ap (λ l. a.2 ∷ l) h.1)
 
-  -- Suppose that a closure returns the decisions of a judge, and compares each item of `xs`, except
-  -- the first one, with the last item kept before that item. Then `ys` contains exactly the items
-  -- that the judge keeps, and `flags` causes as many moves as the decisions of the judge.
+  -- Suppose that a closure asks a judge to compare each item of `xs`, except the first one, with
+  -- the last item kept before it. Then `ys` contains exactly the items that the judge keeps. The
+  -- number of moves for `flags` equals the number of moves for the decisions of the judge.
   pub asked-pairs-by : (s t : S) (xs : List T) (flags : List Bool) (ys : List T)
       → AskedPairs R s xs flags ys t
       → (moved_down flags ≡ moved_down (flags_of (asked_pairs same (judge_of s) xs)))
@@ -110,9 +113,10 @@ module _ {F T A J : Type 0} (g : Mut F (MutBor T × Unit {0}) (ℕ × (MutBor T 
     (judge_of : F → J) (key : J → T → ℕ × T × J)
     (told : (f : F) (x : T) (k : ℕ) (f' : F) (x' : T) → CalledAtMut g f x k f' x'
     → (k, x', judge_of f') ≡ key (judge_of f) x) where
-  -- Suppose that `dedup_by_key` turned the list `v` into `w`, and that its closure returned keys
-  -- that a judge computed. Then `w` contains exactly the items of `v` that the judge keeps. For
-  -- each comparison of two items, the judge computes the key of the later item first.
+  -- Suppose that `dedup_by_key` turned the list `v` into `w`, and that a judge computed the keys
+  -- that its closure returned. Then `w` contains exactly the items of `v` that the judge keeps. To
+  -- compare two items, the judge first computes the key of the later item, and then the key of the
+  -- kept item.
   pub deduped-by-keys : (f : F) (v w : Thin T A)
       → IsDedupedBy (ComparesKeys g (λ a b. a == b)) f v w → w.capacity ≡ v.capacity
       → w.alloc ≡ v.alloc → w ≡ sifted v (asked_pairs (same_key key) (judge_of f) v.items)
@@ -149,9 +153,9 @@ module _ {T : Type 0} where
   few-left ((true, x) ∷ verdicts) = omega (arith, few-left verdicts)
   few-left ((false, x) ∷ verdicts) = omega (arith, few-left verdicts)
 
-  -- Suppose that the item `x` was compared with `k`, the last kept item. The pair `a` describes the
-  -- comparisons of the items after `x`. `next b x k a` adds the verdict on `x` to the verdicts in
-  -- `a`: if `b` is true, `x` is removed, and otherwise, `x` is kept.
+  -- `next b x k a` adds the verdict on the item `x` to the pair `a`, which contains the verdicts on
+  -- the items after `x`. If `b` is true, the new verdict removes `x`. Otherwise, it keeps `x`. The
+  -- item `k` is the last item kept before `x`, and `x` was compared with it.
   abbrev next : Bool → T → T → T × Verdicts T → T × Verdicts T
   next b x k a = if b then (a.0, (false, x) ∷ a.1) else (k, (true, a.0) ∷ a.1)
 
@@ -176,8 +180,9 @@ module _ {T J : Type 0} where
   few-asked ask j xs = omega (arith, few-left (asked ask j xs), asked-length ask j xs)
 
   -- Suppose that a judge in the state `j` compares each item of `xs` with the last item kept before
-  -- that item, beginning with `k`. Then there are exactly `length xs` verdicts. The lemma
-  -- `pairs-length` is about a list whose first item is kept without a comparison.
+  -- it. For the first item of `xs`, this kept item is `k`. Then there are exactly `length xs`
+  -- verdicts. The lemma `pairs-length` is about a list whose first item is kept without a
+  -- comparison.
   last-length : (same : J → T → T → Bool × T × T × J) (j : J) (k : T) (xs : List T)
       → length (asked_last same j k xs).1 ≡ length xs
   last-length same j k [] = refl
@@ -200,8 +205,8 @@ module _ {T J : Type 0} where
 -- The lemmas of this module show that `dedup` with the equality test `E` keeps the same items as
 -- `dedup_by` with a judge that returns the results of `E`.
 module _ {T J : Type 0} (E : T → T → Bool) (j : J) where
-  -- `tells` is the method of a judge that compares two items with the equality test `E`. It returns
-  -- the result of `E`, and changes neither the items nor the state `j` of the judge.
+  -- `tells` is a method of a judge. It compares two items with the equality test `E`, and returns
+  -- the result of `E`. It changes neither the items nor the state `j` of the judge.
   abbrev pub tells : J → T → T → Bool × T × T × J
   tells j later kept = (E later kept, later, kept, j)
 

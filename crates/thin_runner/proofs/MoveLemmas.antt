@@ -30,9 +30,9 @@ few-repeats : {T : Type 0} (k : ℕ) (x : T) → length (replicate (k - 1) x) �
 few-repeats k x = omega (arith, length-replicate (k - 1) x)
 
 module _ {T A : Type 0} (v w : Thin T A) where
-  -- If the lists `w` and `u` are equal, and the costs of `u` and `v` count the same number of
-  -- moves, then the cost of `w` counts at most `k` more moves than the cost of `v`, for every
-  -- number `k`.
+  -- Suppose that the lists `w` and `u` are equal, and that the costs of `u` and `v` count the same
+  -- number of moves. Then, for every number `k`, the cost of `w` counts at most `k` more moves than
+  -- the cost of `v`.
   same-moves : (u : Thin T A) (k : ℕ) → w ≡ u → u.cost.moves ≡ v.cost.moves
       → w.cost.moves ≤ v.cost.moves + k
   same-moves u k e same = omega (arith, ap (λ z. z.cost.moves) e, same)
@@ -51,10 +51,10 @@ module _ {T A : Type 0} (v w : Thin T A) where
   grown-moves xs m e = omega (arith, ap (λ z. z.cost.moves) e, cost_at-moves v w.capacity)
 
   module _ (rule : Rule) (R : RattleType) (a b : ℕ) where
-    -- Suppose that a splice replaced the items `a..b` of the list `v` with the items `placed` of an
-    -- iterator, and that `placed` contains at most `k` items. Then the splice added at most `k`
-    -- moves to the cost of the list, plus at most two moves for each item after the range. The
-    -- number `most` is an upper bound on the number of items that the iterator could yield.
+    -- Suppose that a splice replaced the items `a..b` of the list `v` with the items `placed`,
+    -- which came from an iterator that could yield at most `most` items. If `placed` contains at
+    -- most `k` items, then the splice added at most `k` moves to the cost of the list, plus at most
+    -- two moves for each item after the range.
     spliced-moves : (placed : List T) (most k : ℕ) → Replaces rule R v a b placed most w
         → length placed ≤ k → w.cost.moves ≤ v.cost.moves + (2 * (length v.items - b) + k)
     spliced-moves placed most k f few =
@@ -69,9 +69,9 @@ module _ {T A : Type 0} (v w : Thin T A) where
         )
 
     -- Suppose that a splice of the range `a..b` fails with the error `cause`, and that its iterator
-    -- contained the items `xs`. Then the splice adds at most `length xs` moves to the cost of the
-    -- list, plus at most two moves for each item after the range. The items `held` and `in_hand`
-    -- were taken from the iterator, but were not inserted.
+    -- contained the items `xs`. The items `held` and `in_hand` were taken from the iterator, but
+    -- were not inserted. Then the splice adds at most `length xs` moves to the cost of the list,
+    -- plus at most two moves for each item after the range.
     stopped-moves : (xs held : List T) (lower : ℕ) (cause : ThinVecError) (in_hand : Option T)
         (rest : Hinted T A) → StopsBetween rule R v a b xs held lower cause in_hand rest w
         → w.cost.moves ≤ v.cost.moves + (2 * (length v.items - b) + length xs)

@@ -114,9 +114,9 @@ module _ {T A J : Type 0} (here : Setting T A J) (law : KeepsLaw here.rule) (v w
         ];
       }
 
-  -- Suppose that the items of `v` fit into its capacity. If a call that clones items fails and
-  -- turns the list `v` into `w`, then `IsPaid v w` holds. Such a call fails if there is no room for
-  -- `n` more items, or if an item cannot be cloned.
+  -- Suppose that a call fails with `cause` and turns the list `v` into `w`. The call needs room for
+  -- `n` more items, and clones the items `sources`. If the items of `v` fit into its capacity, then
+  -- `IsPaid v w` holds.
   refused-paid : (n : ℕ) (sources : List T) (cause : ThinVecError)
       → RefusesClone here v n sources cause w → IsPaid v w
   refused-paid n sources cause r = stopped r.2

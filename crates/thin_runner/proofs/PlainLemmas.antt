@@ -29,9 +29,8 @@ use Rattle.thin_runner.proofs.JudgedLemmas.{dedup-pairs}
 use Rattle.thin_runner.proofs.WalkLemmas.{last-of}
 use Rattle.thin_runner.proofs.WeakerClonesLemmas.{zip-weaker}
 
--- `Some x ≡ None` is false, so it implies every statement `B`. The proofs use this lemma for the
--- reply to a failed call, which contains a cause of failure `x`. If no call failed, there is no
--- such reply.
+-- `Some x` is never equal to `None`. So the equation `Some x ≡ None` implies every statement `B`.
+-- The proofs use this lemma to rule out a reply with a cause of failure `x` if no call failed.
 refused : {X B : Type 0} (x : X) → Some x ≡ None → B
 refused x e = cc
 
@@ -120,10 +119,9 @@ module _ {T : Type 0} where
       ap (λ (t : List T). (t ++ ys) ++ drop (length xs) xs) (take-length xs)
       ∙ (ap (λ (t : List T). (xs ++ ys) ++ t) (drop-length xs) ∙ append-nil (xs ++ ys))
 
-  -- Suppose that a command tests only the items `a..b` of the list `xs`, and removes some of them.
-  -- The list `verdicts` says which of the tested items are kept. Then the list after the command
-  -- contains the items of `xs` before the index `a`, the kept items, and the items of `xs` from the
-  -- index `b` on.
+  -- Suppose that only the items `a..b` of the list `xs` are tested, and that `verdicts` contains
+  -- the results of these tests. Then removing the rejected items from `xs` has the same result as
+  -- replacing the items `a..b` with the tested items that are kept.
   left-around : (xs : List T) (a b : ℕ) (verdicts : Verdicts T)
       → left_at true (around xs a b verdicts) ≡ replace_range xs a b (left_at true verdicts)
   left-around xs a b verdicts =

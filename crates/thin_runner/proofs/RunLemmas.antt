@@ -13,16 +13,17 @@ use Rattle.thin_runner.specs.declared.command.Command.{Command}
 use Rattle.thin_runner.specs.declared.command.Reply.{Reply}
 
 module _ {T A G : Type 0} (count : Command T A G → Reply T A G → ℕ) where
-  -- The function `count` assigns a number to each command and its reply. `counted commands replies`
-  -- is the sum of these numbers over all commands of a run.
+  -- `counted commands replies` is the sum of `count command reply` over all commands of a run and
+  -- their replies. The function `count` is a parameter of this module.
   abbrev pub counted : List (Command T A G) → List (Reply T A G) → ℕ
   counted (command ∷ commands) (reply ∷ replies) = count command reply + counted commands replies
   counted commands replies = 0
 
 module _ {T A G J : Type 0} (here : Setting T A J) where
-  -- `HasRun` describes the state in the middle of a run of `commands`. The commands in `left` have
-  -- not been carried out yet. The other commands have turned the list `old` into `new`. Their
-  -- replies were appended to the list `before`, which became `after`.
+  -- `HasRun old commands left before after new` describes a run of `commands` that need not have
+  -- ended yet. The commands in `left` have not been carried out. The other commands have turned the
+  -- list `old` into `new`. The list of replies was `before` at the start of the run, and is `after`
+  -- now.
   pub record HasRun (old : Thin T A) (commands left : List (Command T A G))
       (before after : List (Reply T A G)) (new : Thin T A) : Type 0 where
     pub done : List (Command T A G)
@@ -60,8 +61,9 @@ module _ {T A G J : Type 0} (here : Setting T A J) where
   -- In this module, `command` turns the list `mid` into `new`, and its reply is `reply`.
   module _ (mid new : Thin T A) (command : Command T A G) (reply : Reply T A G)
       (stepped : Steps here mid command reply new) where
-    -- If `HasRun` holds before the next command, then it also holds after this command, with the
-    -- list `new`, the remaining commands `left'`, and the replies `after'`.
+    -- `HasRun` describes the state in the middle of a run. Suppose that it holds for the list
+    -- `mid`, and that `command` is the first command in `left`. Then it also holds after this
+    -- command, with the list `new`, the remaining commands `left'`, and the replies `after'`.
     pub HasRun-push : {old : Thin T A} {commands left left' : List (Command T A G)}
         {before after after' : List (Reply T A G)} → HasRun old commands left before after mid
         → left ≡ command ∷ left' → after' ≡ after ++ reply ∷ []

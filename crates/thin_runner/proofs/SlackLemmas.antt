@@ -16,10 +16,12 @@ use Rattle.thin_runner.specs.declared.command.Command.TheVariants.{Push, Pop}
 use Rattle.thin_runner.specs.declared.command.Reply.{Reply}
 use Rattle.thin_runner.specs.declared.command.Reply.TheVariants.{Done, Item, Returned, OutOfRange}
 
--- This lemma joins a bound for the first step of a run with a bound for the other steps, and so
--- bounds the capacity after the whole run. The capacity is `before` at the start, `mid` after the
--- first step, and `after` at the end. The length is `len` at the start, `long` after the first
--- step, and at most `rest` from then on.
+-- This lemma combines two bounds on the capacity, one for the first step of a run and one for all
+-- later steps, into a bound for the whole run.
+--
+-- The capacity is `before` at the start of the run, `mid` after the first step, and `after` at the
+-- end. The length is `len` at the start, `long` after the first step, and at most `rest` from then
+-- on.
 slack-join : (before mid after len long rest : ℕ) → mid ≤ max before (max 4 (2 * long))
     → after ≤ max mid (max 4 (2 * rest)) → long ≤ rest
     → after ≤ max before (max 4 (2 * max len rest))

@@ -132,10 +132,10 @@ module _ {T A : Type 0} (old : Thin T A) (a b : ℕ) where
         subst (λ (v : Thin T A). CostsAdding v new (2 * (length old.items - b))) left-is
         (subst (λ (n : ℕ). CostsAdding (left_of block alloc) new (2 * n)) tail-count cost)
 
-    -- `IsExtended` states which capacity a list may have after items were added to it. The lists
-    -- `left_of block alloc` and `cut old a b` are equal, and so are the limits `left` and
-    -- `at_most most`. So if `IsExtended` holds for the first list and the first limit, then it also
-    -- holds for the second list and the second limit.
+    -- `IsExtended` states which capacity a list may have after items were added to it. Suppose that
+    -- it holds for the list `left_of block alloc` and the limit `left`. If `left` equals
+    -- `at_most most`, then it also holds for `cut old a b`, which is the same list, and the limit
+    -- `at_most most`.
     pub ruled : (rule : Rule) (R : RattleType) (new : Thin T A) (most : ℕ) (left : Count)
         → left ≡ at_most most
         → IsExtended rule R (left_of block alloc) new.capacity (length new.items) left
@@ -146,8 +146,8 @@ module _ {T A : Type 0} (old : Thin T A) (a b : ℕ) where
         subst (λ (n : Count). of (cut old a b) n) count
         (subst (λ (v : Thin T A). of v left) left-is is_ruled)
 
-    -- Suppose that the list `cut old a b` has room for `most` more items, and that `size` equals
-    -- `most`. Then the list `left_of block alloc`, which equals `cut old a b`, has room for `size`
+    -- `left_of block alloc` and `cut old a b` are the same list. If `cut old a b` has room for
+    -- `most` more items, and `size` equals `most`, then `left_of block alloc` has room for `size`
     -- more items.
     pub room-left : (most size : ℕ) → size ≡ most → HasRoomFor (cut old a b) most
         → HasRoomFor (left_of block alloc) size
@@ -188,8 +188,8 @@ module _ {T A : Type 0} (old : Thin T A) where
   room-end most = subst (λ (v : Thin T A). HasRoomFor v most) cut-end
 
   -- Suppose that `most` items can replace the empty range at the end of the list `old` without new
-  -- memory (`HasPlacesFor`). Then `most` is 0, or `old` has room for `most` more items. So if a
-  -- statement `P` holds in each of these two cases, then `P` holds.
+  -- memory (`HasPlacesFor`). Then `most` is 0, or `old` has room for `most` more items. So a
+  -- statement `P` is true if each of these two cases implies `P`.
   pub places-end : (P : Type 0) (most : ℕ) → (most ≡ 0 → P) → (HasRoomFor old most → P)
       → HasPlacesFor old (length old.items) (length old.items) most → P
   places-end P most none fits (inl few) = none (omega (arith, few))
@@ -211,8 +211,9 @@ module _ {T A : Type 0} (rule : Rule) (R : RattleType) (old new : Thin T A) wher
     pub cheap : IsCheap old → IsCheap new
     pub alloc : new.alloc ≡ old.alloc
 
-  -- If `IsFilled` holds, that is, if `extend` appended the items `placed`, then `Replaces` holds:
-  -- the items `placed` replaced the empty range at the end of the list.
+  -- `IsFilled placed most` states that `extend` appended the items `placed` to the list `old`. If
+  -- it holds, then `Replaces` also holds for the empty range at the end of `old` and the same items
+  -- `placed`.
   pub replaces-end : {placed : List T} {most : ℕ} → IsFilled placed most
       → Replaces rule R old (length old.items) (length old.items) placed most new
   replaces-end {placed} {most} f =

@@ -32,7 +32,9 @@ module _ {T : Type 0} where
       ∙ take-append_seam ys (x ∷ []) in
       λ i. last i ∷ walked (others i) steps
 
-  -- The lemma `walked-last` also applies if the first step is a variable `step` that equals `Back`.
+  -- Suppose that `step` equals `Back`. Then the first result of the steps `step ∷ steps` on the
+  -- list `xs` is `item`, which is the last item of `xs`, or `None` if `xs` is empty. The other
+  -- results are those of `steps` on `ys`, which contains the items of `xs` before the last one.
   pub walked-back : (xs ys : List T) (item : Option T) (step : Step) → step ≡ Back
       → MatchOption item ((xs ≡ []) × (ys ≡ [])) (λ x. xs ≡ ys ++ x ∷ [])
       → (steps : List Step) → walked xs (step ∷ steps) ≡ item ∷ walked ys steps

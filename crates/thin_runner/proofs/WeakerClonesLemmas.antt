@@ -16,17 +16,16 @@ use Rattle.thin_runner.specs.declared.command.Reply.TheVariants.{Done, List as M
 
 module _ {T : Type 0} (clones like : T → T → Type 0)
     (weaker : (x y : T) → clones x y → like x y) where
-  -- If the relation `like` allows every clone that `clones` allows, then a list `ys` of clones of
-  -- `xs` according to `clones` is also a list of clones according to `like`.
+  -- Suppose that the relation `like` allows every clone that `clones` allows. If `clones` allows
+  -- the items of `ys` as clones of the items of `xs`, in order, then `like` also allows them.
   pub zip-weaker : (xs ys : List T) → AllZip clones xs ys → AllZip like xs ys
   zip-weaker [] [] z = tt
   zip-weaker (x ∷ xs) (y ∷ ys) z = (weaker x y z.0, zip-weaker xs ys z.1)
   zip-weaker xs ys z = absurd z
 
-  -- Suppose that the relation `like` is weaker than `clones`: every clone that `clones` allows is
-  -- also allowed by `like`. Suppose also that resizing the list `xs` to the length `n` with clones
-  -- of `x` may result in `ys` according to `clones`. Then `ys` is also a possible result according
-  -- to `like`.
+  -- Suppose that the relation `like` allows every clone that `clones` allows. If resizing the list
+  -- `xs` to the length `n` with clones of `x` may result in `ys` according to `clones`, then it may
+  -- also result in `ys` according to `like`.
   resized-weaker : (xs ys : List T) (n : ℕ) (x : T) → IsResized clones xs n x ys
       → IsResized like xs n x ys
   resized-weaker xs ys n x r = record {

@@ -2,11 +2,12 @@
 -- for each method of the trait `Judge`.
 use Rattle.std.specs.Prelude.{ℕ, Bool}
 
--- Each field is a function that describes one method of a judge. The function takes the state of
--- the judge, of type `J`, and one or two items, of type `T`. It returns the decision, the items
--- after the call, and the new state of the judge. The function `key` returns a key instead of a
--- decision. The function `look` returns no item, because the method `look` cannot write to its
--- item.
+-- `Judging T J` describes a judge. `T` is the item type, and `J` is the type of the judge's state.
+-- Each field is a function that describes one method of the judge. It takes the state and one or
+-- two items, and returns the decision, the items after the call, and the new state.
+--
+-- The function `key` returns a key instead of a decision. The function `look` returns no item,
+-- because the method `look` cannot write to its item.
 pub record Judging (T J : Type 0) : Type 0 where
   pub look : J → T → Bool × J
   pub keep : J → T → Bool × T × J

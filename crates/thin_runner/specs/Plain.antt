@@ -14,9 +14,9 @@ use Rattle.thin_runner.specs.declared.command.Reply.{Reply}
 use Rattle.thin_runner.specs.declared.command.Reply.TheVariants.{Answers, Done, Item, List as Made, Other, OutOfRange}
 use Rattle.thin_runner.specs.declared.command.Step.TheVariants.{Front}
 
--- The main theorem determines a part of each reply, and `Seen T A G` is the type of this part. For
--- the reply `Answers`, the part is the list of the results. For any other reply, the part is the
--- whole reply. `T` is the item type, `A` is the allocator type, and `G` is the growth rule.
+-- `Seen T A G` is the type of the part of a reply that the main theorem determines. For the reply
+-- `Answers`, this part is the list of the results. For any other reply, it is the whole reply. `T`
+-- is the item type, `A` is the allocator type, and `G` is the growth rule.
 pub data Seen (T A G : Type 0) : Type 0 where
   says : Reply T A G → Seen T A G
   yields : List (Option T) → Seen T A G
@@ -43,9 +43,9 @@ module _ {T A G : Type 0} where
   in_range xs command = true
 
 module _ {T A G J : Type 0} (here : Setting T A J) where
-  -- Suppose that a command runs on a list with the items `xs` and does not fail, and that its index
-  -- or range is in bounds. Then `granted xs command` is a pair. It contains the reply, as a value
-  -- of the type `Seen`, and the items after the command.
+  -- `granted xs command` is a pair: the reply to a command that runs on a list with the items `xs`,
+  -- and the items after this command. The reply is a value of the type `Seen`. The definition
+  -- assumes that the command does not fail, and that its index or range is in bounds.
   abbrev pub granted : List T → Command T A G → Seen T A G × List T
   granted xs (Push v) = (says Done, xs ++ v ∷ [])
   granted xs Pop = let last = length xs - 1 in (says (Item (slice_get xs last)), take last xs)
@@ -80,20 +80,20 @@ module _ {T A G J : Type 0} (here : Setting T A J) where
   -- remove some of them.
   granted xs command = (says Done, left_at true (unwrap_or (answered here xs command) []))
 
-  -- Suppose that a command runs on a list with the items `xs` and does not fail. Then
-  -- `plain_step xs command` is a pair. It contains the reply, as a value of the type `Seen`, and
-  -- the items after the command. If the index or the range of the command is out of bounds, the
-  -- reply is `OutOfRange`, and the items do not change.
+  -- `plain_step xs command` is a pair: the reply to a command that runs on a list with the items
+  -- `xs` and does not fail, and the items after this command. The reply is a value of the type
+  -- `Seen`. If the index or the range of the command is out of bounds, the reply is `OutOfRange`,
+  -- and the items do not change.
   abbrev pub plain_step : List T → Command T A G → Seen T A G × List T
   plain_step xs command =
       if in_range xs command then granted xs command else (says (OutOfRange command), xs)
 
-  -- If `command` runs on a list with the items `xs` and does not fail, then `reply_to xs command`
-  -- is its reply.
+  -- `reply_to xs command` is the reply to a command that runs on a list with the items `xs` and
+  -- does not fail. The reply is a value of the type `Seen`.
   abbrev pub reply_to : List T → Command T A G → Seen T A G
   reply_to xs command = (plain_step xs command).0
 
-  -- If `command` runs on a list with the items `xs` and does not fail, then
-  -- `items_after xs command` is the list of the items after the command.
+  -- `items_after xs command` is the list of the items after a command that runs on a list with the
+  -- items `xs` and does not fail.
   abbrev pub items_after : List T → Command T A G → List T
   items_after xs command = (plain_step xs command).1

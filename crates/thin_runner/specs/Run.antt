@@ -64,9 +64,9 @@ module _ {T A G J : Type 0} (here : Setting T A J) where
   may_move xs (Splice a b steps ys lower) reply = 2 * (length xs - b) + length ys.items
   may_move xs command reply = moved_down (flags_of (unwrap_or (answered here xs command) []))
 
-  -- For each command, `may_move` is an upper bound on the number of items that the command moves.
-  -- `run_may_move` is the sum of these bounds over all commands of a run. The bound for a command
-  -- depends on its reply, and on the items that the list has before the command.
+  -- `run_may_move` is an upper bound on the number of items that a run moves. It is the sum of the
+  -- bounds `may_move` of all commands of the run. The bound of a command depends on its reply, and
+  -- on the items that the list has before the command.
   abbrev pub run_may_move : (old new : Thin T A) (commands : List (Command T A G))
       (replies : List (Reply T A G)) → Runs old commands replies new → ℕ
   run_may_move old new (command ∷ commands) (reply ∷ replies) run =

@@ -20,8 +20,8 @@ pub trait Judge<T>: Copy {
     fn keep(&mut self, item: &mut T) -> bool
         ensures value { (result, item.new, self.new) ≡ judging.keep self.old item.old };
 
-    /// Returns whether `dedup_by` removes `later`. The item `kept` is the last one kept before
-    /// `later`. May write to both items.
+    /// Returns whether `dedup_by` removes `later`. The item `kept` is the nearest item before
+    /// `later` that was kept. May write to both items.
     fn same(&mut self, later: &mut T, kept: &mut T) -> bool
         ensures value { (result, later.new, kept.new, self.new)
             ≡ judging.same self.old later.old kept.old };

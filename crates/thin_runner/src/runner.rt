@@ -132,8 +132,8 @@ pub fn run<T: Clone + Eq, A: Allocator + Copy, G: Growth, J: Judge<T>>(
             Err(_refused) => unreachable!(),
         }
     }
-    // Only the proof needs this call. The contract of `capacity` implies the field `within` of
-    // `Headline`, which does not follow from the contract of `step`.
+    // Only the proof needs this call. The field `within` of `Headline` does not follow from the
+    // contract of `step`, but it follows from the contract of `capacity`.
     let _end = list.capacity();
     Ok(())
 }

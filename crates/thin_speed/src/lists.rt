@@ -108,8 +108,8 @@ pub trait Numbers: List<u64> {
     /// Makes a new list that contains copies of the items of this list.
     fn copy(&self, alloc: Global) -> Result<Self, AllocError>;
 
-    /// Splits off the second half of the list, using `split_off`, and then appends it to the first
-    /// half.
+    /// Splits off the second half of the list, using `split_off`, and then appends the second half
+    /// to the first half.
     fn split_and_append(&mut self, alloc: Global) -> Result<(), AllocError>;
 
     /// Drains the items `start..end`. Mixes each drained item into `sum` with the function `mixed`,
@@ -127,9 +127,9 @@ pub trait Numbers: List<u64> {
         first: usize,
     ) -> Result<(), AllocError>;
 
-    /// Replaces the items `start..end` with copies of `items`. Does nothing if this range is out of
-    /// bounds. This method is not inlined, so that its code cannot be specialized for certain
-    /// lengths.
+    /// Replaces the items `start..end` of the list with copies of `items`. Does nothing if the
+    /// range `start..end` is out of bounds. This method is not inlined, so that its code cannot be
+    /// specialized for certain lengths.
     fn replace(&mut self, start: usize, end: usize, items: &[u64]) -> Result<(), AllocError>;
 
     /// Replaces the middle half of the list with the numbers below `end`, using `splice` and an

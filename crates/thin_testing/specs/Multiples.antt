@@ -27,9 +27,9 @@ when_some : (b : Bool) (m n : ℕ) → (if b then Some m else None) ≡ Some n �
 when_some true m n e = (refl, cc)
 when_some false m n e = cc
 
--- `fitting s a m` is `Some m` if a block of capacity `m` is small enough to be allocated.
--- Otherwise, it is `None`. Here, the items have the size `s` and the alignment `a`. So if
--- `fitting s a m` equals `Some n`, then the block is small enough, and `m` equals `n`.
+-- `fitting s a m` is `Some m` if a block with room for `m` items of size `s` and alignment `a` is
+-- small enough to be allocated. Otherwise, it is `None`. So if `fitting s a m` equals `Some n`,
+-- then this block is small enough, and `m` equals `n`.
 fitting_is : (s a m n : ℕ) → fitting s a m ≡ Some n → IsTrue (fits s a m) × (m ≡ n)
 unfolding fitting
 fitting_is s a m n e = when_some (fits s a m) m n e

@@ -1,6 +1,6 @@
-//! For each growth rule, defines a function that computes the capacities that tests expect. If a
-//! capacity is too large to be allocated, the rule returns `None`, but the function still returns
-//! this capacity.
+//! For each growth rule, defines a function that computes the capacities that tests expect. The
+//! function differs from the rule in one case. If a capacity is too large to be allocated, the rule
+//! returns `None`, but the function still returns this capacity.
 use crate::multiples::{Fourfold, Threefold};
 use thin_vec::{Doubling, Growth, PowerBytes};
 
@@ -22,8 +22,8 @@ impl Ruled for Doubling {
 }
 
 impl Ruled for PowerBytes {
-    // Computes the size of the allocation, and returns how many items fit into it after a header of
-    // 16 bytes. The size in bytes is the smallest power of two with room for the header and for
+    // Returns how many items fit into the allocation after a header of 16 bytes. The size of the
+    // allocation in bytes is the smallest power of two that has room for the header and for
     // `max(want, 2 * capacity)` items. If `size` is 0, the result is the same as for `Doubling`.
     fn expected_capacity(size: usize, capacity: usize, want: usize) -> usize {
         if size == 0 {

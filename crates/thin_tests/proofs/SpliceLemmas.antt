@@ -9,8 +9,9 @@ use Rattle.std.specs.declared.result.Result.{Result}
 use Rattle.std.specs.declared.result.Result.TheVariants.{Ok, Err}
 
 module _ {T : Type 0} (old numbers : List T) (start stop : ℕ) where
-  -- Suppose that replacing the items `start..stop` of the list `old` with `numbers` results in
-  -- `new`. Then replacing these numbers in `new` with the removed items results in `old` again.
+  -- Suppose that replacing the items `start..stop` of the list `old` with `numbers` results in the
+  -- list `new`. If the items `numbers` in `new` are then replaced with the items that were removed
+  -- from `old`, the result is `old` again.
   pub put_back : (new : List T) → start ≤ stop → stop ≤ length old
       → new ≡ (take start old ++ numbers) ++ drop stop old
       → (take start new ++ slice_range old start stop) ++ drop (start + length numbers) new ≡ old

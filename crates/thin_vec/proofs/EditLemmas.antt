@@ -23,10 +23,9 @@ use Rattle.thin_vec.specs.declared.edits.holder.Holds.{Ghosts as HoldsGhosts}
 -- arguments: the state of the closure before the call, the two items, the result of the call, the
 -- state after the call, and the two items as the call left them.
 module _ {S T : Type 0} (R : S → T → T → Bool → S → T → T → Type 0) where
-  -- Suppose that a closure compared each item of the list `xs`, in order, with the last item kept
-  -- before it. (The first item of `xs` was compared with the item `k`.) If `ys` is the list of `k`
-  -- and the kept items of `xs`, then std's `DedupsFrom` holds: removing the duplicates from
-  -- `k ∷ xs` leaves `ys`.
+  -- Suppose that the items `xs` follow the kept item `k`, and that a closure compared each of them,
+  -- in order, with the last item kept before it. If `ys` is the list of `k` and the kept items of
+  -- `xs`, then std's `DedupsFrom` holds: removing the duplicates from `k ∷ xs` leaves `ys`.
   dedups_from : (xs : List T) (s : S) (k : T) (stays : List Bool) (ys : List T) (t : S)
       → AskedLast R s k xs stays ys t → DedupsFrom R s k xs ys
   dedups_from [] s k stays ys t h = h.1
@@ -95,7 +94,8 @@ module _ {T : Type 0} (test : T → Bool) where
   module _ {S : Type 0} (R : S → T → Bool → S → T → Type 0)
       (says : (s : S) (x : T) (b : Bool) (t : S) (y : T) → R s x b t y
       → (b ≡ test x) × (y ≡ x)) where
-    -- This is the induction step of the lemma `parts`, from the list `xs` to the list `x ∷ xs`.
+    -- This is the induction step of the lemma `parts`, from the list `xs` to the list `x ∷ xs`. The
+    -- test of the item `x` returned `b`, left `x` as `y`, and left the closure in the state `u`.
     part : (x : T) (xs : List T) (item : Option T) (t u : S) (y : T) (kept rest : List T)
         (b : Bool) → b ≡ test x → y ≡ x
         → ((ks : List T) → ExtractsNext R u xs item t ks rest → Parts xs item ks rest)

@@ -27,9 +27,9 @@ exact-few R (suc n) few small =
 none_some : {A B : Type 0} (x : A) → None ≡ Some x → B
 none_some x e = cc
 
--- Suppose that a call fails with the error `cause`. Here, `named` is the capacity that the call
--- needed, or `None` if this capacity was too large. If `named` is `Some n`, then `cause` is
--- `OutOfMemory`.
+-- Suppose that a call fails with the error `cause`. If the call needed a capacity that is too
+-- large, then `named` is `None`. Otherwise, `named` is `Some n`, where `n` is the needed capacity.
+-- If `named` is `Some n`, then `cause` is `OutOfMemory`.
 cause-named : (named : Option ℕ) (n : ℕ) (cause : ThinVecError) → named ≡ Some n
     → IsCause named cause → cause ≡ OutOfMemory
 cause-named named n OutOfMemory here told = refl
@@ -102,9 +102,9 @@ first_most : (s : ℕ) → first s ≤ 4
 unfolding first
 first_most s = either_most (nat_lt (2 ^ 61 - 1) s)
 
--- Suppose that a list of capacity `c` needs room for `w` items, and that `c < w`. Then both `2 * c`
--- and `first s` are at most `max 4 (2 * w)`. Here, `first s` is the least capacity of the first
--- block of a list with items of `s` bytes.
+-- Suppose that a list of capacity `c` needs room for `w` items, and that `c < w`. The flag `b`
+-- selects `first s` or `2 * c`. In both cases, the selected number is at most `max 4 (2 * w)`.
+-- (`first s` is the least capacity of the first block of a list with items of `s` bytes.)
 twice-most : (b : Bool) (s c w : ℕ) → c < w → (if b then first s else 2 * c) ≤ max 4 (2 * w)
 twice-most true s c w more = omega (arith, first_most s)
 twice-most false s c w more = omega (arith, more)

@@ -59,9 +59,8 @@ module _ {T : Type 0} where
   pub full-same : (xs ys : List T) → full xs ≡ full ys → xs ≡ ys
   full-same xs ys e = sym (items-full-alone xs) ∙ (ap items_in e ∙ items-full-alone ys)
 
-  -- If `i` is less than the length of `xs`, then slot `i` of `full xs ++ s` holds the item at index
-  -- `i` of `xs`, which is `get_or xs i d`. (The default `d` is used only for an index beyond the
-  -- end of `xs`.)
+  -- Suppose that `i` is less than the length of `xs`. Then slot `i` of `full xs ++ s` holds the
+  -- item at index `i` of `xs`. This item is `get_or xs i d`, whatever the default `d` is.
   pub slot-full : (xs : List T) (s : List (Option T)) (i : ℕ) (d : T) → i < length xs
       → slot (full xs ++ s) i ≡ Some (get_or xs i d)
   slot-full xs s i d h =
@@ -84,7 +83,9 @@ module _ {T : Type 0} where
       (sym (map_push (λ (x : T). Some x) xs v))
       ∙ ap (λ (n : ℕ). full (xs ++ v ∷ []) ++ replicate n None) m)))
 
-  -- If `i < length xs`, then emptying slot `i` of `full xs ++ s` leaves all other slots unchanged.
+  -- Suppose that `i < length xs`. If slot `i` of `full xs ++ s` is emptied, then the result is, in
+  -- this order: the slots of the items of `xs` before index `i`, an empty slot, the slots of the
+  -- items of `xs` after index `i`, and the slots `s`.
   pub full-take : (xs : List T) (s : List (Option T)) (i : ℕ) (d : T) → i < length xs
       → set (full xs ++ s) i None ≡ full (take i xs) ++ (None ∷ (full (drop (suc i) xs) ++ s))
   full-take [] s i d h = absurd (omega arith)
@@ -140,9 +141,10 @@ module _ {T A : Type 0} where
     pub items : items_in b.slots ≡ xs
     pub cap : length b.slots ≡ c
 
-  -- Suppose that the block `b` has the slots `front xs c` (the slots of the items `xs`, followed by
-  -- empty slots up to the capacity `c`), the stored length `length xs ≤ c`, and memory from the
-  -- allocator `a`. Then `b` is the block of a list with the items `xs` and the capacity `c`.
+  -- Suppose that the slots of the block `b` are `front xs c`: the slots of the items `xs`, followed
+  -- by empty slots up to the capacity `c`. If `b` stores the length of `xs`, this length is at most
+  -- `c`, and the memory of `b` came from the allocator `a`, then `b` is the block of a list with
+  -- the items `xs` and the capacity `c`.
   pub settled : (b : Block T A) (a : A) (xs : List T) (c : ℕ) → b.slots ≡ front xs c
       → b.len ≡ length xs → length xs ≤ c → IsFrom b.alloc a → Settled b a xs c
   settled b a xs c e n h f =
@@ -161,9 +163,10 @@ module _ {T A : Type 0} where
         cap = l;
       }
 
-  -- Suppose that `w` and `v` are the same list, and that a new block `b'` replaces the block of
-  -- this list. If `b'` has `c` slots, the items `xs` and the cost `k`, then contracts see the new
-  -- list as `v` with the items `xs`, the capacity `c` and the cost `k`.
+  -- Suppose that the lists `w` and `v` are equal, and that a new block `b'` replaces the block of
+  -- `w`. If `b'` has `c` slots, the items `xs` and the cost `k`, then contracts see the new list as
+  -- follows: its items are `xs`, its capacity is `c`, its cost is `k`, and its allocator is that of
+  -- `v`.
   pub thin_of-becomes : {w v : Thin T A} → w ≡ v → (b' : Block T A) {xs : List T} {c : ℕ} {k : Cost}
       → length b'.slots ≡ c → items_in b'.slots ≡ xs → b'.cost ≡ k
       → thin_of b' w.alloc ≡ record v { items = xs; capacity = c; cost = k }
@@ -174,9 +177,10 @@ module _ {T A : Type 0} where
     cost = cost i;
   }
 
-  -- Suppose that `w` and `v` are the same list, and that a new block `b'` replaces the block of
-  -- this list. If `b'` has as many slots as the old block, the items `xs` and the cost `k`, then
-  -- contracts see the new list as `v` with the items `xs` and the cost `k`.
+  -- Suppose that the lists `w` and `v` are equal, and that a new block `b'` replaces the block of
+  -- `w`. If `b'` has as many slots as the old block, the items `xs` and the cost `k`, then
+  -- contracts see the new list as follows: its items are `xs`, its cost is `k`, and its capacity
+  -- and allocator are those of `v`.
   pub thin_of-keeps : {w v : Thin T A} → w ≡ v → (b' : Block T A) {xs : List T} {k : Cost}
       → length b'.slots ≡ w.capacity → items_in b'.slots ≡ xs → b'.cost ≡ k
       → thin_of b' w.alloc ≡ record v { items = xs; cost = k }
@@ -208,9 +212,10 @@ module _ {T A : Type 0} where
   abbrev pub IsWritten : Block T A → Block T A → List (Option T) → ℕ → Cost → Type 0
   IsWritten b b' s n k = seen b' ≡ record (seen b) { slots = s; len = n; cost = k }
 
-  -- Suppose that an operation turns the block `b` of a list into the block `b'`. If the slots of
-  -- `b'` are `front xs c`, and the stored length of `b'` is the length of `xs`, then `b'` is the
-  -- block of a list with the items `xs` and the capacity `c`.
+  -- Suppose that an operation turns the block `b` of a list into the block `b'`, whose slots are
+  -- `front xs c`: the slots of the items `xs`, followed by empty slots up to the capacity `c`. If
+  -- `b'` stores the length of `xs`, and this length is at most `c`, then `b'` is the block of a
+  -- list with the items `xs` and the capacity `c`.
   pub settle-front : {b : Block T A} {a : A} → IsThin b a → (b' : Block T A) (xs : List T) (c : ℕ)
       {s : List (Option T)} {n : ℕ} {k : Cost} → IsWritten b b' s n k → s ≡ front xs c
       → n ≡ length xs → length xs ≤ c → Settled b' a xs c
@@ -303,8 +308,9 @@ module _ {T A : Type 0} where
       → slice_get (items_in b.slots) i ≡ Some v
   thin-get b a i v t h e = sym (thin-slot b a i t h) ∙ e
 
-  -- If slot `i` of the block of a list is emptied, then the slots of all items after index `i` are
-  -- still filled.
+  -- Suppose that slot `i` of the block of a list is emptied, and that `s` is the list of the slots
+  -- after this. If `j` is the index of an item after index `i`, then slot `j` of `s` is still
+  -- filled.
   pub kept-filled : (b : Block T A) (a : A) (i j : ℕ) (s : List (Option T)) → IsThin b a → i < j
       → j < length (items_in b.slots) → s ≡ set b.slots i None → IsSome (slot s j)
   kept-filled b a i j s t n h e = let ne : j ≢ i = omega arith in

@@ -51,8 +51,8 @@ module _ {T : Type 0} where
       ∙ (get_or_append_left (empty k) post None (j - length pre) (omega (arith, length-empty T k))
       ∙ get_or-replicate k (j - length pre) None None n)
 
-  -- `empty g` is a list of `g` empty slots. If one more empty slot and the slots `z` follow
-  -- `empty g`, then the result is the same as `empty (g + 1)`, followed by `z`.
+  -- `empty g` is a list of `g` empty slots. Suppose that one more empty slot follows `empty g`, and
+  -- that the slots `z` follow this slot. Then the whole list of slots is `empty (g + 1) ++ z`.
   pub empty-more : (g : ℕ) (z : List (Option T)) → empty g ++ (None ∷ z) ≡ empty (g + 1) ++ z
   empty-more g z = sym (append_assoc (empty g) (None ∷ []) z) ∙ ap (λ (e : List (Option T)). e ++ z)
       (replicate-append-replicate g 1 None)
@@ -343,9 +343,9 @@ module _ {T A : Type 0} where
       len = h.len;
     }
 
-    -- `last-left` is `h` without its last middle item. If `ys` is the list of the other middle
-    -- items, then `last-seen ys` is how contracts see `last-left`. The gap after the middle items
-    -- is one slot longer than in `h`.
+    -- `last-seen ys` is how contracts see the open block `last-left` if `ys` is the list of the
+    -- remaining middle items. The gap after these items is one slot longer than in the open block
+    -- `h`.
     abbrev pub last-seen : List T → Open T A
     last-seen ys = record {
       front = v.front;

@@ -25,7 +25,9 @@ module _ {S X : Type 0} {steps : S → Option X → S → Type 0} {can : S → T
       go true full short = omega (arith, short refl)
       go false full short = omega (arith, full refl)
 
-  -- If `m` equals `n`, and `IsFilledBy` holds for `m` slots, then it also holds for `n` slots.
+  -- `filled-room` is a lemma about `IsFilledBy`, which describes a loop that moves items into empty
+  -- slots. If `m` equals `n`, and `IsFilledBy` holds for `m` slots, then it also holds for `n`
+  -- slots.
   abbrev pub filled-room : {m n : ℕ} → m ≡ n → IsFilledBy steps can remaining m s f
       → IsFilledBy steps can remaining n s f
   filled-room same by = record {
@@ -73,9 +75,9 @@ module _ {T : Type 0} where
       }
 
   -- `IsMoving` is the invariant of a loop that moves the items `xs` into slots, beginning with the
-  -- last item. Suppose that it holds, that `v` is the next item to be moved, and that there are
-  -- enough slots. If `v` is moved into its slot, which is slot `i`, then `IsMoving` holds again,
-  -- and only the items `left` remain to be moved.
+  -- last item. Suppose that it holds, that there are enough slots, and that `v` is the next item to
+  -- be moved. If `v` is moved into its slot, which is slot `i`, then `IsMoving` holds again. The
+  -- items `left` then remain to be moved.
   pub moving-next : {xs : List T} (left : List T) {start : ℕ} (i : ℕ) (v : T)
       {r s : List (Option T)} → IsMoving xs (left ++ v ∷ []) start r s → i ≡ start + length left
       → start + length xs ≤ length r → IsMoving xs left start r (set s i (Some v))

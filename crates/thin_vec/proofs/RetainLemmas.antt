@@ -280,9 +280,9 @@ module _ {S T : Type 0} (R : S → T → Bool → S → T → Type 0) where
       ap suc (stay-count xs h.2 t ys
       (subst (λ (a : Verdicts T). Asked R h.2 xs a t) (sym (cons-tail h.6)) h.5))
 
-  -- `Stops R u b t e` describes the end of a sequence of tests. If the list `b` of the items after
-  -- the kept items is not empty, then its first item was tested and is to be removed. The list `e`
-  -- is `b` after this test. The lemma says that `e` and `b` have the same length.
+  -- `Stops R u b t e` describes the end of a sequence of tests. `b` is the list of the items after
+  -- the kept items. If `b` is not empty, then its first item was tested and is to be removed. `e`
+  -- is the list `b` after this test. The lemma states that `e` and `b` have the same length.
   stop-count : (u : S) (b : List T) (t : S) (e : List T) → Stops R u b t e → length e ≡ length b
   stop-count u [] t e h = ap length h.0
   stop-count u (x ∷ b) t e h = ap length h.2
@@ -355,9 +355,9 @@ module _ {S T : Type 0} (R : S → T → Bool → S → T → Type 0) where
   -- The following definition and lemmas are about tests that stop at the first item to be removed.
   -- They state which items were kept before this item.
 
-  -- `Part` states that the items of the list `xs` before `rest` were tested, and that `m` of them
-  -- were kept. `kept` contains the kept items as the closure left them. The tests changed the state
-  -- of the closure from `s` to `t`.
+  -- `Part m s xs t kept rest` states that all items of the list `xs` were tested, except the items
+  -- `rest` at its end. `kept` is the list of the `m` kept items, as the closure left them. The
+  -- tests changed the state of the closure from `s` to `t`.
   pub record Part (m : ℕ) (s : S) (xs : List T) (t : S) (kept rest : List T) : Type 0 where
     pub done : List T
     pub verdicts : Verdicts T
@@ -396,9 +396,9 @@ module _ {S T : Type 0} (R : S → T → Bool → S → T → Type 0) where
     pub run-end : drop m ys ≡ r.end
     run-end = ap (drop m) run-now ∙ drop_at r.left r.end m run-long
 
-    -- Suppose that the last test found an item to be removed, and that this test turned the list
-    -- `b` of the remaining items into `v ∷ rest`. Then `b` was `x ∷ rest` for some item `x`, and
-    -- the closure returned false for `x`.
+    -- Suppose that `b` is the list of the items after the kept items. The last test left this list
+    -- as `e`, which is `v ∷ rest`. Then `b` was `x ∷ rest` for some item `x`, and the last test
+    -- returned false for `x` and left this item as `v`.
     pub stop-goes : (u : S) (b e : List T) (v : T) (rest : List T) → Stops R u b t e → e ≡ v ∷ rest
         → (x : T) × (b ≡ x ∷ rest) × R u x false t v
     stop-goes u [] e v rest h k = absurd (cons-not-nil (sym k ∙ h.0))
@@ -433,10 +433,10 @@ module _ {S T : Type 0} (R : S → T → Bool → S → T → Type 0) where
               );
         }
 
-    -- `Stops` describes the end of a sequence of tests: if any items `b` follow the kept items,
-    -- then the first of them was tested, and is to be removed. The list `e` is `b` as this test
-    -- left it. If `e` is empty, then `b` is also empty, and the state of the closure did not
-    -- change: `t` is equal to `u`.
+    -- `Stops R u b t e` describes the end of a sequence of tests. `b` is the list of the items
+    -- after the kept items. If `b` is not empty, then its first item was tested and is to be
+    -- removed. This test turned the list `b` into `e`. If `e` is empty, then `b` is also empty, and
+    -- the state of the closure did not change: `t` is equal to `u`.
     pub stop-ends : (u : S) (b e : List T) → Stops R u b t e → e ≡ [] → (b ≡ []) × (t ≡ u)
     stop-ends u [] e h k = (refl, h.1)
     stop-ends u (x ∷ b) e h k = absurd (cons-not-nil (sym h.2 ∙ k))
@@ -459,9 +459,10 @@ module _ {S T : Type 0} (R : S → T → Bool → S → T → Type 0) where
 
   module _ {A : Type 0} (v w : Open T A) where
     -- `Sifts` relates an open block before some tests and removals to the open block after them.
-    -- Suppose that middle items of the open block `v` are tested in order. The `m` kept items are
-    -- moved to the end of the front items, at the cost of one move each, and the other tested items
-    -- are removed. If the resulting open block `w` has a gap, then `Sifts` relates `v` to `w`.
+    -- Suppose that middle items of the open block `v` were tested in order. The `m` kept items,
+    -- `kept`, were moved to the end of the front items, at the cost of one move each. The other
+    -- tested items were removed. If the resulting open block `w` has a gap before its middle items,
+    -- then `Sifts` relates `v` to `w`.
     pub sifts-of : (m : ℕ) (s t : S) (kept : List T) → Part m s v.rest t kept w.rest
         → 0 < w.gap → w ≡ record v {
           front = v.front ++ kept;
@@ -497,9 +498,10 @@ module _ {S T : Type 0} (R : S → T → Bool → S → T → Type 0) where
     moved : w.cost ≡ moving h.count v.cost
     moved = ap (λ u. u.cost) h.now ∙ moving-after v.gap h.count v.cost gap
 
-    -- `Sifts` relates an open block to the open block after some tests and removals. Suppose that
-    -- `Sifts` relates `v` to `w`, and that the last tested item, `value`, is the first middle item
-    -- of `w`. If this item is removed, which turns `w` into `z`, then `Sifts` relates `v` to `z`.
+    -- `Sifts` relates an open block before some tests and removals to the open block after them.
+    -- Suppose that tests turned the open block `v` into `w`, which still has middle items. Then the
+    -- first middle item of `w`, `value`, is to be removed. If its removal turns `w` into `z`, then
+    -- `Sifts` relates `v` to `z`.
     pub advanced-goes : (value : T) (z : Open T A) → w.rest ≡ value ∷ z.rest
         → z ≡ record w { rest = z.rest; gap = w.gap + 1 } → Sifts R s v t z
     advanced-goes value z rest same =
@@ -583,9 +585,10 @@ module _ {S T : Type 0} (R : S → T → Bool → S → T → Type 0) where
     Passed = w ≡ record v
         { front = v.front ++ take m ys; gap = w.gap; rest = w.rest }
 
-    -- Suppose that `value`, the first item after the kept items, was removed, and that all later
-    -- items were then tested. Then `IsSifted` relates `v`, the open block before the first test, to
-    -- `z`, the open block after the last test.
+    -- `IsSifted` relates an open block before tests of all its middle items to the open block after
+    -- them. Suppose that the first item to be removed, `value`, was removed from the open block
+    -- `v`, and that all later middle items were then tested. If this resulted in the open block
+    -- `z`, then `IsSifted` relates `v` to `z`.
     pub sifted-goes : (value : T) (u : S) (z : Open T A) → Passed → drop m ys ≡ value ∷ w.rest
         → Sifts R t w u z → z.rest ≡ [] → IsSifted R s v u z
     unfolding part-goes

@@ -106,9 +106,9 @@ module _ {T A : Type 0} (v : Thin T A) (c : ℕ) where
 -- capacities before and after the growth.
 pub ruleset costs = (cost_at-same, cost_at-more)
 
--- `IsCheapAt c k` bounds the cost `k` of a list that has the capacity `c`. Suppose that this bound
+-- `IsCheapAt c k` bounds the cost `k` of a list with the capacity `c`. Suppose that this bound
 -- holds, and that `n` items are copied into a larger block of capacity `c'`. If `n ≤ c` and
--- `2 * c ≤ c'`, then the bound for `c'` holds for the new cost.
+-- `2 * c ≤ c'`, then the cost after copying satisfies the bound for the capacity `c'`.
 cheap-growing : {c : ℕ} {k : Cost} (n c' : ℕ) → IsCheapAt c k → n ≤ c → c < c' → 2 * c ≤ c'
     → IsCheapAt c' (growing n k)
 cheap-growing {c = zero} {k} n c' h le larger doubled =

@@ -5,10 +5,10 @@ use Rattle.std.specs.Prelude.{◌≡◌, ℕ, ◌*◌, ◌^◌, ◌<◌, ◌≤�
 use Rattle.thin_block.specs.Cost.{Cost}
 use Rattle.thin_vec.specs.ThinVec.{Thin}
 
--- `IsCheapAt cap cost` states a bound on the cost of growing a list to the capacity `cap`. If `cap`
--- is 0, there was no request for memory, and no item was copied. Otherwise fewer than `cap` items
--- were copied, and the number of requests for memory is at most the number of binary digits of
--- `cap`.
+-- `IsCheapAt cap cost` states a bound on `cost`, the recorded cost of a list with the capacity
+-- `cap`. If `cap` is 0, there was no request for memory, and no item was copied. Otherwise fewer
+-- than `cap` items were copied, and the number of requests for memory is at most the number of
+-- binary digits of `cap`.
 pub record IsCheapAt (cap : ℕ) (cost : Cost) : Type 0 where
   pub none : cap ≡ 0 → (cost.blocks ≡ 0) × (cost.grown ≡ 0)
   pub grown : 0 < cap → cost.grown < cap

@@ -6,8 +6,9 @@ use Rattle.std.specs.Coded.{Coded, code_by, coded×, coded_ℕ, coded_list, code
 use Rattle.thin_block.specs.Cost.{Cost, cost_code, moving}
 use Rattle.thin_block.specs.Slots.{empty, full}
 
--- Contracts describe an open block by a value of the type `Open`. An open block is the block of a
--- list while a method such as `retain` or `drain` works on the list.
+-- `Open T A` is the type of the values by which contracts describe open blocks. An open block is
+-- the block of a list while a method such as `retain` or `drain` works on the list. `T` is the type
+-- of the items, and `A` is the type of the allocator.
 pub record Open (T A : Type 0) : Type 0 where
   -- The front items: the items before the edited range, and the items that have been kept or
   -- inserted so far.

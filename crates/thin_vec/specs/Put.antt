@@ -13,11 +13,13 @@ Gives steps s xs true t = YieldsThen steps s xs None t
 Gives steps s xs false t = Yields steps s xs t
 
 -- `IsFilledBy steps can remaining room s f` describes a loop that moves items of the iterator `s`
--- into `room` empty slots. The loop ends when all slots are full or when the iterator returns
+-- into `room` empty slots. The loop ends when all slots are full, or when the iterator returns
 -- `None`. The result `f` of the loop contains the rest of the iterator, and says whether the
--- iterator has ended. Here, `steps` describes a single call to `next`, `can x` states that `next`
--- may be called on the iterator `x`, and `remaining x` is an upper bound on the number of items
--- that `x` still yields.
+-- iterator has ended.
+--
+-- The parameter `steps` describes a single call to `next`. `can x` states that `next` may be called
+-- on the iterator `x`. `remaining x` is an upper bound on the number of items that `x` still
+-- yields.
 pub record IsFilledBy {S X : Type 0} (steps : S → Option X → S → Type 0) (can : S → Type 0)
     (remaining : S → Count) (room : ℕ) (s : S) (f : Filled S) : Type 0 where
   -- The items that were put into the slots, in the order in which the iterator yielded them.
@@ -27,8 +29,8 @@ pub record IsFilledBy {S X : Type 0} (steps : S → Option X → S → Type 0) (
   -- least one slot is still empty.
   pub full : f.ended ≡ false → length items ≡ room
   pub short : f.ended ≡ true → length items < room
-  -- Suppose that the iterator has not ended. Then `next` may be called on the rest of the iterator,
-  -- and the upper bound on the number of items that the rest yields is finite. The loop has
-  -- decreased this upper bound by at least the number of items that it moved.
+  -- Suppose that the iterator has not ended. Then `next` may be called on `f.rest`, the rest of the
+  -- iterator. `remaining f.rest`, the upper bound on the number of items that the rest yields, is
+  -- finite. This bound is at most `remaining s` minus the number of items that the loop moved.
   pub asked : f.ended ≡ false → can f.rest × IsFinite (remaining f.rest)
   pub nearer : f.ended ≡ false → length items + size (remaining f.rest) ≤ size (remaining s)

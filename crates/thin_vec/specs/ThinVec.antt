@@ -13,9 +13,10 @@ use Rattle.thin_block.specs.Growth.{Rule, exact_capacity, ruled_capacity}
 use Rattle.thin_block.specs.Slots.{IsPacked, items_in}
 use Rattle.thin_block.specs.declared.block.Block.{Block}
 
--- In contracts, a `ThinVec` is a value of the type `Thin`. It consists of the items in order, the
--- capacity, the allocator, and the recorded cost so far. The cost counts requests for memory,
--- copied items and moved items.
+-- `Thin T A` is the type of the values by which contracts describe a `ThinVec`. Such a value
+-- consists of the items in order, the capacity, the allocator, and the recorded cost so far. The
+-- cost counts requests for memory, copied items and moved items. `T` is the type of the items, and
+-- `A` is the type of the allocator.
 pub record Thin (T A : Type 0) : Type 0 where
   pub items : List T
   pub capacity : ℕ
@@ -70,15 +71,15 @@ module _ {T A : Type 0} where
 
   -- `capacity_for rule R v k` is the capacity of the list `v` after room for `k` more items of the
   -- type `R` has been reserved. If `v` already has enough room, this is the old capacity.
-  -- Otherwise, it is the capacity that the growth rule `rule` chooses, or `None` if this capacity
-  -- would be too large.
+  -- Otherwise, the growth rule `rule` chooses the capacity. The result is `None` if the rule
+  -- chooses no capacity, because the capacity would be too large.
   abbrev pub capacity_for : Rule → RattleType → Thin T A → ℕ → Option ℕ
   capacity_for rule R v k = ruled_capacity rule R v.capacity (length v.items + k)
 
   -- `exact_for R v k` is the capacity of the list `v` after room for exactly `k` more items of the
   -- type `R` has been reserved. If `v` already has enough room, this is the old capacity.
-  -- Otherwise, it is the length plus `k`, or `None` if a block of this capacity would be too large
-  -- to be allocated.
+  -- Otherwise, it is the length plus `k`. In this case, the result is `None` if a block of this
+  -- capacity would be too large to be allocated.
   abbrev pub exact_for : RattleType → Thin T A → ℕ → Option ℕ
   exact_for R v k = exact_capacity R v.capacity (length v.items + k)
 
@@ -100,8 +101,9 @@ module _ {T A : Type 0} where
   abbrev pub cost_shrunk : Thin T A → Cost
   cost_shrunk v = cost_shrunk_to v (length v.items)
 
--- `IsCause named cause` states that the error `cause` is `CapacityOverflow` only if `named` is
--- `None`. `named` is the capacity that a call needs, or `None` if this capacity is too large.
+-- `IsCause named cause` holds if the error `cause` is not `CapacityOverflow`, or if `named` is
+-- `None`. Here, `named` is the capacity that the failed call needed. If this capacity is too large,
+-- `named` is `None`.
 abbrev pub IsCause : Option ℕ → ThinVecError → Type 0
 IsCause named cause = cause ≡ CapacityOverflow → named ≡ None
 

@@ -1,5 +1,5 @@
-//! The methods that edit a range of a list, and the iterators `Drain`, `ExtractIf` and `Splice`,
-//! which some of these methods return. During an edit, there may be gaps of empty slots between the
+//! The methods that edit a range of a list. Some of these methods return an iterator of the type
+//! `Drain`, `ExtractIf` or `Splice`. During an edit, there may be gaps of empty slots between the
 //! items. A method such as `retain` closes the gaps before it returns. `Drain` and `ExtractIf`
 //! close the gaps when they are dropped. `Splice` closes them when its method `finish` is called.
 

@@ -43,8 +43,8 @@ pub struct CollectRefused<T, I, A: Allocator = Global> {
     /// The reason why the call failed.
     pub cause: ThinVecError,
     /// The last item that was taken from the iterator. The list had no room for this item. If the
-    /// call could not reserve room for as many items as the size hint promises, no item was taken,
-    /// and `in_hand` is `None`.
+    /// call could not reserve room for the lower bound of the size hint, it took no item. In this
+    /// case, `in_hand` is `None`.
     pub in_hand: Option<T>,
     /// The rest of the iterator, which yields the items that have not been taken yet.
     pub rest: I,
@@ -59,10 +59,10 @@ pub struct SpliceRefused<T, I, A: Allocator = Global> {
     /// The items that were collected from the iterator, but could not be moved into the list. The
     /// vector uses the allocator that was passed to `finish`.
     pub held: Vec<T, A>,
-    /// The item that was taken from the iterator last, after the items in `held`, and for which
-    /// there was no room. It is `None` if the call failed to reserve room for several items at
-    /// once: either for the number of items that the size hint promises, or for the items in
-    /// `held`.
+    /// The last item that was taken from the iterator. It comes after the items in `held`, and
+    /// there was no room for it. If the call could not reserve room for several items at once,
+    /// `in_hand` is `None`. These several items are either the items that the size hint promises,
+    /// or the items in `held`.
     pub in_hand: Option<T>,
     /// The rest of the iterator, which yields the items that have not been taken yet. If `held` is
     /// not empty and `in_hand` is `None`, the iterator has returned `None`, and `next` must not be

@@ -147,9 +147,10 @@ impl<T, A: Allocator, G: Growth> ThinVec<T, A, G> {
         block
     }
 
-    // Moves the items after the gap of `block` down, and puts the block back into the list. Before
-    // the call, the list must contain no items. If the list has an allocation of its own, this
-    // allocation is freed. The code that closes a gap of one or two slots is inlined.
+    // Closes the gap of `block`: moves the items after the gap down to the start of the gap. Then
+    // puts the block back into the list. Before the call, the list must contain no items. If the
+    // list has an allocation of its own before the call, this allocation is freed. The code that
+    // closes a gap of one or two slots is inlined.
     #[inline(always)]
     pub(crate) fn close(&mut self, block: OpenBlock<T, A>)
         requires empty { self.old.items ≡ [] }

@@ -146,9 +146,10 @@ pub(crate) fn put_results<T, A: Allocator, F: FnMut() -> T>(
     }
 }
 
-// Moves items of `iter` into the empty slots `start..end`, in order, until the slots are full or
-// `iter` returns `None`. The block is passed by value, so that its pointer can stay in a register
-// and LLVM can vectorize the loop.
+// Moves items of `iter` into the empty slots `start..end` of `block`, in order, until the slots are
+// full or `iter` returns `None`. Returns the block, and a `Filled`, which contains the rest of the
+// iterator. The block is passed by value, so that its pointer can stay in a register and LLVM can
+// vectorize the loop.
 pub(crate) fn put_iter<T, A: Allocator, I: Iterator<Item = T>>(
     block: Block<T, A>,
     start: usize,

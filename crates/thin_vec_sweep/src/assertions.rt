@@ -70,9 +70,10 @@ pub fn assert_same_items<T: Sample, R: Abort>(rt: &R, at: &At, items: &[T], numb
     assert_same(rt, at, "first item that differs", difference, None);
 }
 
-/// Asserts that exactly `items` items have not been dropped yet, provided that `ledger` counts
-/// items of type `T`. Also asserts the number of allocated blocks: one for each item if each item
-/// owns a block, plus one for the list if `capacity`, the capacity of the list, is not 0.
+/// Asserts that exactly `items` items have not been dropped yet, and that the expected number of
+/// blocks is allocated. The items are checked only if `ledger` counts items of type `T`. If each
+/// item owns a block, one block is expected for each item. If `capacity`, the capacity of the list,
+/// is not 0, one more block is expected for the list.
 pub fn assert_live<T: Sample, R: Abort>(
     rt: &R,
     at: &At,

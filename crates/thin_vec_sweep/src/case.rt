@@ -83,9 +83,10 @@ impl<T: Sample, G: Ruled> Case<T, G> {
         T::nth(rt, self.ledger, number)
     }
 
-    /// Prepares for the call under test, and must be called directly before it. Resets the counts
-    /// of requests, of clones, and of calls to `next` and `size_hint`. If `at.refused` is not 0,
-    /// the allocator will refuse request number `at.refused`.
+    /// Prepares for the call under test. This function must be called directly before the call
+    /// under test. It resets the counts of requests, of clones, and of calls to `next` and
+    /// `size_hint`. If `at.refused` is not 0, the allocator will refuse request number
+    /// `at.refused`.
     pub fn begin(&self) {
         self.ledger.begin(self.at.refused);
     }
@@ -118,9 +119,10 @@ impl<T: Sample, G: Ruled> Case<T, G> {
         self.is_left_out
     }
 
-    /// Returns how many requests of the call are refused in turn, each in its own test case. If the
-    /// call was skipped because it would need too much memory, the result is 1: with its first
-    /// request refused, such a call takes no memory, so this test case can be run.
+    /// Returns how many requests of the call are to be refused, each in a test case of its own. If
+    /// the call was skipped because it would need too much memory, the result is 1. The test case
+    /// in which the first request is refused can still be run, because the call then takes no
+    /// memory.
     pub fn requests_in_turn(&self) -> u64 {
         if self.is_left_out { 1 } else { self.requests }
     }
@@ -140,10 +142,10 @@ impl<T: Sample, G: Ruled> Case<T, G> {
         verdict
     }
 
-    /// Records that the call must grow the list to `capacity`, and returns whether this growth must
-    /// succeed. Adds 1 to the expected number of requests and, on success, updates the expected
-    /// capacity. If the capacity overflows, `capacity` is `None`. Nothing is then recorded, and the
-    /// result is `false`.
+    /// Returns whether the call must succeed in growing the list to `capacity`. If the capacity
+    /// overflows, `capacity` is `None`, the result is `false`, and nothing is recorded. Otherwise,
+    /// adds 1 to the expected number of requests. If the growth must succeed, the expected capacity
+    /// becomes `capacity`.
     pub fn grows(&mut self, capacity: Option<usize>) -> bool {
         let Some(capacity) = capacity else {
             return false;
@@ -162,10 +164,12 @@ impl<T: Sample, G: Ruled> Case<T, G> {
         self.requests != self.at.refused
     }
 
-    /// Returns the expected outcome of growing the list to `capacity`, in a call that may grow the
-    /// list several times. Also updates the expected capacity and the expected number of requests.
-    /// If the expected capacity is already `capacity`, the list does not grow, and no request is
-    /// expected. If computing the new capacity overflows, `capacity` is `None`.
+    /// Returns the expected outcome of one growth of the list to `capacity`, in a call that may
+    /// grow the list several times. Also updates the expected capacity and the expected number of
+    /// requests.
+    ///
+    /// If computing the new capacity overflows, `capacity` is `None`. If the expected capacity is
+    /// already `capacity`, the list does not grow, and no request is expected.
     pub fn further_growth(&mut self, capacity: Option<usize>) -> Verdict {
         let Some(wanted) = capacity else {
             return Verdict::Overflow;

@@ -23,8 +23,8 @@ use thin_vec::Doubling;
 //
 // If `k > 0` items are added to the list of capacity 0, `resize` makes `k` allocation requests: one
 // for the block of the list, and one for each of the `k - 1` clones. (The last new item is the
-// passed value itself.) For each `k`, there is one test case without a refusal, and one for each
-// refused request, but no more than 50 test cases in total.
+// passed value itself.) For each `k`, there is one test case without a refusal. For each request up
+// to the 49th, there is one further test case, in which this request is refused.
 //
 // The tested values of `k` are 0 (twice), 1 to 9, 17, and 100. On the list of capacity 0, there are
 // 2 + (2 + .. + 10) + 18 + 50 = 124 test cases. In (1 + .. + 9) + 17 + 49 = 111 of them, a request
@@ -52,9 +52,9 @@ fn few<R: Abort>(rt: &R, alloc: Global) -> Scope {
     }
 }
 
-// For each group of calls, the expected numbers of test cases, of refused requests, and of
-// comparisons on the lists that `few` selects. If a call is added to a group, only the line of this
-// group has to be changed.
+// For each group of calls, three expected numbers: the numbers of test cases, of refused requests,
+// and of comparisons. The calls are tested on the lists that `few` selects. If a call is added to a
+// group, only the line of this group has to be changed.
 const COUNTS: [(u64, u64, u64); 12] = [
     // every_growth
     (6334, 2380, 81767),

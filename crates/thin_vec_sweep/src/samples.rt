@@ -28,7 +28,8 @@ pub trait Sample: Clone + Drop + PartialEq {
     /// items for which the size of a block is at most `isize::MAX`.
     ///
     /// A block consists of a header of 16 bytes and the items. The size of a block is rounded up to
-    /// a multiple of its alignment. This alignment is the alignment of an item, but at least 8.
+    /// a multiple of its alignment. If the alignment of an item is at least 8, the block has the
+    /// same alignment. Otherwise, the alignment of the block is 8.
     const LIMIT: usize;
 
     /// Makes an item from `number`.

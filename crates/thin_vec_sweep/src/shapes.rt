@@ -15,8 +15,8 @@ pub const SHAPES: usize = 110;
 /// The number of shapes of lists with at most 40 items. These shapes have the numbers `0..SHORT`.
 pub const SHORT: usize = 107;
 
-/// The shape number at which the two longest shapes begin. Lists of these two shapes have 100,000
-/// items each, and only some tests use them.
+/// The number of the first of the two longest shapes. Lists of these two shapes have 100,000 items
+/// each, and only some tests use them.
 pub const LONGEST: usize = SHAPES;
 
 /// The number of all list shapes, including the two with 100,000 items each. A shape consists of a
@@ -34,9 +34,9 @@ const MANY: [usize; 2] = [1, 300];
 
 const MOST: [usize; 2] = [1, 100_000];
 
-/// For each `k` from 0 to 6, the number of test cases of a call on `k` items. The call acts on a
-/// whole list of `k` items, or on a range of `k` items. On lists of at most 6 items, all these test
-/// cases are run.
+/// `Cases` contains, for each `k` from 0 to 6, the number of test cases of a call that acts on `k`
+/// items. These items are a whole list, or a range of a list. On lists of at most 6 items, all
+/// these test cases are run.
 pub type Cases = [usize; 7];
 
 // The number of ranges that are tried on a list of more than 6 items.
@@ -106,9 +106,10 @@ impl Shape {
         self.length < 5
     }
 
-    /// Returns the greatest possible number of test cases for one argument: one with enough memory,
-    /// and 49 with a refused request. On a list of more than 40 items, there is only one with a
-    /// refused request.
+    /// Returns the greatest possible number of test cases for one argument. If the list has at most
+    /// 40 items, this is 50: one test case with enough memory, and 49 test cases with a refused
+    /// request. If the list has more items, this is 2: one test case with enough memory, and one
+    /// with a refused request.
     pub fn rounds(self) -> u64 {
         if self.is_long() { 2 } else { 50 }
     }
@@ -142,8 +143,8 @@ impl Shape {
     }
 
     // Returns the number of test cases of a call on a list of more than 6 items. If the call acts
-    // on a range, this is the number of test cases for one range. If the list has spare capacity,
-    // the number is 0.
+    // on a range, the result is the number of test cases for one range. Returns 0 if the list has
+    // spare capacity.
     fn some(self) -> usize {
         self.alone(if self.is_long() { 2 } else { 20 })
     }
@@ -167,9 +168,10 @@ impl Shape {
         self.length.saturating_add(1).saturating_sub(width)
     }
 
-    /// Returns a range, and the number of a test case on this range. The test cases on all ranges
-    /// are numbered consecutively, and `number` selects one of them. On a list of at most 6 items,
-    /// `cases` says how many test cases there are on a range.
+    /// Returns test case number `number` of a call that acts on a range of the list. The test cases
+    /// on all ranges are numbered consecutively. The returned value contains the range, and the
+    /// number of the test case among those on this range. If the list has at most 6 items, there
+    /// are `cases[k]` test cases on each range of `k` items.
     pub fn ranged_case(self, cases: &Cases, number: usize) -> Ranged {
         if self.length >= cases.len() {
             return self.some_range(number % RANGES, number / RANGES);

@@ -6,9 +6,9 @@ use crate::shapes::Cases;
 /// `next_back` on an iterator over `k` items.
 pub const WALKS: Cases = [3, 7, 15, 31, 63, 127, 255];
 
-// Four sequences of steps over more than 6 items. Each of the four numbers represents one sequence.
-// The bits of the number represent the steps, beginning with the last bit: 1 is a step from the
-// back, and 0 is a step from the front.
+// Four sequences of steps over more than 6 items. Each sequence is represented by a number. The
+// bits of this number represent the steps, beginning with the last bit: 1 is a step from the back,
+// and 0 is a step from the front.
 const ENDS: [u64; 4] = [0x5555_5555_5555_5555, u64::MAX, 0, 0xcccc_cccc_cccc_cccc];
 
 /// A sequence of steps. Each step takes an item from the front or from the back of an iterator.
@@ -62,8 +62,8 @@ impl Walk {
     }
 }
 
-/// Returns a number of steps to take over `count` items. This function is for more than 6 items.
-/// There are five choices, and `number` (0 to 4) selects one of them.
+/// Returns one of five numbers of steps for a walk over `count` items. `number` (0 to 4) selects
+/// one of the five. This function is only for a `count` greater than 6.
 pub fn some_steps(count: usize, number: usize) -> usize {
     match number {
         0 => count / 2,
@@ -91,9 +91,10 @@ impl Remaining {
         }
     }
 
-    /// Removes the item that the next step must yield: the last of the remaining items if `is_back`
-    /// is true, and the first of them otherwise. Returns the entry of this item in `numbers`, which
-    /// is the number from which the item was made. Returns `None` if no item remains.
+    /// Removes the item that the next step must yield. If `is_back` is true, this is the last of
+    /// the remaining items. Otherwise, it is the first of them. Returns the number from which the
+    /// removed item was made. This number is taken from `numbers`. Returns `None` if no item
+    /// remains.
     pub fn take(&mut self, is_back: bool, numbers: &[u64]) -> Option<u64> {
         if self.start >= self.end {
             return None;

@@ -7,9 +7,9 @@ ghost use Rattle.thin_block.specs.Growth.{doubling, ruled_capacity};
 use crate::growth::{Growth, fitting};
 use crate::sizes::item_size;
 
-/// A growth rule that doubles the capacity. If the old capacity is 0, the rule uses the result of
-/// `first_capacity` instead of twice the old capacity. If the required capacity is greater, the
-/// rule chooses the required capacity. The Rust crate thin-vec uses the same rule.
+/// A growth rule that doubles the capacity. The rule chooses the greater of two numbers: the
+/// required capacity, and twice the old capacity. If the old capacity is 0, the second number is
+/// the result of `first_capacity` instead. The Rust crate thin-vec uses the same rule.
 pub struct Doubling {}
 
 impl Growth for Doubling {

@@ -4,7 +4,7 @@ use crate::checks::Checks;
 use crate::rows::{Outcome, listed};
 use std::alloc::Allocator;
 
-/// Checks that `dedup_by` compares each item with the last item that it kept, and not with the item
+/// Checks that `dedup_by` compares each item with the last kept item, and not with the item
 /// directly before it.
 pub fn row_13<A: Allocator + Copy>(alloc: A) -> Outcome {
     let mut checks = Checks::new();

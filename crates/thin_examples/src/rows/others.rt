@@ -20,9 +20,9 @@ pub fn row_21<A: Allocator + Copy>(alloc: A) -> Outcome {
     Ok(checks)
 }
 
-// Writes `value` to row 1 of the table, at column `column`, with the method `set`. Checks that the
-// method returns `before`, the old value at this place. If the number of rows is not 3, does
-// nothing.
+// If the table does not have three rows, does nothing. Otherwise, calls the method `set` of the
+// table to write `value` at row 1 and column `column`, and checks that the method returns `before`,
+// the old value at this place.
 fn set<A: Allocator>(
     checks: &mut Checks,
     table: &mut Rows<char, A>,
@@ -36,8 +36,9 @@ fn set<A: Allocator>(
     Ok(())
 }
 
-// Calls the method `remove` of the table to remove the entry at row 1 and column `column`. Checks
-// that the method returns `Some(value)`. If the table does not have three rows, does nothing.
+// If the table does not have three rows, does nothing. Otherwise, calls the method `remove` of the
+// table to remove the entry at row 1 and column `column`, and checks that the method returns
+// `Some(value)`.
 fn remove<A: Allocator>(
     checks: &mut Checks,
     table: &mut Rows<char, A>,

@@ -90,8 +90,8 @@ pub fn row_6<A: Allocator + Copy>(alloc: A) -> Outcome {
     Ok(checks)
 }
 
-/// Checks that `reserve` and `with_capacity` return `CapacityOverflow` if the capacity is too large
-/// for any allocation.
+/// Checks that `reserve` and `with_capacity` return `CapacityOverflow` if the list would need a
+/// capacity that is too large for any allocation.
 pub fn row_17<A: Allocator + Copy>(alloc: A) -> Outcome {
     let mut checks = Checks::new();
     let overflow = Some(ThinVecError::CapacityOverflow);

@@ -138,8 +138,8 @@ fn check_spliced<A: Allocator + Copy>(
     Ok(list)
 }
 
-// Checks a second `splice` of the same list. The second `splice` yields an item that the first one
-// inserted.
+// Checks a second `splice` of `list`, which is the list that `check_spliced` has returned. The
+// second `splice` yields an item that the `splice` in `check_spliced` has inserted.
 fn check_spliced_again<A: Allocator + Copy>(
     checks: &mut Checks,
     alloc: A,

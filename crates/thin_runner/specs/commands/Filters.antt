@@ -10,16 +10,17 @@ use Rattle.thin_runner.specs.declared.command.Command.{Command}
 use Rattle.thin_runner.specs.declared.command.Command.TheVariants.{Retain, RetainMut, Dedup, DedupBy, DedupByKey}
 
 module _ {T J : Type 0} where
-  -- `same_key key j later kept` compares the items `later` and `kept` by their keys. The key of
-  -- `later` is computed first. The result says whether the keys are equal, and contains both items
-  -- and the state of the judge after the calls to `key`.
+  -- `same_key key j later kept` compares the items `later` and `kept` by their keys. The function
+  -- `key` computes the key of `later` first, starting with the judge in the state `j`. The result
+  -- says whether the keys are equal, and contains both items and the state of the judge after the
+  -- calls to `key`.
   abbrev pub same_key : (J → T → ℕ × T × J) → J → T → T → Bool × T × T × J
   same_key key j later kept =
       let a = key j later in let b = key a.2 kept in (a.0 == b.0, a.1, b.1, b.2)
 
 module _ {T J : Type 0} (ask : J → T → Bool × T × J) where
-  -- The function `ask` tests one item. `asked j xs` is the list of the verdicts that `ask` returns
-  -- if it tests the items `xs` in order, starting with the judge in the state `j`.
+  -- `asked j xs` is the list of the verdicts on the items `xs` if the function `ask` tests each of
+  -- them, in order. The judge is in the state `j` before the first test.
   abbrev pub asked : J → List T → Verdicts T
   asked j [] = []
   asked j (x ∷ xs) = let a = ask j x in (a.0, a.1) ∷ asked a.2 xs
@@ -34,9 +35,10 @@ module _ {T J : Type 0} (ask : J → T → Bool × T × J) where
       let a = ask j x in (not a.0, a.1) ∷ extracting a.2 (if a.0 then k else suc k) xs
 
 module _ {T J : Type 0} (same : J → T → T → Bool × T × T × J) where
-  -- `asked_last j k xs` compares each item of `xs` with the last item that was kept before it. The
-  -- first item is compared with `k`. The judge is in the state `j` at first. The result is a pair
-  -- of the item `k` after its comparisons and the list of the verdicts on the items of `xs`.
+  -- `asked_last j k xs` compares each item of `xs` with the last kept item before it. The first
+  -- item is compared with `k`. The judge is in the state `j` before the first comparison. The
+  -- result is a pair. It contains the item `k` as it is after its comparisons, and the list of the
+  -- verdicts on `xs`.
   abbrev pub asked_last : J → T → List T → T × Verdicts T
   asked_last j k [] = (k, [])
   asked_last j k (x ∷ xs) =
@@ -44,7 +46,7 @@ module _ {T J : Type 0} (same : J → T → T → Bool × T × T × J) where
       if a.0 then (b.0, (false, a.1) ∷ b.1) else (a.2, (true, b.0) ∷ b.1)
 
   -- `asked_pairs j xs` is the list of the verdicts of `dedup_by` on the items `xs`. The first item
-  -- is kept, and each other item is compared with the last item kept before it. The judge is in the
+  -- is kept. Each other item is compared with the last kept item before it. The judge is in the
   -- state `j` before the first comparison.
   abbrev pub asked_pairs : J → List T → Verdicts T
   asked_pairs j [] = []

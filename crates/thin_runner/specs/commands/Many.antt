@@ -12,8 +12,9 @@ module _ {T A J : Type 0} (here : Setting T A J) where
   -- `old` into `new`. The call needs room for `k` more items, and clones the items `sources`. On
   -- failure, the items of the list are unchanged.
   --
-  -- Either nothing else changes, or the call makes room and then fails to clone one of the items
-  -- `sources`. In the second case, each item that was cloned before the failure counts as one move.
+  -- There are two possibilities for `new`. Either `new` equals `old`, or the call made room for `k`
+  -- more items and then failed to clone one of the items `sources`. In the second case, each item
+  -- that was cloned before the failure counts as one move.
   abbrev pub RefusesClone : Thin T A → ℕ → List T → ThinVecError → Thin T A → Type 0
   RefusesClone old k sources cause new =
       ((capacity_for here.rule here.R old k ≡ None) ↔ (cause ≡ CapacityOverflow))

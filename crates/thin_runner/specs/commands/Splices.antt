@@ -56,8 +56,8 @@ module _ {T A : Type 0} (rule : Rule) (R : RattleType) (old : Thin T A) (a b : �
     pub filled : Replaces placed (lower + length xs) new
     pub no_room : ¬ (HasPlacesFor old a b (lower + length xs))
     -- Suppose that `held` is empty and `in_hand` is `None`. Then the call could not reserve room
-    -- for `h` more items in the list `new`, where `h` is a possible lower bound of the size hint of
-    -- `rest`. The cause is `CapacityOverflow` if and only if the growth rule chooses no capacity
+    -- for `h` more items in the list `new`. Here, `h` is a lower bound that the size hint of `rest`
+    -- may have. The cause is `CapacityOverflow` if and only if the growth rule chooses no capacity
     -- for `h` more items.
     pub by_hint : held ≡ [] → in_hand ≡ None
         → FailsAtHint rule R new (at_most (rest.lower + length (into_iter_items rest.items))) cause
@@ -81,8 +81,8 @@ module _ {T A : Type 0} (rule : Rule) (R : RattleType) (old : Thin T A) (a b : �
     -- If the list `old` has items after the range `a..b`, then the call placed at least as many
     -- items as the range had.
     pub range : b < length old.items → b - a ≤ length placed
-    -- If no item follows the range, then `held` is empty. If `in_hand` also contains an item, then
-    -- the list `new` is full: its length equals its capacity.
+    -- Suppose that no item of `old` follows the range. Then `held` is empty. If `in_hand` contains
+    -- an item, then the list `new` is full, which means that its length equals its capacity.
     pub at_end : b ≡ length old.items → (held ≡ [])
         × (IsSome in_hand → length new.items ≡ new.capacity)
     -- If no item follows the range, and `in_hand` is `None`, then the call placed no item, so `new`

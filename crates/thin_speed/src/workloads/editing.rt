@@ -117,7 +117,7 @@ pub fn swap_remove<L: Numbers>(alloc: Global, size: usize, times: usize) -> Outc
 }
 
 /// Makes a list of `size` items. In each of `times` rounds, splits off the second half of the list,
-/// and then appends it to the first half.
+/// and then appends the second half to the first half.
 ///
 /// # Errors
 ///
@@ -159,9 +159,9 @@ impl<L: Numbers, const START: usize, const END: usize> Work<L, u64> for DrainFew
     }
 }
 
-/// A workload that replaces the two items at the indices `START..END` with one or two items. `C`
-/// determines the number of new items. If there is only one, the workload also pushes an item, so
-/// that the length of the list does not change.
+/// A workload that replaces the two items at the indices `START..END` with one or two new items.
+/// The type `C` determines the number of new items. If there is only one new item, the workload
+/// also pushes an item. So the length of the list does not change.
 pub struct SpliceFew<C, const START: usize, const END: usize> {
     count: PhantomData<C>,
 }
@@ -189,9 +189,9 @@ impl<L: Numbers> Work<L, u64> for SpliceMore {
     }
 }
 
-/// A workload that replaces two items with four items, and then pops two items. In every other
-/// round, the replaced items are at the indices 5 and 6. In the remaining rounds, they are at the
-/// indices 6 and 7.
+/// A workload that replaces two items with four items, and then pops two items. The rounds are
+/// numbered from 0. In rounds with an even number, the replaced items are at the indices 5 and 6.
+/// In the other rounds, they are at the indices 6 and 7.
 pub struct ReplaceMore;
 
 impl<L: Numbers> Work<L, u64> for ReplaceMore {

@@ -105,8 +105,8 @@ pub fn styles<L: List<S>, S: List<u32>>(alloc: Global, size: usize, times: usize
     Ok(sum)
 }
 
-// Makes a style, which is a list of `number % 4` rules. If `number % 8` is 7, also inserts a fourth
-// rule at the front.
+// Makes a style, which is a list of rules. First pushes `number % 4` rules. If `number % 8` is 7,
+// then inserts a fourth rule at the front.
 fn style<S: List<u32>>(alloc: Global, number: usize) -> Result<S, AllocError> {
     let mut style = S::new(alloc);
     for rule in 0..number & 3 {
@@ -129,8 +129,8 @@ fn repeated<S: List<u32>>(styles: &[S]) -> u64 {
     same
 }
 
-/// In each of `times` rounds, pushes `size` steps onto a list, and pops the last step after every
-/// fifth push. A step is a list of two bytes.
+/// In each of `times` rounds, pushes `size` steps onto a list. After every fifth push, pops the
+/// step that was pushed last. A step is a list of two bytes.
 ///
 /// # Errors
 ///

@@ -5,8 +5,8 @@ use crate::workloads::growing::Growing;
 use crate::workloads::many::Many;
 use crate::workloads::tables::Tables;
 
-/// A workload, which is a task whose running time is measured. Each file that defines workloads has
-/// its own variant.
+/// A workload, which is a task whose running time is measured. There is one variant for each file
+/// that defines workloads.
 #[derive(Clone, Copy)]
 pub enum Workload {
     Growing(Growing),

@@ -5,8 +5,8 @@ use std::alloc::{AllocError, Global};
 
 /// A task that a workload repeats on a list.
 pub trait Work<L, T> {
-    /// Does the work once, and returns the new sum. Some implementations mix the items that they
-    /// remove into `sum`. The other implementations return `sum` unchanged.
+    /// Does the work once, and returns the new sum. Some implementations remove items, and mix
+    /// these items into `sum`. The other implementations return `sum` unchanged.
     ///
     /// The meaning of `number` depends on the caller. The function `refilled` passes the length of
     /// the list. The function `repeated` passes the number of times that the work has already been

@@ -104,9 +104,9 @@ fn move_by_way(
     }
 }
 
-// Moves a list of `items` to another allocator with each of the six functions that `move_by_way`
-// calls. Asserts after each move that the list's own allocator has no allocated block, and that the
-// other allocator has one allocated block.
+// Moves a list of `items` to another allocator, once with each of the six functions that
+// `move_by_way` calls. Asserts after each move that the old allocator has no allocated block, and
+// that the other allocator has exactly one.
 fn assert_each_way_moves_the_block(rt: &impl Abort, alloc: Global, items: &[i32]) {
     let own = refusing_nth(rt, alloc, 0);
     let other = refusing_nth(rt, alloc, 0);

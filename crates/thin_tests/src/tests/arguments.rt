@@ -6,8 +6,8 @@ use std::cell::Cell;
 use std::process::Abort;
 use thin_vec::thin_vec;
 
-// Returns `value`. Also appends `digit` to the decimal digits of the number in `order`, so that
-// this number shows the order of the calls.
+// Returns `value`, and appends `digit` to the decimal number in `order`. After several calls, the
+// digits of this number show the order of the calls.
 fn note<V>(order: &Cell<u32>, digit: u32, value: V) -> V {
     order.set(order.get().wrapping_mul(10).wrapping_add(digit));
     value

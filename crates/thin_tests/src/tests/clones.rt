@@ -43,8 +43,8 @@ fn clone_clones_boxed_items(rt: HostRuntime) {
     }
 }
 
-// Appends clones of `items`. Asserts that the call returns `answer`, and that the list then has
-// length `len` and capacity 4.
+// Appends clones of `items` to the list with `extend_from_slice`. Asserts that `extend_from_slice`
+// returns `answer`, and that the list then has length `len` and capacity 4.
 fn assert_extended<'a>(
     rt: &impl Abort,
     list: &mut ThinVec<Scarce<'a>, Global>,
@@ -56,9 +56,9 @@ fn assert_extended<'a>(
     assert_same(rt, (list.len(), list.capacity()), (len, 4));
 }
 
-// Tries twice to append clones of three items to a list of one item. Asserts that the first
-// attempt, in which only one item can be cloned, fails and drops the clone. Asserts that the second
-// attempt, in which all three items can be cloned, succeeds.
+// Tries twice to append clones of three items to a list of one item. In the first attempt, only one
+// item can be cloned. Asserts that this attempt fails and drops the clone. In the second attempt,
+// all three items can be cloned. Asserts that this attempt succeeds.
 fn assert_extended_at_second_try(
     rt: &impl Abort,
     alloc: Global,
@@ -83,9 +83,9 @@ fn row_37_extend_from_slice_drops_its_clones_if_one_fails(rt: HostRuntime) {
     assert_same(&rt, drops.get(), 8);
 }
 
-// Tries to replace the first of two items with clones of three items. The number in `granted`,
-// which is less than three, says how many items can be cloned. Asserts that the call fails, and
-// that it drops the clones that it has made.
+// Tries to replace the first item of a list of two items with clones of three other items. The cell
+// `granted` contains the number of items that can be cloned, which is less than three. Asserts that
+// the call fails, and that it drops the clones that it has made.
 fn assert_replace_range_fails(
     rt: &impl Abort,
     alloc: Global,

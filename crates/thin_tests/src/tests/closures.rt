@@ -9,14 +9,14 @@ use std::process::Abort;
 use std::rc::Rc;
 use thin_vec::ThinVec;
 
-// Returns whether `item` is not 2. Each closure that calls this function owns a value, and passes a
-// reference to this value as `_owned`.
+// Returns true if `item` is not 2, and false otherwise. The parameter `_owned` is a reference to a
+// value that the calling closure owns.
 fn is_not_two(_owned: &Counted<'_>, item: i32) -> bool {
     item != 2
 }
 
-// Asserts that the list contains 1 and 3, and that `drops` is 1. This shows that the value that the
-// closure owned has been dropped exactly once.
+// Asserts that the list contains 1 and 3, and that `drops` is 1. If `drops` is 1, the value that
+// the closure owned has been dropped exactly once.
 fn assert_without_two(rt: &impl Abort, list: &ThinVec<i32>, drops: &Cell<u32>) {
     assert_items(rt, list.as_slice(), &[1, 3]);
     assert_same(rt, drops.get(), 1);
@@ -59,8 +59,8 @@ fn dedup_by_key_drops_its_closure(rt: HostRuntime) {
 }
 
 // Tests when `extract_if` drops its closure. The closure owns an `Rc`, whose reference count shows
-// whether the closure has been dropped. The closure cannot own a `Counted`, as in the other tests,
-// because the borrow checker accepts no closure with a borrow here.
+// whether the closure has been dropped. The closures of the other tests own a `Counted`, which
+// contains a borrow. Here, the borrow checker accepts no closure with a borrow.
 #[test]
 fn extract_if_drops_its_closure(rt: HostRuntime) {
     let kept = Rc::new(rt.alloc(), 2).ok().expect(&rt, "memory");

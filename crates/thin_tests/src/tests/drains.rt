@@ -44,9 +44,9 @@ pub fn drain_first<T: Drop, A: Allocator, G: Growth>(
     drain.next()
 }
 
-/// Moves the items `start..end` of `list` to the end of `other` with one call to `extend`. No
-/// contract states which items `list` has afterwards, because this call takes the `Drain` by value.
-/// A test checks these items.
+/// Moves the items `start..end` of `list` to the end of `other` with one call to `extend`. This
+/// call takes the `Drain` by value, so no contract states which items `list` has afterwards. A test
+/// checks these items.
 pub fn extend_by_range(
     list: &mut ThinVec<u32, Global>,
     start: usize,
@@ -94,8 +94,8 @@ pub fn drain_reversed(
     list.drain(start, end).rev().collect(alloc)
 }
 
-/// Drains the range with the bounds `start` and `end`. Each bound may be included, excluded or
-/// missing. Returns `None` if the list has no such range.
+/// Drains the range with the bounds `start` and `end`, and returns the `Drain`. Returns `None` if
+/// the list has no such range. Each bound may be included, excluded or missing.
 pub fn drain_between<T: Drop, A: Allocator, G: Growth>(
     list: &mut ThinVec<T, A, G>,
     start: Bound<usize>,
@@ -107,9 +107,9 @@ pub fn drain_between<T: Drop, A: Allocator, G: Growth>(
     Some(list.drain(start, end))
 }
 
-// Drains `range` from the front, or from the back if `is_reverse` is true. Asserts that the `Drain`
-// yields the items in `wanted`, that the list then contains the items in `left`, and that its
-// capacity is unchanged.
+// Drains `range`. If `is_reverse` is true, takes the items from the back. Otherwise, takes them
+// from the front. Asserts that the `Drain` yields the items in `wanted`, that the list then
+// contains the items in `left`, and that its capacity is unchanged.
 fn assert_drained<T: PartialEq + std::fmt::Debug + Drop, A: Allocator>(
     rt: &impl Abort,
     mut list: ThinVec<T, A>,
@@ -127,8 +127,9 @@ fn assert_drained<T: PartialEq + std::fmt::Debug + Drop, A: Allocator>(
     assert_same(rt, list.capacity(), capacity);
 }
 
-// Asserts that the `Drain` yields the items in `wanted`, and that `next` and `next_back` then
-// return `None`. Takes the items from the front, or from the back if `is_reverse` is true.
+// Takes all items from the `Drain`. If `is_reverse` is true, takes them from the back. Otherwise,
+// takes them from the front. Asserts that these are the items in `wanted`, and that `next` and
+// `next_back` then return `None`.
 fn assert_yields<T: PartialEq + std::fmt::Debug + Drop, A: Allocator>(
     rt: &impl Abort,
     drain: &mut Drain<'_, T, A>,

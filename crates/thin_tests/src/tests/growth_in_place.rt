@@ -1,6 +1,6 @@
 //! Tests of lists that are long enough to grow and shrink in place, with items of 1, 2, 4, 8 or 16
-//! bytes. Most tests try each change of the capacity twice. The allocator refuses the first request
-//! and grants the second request.
+//! bytes. Most tests try each change of the capacity twice. In the first attempt, the allocator
+//! refuses the request for memory. In the second attempt, it grants the request.
 use crate::tests::support::assertions::assert_same;
 use crate::tests::support::items::push;
 use std::alloc::{Allocator, Global};
@@ -14,8 +14,8 @@ trait Numbered: Copy + PartialEq + Debug + Drop {
     fn numbered(number: usize) -> Self;
 }
 
-// For `u8`, `numbered` returns its argument modulo 251. With the modulus 256, the items would
-// repeat every 256 bytes, and a test would not notice if bytes were moved by 256.
+// For `u8`, `numbered` returns its argument modulo 251. If the modulus were 256, the items would
+// repeat every 256 bytes. Then a test would not notice an error that moves bytes by 256 places.
 impl Numbered for u8 {
     fn numbered(number: usize) -> u8 {
         (number % 251) as u8
@@ -84,9 +84,9 @@ fn fill<T: Numbered, A: Allocator, G: Growth>(rt: &impl Abort, list: &mut ThinVe
     }
 }
 
-// Tries twice to push an item of `size` bytes to a full list. Asserts that the first push fails and
-// leaves the list unchanged. Asserts that the second push succeeds, and grows the list to the
-// capacity that the growth rule provides.
+// Tries twice to push an item of `size` bytes onto a full list. Asserts that the first attempt
+// fails and leaves the list unchanged. Asserts that the second attempt succeeds, and that the list
+// then has the capacity that the growth rule provides.
 fn assert_grows<T: Numbered, B: Allocator, G: Ruled>(
     rt: &impl Abort,
     refusing: &Refusing<B>,
@@ -153,8 +153,8 @@ fn assert_capacity_made<T: Numbered, B: Allocator>(
     assert_same(rt, refusing.requests(), 2);
 }
 
-// Makes a full list of `len` items. Adds `more` to its capacity, adds `more` again, and then
-// subtracts `more`. Then fills the list, truncates it to `len` items, and reduces its capacity to
+// Makes a full list of `len` items. Increases its capacity by `more` twice, and then reduces the
+// capacity by `more`. Then fills the list, truncates it to `len` items, and reduces its capacity to
 // `len`. Checks each change of the capacity with `assert_capacity_made`.
 fn assert_capacities<T: Numbered, B: Allocator>(
     rt: &impl Abort,
@@ -221,8 +221,8 @@ fn a_list_of_pairs_of_words_grows_and_shrinks_in_place(rt: HostRuntime) {
     assert_type::<u128>(&rt, rt.alloc(), 16);
 }
 
-// Pushes 3000 items to a list. Before each growth, another list allocates the memory directly after
-// the allocation of this list, so this list cannot grow in place.
+// Pushes 3000 items onto a new list. Each time this list is full, the function allocates another
+// list directly after it in memory. So the list with the 3000 items cannot grow in place.
 fn assert_pushes_beside_neighbours<T: Numbered>(rt: &impl Abort, alloc: Global) {
     let mut neighbours = ThinVec::<ThinVec<u8>>::new(alloc);
     let mut list = ThinVec::<T>::new(alloc);

@@ -6,8 +6,8 @@ use std::alloc::Global;
 use std::process::Abort;
 use thin_vec::{PowerBytes, ThinVec};
 
-// Pushes items to a new list with the growth rule `PowerBytes`. Asserts after each push that the
-// capacity is the first number in `capacities` that is at least the length of the list.
+// Pushes items onto a new list with the growth rule `PowerBytes`. Asserts after each push that the
+// capacity is the smallest number in `capacities` that is at least the length of the list.
 fn assert_grows<T: Copy + Drop>(rt: &impl Abort, alloc: Global, item: T, capacities: &[usize]) {
     let mut list = ThinVec::<T, Global, PowerBytes>::ruled(alloc);
     for &capacity in capacities {

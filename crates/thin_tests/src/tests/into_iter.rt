@@ -48,8 +48,9 @@ fn assert_cloned<A: Allocator>(
     assert_items(rt, clone.as_slice(), wanted);
 }
 
-// Clones an iterator over 1, 2 and 3 before and after the first call to `next`. Asserts which items
-// the two clones yield, and that the iterator itself then yields its remaining items.
+// Takes an iterator over the numbers 1, 2 and 3. Clones it before the first call to `next`, and
+// again after this call. Asserts which items each clone yields, and which items the iterator itself
+// then yields.
 fn clone_between_steps<A: Allocator + Copy>(
     rt: &impl Abort,
     items: &mut IntoIter<i32, A>,

@@ -77,9 +77,9 @@ fn report_into<A: Allocator + Copy, R: Abort>(
     out.calls
 }
 
-// Writes a report with a writer that fails in call number `failing` to `write`. Asserts that the
-// written text is the beginning of the whole report, and that nothing is written after the failed
-// call.
+// Writes a report. Call number `failing` to the method `write` of the writer fails. Asserts that
+// the written text is the beginning of the whole report, and that nothing is written after the
+// failed call.
 fn assert_written_until<R: Abort>(rt: &R, alloc: Global, failing: usize) {
     let mut text = String::new(alloc);
     let calls = report_into(rt, alloc, &mut text, failing, NOT_WRITTEN);
@@ -143,8 +143,8 @@ fn assert_report_of_rows(rt: &impl Abort, alloc: Global, rows: &[u32], wanted: &
 
 #[test]
 fn report_counts_failed_rows_and_exits_with_1(rt: HostRuntime) {
-    // The report calls a worked example a row. There is no worked example 0, so the report says
-    // that row 0 has failed.
+    // In the report, a worked example is called a row. There is no worked example 0, so the report
+    // says that row 0 has failed.
     for (rows, text) in [
         ([0, 1].as_slice(), "row 0 failed\nrow 1 ok\n1 rows failed\n"),
         (

@@ -51,9 +51,9 @@ const COUNTS: &str = "\
     40: 15, 2\n\
     41: 6, 5\n";
 
-// Runs worked example number `number`. Asserts that the example succeeds, and that all memory has
-// been freed at the end. Returns how many values the example compares, and how many requests for
-// memory it makes.
+// Runs the worked example with the number `number`. Asserts that the example succeeds, and that all
+// memory has been freed at the end. Returns how many values the example compares, and how many
+// requests for memory it makes.
 fn run_and_count<R: Abort>(rt: &R, alloc: Global, number: u32) -> (u32, u64) {
     let refusing = Refusing::new(alloc, 0);
     let checks = row(&refusing, number).ok().expect(rt, "no refusal");

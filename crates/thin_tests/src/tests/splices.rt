@@ -67,9 +67,9 @@ fn second_splice_undoes_the_first(rt: HostRuntime) {
     }
 }
 
-// Asserts that the error of a failed `finish` has the contents `wanted`: the cause, the items in
-// `held`, the item in `in_hand`, and the items that the iterator `rest` still yields, in this
-// order.
+// Asserts that the error `refused` of a failed call to `finish` has the contents `wanted`. These
+// contents are, in this order: the cause, the items in `held`, the item in `in_hand`, and the items
+// that the iterator `rest` still yields.
 fn assert_refused<A: Allocator>(
     rt: &impl Abort,
     refused: SpliceRefused<i32, Claims<'_>, A>,
@@ -89,9 +89,9 @@ fn assert_refused<A: Allocator>(
     assert_same(rt, rest.next(), None);
 }
 
-// Makes a list with the items `items`, and tries to replace the range `range` of this list with the
-// items of `iter`. Asserts that this attempt fails with an error that has the contents `wanted`.
-// Also asserts that the list then has the items `left.0` and the capacity `left.1`.
+// Makes a list with the items `items`, and tries to replace its range `range` with the items of
+// `iter`. Asserts that this attempt fails, and that the error has the contents `wanted`. Also
+// asserts that, after the failure, the list has the items `left.0` and the capacity `left.1`.
 fn assert_range_refused<A: Allocator + Copy>(
     rt: &impl Abort,
     alloc: A,
@@ -133,8 +133,8 @@ fn row_39_refused_finish_returns_the_held_items(rt: HostRuntime) {
     assert_range_refused(&rt, refusing, &[1, 2, 3], (1, 2), iter, left, wanted);
 }
 
-// Replaces the second item of the list with `count` numbers. The iterator's size hint has a lower
-// bound of 0.
+// Replaces the second item of the list with `count` numbers. These numbers come from an iterator
+// whose size hint has a lower bound of 0.
 fn splice_without_hint(rt: &impl Abort, list: &mut ThinVec<i32>, count: i32, alloc: Global)
     requires in_bounds { 2 ≤ length list.old.items }
 {

@@ -166,10 +166,10 @@ fn fill_columns<A: Allocator>(rt: &impl Abort, table: &mut Rows<u32, A>, columns
     }
 }
 
-// Tests a table in which only two rows have entries. The capacity of each of these rows grows from
-// 4 to 4096 by doubling, which takes 11 requests for memory. Together with the request for the
-// table itself, there are 23 requests. In the end, there are three allocations: one for the table
-// itself, and one for each of the two rows.
+// Tests a table in which only two rows have entries. The capacity of each of the two rows grows
+// from 4 to 4096 by doubling, which takes 11 requests for memory per row. Together with the request
+// for the table itself, there are 23 requests. In the end, there are three allocations: one for the
+// table itself, and one for each of the two rows.
 #[test]
 fn set_adds_thousands_of_columns_to_a_row(rt: HostRuntime) {
     let refusing = refusing_nth(&rt, rt.alloc(), 0);

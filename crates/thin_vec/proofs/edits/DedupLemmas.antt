@@ -41,7 +41,8 @@ trues-join [] b = omega arith
 trues-join (true ∷ a) b = let e = trues-join a b in omega arith
 trues-join (false ∷ a) b = trues-join a b
 
--- A list of `n` flags that are all true contains `n` true flags.
+-- `replicate n true` is a list of `n` true flags, and `trues` returns the number of true flags in a
+-- list. So `trues (replicate n true)` is `n`.
 trues-all : (n : ℕ) → trues (replicate n true) ≡ n
 trues-all zero = refl
 trues-all (suc n) = ap suc (trues-all n)
@@ -59,15 +60,15 @@ by-answer : (b : Bool) (P Q G : Type 0) → (P → G) → (Q → G) → MatchBoo
 by-answer true P Q G f g m = f m
 by-answer false P Q G f g m = g m
 
--- If `P` implies `P'` and `Q` implies `Q'`, then `MatchBool b P Q` implies `MatchBool b P' Q'`.
+-- `MatchBool b P Q` is `P` if `b` is true, and `Q` otherwise. Suppose that `P` implies `P'`, and
+-- that `Q` implies `Q'`. Then `MatchBool b P Q` implies `MatchBool b P' Q'`.
 map-answer : (b : Bool) {P Q P' Q' : Type 0} → (P → P') → (Q → Q') → MatchBool b P Q
     → MatchBool b P' Q'
 map-answer true f g m = f m
 map-answer false f g m = g m
 
--- Suppose that a list of at least two items begins with `k` and ends with `l`. Then the list still
--- ends with `l` if its first item is removed, and it still begins with `k` if its last item is
--- removed.
+-- Suppose that the lists `pre ++ l ∷ []` and `k ∷ zs` are equal, and that `zs` is not empty. Then
+-- there is a list `p` such that `zs` is `p ++ l ∷ []` and `pre` is `k ∷ p`.
 after-first : {X : Type 0} (pre zs : List X) (k l : X) → pre ++ l ∷ [] ≡ k ∷ zs → 0 < length zs
     → (p : List X) × (zs ≡ p ++ l ∷ []) × (pre ≡ k ∷ p)
 after-first [] zs k l e some = let n = ap length e in absurd (omega (arith, n, some))
@@ -99,9 +100,10 @@ module _ {S T : Type 0} (R : OnPairs S T) where
   -- the items `zs` were kept, and `ws` is the list of the kept items, including `l`. The tests
   -- changed the state of the closure from `t` to `u`.
   module _ (t u : S) (l : T) (g : List Bool) (ws zs : List T) (m : AskedLast R t l zs g ws u) where
-    -- Suppose that the tests of the items `xs` after the kept item `k` keep the items `pre`,
-    -- followed by `l`. Suppose also that the tests of the items `zs` after `l` keep the items `ws`,
-    -- including `l`. Then the tests of `xs ++ zs` after `k` keep the items `pre ++ ws`.
+    -- Suppose that the items `xs` were tested after the kept item `k`, and that the kept items,
+    -- including `k`, are the items `pre`, followed by `l`. If the items `zs` were then tested after
+    -- `l`, and the kept items, including `l`, are `ws`, then the tests of `xs ++ zs` after `k` keep
+    -- the items `pre ++ ws`.
     last-append : (xs : List T) (s : S) (k : T) (f : List Bool) (pre : List T)
         → AskedLast R s k xs f (pre ++ l ∷ []) t → AskedLast R s k (xs ++ zs) (f ++ g) (pre ++ ws) u
     last-append [] s k f pre h =
@@ -308,9 +310,9 @@ module _ {S T : Type 0} (R : OnPairs S T) where
         ]
 
     -- The list `r.stays` contains one flag for each tested item. The flag is true if the item is
-    -- kept. If this list consists of `r.more` true flags, followed by the false flags `f`, then the
-    -- number `m` of kept items is 1 plus the number of true flags. (The first item is kept without
-    -- a test.)
+    -- kept. Suppose that `r.stays` consists of `r.more` true flags, followed by the false flags
+    -- `f`. Then the number `m` of kept items is 1 plus the number of true flags in `r.stays`. (The
+    -- first item is kept without a test.)
     pub run-count : (f : List Bool) → trues f ≡ 0 → r.stays ≡ all-stay r.more ++ f
         → suc (trues r.stays) ≡ m
     run-count f none e =
@@ -320,9 +322,9 @@ module _ {S T : Type 0} (R : OnPairs S T) where
   -- list during an edit.
 
   module _ {A : Type 0} (v w : Open T A) where
-    -- `Moved front cost` holds if the open block `w` has the front items `front` and the cost
-    -- `cost`, and if, apart from these, it differs from the open block `v` at most in its first gap
-    -- and its middle items.
+    -- `Moved front cost` states that the open block `w` has the front items `front` and the cost
+    -- `cost`. It also states that `w` differs from the open block `v` at most in its front items,
+    -- its cost, its first gap and its middle items.
     abbrev Moved : List T → Cost → Type 0
     Moved front cost = w ≡ record v
         { front = front; gap = w.gap; rest = w.rest; cost = cost }
@@ -337,8 +339,9 @@ module _ {S T : Type 0} (R : OnPairs S T) where
     module _ (s t : S) where
       -- `Dedups` relates an open block before some tests for duplicates to the open block after
       -- them. Suppose that the middle items `done` of the open block `v` were tested. The kept
-      -- items were moved to the end of the front items, and the others were removed. If the
-      -- resulting open block `w` has a gap, then `Dedups` relates `v` to `w`.
+      -- items of `done` were moved to the end of the front items, and the other items of `done`
+      -- were removed. If the resulting open block `w` has a gap before its middle items, then
+      -- `Dedups` relates `v` to `w`.
       dedups-of : (before : List T) (first : T) (done : List T) (stays : List Bool) (kept : List T)
           → v.front ≡ before ++ first ∷ [] → v.rest ≡ done ++ w.rest
           → AskedLast R s first done stays kept t → 0 < w.gap
@@ -384,15 +387,17 @@ module _ {S T : Type 0} (R : OnPairs S T) where
     module _ (s t u : S) (x y z : T) (front ys zs : List T)
         (a : IsLastAsked R s x v.front false t y front) (b : Bool)
         (n : IsNextAsked R t y ys b u z zs) (whole : v.rest ≡ x ∷ ys) where
-      -- If the first middle item was kept and the second was then tested, then the front items end
-      -- with `a.kept_left` and `z`, which are the last two kept items as the tests left them.
+      -- Suppose that the first middle item was tested, kept and moved to the end of the front
+      -- items, and that the second middle item was then tested. Then the last two front items are
+      -- `a.kept_left` and `z`, as the tests left them. The item that was moved is `z`.
       two-front : (front ++ z ∷ [] ≡ a.before ++ a.kept_left ∷ z ∷ [])
       two-front = ap (λ (l : List T). l ++ z ∷ []) a.now
           ∙ append_assoc a.before (a.kept_left ∷ []) (z ∷ [])
 
-      -- Suppose that the first middle item was tested, kept and moved to the end of the front
-      -- items, and that the second middle item was then tested and removed. Then `Dedups` relates
-      -- the open block `v` before these two tests to the open block `w` after them.
+      -- `Dedups` relates an open block before some tests for duplicates to the open block after
+      -- them. Suppose that the first middle item of the open block `v` was tested, kept and moved
+      -- to the end of the front items. If the second middle item, `value`, was then tested and
+      -- removed, then `Dedups` relates `v` to the resulting open block `w`.
       pub dedups-two : b ≡ true → (value : T) → zs ≡ value ∷ w.rest → 0 < w.gap
           → Moved (front ++ z ∷ []) (moving 1 v.cost) → Dedups R s v u w
       dedups-two e value rest gap now =
@@ -406,10 +411,10 @@ module _ {S T : Type 0} (R : OnPairs S T) where
           (a.kept_left ∷ z ∷ []) a.was (whole ∙ ap (λ (l : List T). x ∷ l)
           (n.was ∙ ap (λ (l : List T). n.later ∷ l) same)) asked gap (now ∙ moved two-front refl)
 
-      -- Suppose that the first `m + 1` middle items were kept and moved to the end of the front
-      -- items. Suppose also that the next middle item, if there is one, was tested and removed.
-      -- Then `Dedups` relates the open block `v` before these tests to the open block `w` after
-      -- them.
+      -- `Dedups` relates an open block before some tests for duplicates to the open block after
+      -- them. Suppose that the first `m + 1` middle items of the open block `v` were kept and moved
+      -- to the end of the front items, and that the next middle item, if there is one, was tested
+      -- and removed. Then `Dedups` relates `v` to the resulting open block `w`.
       pub dedups-run : b ≡ false → (m : ℕ) (q : S) (ws : List T) (r : PairsAskedUpTo R m u zs q ws)
           → r.after ≡ w.rest → suc (trues r.stays) ≡ m
           → 0 < w.gap → Moved ((front ++ z ∷ []) ++ take m ws) (moving m (moving 1 v.cost))
@@ -504,10 +509,10 @@ module _ {S T : Type 0} (R : OnPairs S T) where
     abbrev RunPassed : Type 0
     RunPassed = Moved v w (take m ys) v.cost
 
-    -- `IsDeduped` describes the removal of all duplicates from an open block. Suppose that the
-    -- first `m` middle items were kept, that the next middle item, `value`, was removed, and that
-    -- all later duplicates were then removed. Then `IsDeduped` relates the open block `v` before
-    -- all tests to the open block `z` after them.
+    -- `IsDeduped` relates an open block before the removal of all duplicates to the open block
+    -- after it. Suppose that the first `m` middle items of the open block `v` were kept, and that
+    -- the next middle item, `value`, was removed. If the removal of all later duplicates then led
+    -- to the open block `z`, then `IsDeduped` relates `v` to `z`.
     pub deduped-goes : (value : T) (u : S) (z : Open T A) → RunPassed → drop m ys ≡ value ∷ w.rest
         → Dedups R t w u z → z.rest ≡ [] → IsDeduped R s v u z
     deduped-goes value u z p k h none =
@@ -614,9 +619,9 @@ module _ {J S T : Type 0} (R : OnPairs S T) (inside : J → S) where
 
 -- In this module, the function `E` says whether an item is a duplicate of the last kept item.
 module _ {S T : Type 0} (E : T → T → Bool) where
-  -- Suppose that the items `xs` follow the kept item `k`, and that each of them was compared with
-  -- the last kept item by `E`. Let the flags `f` say which of the items `xs` are kept. Then `f` is
-  -- `unlike_from E k xs`, and the list `ys` of the kept items, including `k`, is
+  -- Suppose that the items `xs` follow the kept item `k`, and that the function `E` compared each
+  -- of them with the last item kept before it. Let the flags `f` say which of the items `xs` are
+  -- kept. Then `f` is `unlike_from E k xs`, and the list `ys` of the kept items, including `k`, is
   -- `dedup_from E k xs`.
   last-compares : (xs : List T) (s t : S) (k : T) (f : List Bool) (ys : List T)
       → AskedLast (Compares E) s k xs f ys t → (f ≡ unlike_from E k xs) × (ys ≡ dedup_from E k xs)

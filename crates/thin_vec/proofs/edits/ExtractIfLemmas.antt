@@ -50,10 +50,10 @@ module _ {F T : Type 0} (R : F → T → Bool → F → T → Type 0) where
     abbrev J : S → T → Bool → S → T → Type 0
     J s x b t y = R (of s) x (not b) (of t) y
 
-    -- In this module, the closure is in the state `of between`, and the items `after` are untested.
-    -- The closure returns true for the first of these items, so `item` is this item, as the closure
-    -- left it. (If `after` is empty, then `item` is `None`.) Afterward, the state is `t`, and the
-    -- items `rest` are untested.
+    -- In this module, the items `after` are untested, and the closure is in the state `of between`.
+    -- If `after` is empty, then `item` is `None`. Otherwise, the closure returns true for the first
+    -- item of `after`, and `item` is this item, as the closure left it. After this test, the state
+    -- is `t`, and the items `rest` are untested.
     module _ (between : S) (after : List T) (item : Option T) (t : F) (rest : List T)
         (e : ExtractsNext R (of between) after item t [] rest) where
       -- Suppose that no item of the list `run` is to be extracted. Then a call to `next` that tests
@@ -155,9 +155,9 @@ module _ {F T : Type 0} (R : F → T → Bool → F → T → Type 0) where
           whole (Some v) zs (stops-at-item h.between t h.after h.end v zs
           h.stops (sym end-is ∙ some))
 
--- If the list `xs` contains at least `k` items, then moving `k` items across a gap of `gap` empty
--- slots costs the same as moving the items `take k xs` across this gap. If `gap` is 0, then no item
--- is moved, and the cost does not change.
+-- Suppose that the list `xs` contains at least `k` items, so that `take k xs` contains `k` items.
+-- If `gap` is 0, then no item is moved, and `cost` does not change. Otherwise, moving the items
+-- `take k xs` across a gap of `gap` empty slots adds `k` moves to `cost`.
 pub cost-of : {T : Type 0} (gap : ℕ) (cost : Cost) (k : ℕ) (xs : List T) → k ≤ length xs
     → (if gap == 0 then cost else moving k cost)
     ≡ (if gap == 0 then cost else moving (length (take k xs)) cost)

@@ -64,8 +64,9 @@ module _ {S T A : Type 0} {steps : S → Option T → S → Type 0} {can : S →
     pub filled-long : length w.items ≡ length v.front + length v.tail + length p.0.items
     filled-long = omega (arith, ap length p.1.items, between-length v p.0.items)
 
-    -- If items of an iterator were put into the gap, and the iterator has not ended yet, then the
-    -- gap is full, and `IsReached` holds for the new list `w`.
+    -- `IsReached` describes a state during a call to `finish`. If items of an iterator were put
+    -- into the gap, and the iterator has not ended yet, then the gap is full, and `IsReached` holds
+    -- for the new list `w`.
     pub filled-reached : f.ended ≡ false
         → IsReached steps can remaining v s w p.0.items f.end f.rest
     filled-reached more = record {
@@ -78,25 +79,24 @@ module _ {S T A : Type 0} {steps : S → Option T → S → Type 0} {can : S →
       nearer = p.0.nearer more;
     }
 
-    -- If the iterator has ended, then the inserted items are all the items that the iterator
-    -- yielded.
+    -- If the iterator has ended, then it yielded exactly the inserted items, and no item remains.
     pub filled-drains : f.ended ≡ true → Drains steps s p.0.items
     filled-drains done = (f.rest, subst (λ b. Gives steps s p.0.items b f.rest) done p.0.gave)
 
     module _ (rule : Rule) (R : RattleType) (n : ℕ) (left : Count) where
-      -- `HasTaken` describes how adding items changed a list, and bounds the number of moves of old
-      -- items. If items were put into the gap, and closing the gap moved old items at most `n`
-      -- times in total, then `HasTaken` relates the list of the old items to the new list `w`, with
-      -- the bound `n`.
+      -- `HasTaken` describes how adding items changed a list. Suppose that items were put into the
+      -- gap of the open block `v`, and that closing this gap moved old items at most `n` times in
+      -- total. Then `HasTaken` relates the list of the old items to the new list `w`, and bounds
+      -- the number of moves of old items by `n`.
       pub filled-taken : p.1.cost.0 ≤ n → HasTaken rule R (left_of v a) w n left
       filled-taken few =
           taken-spare rule R (left_of v a) w (length p.0.items) p.1.cost.0 n left p.1.cost.1
           p.1.capacity (omega (arith, filled-long, length-append v.front v.tail)) few p.1.alloc
 
-      -- Suppose that a gap was opened in the list `u` before index `at`, that items were put into
-      -- this gap, and that closing the gap then took `m` moves of old items. If
-      -- `m + (length u.items - at) ≤ n`, then `HasTaken` relates `u` to the new list `w`, with the
-      -- bound `n` on the moves of old items.
+      -- `HasTaken` describes how adding items changed a list. Suppose that a gap was opened in the
+      -- list `u` before index `at`, and that items were put into this gap. Closing the gap then
+      -- took `m` moves of old items. If `m + (length u.items - at) ≤ n`, then `HasTaken` relates
+      -- `u` to the new list `w`, and bounds the number of moves of old items by `n`.
       pub wide-taken : (u : Thin T A) (at count : ℕ) → IsWide v u at count → a ≡ u.alloc
           → p.1.cost.0 + (length u.items - at) ≤ n → HasTaken rule R u w n left
       wide-taken u at count wide from few =
@@ -137,9 +137,9 @@ module _ {S T A : Type 0} {steps : S → Option T → S → Type 0} {can : S →
     }
 
     -- `HasTaken` describes how adding items changed a list, and bounds the number of moves of old
-    -- items. Suppose that it holds with the bound `m` for the steps of `finish` before the list `u`
-    -- was reached, and with the bound `n` for the later steps. If `m + n ≤ k`, then it holds with
-    -- the bound `k` for all steps together.
+    -- items. Suppose that it holds with the bound `m` for the first part of a call to `finish`, and
+    -- with the bound `n` for the second part. (Between these parts, the list is `u`.) If
+    -- `m + n ≤ k`, then it holds with the bound `k` for both parts together.
     pub reached-taken : (rule : Rule) (R : RattleType) → KeepsLaw rule → (a : A) (w : Thin T A)
         (m n k : ℕ) → m + n ≤ k → HasTaken rule R (left_of v a) u m (remaining s)
         → HasTaken rule R u w n (remaining t) → HasTaken rule R (left_of v a) w k (remaining s)
@@ -150,10 +150,10 @@ module _ {S T A : Type 0} {steps : S → Option T → S → Type 0} {can : S →
         (λ fit same. omega (arith, fit, same, ap length p.items, long, left, p.nearer))
         before now
 
-    -- `IsExtended` states which capacity a list may have after items were added. If the steps of
-    -- `finish` before the list `u` was reached did not change the capacity, and `IsExtended` holds
-    -- for the later steps with the capacity `d`, then `IsExtended` also holds for all steps
-    -- together with this capacity.
+    -- `IsExtended` states which capacity a list may have after items were added. Suppose that the
+    -- first part of a call to `finish` led to the list `u`, and did not change the capacity. If
+    -- `IsExtended` holds with the capacity `d` for the second part of the call, then it also holds
+    -- with the capacity `d` for the whole call.
     pub reached-extended : (rule : Rule) (R : RattleType) (a : A) (d n : ℕ)
         → u.capacity ≡ v.capacity → IsExtended rule R u d n (remaining t)
         → IsExtended rule R (left_of v a) d n (remaining s)
@@ -170,9 +170,10 @@ module _ {S T A : Type 0} {steps : S → Option T → S → Type 0} {can : S →
               ((ap (λ n. n + (length xs + e.0)) (length-append v.front v.tail) ∙ want) i)) ∙ e.2,
         )
 
-    -- Suppose that more items were inserted into the list `u` at index `end`, and that the iterator
-    -- has not ended yet. Then `IsReached` also holds for the new list `w` and all items that have
-    -- been inserted so far.
+    -- `IsReached` describes a state during a call to `finish`. Suppose that it holds for the list
+    -- `u`, that more items were then inserted into `u` at index `end`, and that the iterator has
+    -- not ended yet. Then `IsReached` also holds for the new list `w` and all items that have been
+    -- inserted so far.
     pub reached-more : {w : Thin T A} {room : ℕ} {f : Filled S}
         (by : IsFilledBy steps can remaining room t f)
         → w.items ≡ (take end u.items ++ by.items) ++ drop end u.items
@@ -193,9 +194,10 @@ module _ {S T A : Type 0} {steps : S → Option T → S → Type 0} {can : S →
         }
 
   module _ {rule : Rule} {R : RattleType} (v : Open T A) (a : A) (s : S) (w : Thin T A) where
-    -- `IsFinished` describes a whole call to `finish`. It holds if the call inserted all items that
-    -- the iterator yields and returned `Ok`, and if the new list `w` satisfies `HasTaken` and
-    -- `IsExtended`.
+    -- `IsFinished` describes a whole call to `finish`. Suppose that the call inserted all items
+    -- that the iterator yields, and returned `Ok`. If the new list `w` satisfies `HasTaken` (a
+    -- statement about the change of the list) and `IsExtended` (a statement about its capacity),
+    -- then `IsFinished` holds.
     pub finished-ok : (x : Unit {0})
         → (xs : List T) × Drains steps s xs × (w.items ≡ with_between v xs)
         → HasTaken rule R (left_of v a) w (2 * length v.tail) (remaining s)
@@ -213,10 +215,10 @@ module _ {S T A : Type 0} {steps : S → Option T → S → Type 0} {can : S →
       cause = tt;
     }
 
-    -- `IsFinished` describes a whole call to `finish`. Suppose that the call first inserted the
-    -- items `xs` before at least one tail item, and that the rest of the call returned `r`. If the
-    -- rest of the call meets the conditions of `IsFinished`, then `IsFinished` holds for the whole
-    -- call with the result `r`.
+    -- `IsFinished` describes a whole call to `finish`. Suppose that there is at least one tail
+    -- item, that the call first inserted the items `xs` before the tail items, and that the rest of
+    -- the call returned `r`. If the rest of the call meets the conditions of `IsFinished`, then the
+    -- whole call also meets them, with the result `r`.
     pub finished-from : {t : S} {u : Thin T A} {xs : List T} {end : ℕ}
         (r : Result (Unit {0}) (SpliceRefused T S A))
         → IsReached steps can remaining v s u xs end t → 0 < length v.tail

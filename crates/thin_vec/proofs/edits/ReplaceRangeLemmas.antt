@@ -55,9 +55,9 @@ module _ {T : Type 0} where
       (λ m. front m ++ past m) ∙ take-append-drop i xs
 
 module _ {T : Type 0} (xs : List T) (i j : ℕ) (order : i ≤ j) (within : j ≤ length xs) where
-  -- Suppose that the list `w` is the list `xs` with the items `zs` inserted at index `j` and the
-  -- items `ys` appended. If the items `ys` are then moved to index `i` and replace the items
-  -- `i..j`, then the result is `xs` with `ys ++ zs` in place of the items `i..j`.
+  -- Suppose that the list `w` is the list `xs` after the items `zs` were inserted at index `j`, and
+  -- the items `ys` were then appended. If the items `i..j` of `w` are removed, and the items `ys`
+  -- are moved to index `i`, then the result is `xs` with `ys ++ zs` in place of the items `i..j`.
   pub brought-in : (ys zs : List T) {w : List T} {n : ℕ} → length ys ≡ n
       → w ≡ replace_range xs j j zs ++ ys
       → (take i w ++ drop (length w - n) w) ++ take (length w - n - j) (drop j w)
@@ -281,9 +281,10 @@ pub record IsParted (k r k1 k2 : ℕ) : Type 0 where
   pub all : k1 + k2 ≡ k
 
 -- Suppose that `k` clones replace a range of `r` items, and that `t` items follow the range. First,
--- `k2` clones are inserted directly after the range. Then `k1` clones are appended to the list, and
--- are moved into the range. In total, these steps take `min k r` more moves than replacing the
--- range with `k` items that already exist.
+-- `k2` clones are inserted directly after the range. They replace no item, so `z` is 0. Now `u`
+-- items follow the range. Next, `k1` clones are appended to the list, and are moved into the range.
+-- In total, these steps take `min k r` more moves than replacing the range with `k` items that
+-- already exist.
 pub cloning-moves : {k r k1 k2 : ℕ} → IsParted k r k1 k2 → (t : ℕ) {z u : ℕ} → z ≡ 0 → u ≡ t + k2
     → ((k2 + (if eqb k2 z then 0 else t)) + k1) + (k1 + (if eqb k1 r then 0 else u))
     ≡ (k + (if eqb k r then 0 else t)) + min k r

@@ -34,9 +34,10 @@ pub moving-zero : (c : Cost) → c ≡ moving 0 c
 moving-zero c = ap (λ m. let d : Cost = record c { moves = m } in d)
     (let e : c.moves ≡ c.moves + 0 = omega arith in e)
 
--- Suppose that `n` items were put into the gap of the open block `v`, and that the resulting open
--- block `w` has no middle items. Then closing `w` moves each tail item (each item after the range)
--- at most once, and moves no item if the gap of `w` has no slots.
+-- Suppose that `n` items were put into the gap of the open block `v`, with one move each. Suppose
+-- also that the resulting open block `w` has no middle items. Then closing `w` takes at most one
+-- move for each tail item (each item after the range). If the gap of `w` has no slots, then closing
+-- `w` takes no move.
 pub closed-moves : {T A : Type 0} (v w : Open T A) (n : ℕ) → w.cost ≡ moving (v.gap - w.gap)
     v.cost → w.rest ≡ [] → w.tail ≡ v.tail → n ≡ v.gap - w.gap
     → (m : ℕ) × (cost_closed w ≡ moving (n + m) v.cost) × (m ≤ length v.tail)
@@ -71,9 +72,9 @@ closed-moves v w n paid none same count = go (eqb w.gap 0) refl
         false-true : false ≡ true → ⊥
         false-true h = cc
 
--- Suppose that a step changes the cost from `c` to `d`: the step makes `n` moves, or no move if
--- `count` is 0. If `k + m` more moves follow this step, then the total number of moves is `k + x`,
--- for some number `x` that is at most `n + m`.
+-- Suppose that a step changes the cost from `c` to `d`. The step makes no move if `count` is 0, and
+-- `n` moves otherwise. If `k + m` more moves follow this step, then the total number of moves is
+-- `k + x`, for some number `x ≤ n + m`.
 pub run-moves : (count n k m : ℕ) (c d : Cost) → d ≡ (if eqb count 0 then c else moving n c)
     → (x : ℕ) × (moving (k + m) d ≡ moving (k + x) c) × (x ≤ n + m)
 run-moves count n k m c d e = go (eqb count 0) e
@@ -109,8 +110,9 @@ module _ {S X : Type 0} (steps : S → Option X → S → Type 0) where
   yields-drawn s u xs o x is all =
       yields-more steps s all.0 u xs x all.1 (subst (λ r. steps all.0 r u) is all.2)
 
-  -- Suppose that a call to `next` yielded the item `x`, that the following calls yielded the items
-  -- `xs`, and that `x ∷ xs` is `held ++ option_to_list o`. There are two cases:
+  -- Suppose that a call to `next` yielded the item `x`, and that the following calls yielded the
+  -- items `xs`. Suppose also that `x ∷ xs` is the list `held`, followed by the item in `o`, if
+  -- there is one.
   --
   -- - If `o` is `Some y`, then all these calls together yielded `held ++ y ∷ []`.
   -- - If `o` is `None`, and one more call returned `None`, then all these calls together yielded
@@ -128,9 +130,10 @@ module _ {S X : Type 0} (steps : S → Option X → S → Type 0) where
       subst (λ l. Yields steps s l u) (sym parts) (t, one, now)
 
 module _ {T A : Type 0} where
-  -- Suppose that adding `k` items turned the list `v` into `w`, with `k + m` moves, and that the
-  -- capacity did not change. If `m ≤ n`, then `CostsAdding v w n` holds: each added item was moved
-  -- once, and the old items were moved at most `n` times in total.
+  -- Suppose that adding `k` items turned the list `v` into `w`, and that the capacity did not
+  -- change. Suppose also that the cost increased by `k + m` moves: one move for each added item,
+  -- and `m` moves of old items. If `m ≤ n`, then `CostsAdding v w n` holds: the old items were
+  -- moved at most `n` times in total.
   pub adding-run : (v w : Thin T A) (k m n : ℕ) → w.cost ≡ moving (k + m) v.cost
       → w.capacity ≡ v.capacity → length w.items ≡ length v.items + k → m ≤ n → CostsAdding v w n
   adding-run v w k m n e same long few = record {
@@ -177,10 +180,10 @@ module _ {S X : Type 0} (steps : S → Option X → S → Type 0) where
 
 module _ {S X A : Type 0} (steps : S → Option X → S → Type 0) (can : S → Type 0)
     (remaining : S → Count) where
-  -- `Stopped` describes a call to `finish` that failed with `error`, and names the items that the
-  -- call had inserted. Suppose that calls to `next` yielded the items `xs` and changed the iterator
-  -- from `s` to `t`. If `Stopped` holds for `t` and no inserted items, then it also holds for `s`
-  -- and the inserted items `xs`.
+  -- `Stopped` describes a call to `finish` that failed with `error`. It names the iterator before
+  -- the call, and the list of the items that the call had inserted. Suppose that calls to `next`
+  -- yielded the items `xs` and changed the iterator from `s` to `t`. If `Stopped` holds for the
+  -- iterator `t` and the empty list, then it also holds for the iterator `s` and the list `xs`.
   pub stopped-more : (s t : S) (xs : List X) (error : SpliceRefused X S A) → Yields steps s xs t
       → Stopped steps can remaining t [] error → Stopped steps can remaining s xs error
   stopped-more s t xs error before (inl now) =
@@ -203,8 +206,8 @@ module _ {S X A : Type 0} (steps : S → Option X → S → Type 0) (can : S →
 
   -- `Stopped` describes a call to `finish` that failed with `error` after it had inserted the items
   -- `xs`. Suppose that calls to `next` on the iterator `s` yielded exactly `xs` and then the item
-  -- in `error.in_hand`, if there is one. If `error.held` contains no items, and `next` may be
-  -- called again, then `Stopped` holds.
+  -- in `error.in_hand`, if there is one. Suppose also that `next` may be called again after these
+  -- calls. If `error.held` contains no items, then `Stopped` holds.
   pub stopped-now : (s : S) (xs : List X) (error : SpliceRefused X S A) → error.held.items ≡ []
       → PausedAfter steps can remaining s (xs ++ option_to_list error.in_hand) error.rest
       → Stopped steps can remaining s xs error
@@ -219,9 +222,9 @@ module _ {S X A : Type 0} (steps : S → Option X → S → Type 0) (can : S →
         λ _. none,
       )
 
--- The lemmas in this module are about a call to `finish` that failed with `error`. `v` is the list
--- after the call, and `tail` contains the items after the replaced range. `left` is an upper bound
--- on the number of items that the iterator may still yield.
+-- The lemmas in this module are about a call to `finish` that failed with `error`. `rule` is the
+-- growth rule, `R` is the type of the items, and `v` is the list after the call. `tail` contains
+-- the items after the replaced range. The iterator may still yield at most `left` items.
 module _ {S T A : Type 0} (rule : Rule) (R : RattleType) (v : Thin T A) (tail : List T)
     (left : Count) (error : SpliceRefused T S A) where
   -- `IsStopCause` states why `finish` failed with `error`. It holds if there are items after the
@@ -275,9 +278,10 @@ module _ {S T A : Type 0} (rule : Rule) (R : RattleType) (v : Thin T A) (tail : 
   }
 
 module _ (rule : Rule) (R : RattleType) where
-  -- Suppose that the growth rule chooses the capacity `d` for the list `v` with `k` more items. If
-  -- `n` is at least the new length, `length v.items + k`, then `IsKeptOrRuled` holds for `d` and
-  -- `n`.
+  -- Suppose that `d` is the capacity of the list `v` after room for `k` more items was reserved.
+  -- Suppose also that `length v.items + k` is at most `n`. Then `IsKeptOrRuled` holds: `d` is the
+  -- old capacity, or a capacity that the growth rule may choose when a list needs room for at most
+  -- `n` items.
   pub kept-or-ruled : KeepsLaw rule → {T A : Type 0} (v : Thin T A) (k d n : ℕ)
       → capacity_for rule R v k ≡ Some d → length v.items + k ≤ n
       → IsKeptOrRuled rule R v.capacity d n
@@ -287,8 +291,8 @@ module _ (rule : Rule) (R : RattleType) where
         | inr spare ↦ inl (cap-kept rule R law v k d spare e)
       ]
 
--- If `n` is 0, then adding `n` moves to the cost `c` does not change `c`. So the result is `c` in
--- both cases: no moves are added if `b` is true, and `n` moves are added if `b` is false.
+-- If `b` is true, no moves are added to the cost `c`. If `b` is false, `n` moves are added. If `n`
+-- is 0, then the result is `c` in both cases.
 unmoved : (b : Bool) (c : Cost) (n : ℕ) → n ≡ 0 → (if b then c else moving n c) ≡ c
 unmoved true c n none = refl
 unmoved false c n none = ap (λ k. moving k c) none ∙ sym (moving-zero c)
@@ -347,9 +351,9 @@ module _ {T A : Type 0} where
 -- of the allocators.
 module _ (rule : Rule) (R : RattleType) {T A : Type 0} where
   -- `HasTaken rule R v w n left` states that adding items of an iterator turned the list `v` into
-  -- `w`, with at most `n` moves of old items in total. (The iterator could yield at most `left`
-  -- items.) If adding `k` items took `k + m` moves, `m ≤ n`, and neither the capacity nor the
-  -- allocator changed, then `HasTaken` holds.
+  -- `w`, and that the old items were moved at most `n` times in total. The iterator could yield at
+  -- most `left` items. Suppose that adding `k` items took `k + m` moves, and that neither the
+  -- capacity nor the allocator changed. If `m ≤ n`, then `HasTaken` holds.
   pub taken-spare : (v w : Thin T A) (k m n : ℕ) (left : Count) → w.cost ≡ moving (k + m) v.cost
       → w.capacity ≡ v.capacity → length w.items ≡ length v.items + k → m ≤ n → w.alloc ≡ v.alloc
       → HasTaken rule R v w n left
@@ -383,10 +387,10 @@ module _ (rule : Rule) (R : RattleType) {T A : Type 0} where
       (ap (λ z. z.alloc) e)
 
   module _ (law : KeepsLaw rule) where
-    -- `HasTaken` describes how adding items of an iterator changed the list `v` to `w`. Here,
-    -- `left` is an upper bound on the number of items that the iterator may yield. Suppose that
-    -- reserving room for `h` more items turned `v` into `w`, and that `h` is at most this upper
-    -- bound (`size left`). Then `HasTaken` holds, with no moves of old items.
+    -- `HasTaken rule R v w n left` states that adding items of an iterator turned the list `v` into
+    -- `w`, and that the old items were moved at most `n` times in total. The iterator could yield
+    -- at most `left` items. Suppose that reserving room for `h` more items turned `v` into `w`. If
+    -- `h ≤ size left`, then `HasTaken rule R v w 0 left` holds.
     pub taken-reserved : (v w : Thin T A) (h : ℕ) (left : Count)
         → capacity_for rule R v h ≡ Some w.capacity → w.items ≡ v.items → w.alloc ≡ v.alloc
         → w.cost ≡ cost_at v w.capacity → (IsCheap v → IsCheap w) → h ≤ size left

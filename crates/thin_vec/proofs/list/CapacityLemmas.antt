@@ -18,9 +18,10 @@ use Rattle.thin_vec.proofs.ListLemmas.{Settled, settled, length-front, thin-room
 
 module _ (rule : Rule) (law : KeepsLaw rule) (R : RattleType) where
   -- Suppose that a block of capacity `c` has to grow in order to hold `w` items, where `w` is less
-  -- than `2 ^ 64`. If the growth rule chooses a new capacity (`o` is `Some`), then this capacity
-  -- satisfies `Grows`: it is at least `w`, at least twice the old capacity, and small enough to be
-  -- allocated. Here, `c'` is equal to `c`, and `w'` is equal to `w`.
+  -- than `2 ^ 64`. The option `o` contains the capacity that the growth rule chooses, if it chooses
+  -- one. If `o` is `Some`, then this capacity satisfies `Grows`: it is at least `w`, at least twice
+  -- the old capacity, and small enough to be allocated. Here, `c'` is equal to `c`, and `w'` is
+  -- equal to `w`.
   pub grows-rule : (w : ℕ) {c c' w' : ℕ} {o : Option ℕ}
       → o ≡ rule (type_size R) (type_align R) c w → c ≡ c' → w ≡ w' → c < w → w < 2 ^ 64
       → IfSome o (λ n. Grows R c' w' n)
@@ -51,8 +52,9 @@ module _ {T A : Type 0} {b : Block T A} {a : A} (t : IsThin b a) where
       settled b' a (items_in b.slots) c (ap (λ v. v.slots) w ∙ e) (ap (λ v. v.len) w ∙ t.packed.len)
       room (λ x h. some-same (sym h ∙ ap (λ v. v.alloc) w))
 
-  -- If a call tried to grow the block of a list to `c` slots, then the block after the call holds
-  -- the same items and has at most `c` slots, even if the call failed.
+  -- Suppose that a call tried to grow the block of a list to `c` slots, and that `b'` is the block
+  -- after the call. Whether or not the call succeeded, `b'` holds the same items as before, and has
+  -- at most `c` slots.
   pub settle-tried : {X E : Type 0} (r : Result X E) (b' : Block T A) (c : ℕ)
       → length b.slots < c
       → OnOk r (seen b' ≡ record (seen b) {

@@ -24,8 +24,8 @@ module _ {T : Type 0} {clones : T → T → Type 0} {sources : List T} {n i : �
       ∙ length-take-le n sources few
 
   -- Suppose that clones of the first `n` items of `sources` are in the slots from index `i` onward.
-  -- If a clone `y` of the next item is written into the next slot, then clones of the first `n + 1`
-  -- items are in the slots from index `i` onward.
+  -- If a clone `y` of the item of `sources` at index `n` is written into slot `i + n`, then clones
+  -- of the first `n + 1` items are in the slots from index `i` onward.
   pub lays-more : (y : T) {x : T} {s'' : List (Option T)} → n < length sources
       → i + length sources ≤ length s → x ≡ get_or sources n x → clones x y
       → s'' ≡ set s' (i + n) (Some y) → LaysClones clones sources (n + 1) i s s''
@@ -80,9 +80,9 @@ module _ {T : Type 0} (clones : T → T → Type 0) where
       each [] e = refl
       each (y ∷ ys) e = λ i. equal y e.0 i ∷ each ys e.1 i
 
--- A new list `v` has no items, and its capacity is 0. So if room for `k` items is reserved in `v`,
--- the new capacity is `ruled_capacity rule R 0 k`, the capacity that the growth rule chooses if the
--- capacity 0 has to become at least `k`.
+-- Suppose that `v` is a new list with the allocator `a`. Then `v` has no items, and its capacity is
+-- 0. If room for `k` items is reserved in `v`, the new capacity is `ruled_capacity rule R 0 k`.
+-- This is 0 if `k` is 0, and the capacity that the growth rule chooses for `k` items otherwise.
 pub capacity-new : {T A : Type 0} (rule : Rule) (R : RattleType) (v : Thin T A) (a : A) (k : ℕ)
     → IsNew v a → capacity_for rule R v (k - length v.items) ≡ ruled_capacity rule R 0 k
 capacity-new rule R v a k new =

@@ -118,9 +118,9 @@ full-in-hand P Q (Err error) some at_capacity =
 
 module _ {T : Type 0} where
   module _ (s s' r : List (Option T)) where
-    -- Suppose that the items `xs` are written into the slots from index `i` onward, and that `x` is
-    -- then written into the next slot. Then the slots from index `i` onward hold `xs ++ x ∷ []`,
-    -- and all other slots are unchanged.
+    -- Suppose that the items `xs` are written into the slots from index `i` onward, and that the
+    -- item `x` is then written into slot `k`, the slot directly after them. Then the slots from
+    -- index `i` onward hold `xs ++ x ∷ []`, and all other slots are unchanged.
     pub laid-more : (i k : ℕ) (xs : List T) (x : T) → s ≡ laid i (full xs) r → k ≡ i + length xs
         → k < length r → s' ≡ set s k (Some x) → s' ≡ laid i (full (xs ++ x ∷ [])) r
     laid-more i k xs x e at within e' =
@@ -137,9 +137,9 @@ module _ {T A : Type 0} where
       { cost = (sym (moving-none v.cost) ∙ ap (λ (k : ℕ). moving k v.cost) (sym none)) i }
 
   -- Suppose that the block `v` differs from the block `u` only in its slots and in its cost, which
-  -- counts `n` more moves. If one more item is put into a slot of `v`, then the resulting block `w`
-  -- differs from `u` only in its slots and in its cost, which counts `k` more moves. Here, `k` is
-  -- `n + 1`.
+  -- is the cost of `u` plus `n` moves. If one more item is put into a slot of `v`, then the
+  -- resulting block `w` also differs from `u` only in its slots and in its cost. The cost of `w` is
+  -- the cost of `u` plus `k` moves, where `k` is `n + 1`.
   pub put-more : (u : Seen T A) {v w : Seen T A} {s : List (Option T)} (n k : ℕ) → k ≡ n + 1
       → w ≡ record v { slots = s; cost = moving 1 v.cost }
       → v ≡ record u { slots = v.slots; cost = moving n u.cost }
@@ -184,9 +184,9 @@ module _ (rule : Rule) (R : RattleType) (law : KeepsLaw rule) where
   loose-join c d e (inr p) q = inr (p.0, p.1, p.2, p.3, omega (arith, p.4, loose-le d e q))
 
   -- `IsKeptOrRuled rule R c d n` states that the new capacity `d` is the old capacity `c`, or a
-  -- capacity that the growth rule may choose when a list needs room for at most `n` items. If this
-  -- is true for `d` and `n`, then it is also true for every equal capacity `d'` and every number
-  -- `m ≥ n`.
+  -- capacity that the growth rule may choose when a list needs room for at most `n` items. Suppose
+  -- that `IsKeptOrRuled rule R c d n` holds. If `d'` is equal to `d`, and `n ≤ m`, then
+  -- `IsKeptOrRuled rule R c d' m` holds.
   pub ruled-more : (c n m : ℕ) {d d' : ℕ} → d' ≡ d → n ≤ m → IsKeptOrRuled rule R c d n
       → IsKeptOrRuled rule R c d' m
   ruled-more c n m same more (inl e) = inl (same ∙ e)
@@ -194,19 +194,19 @@ module _ (rule : Rule) (R : RattleType) (law : KeepsLaw rule) where
       inr (p.0, p.1, p.2, omega (arith, p.3, more), p.4 ∙ ap Some (sym same))
 
   -- `IsKeptOrRuled rule R d e n` states that the new capacity `e` is the old capacity `d`, or a
-  -- capacity that the growth rule may choose for at most `n` items. Suppose that this is true, and
-  -- that `e ≡ d` implies `P`. Then `P` holds, or `IsKeptOrRuled rule R c e n` holds, where `c` may
-  -- be any capacity.
+  -- capacity that the growth rule may choose for at most `n` items. Suppose that
+  -- `IsKeptOrRuled rule R d e n` holds, and that `P` holds if `e` is equal to `d`. Then `P` holds,
+  -- or `IsKeptOrRuled rule R c e n` holds for every number `c`.
   pub ruled-after : (c d e n : ℕ) (P : Type 0) → IsKeptOrRuled rule R d e n → (e ≡ d → P)
       → IsKeptOrRuled rule R c e n ⊎ P
   ruled-after c d e n P (inl same) f = inr (f same)
   ruled-after c d e n P (inr p) f = inl (inr p)
 
-  -- `IsCollected` states that a list that was made from the items of an iterator may have the
-  -- capacity `d`. Suppose that the list was made with the capacity `c`, exactly enough for `h`
-  -- items, where `h` is a possible lower bound in the size hint of an iterator that yields at most
-  -- `left` items. If `IsKeptOrRuled` allows the change from `c` to `d` for at most `n` items, then
-  -- `IsCollected` holds.
+  -- `IsCollected rule R d n left` states that `d` is a possible capacity of a list that was made
+  -- from the items of an iterator. The list has `n` items, and the iterator could yield at most
+  -- `left` items. Suppose that the list was made with the capacity `c`, which is exactly enough for
+  -- `h` items, and that `h` is a possible lower bound in the iterator's size hint. If
+  -- `IsKeptOrRuled` allows the change from `c` to `d`, then `IsCollected` holds.
   pub collected-after : {c d : ℕ} (n h : ℕ) (left : Count) → IsWithinCount h left
       → exact_capacity R 0 h ≡ Some c → IsKeptOrRuled rule R c d n → IsCollected rule R d n left
   collected-after n h left hint e (inl same) = inr (h, hint, e ∙ ap Some (sym same))

@@ -252,10 +252,10 @@ module _ {T : Type 0} where
   full-set (x ∷ xs) s (suc i) m h = ap (λ (r : List (Option T)). Some x ∷ r)
       (full-set xs s i m (omega arith))
 
-  -- Suppose that the first slots of a row of `c` slots hold the items `ys` and then the item `m`,
-  -- and that all other slots are empty. If `m` is moved into slot `i`, in place of an item of `ys`,
-  -- then the first slots hold the items that the specification function `swap_remove` returns for
-  -- index `i`. (This function uses its argument `v` only if the list is empty.)
+  -- Suppose that the first slots of a row of `c` slots hold the items `ys ++ m ∷ []`, and that all
+  -- other slots are empty. If the last item `m` is moved into slot `i`, in place of an item of
+  -- `ys`, then the first slots hold the items `swap_remove (ys ++ m ∷ []) i v`. (The specification
+  -- function `swap_remove` uses its argument `v` only if the list is empty.)
   front-swap_remove : (ys : List T) (c i : ℕ) (v m : T) → i < length ys → length (ys ++ m ∷ []) ≤ c
       → set (set (set (front (ys ++ m ∷ []) c) i None) (length ys) None) i (Some m) ≡ front
       (swap_remove (ys ++ m ∷ []) i v) c
@@ -290,9 +290,10 @@ module _ {T A : Type 0} where
       settle-front t b' [] (length b.slots) w (e ∙ front-none (length b.slots)) refl (omega arith)
 
   module _ {b : Block T A} {a : A} (t : IsThin b a) (b' : Block T A) (i last : ℕ) where
-    -- Suppose that slot `i` is emptied, the last item is moved from slot `last` into slot `i`, and
-    -- the stored length is decremented. If `i` is less than `last`, then the new block `b'` is the
-    -- block of the list after `swap_remove` at index `i`.
+    -- Suppose that `i` is less than `last`. If slot `i` is emptied, the last item `m` is moved from
+    -- slot `last` into slot `i`, and the stored length is decremented, then the new block `b'` is
+    -- the block of the list after `swap_remove` at index `i`. (The specification function
+    -- `swap_remove` uses its argument `v` only if the list is empty.)
     settle-swap_remove : (v : T) {m : T} → i < last → last + 1 ≡ b.len → slot b.slots last ≡ Some m
         → {k : Cost} → IsWritten b b' (set (set (set b.slots i None) last None) i (Some m)) last k
         → Settled b' a (swap_remove (items_in b.slots) i v) (length b.slots)
@@ -333,9 +334,10 @@ module _ {T A : Type 0} where
               long,
             )
 
-    -- Suppose that the item in the last filled slot is moved into slot `i`, and that the stored
-    -- length is decremented. Then the new block `b'` is the block of the list after `swap_remove`
-    -- at index `i`. Slot `i` may itself be the last filled slot.
+    -- Suppose that slot `i` holds the item `v`, and that `last` is the index of the last filled
+    -- slot. If the item in slot `last` is moved into slot `i`, and the stored length is
+    -- decremented, then the new block `b'` is the block of the list after `swap_remove` at index
+    -- `i`. This is also true if `i` is `last`.
     pub settle-replaced : (v : T) → i ≤ last → last + 1 ≡ b.len → slot b.slots i ≡ Some v
         → {k : Cost} → IsWritten b b' (set (set b.slots i (slot b.slots last)) last None) last k
         → Settled b' a (swap_remove (items_in b.slots) i v) (length b.slots)

@@ -21,10 +21,11 @@ tells-ok x named n is = record {
   overflow = (λ e. ok-err x CapacityOverflow e, λ none. absurd (none-some none is));
 }
 
--- `TellsOverflowOf R m r` states that `r`, the result of making a list for exactly `m` items of the
--- type `R`, is `CapacityOverflow` if and only if the capacity would be too large. If `m` items of
--- `R` and `n` items of `S` need the same capacity, then `TellsOverflowOf R m (Ok x)` implies
--- `TellsOverflowOf S n (Ok y)`.
+-- `TellsOverflowOf R m r` describes the result `r` of making a list for exactly `m` items of the
+-- type `R`. It states that `r` is `CapacityOverflow` if and only if the capacity would be too
+-- large. Suppose that `m` items of `R` and `n` items of `S` need the same capacity. If
+-- `TellsOverflowOf R m` holds for the result `Ok x`, then `TellsOverflowOf S n` holds for the
+-- result `Ok y`.
 pub tells-made : {X : Type 0} {x y : X} (R S : RattleType) (m n : ℕ)
     → exact_capacity R 0 m ≡ exact_capacity S 0 n
     → TellsOverflowOf R m (let r : Result X ThinVecError = Ok x in r)
@@ -36,9 +37,9 @@ tells-made {x = x} {y} R S m n e told = record {
   );
 }
 
--- `TellsOverflowOf R m r` states that making a list for exactly `m` items of the type `R` returns
--- `CapacityOverflow` (as the result `r`) if and only if the capacity of the list would be too
--- large. If `m` items of the type `R` and `n` items of the type `S` need the same capacity, then
+-- `TellsOverflowOf R m r` describes the result `r` of making a list for exactly `m` items of the
+-- type `R`. It states that `r` is `CapacityOverflow` if and only if the capacity would be too
+-- large. If `m` items of `R` and `n` items of `S` need the same capacity, then
 -- `TellsOverflowOf R m r` implies `TellsOverflowOf S n r`.
 pub tells-same : {X : Type 0} {r : Result X ThinVecError} (R S : RattleType) (m n : ℕ)
     → exact_capacity R 0 m ≡ exact_capacity S 0 n → TellsOverflowOf R m r → TellsOverflowOf S n r
@@ -97,11 +98,16 @@ module _ {T A : Type 0} (R : RattleType) (v : Thin T A) where
           overflow = (λ e. ok-err x CapacityOverflow e, λ none. absurd (none-some none named));
         }
 
-    -- `Reserves` states how a call that needs room for `k` more items may change the capacity, and
-    -- when the call fails. Suppose that a call consists of two steps. The first step changes the
-    -- list `v` to `u`, returns `Ok`, and satisfies `Reserves`. The second step changes `u` to `w`,
-    -- keeps the capacity, and fails only with `OutOfMemory`. Then the whole call satisfies
-    -- `Reserves`, also for each item type `S` that needs the same capacity.
+    -- `Reserves` states how a call that needs room for more items may change the capacity, and when
+    -- the call fails. Suppose that a call consists of two steps:
+    --
+    -- - The first step changes the list `v` to `u`, returns `Ok`, and satisfies `Reserves` for `k`
+    --   more items of the type `R`.
+    -- - The second step changes `u` to `w`, keeps the capacity, and fails only with `OutOfMemory`.
+    --
+    -- Suppose also that `l` is `k`, and that `l` more items of the type `S` need the same capacity
+    -- as `k` more items of the type `R`. Then the whole call satisfies `Reserves` for `l` more
+    -- items of the type `S`.
     pub reserves-then : {X Y : Type 0} {x : X} (S : RattleType) (k l : ℕ) (u w : Thin T A)
         (r : Result Y ThinVecError) → l ≡ k
         → capacity_for rule S v l ≡ capacity_for rule R v k → w.capacity ≡ u.capacity
@@ -128,10 +134,10 @@ module _ {T A : Type 0} (R : RattleType) (v : Thin T A) where
         }
 
     -- `Reserves` states how a call that needs room for more items may change the capacity, and when
-    -- the call fails. Suppose that a call for `k` more items fails with the error `cause`, does not
-    -- change the list, and satisfies `Reserves`. Then a call for `l` items of the type `S` that
-    -- fails in the same way also satisfies `Reserves`, if `l` is `k` and both calls need the same
-    -- capacity.
+    -- the call fails. Suppose that a call for `k` more items of the type `R` fails with the error
+    -- `cause`, does not change the list, and satisfies `Reserves`. Suppose also that `l` is `k`,
+    -- and that `l` items of the type `S` need the same capacity. Then a call for `l` items of the
+    -- type `S` that fails in the same way also satisfies `Reserves`.
     pub reserves-failed : {X Y : Type 0} (S : RattleType) (k l : ℕ) (w : Thin T A)
         (cause : ThinVecError) → l ≡ k
         → capacity_for rule S v l ≡ capacity_for rule R v k

@@ -244,8 +244,9 @@ module _ {T A : Type 0} where
             (ap (λ (z : Seen T A). z.cost) now);
       }
 
-  -- If the item `x` is written into the first slot of the gap of the open block `h`, then `x`
-  -- becomes the last front item, and the gap becomes one slot shorter.
+  -- Suppose that the item `x` is written into the first slot of the gap of the open block `h`, and
+  -- that `b` is the resulting block. Then `x` becomes the last front item, and the gap becomes one
+  -- slot shorter.
   pub put-step : (h : Inside T A) (o : IsOpen h) (b : Block T A) (x : T) {c : Cost}
       → 0 < (open_of h).gap
       → seen b ≡ record (seen h.block)

@@ -29,8 +29,8 @@ split-at (x ∷ xs) (suc k) low =
     (x ∷ p.0, p.1, p.2, ap suc p.3, ap (λ l. x ∷ l) p.4)
 
 module _ {T : Type 0} where
-  -- Suppose that the slots `a` are followed by the items `pre`, the item `x`, the items `post`, and
-  -- the slots `z`. Then all these slots can be split into the slots before `x`, the slot of `x`,
+  -- Suppose that a row consists of the slots `a`, then slots that hold the items `pre ++ x ∷ post`,
+  -- and then the slots `z`. Then this row can be split into the slots before `x`, the slot of `x`,
   -- and the slots after `x`.
   pub row-at : (a : List (Option T)) (pre : List T) (x : T) (post : List T) (z : List (Option T))
       → a ++ (full (pre ++ x ∷ post) ++ z) ≡ (a ++ full pre) ++ (Some x ∷ (full post ++ z))
@@ -40,9 +40,9 @@ module _ {T : Type 0} where
       ∙ sym (append_assoc a (full pre) (Some x ∷ (full post ++ z))))
 
 module _ {T A : Type 0} where
-  -- Suppose that the open blocks `v` and `w` have equal tail items. Suppose also that they have
-  -- equally many empty slots before the tail items, and equally many empty slots after the tail
-  -- items. Then the slots after the middle items are equal in both blocks.
+  -- Suppose that the open blocks `v` and `w` have the same tail items, the same number of empty
+  -- slots directly before the tail items, and the same number of empty slots after them. Then the
+  -- slots after the middle items are equal in both blocks.
   pub same-past : (v w : Open T A) → w.gap_after ≡ v.gap_after → w.tail ≡ v.tail
       → v.capacity - reach v ≡ w.capacity - reach w → past_rest v ≡ past_rest w
   same-past v w b t n = λ i. empty (sym b i) ++ (full (sym t i) ++ empty (n i))

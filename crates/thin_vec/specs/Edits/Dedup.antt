@@ -12,9 +12,10 @@ use Rattle.thin_vec.specs.Edits.Retain.{moved_down}
 -- `k` to `l`.
 module _ {S T : Type 0} (R : S → T → T → Bool → S → T → T → Type 0) where
   -- `AskedLast s k xs stays ys t` states that the items of `xs` were tested in order, each against
-  -- the last item that was kept before it (at first `k`). The tests changed the state from `s` to
-  -- `t`. The list `stays` contains one flag for each item of `xs`, which is true if the item was
-  -- kept. The list `ys` contains `k` and then the kept items, as the tests left them.
+  -- the last item that was kept before it. For the first item of `xs`, this last kept item is `k`.
+  -- The tests changed the state from `s` to `t`. The list `stays` contains one flag for each item
+  -- of `xs`, which is true if the item was kept. The list `ys` contains `k` and then the kept
+  -- items, as the tests left them.
   abbrev pub AskedLast : S → T → List T → List Bool → List T → S → Type 0
   AskedLast s k [] stays ys t = (stays ≡ []) × (ys ≡ k ∷ []) × (t ≡ s)
   AskedLast s k (x ∷ xs) stays ys t =
@@ -24,9 +25,9 @@ module _ {S T : Type 0} (R : S → T → T → Bool → S → T → T → Type 0
       ((zs : List T) × AskedLast u x' xs rest zs t × (ys ≡ k' ∷ zs))
 
   -- `AskedPairs s xs stays ys t` states that all items of `xs` except the first were tested in
-  -- order, each against the last item kept before it. The tests changed the state from `s` to `t`.
-  -- The flags `stays` say which of the tested items were kept, and `ys` contains the first item and
-  -- the kept items, as the tests left them.
+  -- order, each against the last item that was kept before it. The tests changed the state from `s`
+  -- to `t`. The list `stays` contains one flag for each tested item, which is true if the item was
+  -- kept. The list `ys` contains the first item and then the kept items, as the tests left them.
   abbrev pub AskedPairs : S → List T → List Bool → List T → S → Type 0
   AskedPairs s [] stays ys t = (stays ≡ []) × (ys ≡ []) × (t ≡ s)
   AskedPairs s (x ∷ xs) stays ys t = AskedLast s x xs stays ys t
@@ -58,9 +59,9 @@ module _ {T : Type 0} (E : T → T → Bool) where
   unlike_from k [] = []
   unlike_from k (x ∷ xs) = if E x k then false ∷ unlike_from k xs else true ∷ unlike_from x xs
 
-  -- The first item of the list `xs` is always kept. `unlike xs` contains one flag for each other
-  -- item of `xs`. The flag is true if the item is kept, that is, if the comparison `E` returns
-  -- false for the item and the last item kept before it.
+  -- `unlike xs` contains one flag for each item of the list `xs` except the first item, which is
+  -- always kept. The flag is true if the item is kept, that is, if the comparison `E` returns false
+  -- for the item and the last item kept before it.
   abbrev pub unlike : List T → List Bool
   unlike [] = []
   unlike (x ∷ xs) = unlike_from x xs

@@ -15,9 +15,10 @@ use Rattle.thin_vec.specs.declared.edits.holder.Holds.{Ghosts as HoldsGhosts}
 -- `b`. The call changed the state of the closure from `f` to `g`, and the item from `x` to `y`.
 module _ {T F A : Type 0} (R : F → T → Bool → F → T → Type 0) where
   -- `Extracts old item new` states that a call to `next` changed `old` to `new` and returned
-  -- `item`. Here, `old` and `new` consist of the block and the closure of an `ExtractIf`. The items
-  -- `kept`, which the call tested but did not extract, remain in the list. If an item had already
-  -- been extracted before the call, each item in `kept` counts as one move.
+  -- `item`. Here, `old` and `new` each consist of the block and the closure of an `ExtractIf`. The
+  -- items `kept` are the items that the call tested but did not extract. They remain in the list.
+  -- If an item had already been extracted before the call, the cost counts one move for each item
+  -- in `kept`.
   pub record Extracts (old : Extracting T F A) (item : Option T)
       (new : Extracting T F A) : Type 0 where
     pub kept : List T

@@ -26,9 +26,9 @@ module _ {T A : Type 0} where
     pub alloc : w.alloc ≡ v.alloc
     pub cheap : IsCheap v → IsCheap w
 
-  -- An open block is the block of a list during an edit, and its gap consists of empty slots.
   -- `IsClosedWith v xs a w` states that the items `xs` were written into the gap of the open block
-  -- `v`, and that `v` then became the block of the list `w`, whose allocator is `a`.
+  -- `v`, and that `v` then became the block of the list `w`, whose allocator is `a`. (An open block
+  -- is the block of a list during an edit. Its gap consists of empty slots.)
   pub record IsClosedWith (v : Open T A) (xs : List T) (a : A) (w : Thin T A) : Type 0 where
     pub items : w.items ≡ with_between v xs
     pub capacity : w.capacity ≡ v.capacity

@@ -10,9 +10,9 @@ trues [] = zero
 trues (true ∷ flags) = suc (trues flags)
 trues (false ∷ flags) = trues flags
 
--- `stays` contains one flag for each item of a list. The flag is true if the item is kept.
 -- `moved_down stays` is the number of kept items that follow the first removed item. These are the
--- items that have to move down.
+-- items that have to move down. The list `stays` contains one flag for each item, which is true if
+-- the item is kept.
 abbrev pub moved_down : List Bool → ℕ
 moved_down [] = zero
 moved_down (true ∷ stays) = moved_down stays
@@ -69,9 +69,9 @@ module _ {S T : Type 0} (R : S → T → Bool → S → T → Type 0) where
   abbrev pub IsRetained : {A : Type 0} → S → Thin T A → Thin T A → Type 0
   IsRetained s v w = (t : S) × IsRetainedTo s v w t
 
--- `Looks R` describes a test that does not change the tested items. `R s x b t` describes one call
--- of this test: the call tests the item `x`, returns `b` (true if `x` is to be kept), and changes
--- the state of the test from `s` to `t`. `Looks R s x b t y` also states that the item `y` after
--- the call is equal to `x`.
+-- `Looks R` describes a test that does not change the tested items. `Looks R s x b t y` states that
+-- a call of this test with the item `x` returned `b` and changed the state of the test from `s` to
+-- `t` (`R s x b t`). It also states that the item after the call, `y`, is equal to `x`. If `b` is
+-- true, `x` is to be kept.
 abbrev pub Looks : {S T : Type 0} → (S → T → Bool → S → Type 0) → S → T → Bool → S → T → Type 0
 Looks R s x b t y = R s x b t × (y ≡ x)

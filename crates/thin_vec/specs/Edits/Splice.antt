@@ -16,14 +16,15 @@ use Rattle.thin_vec.specs.declared.edits.splice.Splice.{Splice}
 use Rattle.thin_vec.specs.declared.edits.holder.Holds.{Ghosts as HoldsGhosts}
 
 module _ {S T A : Type 0} (steps : S → Option T → S → Type 0) where
-  -- `Stopped can remaining s placed error` states that `finish` failed with `error` after it had
-  -- inserted the items `placed`, which the iterator `s` yielded first. The error contains the items
-  -- that `s` yielded after them: first the items in `held`, and then the item in `in_hand`, if
-  -- there is one.
+  -- `Stopped can remaining s placed error` describes a call to `finish` that failed with `error`.
+  -- It states that the iterator `s` first yielded the items `placed`, which the call inserted. Then
+  -- `s` yielded the items that `error` contains: the items in `held`, and then the item in
+  -- `in_hand`, if there is one.
   --
-  -- If `held` is not empty and `in_hand` is `None`, the iterator has ended. Otherwise `next` may be
-  -- called again (as `can` states), and the number of items that the iterator may still yield is
-  -- finite (as `remaining` states).
+  -- If `held` is not empty, and `in_hand` is `None`, the iterator has ended. Otherwise `next` may
+  -- be called again, and the number of items that the iterator may still yield is finite. The
+  -- parameter `can` says when `next` may be called, and `remaining` bounds the number of items that
+  -- the iterator may still yield.
   abbrev pub Stopped : (S → Type 0) → (S → Count) → S → List T → SpliceRefused T S A → Type 0
   Stopped can remaining s placed error =
       (PausedAfter steps can remaining s
@@ -38,9 +39,9 @@ module _ {T A : Type 0} where
   -- the range. The iterator can yield at most `left` more items.
   pub record IsStopCause {S : Type 0} (rule : Rule) (R : RattleType) (w : Thin T A) (tail : List T)
       (left : Count) (error : SpliceRefused T S A) : Type 0 where
-    -- If the error contains no items (`held` is empty, and `in_hand` is `None`), the call could not
-    -- reserve room for `h` more items, where `h` is a possible lower bound in the size hint of the
-    -- iterator. In this case, the cause is `CapacityOverflow` if and only if the growth rule
+    -- Suppose that the error contains no items (`held` is empty, and `in_hand` is `None`). Then the
+    -- call could not reserve room for `h` more items, where `h` is a possible lower bound in the
+    -- size hint of the iterator. The cause is `CapacityOverflow` if and only if the growth rule
     -- chooses no capacity for `h` more items.
     pub by_hint : error.held.items ≡ [] → error.in_hand ≡ None
         → FailsAtHint rule R w left error.cause
@@ -63,8 +64,9 @@ module _ {T A : Type 0} where
   pub record FailsAsExtend {S : Type 0} (v w : Thin T A) (s : S) (error : SpliceRefused T S A)
       : Type 0 where
     pub held : error.held.items ≡ []
-    -- If `in_hand` is `None`, the iterator has yielded no item, and the list is `v`. Otherwise
-    -- `in_hand` contains the last item that it yielded, and the list is full.
+    -- If `in_hand` is `None`, the iterator has yielded no item, and the list `w` is equal to `v`.
+    -- If `in_hand` is `Some`, it contains the last item that the iterator yielded, and the list `w`
+    -- is full.
     pub in_hand : MatchOption error.in_hand ((w ≡ v) × (error.rest ≡ s))
         (λ _. length w.items ≡ w.capacity)
 

@@ -19,8 +19,9 @@ use Rattle.thin_vec.specs.Cheap.{IsCheap}
 use Rattle.thin_vec.specs.ThinVec.{Thin, HasRoomFor, IsWithin, capacity_for, cost_at}
 use Rattle.thin_vec.specs.declared.errors.Rejected.{Rejected}
 
--- If the result `r` is an error, `causes r` keeps only the cause of this error, and not the value
--- that the error returns to the caller. In Rust, this is `r.map_err(|error| error.cause)`.
+-- `causes r` is the result `r` without the value that an error returns to the caller. If `r` is an
+-- error, only its cause is kept. If `r` is `Ok`, then `causes r` is also `Ok`. In Rust, this is
+-- `r.map_err(|error| error.cause)`.
 abbrev pub causes : {X T : Type 0} → Result X (Rejected T) → Result X ThinVecError
 causes (Ok x) = Ok x
 causes (Err e) = Err e.cause
@@ -47,9 +48,10 @@ module _ {T A : Type 0} where
   abbrev pub Costs : ℕ → Thin T A → Thin T A → Type 0
   Costs n v w = w.cost ≡ moving n (cost_at v w.capacity)
 
-  -- Every call that needs room for `k` more items in the list `v` guarantees `Reserves`. This
-  -- definition states which capacity the list `w` has after the call, and which error the call
-  -- returns if it fails.
+  -- `Reserves rule R k v w r` describes a call that needs room for `k` more items of the type `R`
+  -- in the list `v`. It states which capacity the list `w` has after the call, and which error the
+  -- call returns if it fails. `rule` is the growth rule, and `r` is the result of the call. Every
+  -- call that needs room for more items guarantees `Reserves`.
   pub record Reserves (rule : Rule) (R : RattleType) (k : ℕ) (v w : Thin T A)
       {X : Type 0} (r : Result X ThinVecError) : Type 0 where
     -- If `v` has room for `k` more items, the capacity does not change.
@@ -67,18 +69,19 @@ module _ {T A : Type 0} where
     -- error is `OutOfMemory`, because there are only these two errors.
     pub overflow : IsErrOf r CapacityOverflow ↔ (capacity_for rule R v k ≡ None)
 
-  -- Every call that may grow a list guarantees `Keeps R v w`, where `v` is the list before the
-  -- call, `w` is the list after the call, and `R` is the type of the items. The allocator does not
-  -- change, the capacity does not become smaller, and `IsCheap`, the bound on the cost, is
-  -- preserved. Both lists satisfy `IsWithin`, which limits their length and capacity.
+  -- `Keeps R v w` describes a call that changed the list `v` to `w`. `R` is the type of the items.
+  -- The allocator does not change, the capacity does not become smaller, and `IsCheap`, the bound
+  -- on the cost, is preserved. Both lists satisfy `IsWithin`, which limits their length and
+  -- capacity. Every call that may grow a list guarantees `Keeps`.
   pub record Keeps (R : RattleType) (v w : Thin T A) : Type 0 where
     pub alloc : w.alloc ≡ v.alloc
     pub never_less : v.capacity ≤ w.capacity
     pub cheap : IsCheap v → IsCheap w
     pub within : IsWithin R v × IsWithin R w
 
-  -- `IsMade R a w` states that `w` is a new list with the allocator `a`. The list satisfies
-  -- `IsCheap`, which bounds its cost, and `IsWithin`, which limits its length and capacity.
+  -- `IsMade R a w` states that `w` is a new list for items of the type `R`, and that its allocator
+  -- is `a`. The list satisfies `IsCheap`, which bounds its cost, and `IsWithin`, which limits its
+  -- length and capacity.
   pub record IsMade (R : RattleType) (a : A) (w : Thin T A) : Type 0 where
     pub alloc : w.alloc ≡ a
     pub cheap : IsCheap w

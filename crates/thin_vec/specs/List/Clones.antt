@@ -45,7 +45,7 @@ pub record AppendsRepeats {T : Type 0} (clones : T → T → Type 0) (x : T) (n 
 
 -- `IsResized clones xs n x ys` states that `ys` is a possible result of resizing the list `xs` to
 -- the length `n`. If `xs` has at least `n` items, `ys` consists of the first `n` items of `xs`.
--- Otherwise, `ys` consists of all items of `xs`, then clones of `x`, and finally `x` itself. The
+-- Otherwise, `ys` has `n` items: all items of `xs`, then clones of `x`, and finally `x` itself. The
 -- parameter `clones` says which items are clones of `x`.
 pub record IsResized {T : Type 0} (clones : T → T → Type 0) (xs : List T) (n : ℕ) (x : T)
     (ys : List T) : Type 0 where
@@ -54,8 +54,8 @@ pub record IsResized {T : Type 0} (clones : T → T → Type 0) (xs : List T) (n
       × (ys ≡ xs ++ (copies ++ x ∷ []))
   pub len : length ys ≡ n
 
--- `StopsAtClone infallible sources before after` describes a call that cloned the items of
--- `sources` in order, until cloning an item failed. Here, `infallible x` states that cloning `x`
+-- `StopsAtClone infallible sources before after` states that a call cloned the items of `sources`
+-- in order, until an item could not be cloned. `infallible x` states that cloning the item `x`
 -- cannot fail. Each clone that was made counts as one move. `before` is the recorded cost before
 -- the first clone, and `after` is the recorded cost after the failure.
 pub record StopsAtClone {T : Type 0} (infallible : T → Type 0) (sources : List T)
@@ -65,11 +65,11 @@ pub record StopsAtClone {T : Type 0} (infallible : T → Type 0) (sources : List
   pub fallible : HoldsAt (λ x. ¬ (infallible x)) sources at
   pub cost : after ≡ moving at before
 
--- `CostsUpToClone infallible sources v w` describes the cost of a call that cloned the items of
--- `sources` into a list, in order, until cloning an item failed. (`infallible x` states that
--- cloning `x` cannot fail.) The call changed the list from `v` to `w`. Each clone that was made
--- counts as one move. If the capacity changed, the cost also includes one request for memory, and
--- each item of `v` counts as copied once.
+-- `CostsUpToClone infallible sources v w` states the cost of a call that cloned the items of
+-- `sources` into a list, in order, until an item could not be cloned. The call changed the list
+-- from `v` to `w`. `infallible x` states that cloning the item `x` cannot fail. Each clone that was
+-- made counts as one move. If the capacity changed, the cost also includes one request for memory
+-- and one copy of each item of `v`.
 abbrev pub CostsUpToClone : {T A : Type 0} → (T → Type 0) → List T → Thin T A → Thin T A → Type 0
 CostsUpToClone infallible sources v w =
     StopsAtClone infallible sources (cost_at v w.capacity) w.cost

@@ -18,8 +18,11 @@ use Rattle.thin_vec.specs.declared.errors.ExtendRefused.{ExtendRefused}
 
 -- `PausedAfter steps can remaining s ys t` states that calls to `next` on the iterator `s` yielded
 -- the items `ys` and changed the iterator to `t`. It also states that `next` may be called on `t`
--- again (`can t`), and that `remaining t`, an upper bound on the number of items that `t` still
--- yields, is finite. The parameter `steps` describes a single call to `next`.
+-- again, and that `remaining t` is finite.
+--
+-- The parameter `steps` describes a single call to `next`. `can x` states that `next` may be called
+-- on the iterator `x`. `remaining x` is an upper bound on the number of items that `x` still
+-- yields.
 pub record PausedAfter {S X : Type 0} (steps : S → Option X → S → Type 0) (can : S → Type 0)
     (remaining : S → Count) (s : S) (ys : List X) (t : S) : Type 0 where
   pub gave : Yields steps s ys t
@@ -27,19 +30,17 @@ pub record PausedAfter {S X : Type 0} (steps : S → Option X → S → Type 0) 
   pub finite : IsFinite (remaining t)
 
 -- `IsLoose rule R c d` compares the old capacity `c` of a list with its new capacity `d`. `R` is
--- the type of the items. There are two cases. In the first case, `d` is `c`. In the second case,
--- `d` is at least as large as a capacity that the growth rule `rule` chooses if a block of capacity
--- `c` needs room for more than `c` items. In this case, `d` is at least `2 * c`, because a growth
--- rule at least doubles the capacity.
+-- the type of the items. Either the two capacities are equal, or `d` is at least a capacity that
+-- the growth rule `rule` chooses for a block of capacity `c` that has to grow. In the second case,
+-- `d` is at least `2 * c`, because a growth rule at least doubles the capacity.
 abbrev pub IsLoose : Rule → RattleType → ℕ → ℕ → Type 0
 IsLoose rule R c d =
     (d ≡ c) ⊎ ((w : ℕ) × (n : ℕ) × (c < w) × (ruled_capacity rule R c w ≡ Some n) × (n ≤ d))
 
 -- `IsRuled rule R d n` states that the growth rule `rule` may choose the capacity `d` for a list
--- that needs room for at most `n` items of the type `R`. More exactly, there are numbers `e` and
--- `w` with `e < w <= n` such that the rule chooses `d` for a block of capacity `e` that needs room
--- for `w` items. (With the rule `Doubling`, `d` is then at most the greater of the numbers 4 and
--- `2 * n`.)
+-- that needs room for at most `n` items of the type `R`. More exactly, for some numbers `e` and `w`
+-- with `e < w` and `w ≤ n`, the rule chooses `d` if a block of capacity `e` needs room for `w`
+-- items. If the rule is `Doubling`, `d` is at most the greater of the numbers 4 and `2 * n`.
 abbrev pub IsRuled : Rule → RattleType → ℕ → ℕ → Type 0
 IsRuled rule R d n = (e w : ℕ) × (e < w) × (w ≤ n) × (ruled_capacity rule R e w ≡ Some d)
 
@@ -50,12 +51,14 @@ abbrev pub IsKeptOrRuled : Rule → RattleType → ℕ → ℕ → ℕ → Type 
 IsKeptOrRuled rule R c d n = (d ≡ c) ⊎ IsRuled rule R d n
 
 -- `IsExtended rule R v d n left` states that `d` is a possible capacity of a list after a call that
--- added items of an iterator. The list was `v` before the call, and has `n` items after it. The
--- items have the type `R`, and the iterator could yield at most `left` items.
+-- added items of an iterator. The list was `v` before the call, and has `n` items after the call.
+-- The items have the type `R`, and the iterator could yield at most `left` items. At least one of
+-- two conditions holds:
 --
--- Either `d` is the old capacity, or one that the growth rule `rule` may choose for a list that
--- needs room for at most `n` items (`IsKeptOrRuled`). Or `d` is the capacity that the call
--- `reserve(h)` gives to `v`, where `h` is a lower bound that the iterator's size hint may report.
+-- - `d` is the old capacity, or a capacity that the growth rule `rule` may choose for a list that
+--   needs room for at most `n` items (`IsKeptOrRuled`).
+-- - `d` is the capacity of `v` after the call `reserve(h)`, where `h` is a possible lower bound in
+--   the size hint of the iterator.
 abbrev pub IsExtended : {T A : Type 0} → Rule → RattleType → Thin T A → ℕ → ℕ → Count → Type 0
 IsExtended rule R v d n left =
     IsKeptOrRuled rule R v.capacity d n
@@ -63,10 +66,12 @@ IsExtended rule R v d n left =
 
 -- `IsCollected rule R d n left` states that `d` is a possible capacity of a new list that was made
 -- from the items of an iterator. The list has `n` items of the type `R`, and the iterator could
--- yield at most `left` items. There are two cases. In the first case, the growth rule `rule` may
--- choose `d` for a list that needs room for at most `n` items (`IsRuled`). In the second case, the
--- list was made with room for exactly `d` items, and `d` is a possible lower bound in the size hint
--- of the iterator.
+-- yield at most `left` items. At least one of two conditions holds:
+--
+-- - The growth rule `rule` may choose `d` for a list that needs room for at most `n` items
+--   (`IsRuled`).
+-- - The list was made with room for exactly `d` items, and `d` is a possible lower bound in the
+--   size hint of the iterator.
 abbrev pub IsCollected : Rule → RattleType → ℕ → ℕ → Count → Type 0
 IsCollected rule R d n left =
     IsRuled rule R d n ⊎ ((h : ℕ) × IsWithinCount h left × (exact_capacity R 0 h ≡ Some d))
@@ -78,21 +83,24 @@ module _ {T A : Type 0} where
   pub record GrowsFor (rule : Rule) (R : RattleType) (v w : Thin T A) (left : Count) : Type 0 where
     -- If `v` has room for all items that the iterator may yield, the capacity does not change.
     pub had_room : HasRoomFor v (size left) → w.capacity ≡ v.capacity
-    -- Either the capacity does not change, or it at least doubles. More exactly, in the second
-    -- case, the new capacity is at least as large as a capacity that the growth rule chooses if a
-    -- block of the old capacity has to grow.
+    -- Either the capacity does not change, or it at least doubles. If it changes, the new capacity
+    -- is at least as large as a capacity that the growth rule chooses for a block of the old
+    -- capacity that has to grow.
     pub loose : IsLoose rule R v.capacity w.capacity
-    -- The new capacity is one of three: the old capacity; a capacity that the growth rule may
-    -- choose for a list that needs room for at most `length w.items` items; or the capacity that
-    -- the call `reserve(h)` gives to `v`, where `h` is a lower bound that the iterator's size hint
-    -- may report.
+    -- The new capacity is one of the following:
+    --
+    -- - the old capacity,
+    -- - a capacity that the growth rule may choose for a list that needs room for at most
+    --   `length w.items` items,
+    -- - the capacity of `v` after the call `reserve(h)`, where `h` is a possible lower bound in the
+    --   size hint of the iterator.
     pub ruled : IsExtended rule R v w.capacity (length w.items) left
 
-  -- `CostsAdding v w n` bounds the recorded cost of a call that added items to a list and changed
-  -- the list from `v` to `w`. The cost counts requests for memory, copied items and moves. Each
-  -- added item counts as one move. The moves of the old items (the items of `v`) add up to at most
-  -- `n`. Some inequalities have sums on both sides, because the subtraction of natural numbers
-  -- stops at 0.
+  -- `CostsAdding v w n` states bounds on the recorded cost of a call that added items to a list,
+  -- and changed the list from `v` to `w`. The cost counts requests for memory, copied items and
+  -- moves. Each added item counts as one move, and the items of `v` count as at most `n` moves in
+  -- total. A bound such as `a ≤ b - c` is written as `a + c ≤ b`, because the subtraction of
+  -- natural numbers stops at 0.
   pub record CostsAdding (v w : Thin T A) (n : ℕ) : Type 0 where
     pub least : v.cost.moves + length w.items ≤ w.cost.moves + length v.items
     pub moves : w.cost.moves + length v.items ≤ v.cost.moves + n + length w.items
@@ -115,10 +123,11 @@ module _ {T A : Type 0} where
       : Type 0 where
     -- If the iterator cannot yield any item, the list has the capacity 0.
     pub none : size left ≡ 0 → w.capacity ≡ 0
-    -- There are two cases. In the first case, the capacity is one that the growth rule may choose
-    -- for a list that needs room for at most `length w.items` items. In the second case, the list
-    -- was made with room for exactly `h` items, where `h` is a possible lower bound in the size
-    -- hint of the iterator.
+    -- The capacity of the list is one of the following:
+    --
+    -- - a capacity that the growth rule may choose for a list that needs room for at most
+    --   `length w.items` items,
+    -- - exactly `h`, where `h` is a possible lower bound in the size hint of the iterator.
     pub ruled : IsCollected rule R w.capacity (length w.items) left
     -- Each item was moved exactly once.
     pub moves : w.cost.moves ≡ length w.items
@@ -144,11 +153,11 @@ module _ {T A : Type 0} where
       (v.items ≡ xs) × (length v.items ≡ length xs) × (v.cost.moves ≡ length xs) × IsCheap v
       × IsWithin R v
 
-  -- `FailsAtHint rule R w left cause` states why a call failed with the error `cause`: the list `w`
-  -- has no room for `h` more items of the type `R`, and the call could not reserve this room. Here,
-  -- `h` is a possible lower bound in the size hint of an iterator that yields at most `left` items.
-  -- The error is `CapacityOverflow` if and only if the growth rule `rule` chooses no capacity for
-  -- `h` more items.
+  -- `FailsAtHint rule R w left cause` states why a call failed with the error `cause`. The list `w`
+  -- has no room for `h` more items of the type `R`, and the call could not reserve room for them.
+  -- Here, `h` is a possible lower bound in the size hint of an iterator that yields at most `left`
+  -- items. The error is `CapacityOverflow` if and only if the growth rule `rule` chooses no
+  -- capacity for `h` more items.
   abbrev pub FailsAtHint : Rule → RattleType → Thin T A → Count → ThinVecError → Type 0
   FailsAtHint rule R w left cause =
       (h : ℕ) × IsWithinCount h left × ¬ (HasRoomFor w h)

@@ -7,10 +7,10 @@ use Rattle.thin_vec.specs.Edits.Retain.{moved_down, trues}
 use Rattle.thin_vec.specs.Edits.Dedup.{AskedLast, AskedPairs}
 use Rattle.thin_vec.specs.Open.{Open}
 
--- `R s x k b t y l` describes one call to a predicate that decides whether the item `x` is a
--- duplicate of the last kept item `k`. The result `b` is true if `x` is to be removed. The call
--- changes the state of the predicate from `s` to `t`, the item from `x` to `y`, and the kept item
--- from `k` to `l`.
+-- `R s x k b t y l` describes one call to a predicate. The predicate decides whether the item `x`
+-- is a duplicate of `k`, which is the last kept item. The result `b` is true if `x` is to be
+-- removed. The call changes the state of the predicate from `s` to `t`, the item from `x` to `y`,
+-- and the kept item from `k` to `l`.
 module _ {S T : Type 0} (R : S → T → T → Bool → S → T → T → Type 0) where
   -- `IsPairAskedAt k s xs b t ys` states that the item at index `k` of `xs` was tested against the
   -- item directly before it. `b` is true if the tested item is to be removed. The test changed its

@@ -23,18 +23,19 @@ module _ {S T : Type 0} (R : S → T → Bool → S → T → Type 0) where
     pub asked : R s item b t left
     pub now : ys ≡ before ++ left ∷ after
 
-  -- `Stops s xs t ys` describes the last step of a series of tests. Before this step, the test has
-  -- the state `s`, and the items of the list `xs` have not been tested. If `xs` is empty, nothing
-  -- is tested or changed: `t` is `s`, and `ys` is empty. Otherwise, the first item of `xs` is
-  -- tested, and it is to be removed. This test changes its state from `s` to `t`, and the list from
-  -- `xs` to `ys`.
+  -- `Stops s xs t ys` describes the last step of a series of tests. `s` is the state of the test
+  -- before this step, and `xs` is the list of the items that have not been tested yet. If `xs` is
+  -- empty, the step does nothing: `t` is `s`, and `ys` is empty. Otherwise, the step tests the
+  -- first item of `xs`, and this item is to be removed. The step changes the state of the test from
+  -- `s` to `t`, and the list from `xs` to `ys`.
   abbrev pub Stops : S → List T → S → List T → Type 0
   Stops s [] t ys = (ys ≡ []) × (t ≡ s)
   Stops s (x ∷ xs) t ys = (y : T) × R s x false t y × (ys ≡ y ∷ xs)
 
-  -- `AskedUpTo k m s xs t ys` states that the test decided to keep the items `k..m` of `xs`, and to
-  -- remove the item at index `m`, if there is such an item. The test changed its state from `s` to
-  -- `t`, and `ys` is `xs` with the tested items as the test left them.
+  -- `AskedUpTo k m s xs t ys` states that items of the list `xs` were tested in order, beginning
+  -- with the item at index `k`. The items at the indices `k..m` are to be kept. If there is an item
+  -- at index `m`, it was tested last, and is to be removed. All these tests together changed the
+  -- state of the test from `s` to `t`, and the list from `xs` to `ys`.
   pub record AskedUpTo (k m : ℕ) (s : S) (xs : List T) (t : S) (ys : List T) : Type 0 where
     pub before : List T
     pub run : List T
@@ -49,13 +50,15 @@ module _ {S T : Type 0} (R : S → T → Bool → S → T → Type 0) where
     pub stops : Stops between after t end
     pub now : ys ≡ before ++ (left ++ end)
 
-  -- `Advances s v t w` describes a search, among the middle items of an open block, for the next
-  -- item to remove. (The middle items are the items that have not been tested yet.) The search
-  -- changed the block from `v` to `w`, and the state of the test from `s` to `t`. The items that
-  -- were tested and kept were added to the end of the front, which is the first part of the block.
-  -- Each kept item counts as one move if `v` has empty slots between its front and its middle
-  -- items. If the search found an item to remove, this item is the first middle item of `w`.
-  -- Otherwise, `w` has no middle items.
+  -- `Advances s v t w` describes a search in an open block for the next item to remove. The middle
+  -- items of the block are the items that have not been tested yet. The search tests them in order,
+  -- until it finds an item to remove. The search changes the block from `v` to `w`, and the state
+  -- of the test from `s` to `t`.
+  --
+  -- Each tested item that is to be kept is added to the end of the front, which is the first part
+  -- of the block. If `v` has empty slots between its front and its middle items, each item that is
+  -- added to the front counts as one move. If the search finds an item to remove, this item is the
+  -- first middle item of `w`. Otherwise, `w` has no middle items.
   pub record Advances {A : Type 0} (s : S) (v : Open T A) (t : S) (w : Open T A) : Type 0 where
     pub count : ℕ
     pub left : List T

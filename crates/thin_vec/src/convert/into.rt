@@ -82,8 +82,8 @@ impl<T, A: Allocator, G: Growth> ThinVec<T, A, G> {
         Ok(self.into_vec(alloc)?.into_boxed_slice())
     }
 
-    /// If the list has exactly `N` items, moves them into an array, in order, and frees the
-    /// allocation of the list. The call allocates nothing.
+    /// If the list has exactly `N` items, moves them into an array, in order, and returns the
+    /// array. The allocation of the list is freed. The call allocates nothing.
     ///
     /// Like every array, the result must occupy fewer than 2^63 bytes. If `T` is a concrete type,
     /// the prover proves this without help. If `T` is a type parameter of the caller, the caller
@@ -114,8 +114,8 @@ impl<T, A: Allocator, G: Growth> ThinVec<T, A, G> {
         Ok(items)
     }
 
-    // Moves all items of the list into an array. The list must have exactly `N` items. After the
-    // call, the list is empty, and keeps its allocation.
+    // Moves all items of the list into an array, and returns the array. The list must have exactly
+    // `N` items. After the call, the list is empty, and keeps its allocation.
     fn take_all<const N: usize>(&mut self) -> [T; N]
         requires all { length self.old.items ≡ N }
         ensures value { result ≡ self.old.items }

@@ -189,7 +189,8 @@ impl<T: Clone, A: Allocator, G: Growth> IntoIter<T, A, G> {
     /// # Errors
     ///
     /// Fails with `OutOfMemory` if `alloc` cannot allocate the memory, or if an item cannot be
-    /// cloned. `alloc` and all clones are then dropped.
+    /// cloned. On failure, `alloc` is dropped, and the clones that were already made are dropped,
+    /// too.
     pub fn clone(&self, alloc: A) -> Result<IntoIter<T, A, G>, ThinVecError>
         // On success.
         ensures items { IfOk result (λ it. AllZip T.is_clone self.now.items it.items) }

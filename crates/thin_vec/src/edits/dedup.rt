@@ -103,19 +103,20 @@ impl<T: PartialEq + Drop, A: Allocator, G: Growth> ThinVec<T, A, G> {
     }
 }
 
-// The test that `dedup_by` uses: the later of two items is removed if the closure `same` returns
-// true.
+// The test that `dedup_by` uses. An item is removed if the closure `same` returns true for this
+// item and the last item that was kept before it.
 struct Deduping<F> {
     same: F,
 }
 
-// The test that `dedup_by_key` uses: the later of two items is removed if the closure `key` returns
-// equal keys for both items.
+// The test that `dedup_by_key` uses. An item is removed if the closure `key` returns equal keys for
+// this item and for the last item that was kept before it.
 struct Keying<F> {
     key: F,
 }
 
-// The test that `dedup` uses: the later of two items is removed if the two items are equal.
+// The test that `dedup` uses. An item is removed if it is equal to the last item that was kept
+// before it.
 struct Comparing {}
 
 impl<T, F: FnMut(&mut T, &mut T) -> bool> PairTest<T> for Deduping<F> {

@@ -30,8 +30,10 @@ use std::iter::Iterator;
 use thin_block::{Growth, ThinVecError};
 
 impl<T, A: Allocator, G: Growth> ThinVec<T, A, G> {
-    // Moves items of `iter` into the gap of `block` (the empty slots between its items), until the
-    // gap is full or `iter` ends. Then puts the block back into the list.
+    // Moves items of `iter` into the gap of `block`, that is, into the empty slots between the
+    // front and the tail of `block`. Stops when the gap is full or `iter` ends. Then puts the block
+    // back into the list. The result contains the rest of `iter`, and says whether `iter` has
+    // ended.
     #[inline(always)]
     fn fill_gap<I: Iterator<Item = T>>(&mut self, mut block: OpenBlock<T, A>, iter: I) -> Filled<I>
         requires empty { self.old.items ≡ [] }
@@ -200,8 +202,9 @@ impl<T: Drop, A: Allocator, G: Growth> ThinVec<T, A, G> {
         requires can_next { I.can_next iter }
         requires finite { IsFinite (I.remaining iter) }
 
-        // `IsFinished` states how the call changes the list, when it succeeds, and what it returns
-        // on failure. All `ensures` clauses of `Splice::finish` follow from this clause.
+        // `IsFinished` states under which conditions the call succeeds, how the call changes the
+        // list, and what it returns on failure. All `ensures` clauses of `Splice::finish` follow
+        // from this clause.
         ensures { IsFinished I.next_gives I.can_next I.remaining G.rule T.row block self.old.alloc
             iter self.new result }
     {
@@ -251,8 +254,8 @@ impl<T: Drop, A: Allocator, G: Growth> ThinVec<T, A, G> {
         requires finite { IsFinite (I.remaining iter) }
 
         // `IsFinished` states under which conditions the call succeeds, how the call changes the
-        // list, and what it returns on failure. All other `ensures` clauses of `Splice::finish`
-        // follow from this clause.
+        // list, and what it returns on failure. All `ensures` clauses of `Splice::finish` follow
+        // from this clause.
         ensures { IsFinished I.next_gives I.can_next I.remaining G.rule T.row block self.old.alloc
             iter self.new result }
     {

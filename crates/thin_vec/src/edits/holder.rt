@@ -1,10 +1,10 @@
 //! The trait `Holds`, through which `Drain`, `ExtractIf` and `Splice` own the block of a list.
 //!
 //! Each of these structs has one field for a `&mut` to the list, and one field for the block of the
-//! list. The block contains a raw pointer. If a struct declares one field with a raw pointer and
-//! another field with a `&mut`, the contract of its `drop` cannot describe the value behind the
-//! `&mut` after the call. So the type of the field for the block is a type parameter with the bound
-//! `Holds`, which hides the raw pointer.
+//! list. The block contains a raw pointer. Suppose that a struct declares one field with a raw
+//! pointer and another field with a `&mut`. Then the contract of the `drop` of this struct cannot
+//! say which value the `&mut` refers to after the call. So the type of the field for the block is a
+//! type parameter with the bound `Holds`. This bound hides the raw pointer.
 ghost use Rattle.std.specs.Prelude.{◌≡◌};
 
 /// A trait for types whose values contain exactly one inner value. Such a value can be converted

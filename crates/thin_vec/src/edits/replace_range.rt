@@ -87,7 +87,7 @@ impl<T: Clone, A: Allocator, G: Growth> ThinVec<T, A, G> {
         requires room { HasRoomFor self.old (length items.now) }
         requires within { IsWithin T.row self.old }
 
-        // If no clone can fail, the call succeeds.
+        // If cloning cannot fail for any item of `items`, the call succeeds.
         ensures succeeds { All T.is_infallible items.now → IsOk result }
 
         // On success.
@@ -129,7 +129,7 @@ impl<T: Clone, A: Allocator, G: Growth> ThinVec<T, A, G> {
         requires room { HasRoomFor self.old (length items.now) }
         requires within { IsWithin T.row self.old }
 
-        // If no clone can fail, the call succeeds.
+        // If cloning cannot fail for any item of `items`, the call succeeds.
         ensures succeeds { All T.is_infallible items.now → IsOk result }
 
         // On success.
@@ -183,7 +183,8 @@ impl<T: Drop, A: Allocator, G: Growth> ThinVec<T, A, G> {
 
     // Drops the items `start..end`, and moves the last `count` items of the list into the slots of
     // this range. If `count` is less than the length of the range, some of these slots stay empty.
-    // In this case, the other items after the range are moved down to close the gap.
+    // In this case, the items between the range and the last `count` items are moved down, so that
+    // no empty slot is left between two items.
     fn replace_by_last(&mut self, start: usize, end: usize, count: usize)
         requires start_le_end { start ≤ end }
         requires few { count ≤ end - start }

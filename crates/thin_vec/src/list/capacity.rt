@@ -252,10 +252,10 @@ impl<T, A: Allocator, G: Growth> ThinVec<T, A, G> {
         self.block.grow(&self.alloc, cap)
     }
 
-    // Makes an empty list whose capacity is exactly `capacity`. The function `fits` must return
-    // true for `capacity`, which means that a block of this capacity is not too large. If
-    // `capacity` is 0, the list has no block. All methods that make a list with an exact capacity
-    // use this function, except `from_iter`, which uses `reserve_first`.
+    // Makes an empty list whose capacity is exactly `capacity`. A block of this capacity must not
+    // be too large: the function `fits` must return true for `capacity`. If `capacity` is 0, the
+    // list has no block. All methods that make a list with an exact capacity use this function,
+    // except `from_iter`, which uses `reserve_first`.
     pub(crate) fn with_fitting_capacity(
         alloc: A,
         capacity: usize,

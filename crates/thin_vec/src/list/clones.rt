@@ -85,9 +85,9 @@ impl<T: Clone, A: Allocator, G: Growth> ThinVec<T, A, G> {
         ThinVec::from_fitting_slice(alloc, self.as_slice())
     }
 
-    // Makes a list of clones of `items`, in order. The list uses the allocator `alloc`. The
-    // capacity of the list is exactly the number of items. The function `fits` must return true for
-    // this number, which means that a block of this capacity is not too large.
+    // Makes a list of clones of `items`, in order. The list uses the allocator `alloc`, and its
+    // capacity is exactly the number of items. A block of this capacity must not be too large: the
+    // function `fits` must return true for the number of items.
     pub(crate) fn from_fitting_slice(
         alloc: A,
         items: &[T],
@@ -160,7 +160,7 @@ impl<T: Clone, A: Allocator, G: Growth> ThinVec<T, A, G> {
     }
 
     // Appends clones of `items`, in order. Stops at the first item that cannot be cloned. Returns
-    // the number of clones that were made. The list must have room for clones of all these items.
+    // the number of clones that were made. The list must have room for `items.len()` more items.
     fn push_clones_reserved(&mut self, items: &[T]) -> usize
         requires room { HasRoomFor self.old (length items.now) }
         ensures in_bounds { result ≤ length items.now }

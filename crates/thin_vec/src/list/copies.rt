@@ -55,7 +55,8 @@ impl<T: Copy, A: Allocator, G: Growth> ThinVec<T, A, G> {
     ///
     /// # Errors
     ///
-    /// Fails with `OutOfMemory` if `alloc` cannot allocate the memory. `alloc` is then dropped.
+    /// Fails with `OutOfMemory` if `alloc` cannot allocate the memory. On failure, `alloc` is
+    /// dropped.
     pub fn clone_copies(&self, alloc: A) -> Result<ThinVec<T, A, G>, ThinVecError>
         // On success.
         ensures items { IfOk result (λ list. list.items ≡ self.now.items) }

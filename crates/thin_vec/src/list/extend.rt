@@ -138,8 +138,9 @@ impl<T, A: Allocator, G: Growth> ThinVec<T, A, G> {
     }
 
     // Moves items of `iter` into the spare capacity until the list is full or `iter` ends. If the
-    // list is full, takes one more item from `iter`. Returns the rest of the iterator, and this
-    // further item if there is one.
+    // list is full, takes one more item from `iter`. Returns the rest of the iterator, and the item
+    // for which there was no room. If `iter` has ended, there is no such item, and `None` is
+    // returned in its place.
     fn extend_reserved<I: Iterator<Item = T>>(&mut self, iter: I) -> (I, Option<T>)
         requires can_next { I.can_next iter }
         requires finite { IsFinite (I.remaining iter) }
@@ -153,9 +154,10 @@ impl<T, A: Allocator, G: Growth> ThinVec<T, A, G> {
           cost = moving (length self.new.items - length self.old.items) self.old.cost;
         } }
 
-        // If the call returns an item, the list is full, and `next` may be called on the returned
-        // iterator. The upper bound on the number of items that this iterator may still yield is
-        // finite. The call has decreased this bound by more than the number of appended items.
+        // Suppose that the call returns an item. Then the list is full, and `next` may be called on
+        // the returned iterator. `I.remaining` is an upper bound on the number of items that an
+        // iterator may still yield. This bound is finite for the returned iterator. The call has
+        // decreased the bound by more than the number of appended items.
         ensures full { OnSome result.1 (length self.new.items ≡ self.new.capacity) }
         ensures rest { OnSome result.1 (I.can_next result.0 × IsFinite (I.remaining result.0)) }
         ensures nearer { OnSome result.1
@@ -306,7 +308,8 @@ impl<T: Drop, A: Allocator> FromIterator<T> for ThinVec<T, A> {
 
     ghost from_iter_gives = { IsMadeOf T.row };
 
-    // On failure, drops all items that were taken from the iterator, and the iterator itself.
+    // Makes a list of the items of `iter`, like the method `ThinVec::from_iter`. On failure, drops
+    // the iterator and all items that were taken from it.
     fn from_iter<U: IntoIterator<Item = T>>(
         alloc: A,
         iter: U,

@@ -84,8 +84,8 @@ impl<T, A: Allocator, G: Growth> ThinVec<T, A, G> {
         self.shrink_to(0)
     }
 
-    // Shrinks the capacity to `cap`, which must be at least the length, less than the old capacity,
-    // and not 0.
+    // Shrinks the capacity to `cap`, which must not be 0. `cap` must be at least the length, and
+    // less than the old capacity.
     fn shrink_block(&mut self, cap: usize) -> Result<(), ThinVecError>
         requires some { 0 < cap }
         requires room { length self.old.items ≤ cap }

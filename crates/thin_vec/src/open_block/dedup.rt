@@ -15,9 +15,10 @@ use thin_block::Block;
 /// A test of two items of a list: an item, and the last item that was kept before it. The test
 /// decides whether the later of the two items is to be removed. It may write to both items.
 pub(crate) trait PairTest<T> {
-    /// `tests s x k b t y l` holds if one call to the test may change the state of the test from
-    /// `s` to `t`, the later item from `x` to `y`, and the last item that was kept before it from
-    /// `k` to `l`. The flag `b` is true if the later item is to be removed.
+    /// `tests s x k b t y l` states that a call to the test may return `b`, which is true if the
+    /// later item is to be removed. Before the call, the state of the test is `s`, the later item
+    /// is `x`, and the last item that was kept before it is `k`. After the call, the state is `t`,
+    /// the later item is `y`, and the kept item is `l`.
     ghost tests: { Self → T → T → Bool → Self → T → T → Type 0 };
 
     /// `ready s` holds if the test can be called in the state `s`, with any two items. After such a
@@ -63,8 +64,8 @@ impl<T, A: Allocator> OpenBlock<T, A> {
         test.test(later, self.block.slot_mut(self.front_end - 1))
     }
 
-    // Tests the first of the remaining items against the item `kept`. Returns whether the first of
-    // the remaining items is to be removed. This item is not moved.
+    // Tests the first of the remaining items against the item `kept`, and returns whether the first
+    // of the remaining items is to be removed. Neither item is moved.
     pub(crate) fn test_next<J: PairTest<T>>(&mut self, kept: &mut T, test: &mut J) -> bool
         requires some { 0 < length self.old.rest }
         requires ready { J.ready test.old }
@@ -152,14 +153,14 @@ impl<T: Drop, A: Allocator> OpenBlock<T, A> {
     }
 
     // Tests the remaining items, in order, each against the last item that was kept before it.
-    // Stops at the first item that is to be removed, and drops this item. Appends the items before
-    // it to the kept items. If no item is to be removed, appends all remaining items. At least two
-    // items must remain before the call.
+    // Stops at the first item that is to be removed, and drops this item. The remaining items that
+    // were tested before the dropped item are appended to the kept items. If no item is to be
+    // removed, all remaining items are appended. At least two items must remain before the call.
     //
-    // The first remaining item is taken out of the block before it is tested. This is necessary
-    // because the test needs mutable references to this item and to the last kept item at the same
-    // time. The block can provide two such references only for adjacent items, but there are empty
-    // slots between these two items.
+    // The first remaining item is taken out of the block before it is tested. The reason is that
+    // the test needs mutable references to this item and to the last kept item at the same time.
+    // The block can provide two such references only for adjacent items, and these two items are
+    // not adjacent: there is a gap between them.
     fn dedup_two<J: PairTest<T>>(&mut self, test: &mut J)
         requires some { 0 < length self.old.front }
         requires two { 1 < length self.old.rest }

@@ -33,8 +33,8 @@ pub(crate) trait Test<T> {
 impl<T, A: Allocator> OpenBlock<T, A> {
     ghost use Rattle.thin_vec.specs.OpenBlock.Sift.{IsAskedAt, AskedUpTo};
 
-    // Tests the item at index `k` of the remaining items, without moving it. Returns whether it is
-    // kept.
+    // Tests the item at index `k` of the remaining items, and returns whether this item is to be
+    // kept. The item is not moved.
     pub(crate) fn test<J: Test<T>>(&mut self, k: usize, test: &mut J) -> bool
         requires in_bounds { k < length self.old.rest }
         requires ready { J.ready test.old }
@@ -126,9 +126,10 @@ impl<T, A: Allocator> OpenBlock<T, A> {
         self.rest_start += k;
     }
 
-    // Returns whether at least two items remain. There must be a gap, so `rest_end` is not 0, and
-    // `rest_end - 1` cannot overflow. The code compares with `rest_end - 1` because this number can
-    // stay in a register during a loop.
+    // Returns whether at least two items remain. There must be a gap before the remaining items,
+    // which are in the slots `rest_start..rest_end`. So `rest_end` is not 0, and `rest_end - 1`
+    // cannot overflow. The code compares with `rest_end - 1` because this number can stay in a
+    // register during a loop.
     pub(crate) fn has_two(&self) -> bool
         requires gap { 0 < self.now.gap }
         ensures value { IsTrue result ↔ (1 < length self.now.rest) }
@@ -162,8 +163,9 @@ impl<T, A: Allocator> OpenBlock<T, A> {
     ghost use Rattle.thin_vec.specs.OpenBlock.Sift.{Advances};
 
     // Tests the remaining items, in order, up to the first item that is to be removed, and returns
-    // whether there is such an item. The items before it are added to the kept items, and moved
-    // down if there is a gap. The item itself becomes the first of the remaining items.
+    // whether there is such an item. The items that were tested before this item are added to the
+    // kept items, and are moved down if there is a gap. The item that is to be removed becomes the
+    // first of the remaining items.
     pub(crate) fn advance<J: Test<T>>(&mut self, test: &mut J) -> bool
         requires ready { J.ready test.old }
         ensures advances { Advances J.tests test.old self.old test.new self.new }
@@ -195,9 +197,12 @@ impl<T, A: Allocator> OpenBlock<T, A> {
         }
     }
 
-    // Does the same as `advance`, but needs a gap before the remaining items, and at least two
-    // remaining items. The first two items are tested before the loop. If one of them is to be
-    // removed, no loop counter is needed.
+    // Does the same as `advance`: tests the remaining items up to the first item that is to be
+    // removed, and returns whether there is such an item. At least two items must remain, and there
+    // must be a gap before them.
+    //
+    // The first two items are tested before the loop. If one of them is to be removed, no loop
+    // counter is needed.
     fn advance_two<J: Test<T>>(&mut self, test: &mut J) -> bool
         requires two { 1 < length self.old.rest }
         requires gap { 0 < self.old.gap }
@@ -218,8 +223,9 @@ impl<T, A: Allocator> OpenBlock<T, A> {
         self.rest_len() > 0
     }
 
-    // Does the same as `advance`, but needs empty slots after the kept items. At most one item may
-    // remain before the call.
+    // Does the same as `advance`, for at most one remaining item: tests this item, and returns
+    // whether it is to be removed. Returns `false` if no item remains. There must be empty slots
+    // after the kept items.
     fn advance_last<J: Test<T>>(&mut self, test: &mut J) -> bool
         requires short { length self.old.rest ≤ 1 }
         requires gap { 0 < self.old.gap }
@@ -272,8 +278,9 @@ impl<T: Drop, A: Allocator> OpenBlock<T, A> {
     }
 
     // Tests the remaining items, in order, up to the first item that is to be removed, and drops
-    // this item. Appends the items before it to the kept items. If no item is to be removed,
-    // appends all remaining items. At least two items must remain before the call.
+    // this item. The remaining items that were tested before the dropped item are appended to the
+    // kept items. If no item is to be removed, all remaining items are appended. At least two items
+    // must remain before the call.
     fn sift_two<J: Test<T>>(&mut self, test: &mut J)
         requires two { 1 < length self.old.rest }
         requires gap { 0 < self.old.gap }

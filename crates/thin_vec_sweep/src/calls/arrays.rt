@@ -147,9 +147,12 @@ fn become_array<T: Sample, const N: usize, R: Abort>(rt: &R, case: &mut Case<T, 
     }
 }
 
-// Converts `list` to an array of `N` items, and the array back to a list. Returns three values: a
-// list, whether the first conversion succeeded, and the result of the second conversion. The list
-// is `list` itself if the first conversion failed, and `None` if the second conversion failed.
+// Converts `list` to an array of `N` items, and the array back to a list. Returns three values: the
+// list after the conversions, whether the conversion to an array succeeded, and the result of the
+// conversion back.
+//
+// If the conversion to an array fails, the returned list is `list` itself. If the conversion back
+// fails, `None` is returned instead of a list.
 fn there_and_back<T: Sample, A: Allocator, const N: usize, R: Abort>(
     rt: &R,
     at: &At,

@@ -9,8 +9,9 @@ use std::process::Abort;
 use thin_testing::Ruled;
 use thin_vec::ThinVecError;
 
-// Each test item is made from a number. `resize` adds clones of the item made from `FRESH`.
-// `resize_with` adds items made from descending numbers, the last of which is `FRESH`.
+// Each test item is made from a number. `resize` adds clones of the item that is made from `FRESH`.
+// `resize_with` adds items that are made from descending numbers. The last of these numbers is
+// `FRESH`.
 const FRESH: u64 = 80_000;
 
 /// A test that calls `resize` with several new lengths. Some of them are at most the old length,
@@ -38,9 +39,9 @@ impl<T: Sample, G: Ruled> Call<T, G> for Resize {
     }
 }
 
-// Returns two numbers for test case number `argument`: the new length of the list, and the number
-// of items to add. In the first few test cases, the new length is at most the old length, so the
-// second number is 0.
+// Returns two numbers for test case number `argument` on a list of the shape `shape`: the new
+// length of the list, and the number of items to add. In the first few test cases, the new length
+// is at most the old length, so the number of items to add is 0.
 fn length(shape: Shape, argument: usize) -> (usize, usize) {
     match argument.checked_sub(shape.indices()) {
         None => (shape.index(argument), 0),
@@ -103,8 +104,7 @@ fn add_from_last<T: Sample, G: Ruled, R: Abort>(rt: &R, case: &mut Case<T, G>, m
     case.items.append(&mut new).expect(rt, "memory");
 }
 
-// Entry `k` is the number of test cases for each range of `k` items, for `k` from 0 to 6. It is
-// always 1.
+// For each `k` from 0 to 6, the number of test cases on a range of `k` items, which is always 1.
 const EACH_RANGE: Cases = [1; 7];
 
 /// A test that calls `extend_from_within` with each range of a list of at most 6 items, and with

@@ -12,10 +12,10 @@ use std::hash::{DefaultHasher, Hash, Hasher};
 use std::process::Abort;
 use thin_testing::Ruled;
 
-/// A test that hashes a list, and compares it with a second list. In the four test cases, the
-/// second list is equal to the first, has a different last item, lacks the last item, or has one
-/// more item. If the first list is empty, the second list is empty, too, in the first three test
-/// cases.
+/// A test that hashes the list under test, and compares this list with a second list. There are
+/// four test cases. The second list is equal to the list under test, has a different last item,
+/// lacks the last item, or has one more item. If the list under test is empty, the second list is
+/// empty in the first three test cases.
 pub struct Compare {}
 
 impl<T: Sample + Ord + Hash + Debug, G: Ruled> Call<T, G> for Compare {

@@ -56,9 +56,10 @@ impl<T: Sample, G: Ruled> Call<T, G> for PushMut {
     }
 }
 
-// Checks the result of `push_mut` or `insert_mut`. On success, the test has already replaced the
-// item that the call added, and `hand` must be this added item. On failure, the error must contain
-// the item that was passed to the call.
+// Checks `answer`, the result of `push_mut` or `insert_mut`. If the call succeeded, the test has
+// already replaced the added item with a new item. `hand` is the item that was replaced, and must
+// be the item that was passed to the call. If the call failed, the error must contain the item that
+// was passed to the call.
 fn lent<T: Sample, G: Ruled, R: Abort>(
     rt: &R,
     case: &mut Case<T, G>,

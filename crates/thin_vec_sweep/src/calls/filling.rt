@@ -57,8 +57,9 @@ pub struct Ending {
 }
 
 impl Ending {
-    /// Returns the expected outcome of a call that fails after moving `placed` items into the list.
-    /// `in_hand` is 1 if the call then takes an item for which it finds no room, and 0 otherwise.
+    /// Returns the expected outcome of a call that fails after it has moved `placed` items into the
+    /// list. `verdict` says why the call fails. If the call then takes one more item and finds no
+    /// room for it, `in_hand` is 1. Otherwise, `in_hand` is 0.
     pub fn refused(verdict: Verdict, placed: usize, in_hand: usize) -> Ending {
         Ending {
             verdict,
@@ -91,10 +92,12 @@ impl Ending {
     }
 }
 
-/// Returns the expected outcome of a call that appends `count` items from an iterator, and appends
-/// the expected items to `case.items`. The call first grows the list to the capacity `hinted`,
-/// which it computes from the size hint. Later, it grows the list whenever the list is full.
-/// `hinted` is `None` if this capacity would be too large.
+/// Returns the expected outcome of a call that appends `count` items from an iterator. Also appends
+/// the expected items to `case.items`.
+///
+/// The call first grows the list to the capacity `hinted`, which it computes from the size hint. If
+/// this capacity would be too large, `hinted` is `None`. Later, the call grows the list whenever
+/// the list is full.
 pub fn fill<T: Sample, G: Ruled, R: Abort>(
     rt: &R,
     case: &mut Case<T, G>,
@@ -152,9 +155,10 @@ pub fn assert_iterator_calls<T: Sample, G: Ruled, R: Abort>(
     );
 }
 
-/// Checks what a failed call returned: the iterator `rest` with the items that the call had not
-/// taken, and the item `in_hand` for which it found no room, if any. Before the call, the iterator
-/// had `count` items.
+/// Checks what a failed call returned. `rest` is the returned iterator, and must contain the items
+/// that the call did not take. `in_hand` is the item for which the call found no room, or `None` if
+/// there is no such item. Before the call, the iterator had `count` items. `ending` is the expected
+/// outcome of the call.
 pub fn back<T: Sample, G: Ruled, R: Abort>(
     rt: &R,
     case: &Case<T, G>,

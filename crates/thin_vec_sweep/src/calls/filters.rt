@@ -81,10 +81,10 @@ impl<T: Sample, G: Ruled> Call<T, G> for RetainMut {
     }
 }
 
-// Computes which items remain after the test case `RetainMut` for a list of `count` items. Returns
-// the numbers from which these items were made. The closure overwrites the first item with a new
-// item, and every other item with the original item of the preceding index. `pattern` determines
-// the indices whose items are kept.
+// Returns the items that remain after the test `RetainMut` on a list of `count` items. Each item is
+// represented by the number from which it was made. The closure replaces the first item with a new
+// item, and each later item with the item that was originally before it. `pattern` determines at
+// which indices the items are kept.
 fn moved_up<R: Abort>(rt: &R, global: Global, count: usize, pattern: usize) -> Vec<u64, Global> {
     let mut left = Vec::new(global);
     let mut number = FRESH;
@@ -128,10 +128,12 @@ impl<T: Sample, G: Ruled> Call<T, G> for PopIf {
     }
 }
 
-// Updates `items`, the expected items of the test `PopIf`, each represented by a number. Returns
-// the expected result of `pop_if`. If `items` is empty, nothing changes, and the result is `None`.
-// Otherwise, the closure replaces the last item with the new item `FRESH`, and returns `goes`. If
-// `goes` is true, the new item is removed and returned. If `goes` is false, the result is `None`.
+// Returns the expected result of `pop_if` in the test `PopIf`, and updates `items`, the expected
+// items of the list. Each item is represented by a number.
+//
+// If `items` is empty, nothing changes, and the result is `None`. Otherwise, the closure replaces
+// the last item with the new item `FRESH`, and returns `goes`. If `goes` is true, the new item is
+// removed and returned. If `goes` is false, the new item remains, and the result is `None`.
 fn popped<R: Abort>(rt: &R, items: &mut Vec<u64, Global>, goes: bool) -> Option<u64> {
     let _last = items.pop()?;
     if goes {
@@ -172,10 +174,10 @@ impl<T: Sample, G: Ruled> Call<T, G> for DedupBy {
     }
 }
 
-// Computes which items remain after the test case `DedupBy` for a list of `count` items. Returns
-// the numbers from which these items were made. For each item after the first, the closure swaps
-// the item with the last kept item. Then `pattern` determines whether the item that is now at the
-// later index is removed.
+// Returns the items that remain after the test `DedupBy` on a list of `count` items. Each item is
+// represented by the number from which it was made. For each item after the first, the closure
+// swaps this later item with the last kept item. Then `pattern` determines whether the item that is
+// now in the place of the later item is removed.
 fn exchanged<R: Abort>(rt: &R, global: Global, count: usize, pattern: usize) -> Vec<u64, Global> {
     let mut left = Vec::new(global);
     let mut last = number_at(0);

@@ -16,9 +16,9 @@ use thin_vec::Growth;
 // iterator with this new item.
 const FRESH: u64 = 70_000;
 
-// The test `IntoIterClone` calls `next` or `next_back` `n` times, and then clones the iterator.
-// Returns how many values of `n` are tried. On a list of at most 4 items, these values are
-// `0..=length + 2`.
+// Returns the number of values of `n` that the test `IntoIterClone` tries on a list of the shape
+// `shape`. The test calls `next` or `next_back` `n` times, and then clones the iterator. If the
+// list has at most 4 items, the values of `n` are `0..=length + 2`.
 fn steps(shape: Shape) -> usize {
     shape.indices().saturating_add(2)
 }

@@ -11,8 +11,9 @@ use thin_testing::Ruled;
 // is made from the next higher number.
 const FRESH: u64 = 80_000;
 
-/// A test that calls `append` with second lists of various lengths. For each length, the second
-/// list is tried once without spare capacity, and once with one empty slot.
+/// A test that calls `append`, which moves the items of a second list to the end of the list under
+/// test. Various lengths of the second list are tried. For each length, the second list is tried
+/// once without spare capacity, and once with one empty slot.
 pub struct Append {}
 
 impl<T: Sample, G: Ruled> Call<T, G> for Append {
@@ -37,8 +38,9 @@ impl<T: Sample, G: Ruled> Call<T, G> for Append {
     }
 }
 
-/// A test that calls `append_reserved`. The second lists have all lengths from 1 to the number of
-/// empty slots in the first list.
+/// A test that calls `append_reserved`, which moves the items of a second list into the spare
+/// capacity of the list under test. The test tries each length of the second list from 1 to the
+/// number of empty slots of the list under test.
 pub struct AppendReserved {}
 
 impl<T: Sample, G: Ruled> Call<T, G> for AppendReserved {

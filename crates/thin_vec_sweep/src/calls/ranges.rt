@@ -103,9 +103,9 @@ fn step_through<'a, T: Sample, A: Allocator, G: Growth, R: Abort>(
     remaining.of(numbers)
 }
 
-// For each `k` from 0 to 6, the number of test cases of `extract_if` on a range of `k` items. Each
-// of the `2^k` sequences of results of the closure is tried with each number of calls to `next`
-// from 0 to `k + 1`. So there are `(k + 2) * 2^k` test cases.
+// For each `k` from 0 to 6, the number of test cases of `extract_if` on a range of `k` items. There
+// are `2^k` possible sequences of results of the closure, and `next` is called 0 to `k + 1` times.
+// Each combination is tried once, so there are `(k + 2) * 2^k` test cases.
 const EXTRACTIONS: Cases = [2, 6, 16, 40, 96, 224, 512];
 
 /// A test that calls `extract_if` on several ranges, with several closures. Each test case calls
@@ -192,8 +192,9 @@ fn calls_and_pattern(width: usize, number: usize) -> (usize, usize) {
 }
 
 // Calls `extract_if` on `range`, and then calls `next` the number of times that `wanted` specifies.
-// Checks each item that is yielded, and finally the size hint. The closure returns `true` only for
-// the expected item, and only if `wanted` says that this item is to be removed.
+// Checks each item that is yielded, and finally the size hint. The closure returns `true` if two
+// conditions are met: its argument is the expected item, and `wanted` says that this item is to be
+// removed.
 fn extract<T: Sample, A: Allocator, G: Growth, R: Abort>(
     rt: &R,
     at: &At,

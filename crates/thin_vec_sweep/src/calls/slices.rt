@@ -193,9 +193,9 @@ impl<G: Ruled> AppendsSlice<u8, G> for WriteAll {
     }
 }
 
-// Asserts that `error`, the error of a failed write, has the kind `OutOfMemory`, and returns
-// `OutOfMemory` as the cause. After a capacity overflow, the error has the same kind, so the result
-// is the same.
+// Asserts that `error`, the error of a failed write, has the kind `OutOfMemory`. Returns the cause
+// `OutOfMemory`. If the write failed because of a capacity overflow, the kind of `error` is also
+// `OutOfMemory`, and the result is the same.
 fn cause<R: Abort>(rt: &R, at: &At, error: &Error) -> ThinVecError {
     let kind = error.kind() == ErrorKind::OutOfMemory;
     assert_same(rt, at, "the error's kind is OutOfMemory", kind, true);

@@ -33,8 +33,8 @@ const SHORT_WALKS: usize = 3;
 // For each `k` from 0 to 6, the number of test cases on a range of `k` items. Each test case makes
 // a sequence of calls to `next` and `next_back`, and then calls `finish`.
 //
-// If `k > 0`, each of the 3 sequences of at most one call is tried 30 times, and each longer
-// sequence is tried once. If `k = 0`, there are 30 test cases without a call to `next` or
+// If `k > 0`, there are 30 test cases for each of the 3 sequences of at most one call, and one test
+// case for each longer sequence. If `k = 0`, there are 30 test cases without a call to `next` or
 // `next_back`, and 3 test cases with one call to `next`.
 const AFTER_STEPS: Cases = [33, 94, 102, 118, 150, 214, 342];
 
@@ -43,9 +43,9 @@ const AFTER_STEPS: Cases = [33, 94, 102, 118, 150, 214, 342];
 // each pair of a size hint and a number of new items.
 const AT_ONCE: Cases = [FILLS; 7];
 
-// Returns, for each `k` from 0 to 6, the number of test cases on a range of `k` items. If the list
-// has spare capacity, the test cases call `finish` without taking an item first. This is enough,
-// because spare capacity affects only `finish`.
+// Returns, for each `k` from 0 to 6, the number of test cases on a range of `k` items, for lists of
+// the shape `shape`. If the lists have spare capacity, each test case calls `finish` without taking
+// an item first. This is enough, because spare capacity affects only `finish`.
 fn cases(shape: Shape) -> Cases {
     if shape.spare == 0 {
         AFTER_STEPS
@@ -70,9 +70,10 @@ struct Plan {
 }
 
 impl Plan {
-    // Returns the plan for the test case `argument`. When `finish` reads the size hint of the
-    // iterator, it may already have moved new items into the range. One of the possible size hints
-    // states exactly how many items the iterator has left at that moment.
+    // Returns the plan for test case number `argument`. The plan contains one of five lower bounds
+    // for the size hint of the iterator. One of these bounds is exact when `finish` reads the size
+    // hint: it is the number of items that the iterator then has left. At this time, `finish` may
+    // already have moved new items into the range.
     fn new<T: Sample, G: Ruled, R: Abort>(rt: &R, case: &Case<T, G>, argument: usize) -> Plan {
         let shape = case.at.shape;
         let range = shape.ranged_case(&cases(shape), argument);
@@ -97,8 +98,8 @@ impl Plan {
     }
 }
 
-// A walk is a sequence of calls to `next` and `next_back`, and each walk has an index. Returns the
-// index of the walk for the test case `number`, if the list has at most 6 items.
+// Returns the index of the walk for test case number `number` on a list of at most 6 items. A walk
+// is a sequence of calls to `next` and `next_back`, and each walk has an index.
 fn few_steps(number: usize) -> usize {
     let crossed = SHORT_WALKS.saturating_mul(FILLS);
     match number.checked_sub(crossed) {
@@ -152,8 +153,8 @@ fn finish<T: Sample, G: Ruled, R: Abort>(rt: &R, case: &mut Case<T, G>, plan: &P
     ending
 }
 
-// Returns the expected outcome of `finish` if there are items after the range. Does not change
-// `case.items`.
+// Returns the expected outcome of `finish` if there are items after the replaced range. `width` is
+// the number of items in this range. Does not change `case.items`.
 fn fill_between<T: Sample, G: Ruled>(case: &mut Case<T, G>, width: usize, plan: &Plan) -> Ending {
     let mut ending = Ending::done(plan.count);
     if plan.count < width {
@@ -185,8 +186,8 @@ fn fill_between<T: Sample, G: Ruled>(case: &mut Case<T, G>, width: usize, plan: 
     ending
 }
 
-// Returns how many of `count` items a new `Vec` can take before the allocator refuses one of its
-// requests. Also adds the requests of the `Vec` to the expected requests of `case`. The first
+// Returns how many of `count` items a new `Vec` can take before the allocator refuses a request of
+// this `Vec`. Also adds the requests of the `Vec` to the expected requests of `case`. The first
 // request is for 4 items, or for 8 items if an item takes at most one byte. Each further request
 // doubles the capacity.
 fn hold<T: Sample, G: Ruled>(case: &mut Case<T, G>, count: usize) -> usize {
@@ -240,8 +241,7 @@ impl<T: Sample, G: Ruled> Call<T, G> for Spliced {
 struct Walked {
     // The index of the first call that yielded a wrong item, or `None` if there is no such call.
     wrong: Option<usize>,
-    // The number of remaining items of the range. The first part is the result of `len`, and the
-    // second part is the result of `size_hint`.
+    // The results of `len` and of `size_hint`. Both say how many items of the range remain.
     remaining: (usize, (usize, Option<usize>)),
 }
 

@@ -1,7 +1,9 @@
-//! Tests of the commands, each of which describes a call on a list. Random runs must produce every
-//! possible reply to every command, and two other runs must have results that were computed by
-//! hand. Commands are also executed on a model of the list. Another test checks that each kind of
-//! difference between a list and its model is detected.
+//! Tests of the commands. Each command describes a call on a list. The tests check three things:
+//!
+//! - Random runs produce every possible reply to every command.
+//! - Two other runs have the results that were computed by hand.
+//! - Each kind of difference between a list and a model of the list is detected. The model executes
+//!   the same commands as the list.
 use crate::runs::compared::both;
 use crate::runs::judges::{EACH_SECOND, Evens};
 use crate::runs::model::Model;

@@ -14,9 +14,9 @@ pub struct Digits {
     pub digits: u64,
 }
 
-/// A judge that decides `true`, then `false`, then `true`, and so on. After 64 decisions, every
-/// decision is `false`. A judge makes the decisions that a method such as `retain` leaves to its
-/// closure.
+/// A judge makes the decisions that a method such as `retain` leaves to its closure. This judge
+/// decides `true`, then `false`, then `true`, and so on. After 64 decisions, every decision is
+/// `false`.
 pub const EACH_SECOND: Digits = Digits {
     digits: 0x5555_5555_5555_5555,
 };

@@ -244,9 +244,10 @@ impl<T: Numbered<A>, A: Allocator + Copy, G: Ruled> Model<T, A, G> {
         Ok(Shown::with_items(Form::List, None, alloc, copy, capacity))
     }
 
-    // Appends `item` to the list if it is kept, and to `answers` otherwise. If `asked` is `None`,
-    // the item is kept. If `asked` is the kind of a command, the judge decides whether the item is
-    // kept. This is the decision that a method such as `retain` leaves to its closure.
+    // Appends `item` to the list if the item is kept. Otherwise, appends it to `answers`, which
+    // contains the removed items. If `asked` is `None`, the item is kept. If `asked` is the kind of
+    // a command, the judge decides whether the item is kept. A judge makes the decisions that a
+    // method such as `retain` leaves to its closure.
     fn sift_one<J: Judge<T>>(
         &mut self,
         asked: Option<Kind>,
@@ -265,8 +266,9 @@ impl<T: Numbered<A>, A: Allocator + Copy, G: Ruled> Model<T, A, G> {
     }
 
     // Asks the judge about the items, in order, and removes the items that the judge does not keep.
-    // If the command is an `ExtractIf`, the judge is asked only about the items of the range, until
-    // `order.count` items have been removed. Returns the reply.
+    // Returns the reply. If the command is an `ExtractIf`, the judge is asked only about the items
+    // of the range. In this case, once `order.count` items have been removed, all further items are
+    // kept.
     fn sift<J: Judge<T>>(
         &mut self,
         alloc: A,
@@ -357,9 +359,9 @@ impl<T: Numbered<A>, A: Allocator + Copy, G: Ruled> Model<T, A, G> {
     }
 
     /// Executes a command on the model, and compares the reply of the model with `given`, the reply
-    /// of the runner. If a request of the runner was refused, this was request number `nth`.
-    /// Returns two values: the variant of the reply (or `Never` if the replies differ), and the
-    /// cause of the failure, if any.
+    /// of the runner. If the allocator refused a request of the runner, `nth` is the number of this
+    /// request. Returns two values: the variant of the reply (or `Never` if the replies differ),
+    /// and the cause of the failure, if any.
     pub fn follow<J: Judge<T>>(
         &mut self,
         alloc: A,

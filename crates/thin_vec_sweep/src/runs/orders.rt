@@ -74,8 +74,9 @@ pub struct Order {
     pub at: usize,
     /// The end of the range on which the command acts.
     pub to: usize,
-    /// The number of calls to `next` if the command is an `ExtractIf`. If the command takes a
-    /// vector or a list of new items, as an `Extend` does, this is the number of these items.
+    /// If the command is an `ExtractIf`, this is the number of calls to `next`. If the command
+    /// takes a vector or a list of new items, as an `Extend` does, this is the number of these
+    /// items.
     pub count: usize,
     /// A number whose meaning depends on the command:
     ///

@@ -136,9 +136,9 @@ module _ (E : El) (Y : Al) {M : Type 1} {𝓤 : Ura M} (𝓛 : Logic 𝓤) (at_m
       fjoin ! $ nothing ! $ fjoin ! $ join ! $ move ! (3 ∷ 4 ∷ []) $ join ! $
       move ! (3 ∷ 0 ∷ []) $ join ! $ join ! $ done !
 
-  -- `from Ev x k` says that the postcondition holds once the statements of the function body after
-  -- the first `k` have run. `Ev` is the environment of the local variables, and `x` is the address
-  -- of the old block.
+  -- `from Ev x k` says that the postcondition holds after the rest of the function body has run.
+  -- The rest consists of all statements except for the first `k`. `Ev` is the environment of the
+  -- local variables, and `x` is the address of the old block.
   abbrev from : Env 𝓤 H → Ptr → ℕ → After 𝓤 H
   from Ev x k = then_runs 𝓛 C Λ Ev (after k (here E Y).body) (at_ret Ev (Post x))
 
@@ -171,9 +171,9 @@ module _ (E : El) (Y : Al) {M : Type 1} {𝓤 : Ura M} (𝓛 : Logic 𝓤) (at_m
       let live : κ ⊑ Y.row.lives = ⊑_trans κ κA Y.row.lives out leA in
       move ! (1 ∷ []) $ split ! $ split3 ! $ move ! (3 ∷ []) $ fsplit ! $ fsplit ! $
       keep ! (6 ∷ 1 ∷ 3 ∷ 4 ∷ 5 ∷ []) $
-      -- From here on, the `requires` clauses are available as facts. The proof context now
-      -- contains, in this order: [the block; the shared reference to the allocator; the lifetime
-      -- tokens of this reference, of `T` and of `A`].
+      -- From here on, the `requires` clauses are available as facts. The proof context now holds,
+      -- in this order: the block; the shared reference to the allocator; the lifetime tokens of
+      -- this reference, of `T` and of `A`.
       enter ! C Λ (here E Y) (vs x) _ $ alloc_all ! (λ l. pass_all ! refl (
         (tt, tt),
         (

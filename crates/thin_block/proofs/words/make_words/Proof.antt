@@ -84,8 +84,7 @@ module _ (E : El) (m : ℕ) where
     (stay_dropped (plain (λ _. usize)) yes, tt),
   )
 
-  -- A value of the type `Runs` lists the items of several words. Each inner list contains the items
-  -- of one word.
+  -- `Runs` is the type of a list of words in which each word is given as the list of its items.
   abbrev Runs : Type 0
   Runs = List (List (el_x E))
 
@@ -98,8 +97,8 @@ module _ (E : El) (m : ℕ) where
   abbrev Wr : RattleType
   Wr = word_row E.row m
 
-  -- If `v` is the machine value of an array of items, then `word_val v` is the machine value of the
-  -- word that these items form.
+  -- `word_val v` is the machine value of a word. `v` is the machine value of the array of the items
+  -- that form this word.
   abbrev word_val : Val → Val
   word_val v = vstruct (vcons v (vcons (vstruct vnil) vnil))
 
@@ -184,7 +183,7 @@ module _ (E : El) (m : ℕ) {M : Type 1} {𝓤 : Ura M} (𝓛 : Logic 𝓤) (at_
         feq_i ! (List Val) (vunit ∷ []) (vunit ∷ []) refl $ nothing ! $ nothing ! $ fjoin ! $
         nothing ! $ fjoin ! $ join ! $ move ! (2 ∷ 0 ∷ []) $ join ! $ join ! $ done !
 
-    -- A value of the type `Left` is a state of the loop. It consists of the number `i` of words
+    -- `Left` is the type of the states of the loop. A state consists of the number `i` of words
     -- that have been made, the items `xss` of the words that have not been made yet, and a proof
     -- that `i + length xss` equals the total number `n` of words.
     abbrev Left : Type 0
@@ -252,9 +251,9 @@ module _ (E : El) (m : ℕ) {M : Type 1} {𝓤 : Ura M} (𝓛 : Logic 𝓤) (at_
           refl (tt, record { fits = fm }) $
           sets ! (bin ! (get ! refl) (get ! refl) tt) refl (tt, tt) $ fsplit ! $ fsplit ! $
           -- The proof has separated the items of the next word from the items after them. The proof
-          -- context now contains, in this order: [the items of the next word; the right to convert
-          -- the memory of these items into memory for the word; the items of the later words; the
-          -- right to join the later words with the words before them; the lifetime tokens].
+          -- context now holds, in this order: the items of the next word; the right to convert the
+          -- memory of these items into memory for the word; the items of the later words; the right
+          -- to join the later words with the words before them; the lifetime tokens.
           use1 𝓛 (exists (λ (v : Val). ‵ (fat full_share σ b at v) ⊛ ‵
           ((Arr E m).own_val xs (v ∷ [])))) (part_out 𝓛 (Arr E m) refl full_share xs b at) $
           pick ! (λ v. split ! $ move ! (1 ∷ []) $

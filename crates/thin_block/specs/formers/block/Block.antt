@@ -133,9 +133,9 @@ module _ {g : Former {0}} (w : Weighed g) where
   w_slot = record { weight = slot_weight; puts = slot_puts }
 
 module _ {X Y Z : Type 0} (d : Block X Z) where
-  -- The block `d` is a parameter of this module. `Fits ys` holds if `ys` is a possible list of
-  -- slots for `d`. This is the case if the length of `ys` is at least the stored length of `d`, and
-  -- if `ys` is empty exactly when `d` has no allocation.
+  -- `Fits ys` holds if `ys` is a possible list of slots for the block `d`, which is a parameter of
+  -- this module. This means that the length of `ys` is at least the stored length of `d`, and that
+  -- `ys` is empty exactly when `d` has no allocation.
   abbrev pub Fits : List (Option Y) → Type 0
   Fits ys = (d.len ≤ length ys) × (is_some d.alloc ≡ any ys)
 
@@ -165,9 +165,9 @@ module _ {X Y Z : Type 0} (d : Block X Z) where
   Fits-along ys zs e = is_prop→PathP (λ i. Fits (e i))
       (λ i p q j. (le_prop p.0 q.0 j, Coded-set coded_bool _ _ p.1 q.1 j))
 
-  -- Suppose that the lists `ys` and `zs` are equal. Then the block `d` with the slots `ys` equals
-  -- the block `d` with the slots `zs`. It does not matter which proofs `p` and `q` show that `d`
-  -- may have these slots.
+  -- `holding_along ys zs e p q` is a proof that the block `d` with the slots `ys` equals the block
+  -- `d` with the slots `zs`. `e` is a proof that the lists `ys` and `zs` are equal. `p` is any
+  -- proof that `d` may have the slots `ys`, and `q` is any proof that `d` may have the slots `zs`.
   abbrev pub holding_along : (ys zs : List (Option Y)) (e : ys ≡ zs) (p : Fits ys) (q : Fits zs)
       → holding ys p ≡ holding zs q
   holding_along ys zs e p q = λ i. holding (e i) (Fits-along ys zs e p q i)
@@ -288,8 +288,9 @@ pub the_items_listed : (Z X : Type 0) (d : Block X Z)
     → listed _ (children (the_former this Z) X d) ≡ the_items Z X d
 the_items_listed Z X d = items_listed X d.slots
 
--- If `h x` has the same encoding under `c'` as `x` has under `c`, for every `x`, then mapping `h`
--- over a list does not change the encoding of the list. The proofs for `ThinVec` use this lemma.
+-- Suppose that, for every `x`, the encoding of `h x` under `c'` equals the encoding of `x` under
+-- `c`. Then mapping `h` over a list does not change the encoding of the list. The proofs for
+-- `ThinVec` use this lemma.
 pub codes_of : {X Y : Type 0} (c : X → Gv) (c' : Y → Gv) (h : X → Y) → ((x : X) → c' (h x) ≡ c x)
     → (xs : List X) → code_l c' (map h xs) ≡ code_l c xs
 codes_of = codes_placed
@@ -305,8 +306,9 @@ second : {a b c : Gv} → a ≡ b → gcons c a ≡ gcons c b
 second {c = c} e = λ i. gcons c (e i)
 
 module _ (R R' : RattleType) (h : R.Denot → R'.Denot) (a : Alike R R' h) where
-  -- The item types `R` and `R'` have the same size, because this module assumes `Alike R R' h`. One
-  -- part of this assumption is that each item `y` has the same layout as the item `h y`.
+  -- `width` is a proof that the item types `R` and `R'` have the same size. This follows from the
+  -- assumption `Alike R R' h` of this module. One part of this assumption is that each item `y` has
+  -- the same layout as the item `h y`.
   abbrev width : type_size R' ≡ type_size R
   width = λ i. size (lone (a.mir_same i))
 

@@ -12,9 +12,9 @@ use Rattle.thin_runner.specs.declared.command.Command.{Command}
 use Rattle.thin_runner.specs.declared.command.Reply.{Reply}
 use Rattle.thin_examples.proofs.commands.carry_out.Goals as goal
 
--- If the commands turn `old` into `new`, every clone equals its original, `result` is `Ok`, and no
--- reply in the list `seen` reports a failed call, then the items of `new` are
--- `fold (items_after here) old.items commands`.
+-- Suppose that the commands turn the list `old` into the list `new`, and that every clone equals
+-- its original. If `result` is `Ok`, and no reply in the list `seen` reports a failed call, then
+-- the items of `new` are `fold (items_after here) old.items commands`.
 carried : {T A G J E : Type 0} (here : Setting T A J) (old new : Thin T A)
     (commands : List (Command T A G)) (before after seen : List (Reply T A G))
     (result : Result (Unit {0}) E) → ClonesEqual here.clones → before ≡ [] → seen ≡ after

@@ -1,6 +1,6 @@
 -- `next_multiple` multiplies `cap` by `times`. If the product exceeds `usize::MAX`, the function
--- continues with `usize::MAX` instead of the product. A block of either capacity would be too large
--- to be allocated, so the result is `None` in both cases.
+-- uses `usize::MAX` instead. This does not change the result. For both numbers, a block of this
+-- capacity is too large to be allocated, so the result is `None`.
 use Rattle.std.proofs.Common.{◌≡◌, ℕ, ◌-◌, ◌*◌, ◌≤◌, ◌^◌, Some, inl, inr, max, min, mul_comm, refl, sym, ap, ◌∙◌, arith}
 use Rattle.std.proofs.lemmas.Bool.{cases_lt, false≢true}
 use Rattle.std.specs.Mem.{type_size}

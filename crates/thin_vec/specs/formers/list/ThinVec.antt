@@ -1,8 +1,8 @@
 -- This file defines the type former of `ThinVec`, which says that a list contains exactly its
 -- items. Because of the type former, the prover accepts types that contain lists of themselves,
--- such as trees. The proof that the type former is sound uses the following fact, which
--- `specs/Shapes.antt` proves: whether the items of a block are in its first slots depends only on
--- which slots are filled, and not on the values of the items.
+-- such as trees. The proof that the type former is sound uses the lemmas in `specs/Shapes.antt`.
+-- According to these lemmas, the question whether the items of a block are in its first slots
+-- depends only on which slots are filled. The values of the items do not matter.
 use Rattle.std.specs.Prelude.{◌≡◌, ℕ, ◌-◌, List, [], ◌∷◌, Option, length, map}
 use Rattle.std.specs.declared.option.Option.TheVariants.{Some, None}
 use mathlib.Core.Path.{refl, sym, ap, ◌∙◌}
@@ -34,9 +34,9 @@ use Rattle.thin_vec.specs.declared.list.ThinVec.TheView.{view, invariant}
 use Rattle.thin_vec.specs.contracts.list.ThinVec as C
 use Rattle.thin_vec.specs.contracts.list.ThinVec.TheInside as I
 
--- A type former says which values are contained in each value of a type. `the_former g Z Q` is the
--- type former of lists whose items have the type former `g`. `Z` is the type of the allocator, and
--- `Q` is the type of the growth rule.
+-- `the_former g Z Q` is the type former of lists whose items have the type former `g`. A type
+-- former says which values are contained in each value of a type. `Z` is the type of the allocator,
+-- and `Q` is the type of the growth rule.
 abbrev pub the_former : Former {0} → Type 0 → Type 0 → Former {0}
 the_former g Z Q =
     via (pair (list g) (const (ℕ × (Z × Cost)))) (λ X. Thin (g.Of X) Z)
@@ -44,10 +44,10 @@ the_former g Z Q =
     (λ X p. record { items = p.0; capacity = p.1.0; alloc = p.1.1.0; cost = p.1.1.1 })
     (λ X v. refl) (λ X p. refl)
 
--- A depth function computes how deeply values are nested in a value of a recursive type. Let `w` be
--- a depth function for items. Then `the_weighed w Z Q` is a depth function for lists of such items.
--- The depth of a list is the depth of its deepest item, or 0 if the list is empty. `Z` is the type
--- of the allocator, and `Q` is the type of the growth rule.
+-- `the_weighed w Z Q` is a depth function for lists, where `w` is a depth function for their items.
+-- A depth function computes how deeply values are nested in a value of a recursive type. The depth
+-- of a list is the depth of its deepest item, or 0 if the list is empty. `Z` is the type of the
+-- allocator, and `Q` is the type of the growth rule.
 abbrev pub the_weighed : {g : Former {0}} → Weighed g → (Z Q : Type 0) → Weighed (the_former g Z Q)
 the_weighed w Z Q =
     record {
@@ -141,9 +141,9 @@ module _ {X Y : Type 0} (h : X → Y) where
     thin_from : IsThin (block.mapped h b) a → IsThin b a
     thin_from t = record { packed = packed_from b.slots b.len t.packed; from = t.from }
 
--- Let `items_in s` be the list of the items in the row of slots `s`. The type formers of rows and
--- of lists say which values a row and a list contain. According to them, `s` and `items_in s`
--- contain the same values in the same order.
+-- `items_in s` is the list of the items in the row of slots `s`. The type former of lists says
+-- which values a list contains, and the type former of rows says which values a row contains.
+-- According to these type formers, `items_in s` and `s` contain the same values in the same order.
 items_in-held : (X : Type 0) (s : List (Option X))
     → held (list this) X (items_in s) ≡ held (list (slot this)) X s
 items_in-held X [] = refl
@@ -168,9 +168,10 @@ module _ (Z Q : RattleType) (G : AllocatorGhosts Z.Denot) (K : GrowthGhosts Q.De
   }
 
   module _ (R S : RattleType) (h : R.Denot → S.Denot) where
-    -- Suppose that applying the function `h` to an item does not change the memory layout of the
-    -- item. Suppose also that it changes neither the memory that the item owns nor the memory that
-    -- the item lends. Then the same is true of a list if `h` is applied to each of its items.
+    -- Suppose that applying the function `h` to an item changes neither the memory layout of the
+    -- item, nor the memory that the item owns, nor the memory that the item lends. Then applying
+    -- `h` to each item of a list changes neither the memory layout of the list, nor the memory that
+    -- the list owns, nor the memory that the list lends.
     pub the_places : Alike R S h → Alike (C.the_row R Z Q G K) (C.the_row S Z Q G K)
         ((the_former this Z.Denot Q.Denot).map R.Denot S.Denot h)
     the_places a = view_places (fields Z.Denot Q.Denot) (the_former this Z.Denot Q.Denot)

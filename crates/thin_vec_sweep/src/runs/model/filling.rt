@@ -26,13 +26,14 @@ impl<T: Numbered<A>, A: Allocator + Copy, G: Ruled> Model<T, A, G> {
         }
     }
 
-    // Increases the capacity of the model in the same way as a splice increases the capacity of a
-    // list. Returns whether this succeeded.
+    // Increases the capacity of the model in the same way as the splice `order` increases the
+    // capacity of a list. Returns whether this succeeded.
     //
-    // If there are no items after the range, the splice first makes room for as many items as the
-    // size hint says, and then for each new item separately. If there are items after the range,
-    // the splice makes room only if the new items fill the whole range: first for as many items as
-    // the size hint says, and then for all new items at once.
+    // - Suppose that there are no items after the range. Then the splice first makes room for as
+    //   many items as the size hint says. After that, it makes room for each new item separately.
+    // - Suppose that there are items after the range. If the new items do not fill the range, the
+    //   splice makes no room. Otherwise, it first makes room for as many items as the size hint
+    //   says, and then for all new items at once.
     fn make_rooms(&mut self, order: Order) -> bool {
         let len = self.items.len();
         let gap = order.to.saturating_sub(order.at);
@@ -48,8 +49,9 @@ impl<T: Numbered<A>, A: Allocator + Copy, G: Ruled> Model<T, A, G> {
         made
     }
 
-    // Replaces the range of the splice `order` with new items: the first `placed` of the new items
-    // that `order` describes. Returns the reply of the model, which contains the other new items.
+    // Replaces the range of the splice `order` with the first `placed` new items. Returns the reply
+    // of the model, which contains all further new items. `cause` is the cause of the failure, or
+    // `None` if the splice does not fail.
     fn fill(
         &mut self,
         alloc: A,
@@ -88,16 +90,20 @@ impl<T: Numbered<A>, A: Allocator + Copy, G: Ruled> Model<T, A, G> {
         self.fill(alloc, order, placed, Some(ThinVecError::CapacityOverflow))
     }
 
-    // Returns whether `given` is a possible reply after a refused request. The reply contains the
-    // new items that were not moved into the list. One of them may be in hand: there was no room
-    // for it. Others may be held back in a temporary vector.
+    // Returns whether `given` is a possible reply to the command `order` after a refused request.
+    // The reply contains the new items that were not moved into the list. One of them may be in
+    // hand: there was no room for it. Others may be held back in a temporary vector.
     //
-    // If there are no items after the range, no item may be held back. If an item is in hand, the
-    // list must be full. Otherwise, no new item may have been moved into the list.
+    // If there are no items after the range, no item may be held back. In addition, if an item is
+    // in hand, the list must be full. If no item is in hand, no new item may have been moved into
+    // the list.
     //
-    // If there are items after the range, the new items must have filled the range. In addition, an
-    // item must be in hand, or no item may be held back, or the iterator must have yielded all its
-    // items.
+    // If there are items after the range, the new items must have filled the range. In addition, at
+    // least one of three statements must be true:
+    //
+    // - An item is in hand.
+    // - No item is held back.
+    // - The iterator has yielded all its items.
     fn may_stop(&self, order: Order, given: &Shown<T, A>) -> bool {
         let placed = order.count.saturating_sub(given.items.len());
         if order.to == self.items.len() {
@@ -109,10 +115,13 @@ impl<T: Numbered<A>, A: Allocator + Copy, G: Ruled> Model<T, A, G> {
             && (given.in_hand || given.number == 0 || has_ended)
     }
 
-    // Increases the capacity of the model to the capacity that the list had when the request was
-    // refused. If the reply `given` contains items that the command took from the iterator but did
-    // not move into the list, the command had already made room for the first `placed` new items.
-    // Otherwise, the capacity is unchanged.
+    // Increases the capacity of the model to the capacity that the list of the runner had when the
+    // request was refused. `given` is the reply of the runner, and `placed` is the number of new
+    // items that were moved into the list.
+    //
+    // If `given` contains items that the command took from the iterator but did not move into the
+    // list, the command had already made room for the first `placed` new items. Otherwise, the
+    // capacity is unchanged.
     fn make_first_rooms(&mut self, order: Order, placed: usize, given: &Shown<T, A>) {
         if given.number > 0 || given.in_hand {
             let first = Order {

@@ -1,5 +1,5 @@
--- After the loop in `transposed`, each row of `self` equals the column of the result with the same
--- index. This also holds for an index at which `self` has no row, because all numbers there are 0.
+-- After the loop in `transposed`, column `j` of the result equals row `j` of `self` for every index
+-- `j`. If `self` has no row `j`, then column `j` of the result contains only zeros.
 use Rattle.std.proofs.Common.{◌≡◌, arith, inl, inr, length, sym, ◌∙◌}
 use Rattle.std.proofs.lemmas.Bool.{cases_lt}
 use Rattle.sparse_matrix.proofs.NumberLemmas.{no_row}

@@ -51,11 +51,11 @@ put_spec 𝓤 𝓛 𝓜 𝓡 wired T A LT LA g d dd met md =
     let here : ℕ = i * sz E + (o + 16) in
     takes_slot E ! b (o + 16) x.slots i within empty $
     use1 𝓛 (‵ (froom (layout T) b here)) (𝓛.laws.raw-room (layout T) b here) $
-    -- The empty slot has been separated from the other slots. The proof context now contains, in
-    -- this order: [memory for the item; the other slots; the header; the block's pointer; the right
-    -- to close the borrow of the block, with the lifetime token of this borrow; two ghost resources
+    -- The empty slot has been separated from the other slots. The proof context now holds, in this
+    -- order: memory for the item; the other slots; the header; the block's pointer; the right to
+    -- close the borrow of the block, with the lifetime token of this borrow; two ghost resources
     -- that record the value of the block; the other lifetime tokens; the resources that the item
-    -- owns].
+    -- owns.
     sets ! (of_opd ! (get ! refl)) refl good $
     assigns_last ! (of_opd ! (get ! refl)) (through ! refl (stop !)) (init ! 0 refl good) $
     continues ! 𝓜 𝓡 fn l 2 ((walk_of 𝓛 En₀ hs c).post z) $

@@ -204,9 +204,9 @@ resize_words_spec 𝓤 𝓛 𝓜 𝓡 wired T A m k LT LA fits_m fits_k g d dd m
     let joined : ws ≡ xs ++ ys = sym (take-append-drop (count - k) ws) in
     split ! $ split3 ! $ move ! (2 ∷ []) $ split3 ! $ move ! (5 ∷ []) $ fsplit ! $
     block_had E Y ! x vss.0 (λ b o at told fits.
-    -- The block has been split into its header and its slots. The proof context holds, in this
-    -- order: [the header; the slots; what the other arguments own; the lifetime tokens of `A`, `M`
-    -- and `K`, of the shared reference to the allocator, and of `T`].
+    -- The block has been split into its header and its slots. The proof context now holds, in this
+    -- order: the header; the slots; what the other arguments own; the lifetime tokens of `A`, `M`
+    -- and `K`, of the shared reference to the allocator, and of `T`.
     let here : Ptr = block_ptr b o in
     let there : ℕ = count * s + o in
     let same_bytes : count * s ≡ len * type_size Rt = ap (λ (n : ℕ). count * n) hd.size
@@ -235,9 +235,9 @@ resize_words_spec 𝓤 𝓛 𝓜 𝓡 wired T A m k LT LA fits_m fits_k g d dd m
     (hd.counts.covers old)) $ split ! $ move ! (4 ∷ []) $ fsplit ! $ fsplit ! $ drop ! $
     keep ! (2 ∷ 3 ∷ 4 ∷ 5 ∷ 0 ∷ 9 ∷ 10 ∷ 6 ∷ 7 ∷ 8 ∷ []) $
     -- The proof has split the slots into two parts: the items, and empty words. An empty word is
-    -- uninitialized memory for one word. The proof context now contains, in this order: [the items;
-    -- the empty words; memory for the header; the right to free the block; the shared reference to
-    -- the allocator; the lifetime tokens of this reference and of `T`, `A`, `M` and `K`].
+    -- uninitialized memory for one word. The proof context now holds, in this order: the items; the
+    -- empty words; memory for the header; the right to free the block; the shared reference to the
+    -- allocator; the lifetime tokens of this reference and of `T`, `A`, `M` and `K`.
     regoal ! (λ (us : List Val). prop (WpFn 𝓤 H C Λ fn us Post))
     (λ i. told i ++ (are.1.0.0 i ++ (are.1.1.0.0 i ++ (are.1.1.1.0.0 i ++ (are.1.1.1.1.0.0 i
     ++ (are.1.1.1.1.1.0.0 i ++ (are.1.1.1.1.1.1.0.0 i ++ (are.1.1.1.1.1.1.1.0.0 i ++ []))))))))
@@ -309,10 +309,10 @@ resize_words_spec 𝓤 𝓛 𝓜 𝓡 wired T A m k LT LA fits_m fits_k g d dd m
     await ! tt $ pick ! (λ r₀. split ! $ split ! $ move ! (1 ∷ []) $ feq_l ! (λ is_unit.
     move ! (1 ∷ []) $ pick ! (λ us₀. split ! $ drop ! $
     lands_as ! (ap only is_unit) refl (tt, tt) $ move ! (0 ∷ 2 ∷ []) $
-    -- The call to `make_words` has converted the items into words. The proof context now contains,
-    -- in this order: [the words; the empty words; the lifetime tokens of `T` and `M`; memory for
-    -- the header; the right to free the block; the shared reference to the allocator and its
-    -- lifetime token; the lifetime tokens of `A` and `K`].
+    -- The call to `make_words` has converted the items into words. The proof context now holds, in
+    -- this order: the words; the empty words; the lifetime tokens of `T` and `M`; memory for the
+    -- header; the right to free the block; the shared reference to the allocator and its lifetime
+    -- token; the lifetime tokens of `A` and `K`.
     use2 𝓛 (‵ (places Rw (full ws ++ empty v) b (o + 16)))
     (words_joined 𝓛 T LT m k b hd items count j v w old (o + 16) whole_words slots_are fill
     (hd.counts.covers old)) $
@@ -322,16 +322,16 @@ resize_words_spec 𝓤 𝓛 𝓜 𝓡 wired T A m k LT LA fits_m fits_k g d dd m
     (places Rw (empty v) b (k * s + there))) (turn_out 𝓛 W b k sixteen o xs ys long count v parted)
     $ split3 ! $ move ! (3 ∷ []) $ split3 ! $ move ! (2 ∷ []) $ drop ! $
     -- The last `k` words have been separated from the words before them. The proof context now
-    -- contains, in this order: [the lifetime tokens of `T` and `M`; the words before the last `k`
+    -- holds, in this order: the lifetime tokens of `T` and `M`; the words before the last `k`
     -- words; the last `k` words; the empty words; memory for the header; the right to free the
     -- block; the shared reference to the allocator and its lifetime token; the lifetime tokens of
-    -- `A` and `K`].
+    -- `A` and `K`.
     move ! (1 ∷ 10 ∷ []) $ join ! $ move ! (9 ∷ 0 ∷ []) $ join ! $
     move ! (3 ∷ 2 ∷ 4 ∷ 5 ∷ 6 ∷ 7 ∷ 8 ∷ 1 ∷ 0 ∷ []) $
-    -- The proof has reordered the entries of the proof context. Their new order is: [the last `k`
-    -- words; the words before them; the empty words; memory for the header; the right to free the
-    -- block; the shared reference to the allocator; the lifetime tokens of this reference and of
-    -- `T`; the lifetime tokens of `A`, `M` and `K`].
+    -- The proof has reordered the entries of the proof context. The proof context now holds, in
+    -- this order: the last `k` words; the words before them; the empty words; memory for the
+    -- header; the right to free the block; the shared reference to the allocator; the lifetime
+    -- tokens of this reference and of `T`; the lifetime tokens of `A`, `M` and `K`.
     use1 𝓛 (exists (λ (u : Val). ‵ (fat full_share (ty_array ω k) b there u) ⊛ ‵
     (Arr.own_val ys (u ∷ [])))) (part_out 𝓛 (Array Rw k) refl full_share ys b there) $
     pick ! (λ u₁. split ! $
@@ -349,17 +349,17 @@ resize_words_spec 𝓤 𝓛 𝓜 𝓡 wired T A m k LT LA fits_m fits_k g d dd m
     sets ! (of_opd ! (load ! (through ! refl (stop !)) (look ! 0 refl))) refl good $
     assigns ! (of_opd ! (get ! refl)) (through ! refl (stop !)) (init ! 4 refl good) $
     -- The function has copied the bytes of the last `k` words into the memory of the header. The
-    -- proof context now contains, in this order: [the bytes at the old address of these words; the
+    -- proof context now holds, in this order: the bytes at the old address of these words; the
     -- resources that these words own; the words before them; the empty words; the copied bytes in
     -- the memory of the header; the right to free the block; the shared reference to the allocator;
-    -- the lifetime tokens].
+    -- the lifetime tokens.
     use1 𝓛 (‵ (froom (ty_array ω k) b there)) (𝓛.laws.at_room (ty_array ω k) b there u₁) $
     move ! (4 ∷ 1 ∷ []) $ use2 𝓛 (‵ (part_at (Array Rw k) full_share ys b o))
     (part_in 𝓛 (Array Rw k) refl full_share ys b o u₁) $
-    -- The last `k` words are now in the memory of the header. The proof context now contains, in
-    -- this order: [the last `k` words; uninitialized memory at the old address of these words; the
-    -- words before them; the empty words; the right to free the block; the shared reference to the
-    -- allocator; the lifetime tokens].
+    -- The last `k` words are now in the memory of the header. The proof context now holds, in this
+    -- order: the last `k` words; uninitialized memory at the old address of these words; the words
+    -- before them; the empty words; the right to free the block; the shared reference to the
+    -- allocator; the lifetime tokens.
     move ! (0 ∷ 2 ∷ 1 ∷ 3 ∷ 4 ∷ []) $ group ! 5 $
     use1 𝓛 (‵ (block_with_items tok Rw here count held (ys ++ xs)))
     (turn_up 𝓛 W b k sixteen o xs ys long count v parted tok w held filled held_is) $
@@ -393,13 +393,13 @@ resize_words_spec 𝓤 𝓛 𝓜 𝓡 wired T A m k LT LA fits_m fits_k g d dd m
     (flft κA z.0.1.1.1.0)))
     (Resizing-gives EX Y 𝓛 𝓜.mem 𝓡.returns κ κT κA q qT z.0.1.1.1.0 z.0.2.0 handle_at h b o count
     held wanted (ys ++ xs) u) $ await ! tt $ split ! $ move ! (1 ∷ []) $ split3 ! $
-    -- `resized` has returned. The proof context holds, in this order: [the lifetime tokens of the
-    -- shared reference to the allocator, of `T` and of `A`; what `resized` has returned; the
-    -- lifetime tokens of `M` and `K`].
+    -- `resized` has returned. The proof context now holds, in this order: the lifetime tokens of
+    -- the shared reference to the allocator, of `T` and of `A`; what `resized` has returned; the
+    -- lifetime tokens of `M` and `K`.
     move ! (2 ∷ 4 ∷ []) $ join ! $ move ! (2 ∷ 0 ∷ []) $ join ! $ move ! (1 ∷ 0 ∷ []) $ join ! $
     move ! (1 ∷ []) $
-    -- The proof has joined the lifetime tokens into one entry. The proof context now contains, in
-    -- this order: [the resources that `resized` has returned; the lifetime tokens].
+    -- The proof has joined the lifetime tokens into one entry. The proof context now holds, in this
+    -- order: the resources that `resized` has returned; the lifetime tokens.
     let inner : Body = inside (head (after 1 fn.body)) in
     let both : Body = head (after 12 inner) in
     let Last : After 𝓤 H = out_of_block 𝓛
@@ -453,10 +453,10 @@ resize_words_spec 𝓤 𝓛 𝓜 𝓡 wired T A m k LT LA fits_m fits_k g d dd m
     is_u₂).0 in
     move ! (1 ∷ []) $
     -- The call to `resized` has succeeded, and the proof has split the returned array into the last
-    -- `k` words, the preceding words and the empty words. The proof context now contains, in this
-    -- order: [the bytes of the last `k` words, in the memory of the header; the resources that the
+    -- `k` words, the preceding words and the empty words. The proof context now holds, in this
+    -- order: the bytes of the last `k` words, in the memory of the header; the resources that the
     -- last `k` words own; uninitialized memory directly after the preceding words; the empty words;
-    -- the right to free the block; the preceding words; the lifetime tokens].
+    -- the right to free the block; the preceding words; the lifetime tokens.
     sets ! (of_opd ! (load ! (through ! refl (stop !)) (look ! 0 refl))) refl good' $
     assigns ! (of_opd ! (get ! refl)) (through ! refl (stop !)) (init ! 2 refl good') $
     use1 𝓛 (‵ (froom (ty_array ω k) b' o')) (𝓛.laws.at_room (ty_array ω k) b' o' u₂) $
@@ -483,10 +483,10 @@ resize_words_spec 𝓤 𝓛 𝓜 𝓡 wired T A m k LT LA fits_m fits_k g d dd m
     returns ! (look_at ! 0 refl) $ free_all ! refl $
     -- The call to `resized` has succeeded. The function has copied the bytes of the last `k` words
     -- to the memory directly after the preceding words, and has written the header. The proof
-    -- context now contains, in this order: [the capacity in the header; the length in the header;
-    -- the right to convert the memory of the header back into memory for words; the resources that
-    -- the last `k` words own; the bytes of these words; the empty words; the right to free the
-    -- block; the preceding words; the lifetime tokens].
+    -- context now holds, in this order: the capacity in the header; the length in the header; the
+    -- right to convert the memory of the header back into memory for words; the resources that the
+    -- last `k` words own; the bytes of these words; the empty words; the right to free the block;
+    -- the preceding words; the lifetime tokens.
     rewrite ! 1 (λ (n : ℕ). ‵ (fat full_share (ty_int w64) b' n (vint w64 len)))
     (let turned : 8 + o' ≡ o' + 8 = omega arith in turned) refl $
     use1 𝓛 (‵ (lies_at usize full_share (block_ptr b' o') cap))
@@ -504,10 +504,10 @@ resize_words_spec 𝓤 𝓛 𝓜 𝓡 wired T A m k LT LA fits_m fits_k g d dd m
     (words_back 𝓛 T LT m k b' hd items count j' v' w' cap (o' + 16) whole_words slots_are' fill'
     (hd.counts.covers cap)) $ split ! $
     -- The call to `resized` has succeeded. The proof has converted the filled words into filled
-    -- slots, and the empty words into empty slots. The proof context now contains, in this order:
-    -- [the slots; the right to convert the memory of the slots back into memory for words; the
-    -- length; the capacity; the right to convert the memory of the header back into memory for
-    -- words; the right to free the block; the lifetime tokens].
+    -- slots, and the empty words into empty slots. The proof context now holds, in this order: the
+    -- slots; the right to convert the memory of the slots back into memory for words; the length;
+    -- the capacity; the right to convert the memory of the header back into memory for words; the
+    -- right to free the block; the lifetime tokens.
     move ! (3 ∷ 2 ∷ 4 ∷ 1 ∷ 5 ∷ []) $ group ! 5 $
     use1 𝓛 (‵ (frame tok Rt len cap b' o'))
     (header_whole 𝓛 T LT b' m k in_words o' tok len cap wanted wanted_is fits_cap) $
@@ -540,10 +540,10 @@ resize_words_spec 𝓤 𝓛 𝓜 𝓡 wired T A m k LT LA fits_m fits_k g d dd m
     is_u₂).0 in
     move ! (1 ∷ []) $
     -- The call to `resized` has failed, and the proof has split the old array into the last `k`
-    -- words, the preceding words and the empty words. The proof context now contains, in this
-    -- order: [the bytes of the last `k` words, in the memory of the header; the resources that the
-    -- last `k` words own; uninitialized memory directly after the preceding words; the empty words;
-    -- the right to free the block; the preceding words; the lifetime tokens].
+    -- words, the preceding words and the empty words. The proof context now holds, in this order:
+    -- the bytes of the last `k` words, in the memory of the header; the resources that the last `k`
+    -- words own; uninitialized memory directly after the preceding words; the empty words; the
+    -- right to free the block; the preceding words; the lifetime tokens.
     sets ! (of_opd ! (load ! (through ! refl (stop !)) (look ! 0 refl))) refl good' $
     assigns ! (of_opd ! (get ! refl)) (through ! refl (stop !)) (init ! 2 refl good') $
     use1 𝓛 (‵ (froom (ty_array ω k) b o)) (𝓛.laws.at_room (ty_array ω k) b o u₂) $
@@ -569,10 +569,10 @@ resize_words_spec 𝓤 𝓛 𝓜 𝓡 wired T A m k LT LA fits_m fits_k g d dd m
     returns ! (look_at ! 0 refl) $ free_all ! refl $
     -- The call to `resized` has failed. The function has copied the bytes of the last `k` words to
     -- the memory directly after the preceding words, and has written the header. The proof context
-    -- now contains, in this order: [the capacity in the header; the length in the header; the right
-    -- to convert the memory of the header back into memory for words; the resources that the last
-    -- `k` words own; the bytes of these words; the empty words; the right to free the block; the
-    -- preceding words; the lifetime tokens].
+    -- now holds, in this order: the capacity in the header; the length in the header; the right to
+    -- convert the memory of the header back into memory for words; the resources that the last `k`
+    -- words own; the bytes of these words; the empty words; the right to free the block; the
+    -- preceding words; the lifetime tokens.
     rewrite ! 1 (λ (n : ℕ). ‵ (fat full_share (ty_int w64) b n (vint w64 len)))
     (let turned : 8 + o ≡ o + 8 = omega arith in turned) refl $
     use1 𝓛 (‵ (lies_at usize full_share (block_ptr b o) old)) (uint_in 𝓛 full_share w64 old b o) $
@@ -590,10 +590,10 @@ resize_words_spec 𝓤 𝓛 𝓜 𝓡 wired T A m k LT LA fits_m fits_k g d dd m
     (words_back 𝓛 T LT m k b hd items count j v w old (o + 16) whole_words slots_are fill
     (hd.counts.covers old)) $ split ! $
     -- The call to `resized` has failed. The proof has converted the filled words into filled slots,
-    -- and the empty words into empty slots. The proof context now contains, in this order: [the
-    -- slots; the right to convert the memory of the slots back into memory for words; the length;
-    -- the capacity; the right to convert the memory of the header back into memory for words; the
-    -- right to free the block; the lifetime tokens].
+    -- and the empty words into empty slots. The proof context now holds, in this order: the slots;
+    -- the right to convert the memory of the slots back into memory for words; the length; the
+    -- capacity; the right to convert the memory of the header back into memory for words; the right
+    -- to free the block; the lifetime tokens.
     move ! (3 ∷ 2 ∷ 4 ∷ 1 ∷ 5 ∷ []) $ group ! 5 $
     use1 𝓛 (‵ (frame tok Rt len old b o))
     (header_whole 𝓛 T LT b m k in_words o tok len old held held_is fits_old) $

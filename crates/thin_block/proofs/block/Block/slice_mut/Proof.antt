@@ -107,9 +107,9 @@ slice_mut_spec 𝓤 𝓛 𝓜 𝓡 wired T A LT LA g d dd met md =
     b here γ xs small (sem 𝓛 Rest)
     back ((Br E Y).coded.code x) ((Br E Y).coded.code x)) $
     await ! tt $ pick ! (λ γ'. split3 ! $ returns ! (look_at ! 0 refl) $ free_all ! refl $
-    -- The function has lent the items. The proof context now contains, in this order: [the mutable
+    -- The function has lent the items. The proof context now holds, in this order: the mutable
     -- reference to the items; the lifetime token of this reference; a resource which states that
-    -- the slots will contain the final items of the slice; the other lifetime tokens].
+    -- the slots will contain the final items of the slice; the other lifetime tokens.
     rewrite ! 0 (λ (n : ℕ). ‵
     ((MutSlice (named 0) κ (R E)).own_val
     (record { ref_ptr = (b, here); ghost_name = γ'; now = xs }) (slice_val (b, here) n ∷ [])))

@@ -122,9 +122,9 @@ slide_run_spec 𝓤 𝓛 𝓜 𝓡 wired T A LT LA g d dd met md =
     move ! (1 ∷ []) $ use1 𝓛 (‵ Before ⊛ ‵ p.Rest) p.out $ split ! $ move ! (7 ∷ []) $
     token_out ! 1 z.0.0.1 z.0.1.1 $ move ! (2 ∷ 0 ∷ []) $
     -- The items and the empty slots next to them have been separated from the other slots. The
-    -- proof context now contains, in this order: [the items and the empty slots; the lifetime
-    -- tokens of `T` and `A`; the other slots; the header; the block's pointer; the right to close
-    -- the borrow of the block; two ghost resources that record the value of the block].
+    -- proof context now holds, in this order: the items and the empty slots; the lifetime tokens of
+    -- `T` and `A`; the other slots; the header; the block's pointer; the right to close the borrow
+    -- of the block; two ghost resources that record the value of the block.
     let G = triple_of 𝓛 (slide.signature T) (slide.spec T 𝓛 𝓜.mem 𝓡.returns) in
     let y₀ : G.Ghost = (
       (

@@ -1,5 +1,6 @@
--- The proof of `take_replacing` is the proof of `swap` up to the first write, followed by the proof
--- of `take` for slot `j`. It assumes the laws of the separation logic (`Logic`).
+-- This file proves the contract of `take_replacing`. Up to the first write of the function, the
+-- proof is the same as the proof of `swap`. From there on, it is the same as the proof of `take`
+-- for slot `j`. The proof assumes the laws of separation logic, which the type `Logic` states.
 use Rattle.std.proofs.Common.{◌≡◌, ℕ, Some, None, ◌+◌, ◌*◌, ◌<◌, List, ◌∷◌, [], ◌++◌, length, refl, sym, ap, ◌∙◌, arith, w64}
 use lib.ListN.{set, length-set}
 use lib.Seq.{set-set}
@@ -69,11 +70,11 @@ take_replacing_spec 𝓤 𝓛 𝓜 𝓡 wired T A LT LA g d dd met md =
           let p = two_slots E 𝓛 b (o + 16) x.slots i j apart low low' in
           takes_two E ! b (o + 16) x.slots i j p (one.1, two.1) (λ v v' good good'.
           -- The slots `i` and `j` have been separated from the other slots. The proof context now
-          -- contains, in this order: [the bytes of the item in slot `j`; the resources that this
-          -- item owns; the bytes of the item in slot `i`; the resources that this item owns; the
-          -- other slots; the header; the block's pointer; the right to close the borrow of the
-          -- block, with the lifetime token of this borrow; two ghost resources that record the
-          -- value of the block; the other lifetime tokens].
+          -- holds, in this order: the bytes of the item in slot `j`; the resources that this item
+          -- owns; the bytes of the item in slot `i`; the resources that this item owns; the other
+          -- slots; the header; the block's pointer; the right to close the borrow of the block,
+          -- with the lifetime token of this borrow; two ghost resources that record the value of
+          -- the block; the other lifetime tokens.
           sets ! (of_opd ! (load ! (through ! refl (stop !)) (look ! 2 refl))) refl good $
           sets ! (of_opd ! (load ! (through ! refl (stop !)) (look ! 0 refl))) refl good' $
           assigns ! (of_opd ! (get ! refl)) (through ! refl (stop !)) (store ! 2 refl good') $
@@ -86,10 +87,10 @@ take_replacing_spec 𝓤 𝓛 𝓜 𝓡 wired T A LT LA g d dd met md =
           (el_in E 𝓛 b two.0 here v') $
           rewrite ! 0 (λ (c : Option T.Denot). ‵ (place (R E) c b here)) (sym two.1) refl $
           -- The item from slot `j` is now in slot `i`, and slot `j` is empty. The proof context now
-          -- contains, in this order: [slot `i`; slot `j`; the resources of the item that was in
-          -- slot `i` before the call; the other slots; the header; the block's pointer; the right
-          -- to close the borrow of the block, with the lifetime token of this borrow; two ghost
-          -- resources that record the value of the block; the other lifetime tokens].
+          -- holds, in this order: slot `i`; slot `j`; the resources of the item that was in slot
+          -- `i` before the call; the other slots; the header; the block's pointer; the right to
+          -- close the borrow of the block, with the lifetime token of this borrow; two ghost
+          -- resources that record the value of the block; the other lifetime tokens.
           move ! (0 ∷ 1 ∷ 3 ∷ []) $ use3 𝓛 (‵ (places (R E) after_it b (o + 16)))
           (p.back (slot x.slots j) None) $
           move ! (0 ∷ 2 ∷ 3 ∷ 4 ∷ 5 ∷ 6 ∷ []) $
@@ -100,11 +101,11 @@ take_replacing_spec 𝓤 𝓛 𝓜 𝓡 wired T A LT LA g d dd met md =
       | inl same ↦
           takes_item E ! b (o + 16) x.slots i low one.1 (λ v good.
           -- In this case, the slots `i` and `j` are the same slot. This slot has been separated
-          -- from the other slots. The proof context now contains, in this order: [the bytes of the
+          -- from the other slots. The proof context now holds, in this order: the bytes of the
           -- item; the resources that the item owns; the other slots; the header; the block's
           -- pointer; the right to close the borrow of the block, with the lifetime token of this
           -- borrow; two ghost resources that record the value of the block; the other lifetime
-          -- tokens].
+          -- tokens.
           let Bits = λ (k : ℕ). ‵ (fat full_share (layout T) b (k * sz E + (o + 16)) v) in
           sets ! (of_opd ! (load ! (through ! refl (stop !)) (look ! 0 refl))) refl good $
           rewrite ! 0 Bits same refl $

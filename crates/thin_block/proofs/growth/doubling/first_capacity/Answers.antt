@@ -1,5 +1,6 @@
--- The code compares the item size with a bound after capping the size at `usize::MAX`. The capped
--- size exceeds the bound if and only if the real size exceeds the bound.
+-- This file proves that `first_capacity` returns the value of the definition `first`. The function
+-- caps the item size at `usize::MAX`, and compares the capped size with a bound. The capped size
+-- exceeds this bound if and only if the real size exceeds it.
 use Rattle.std.proofs.Common.{arith}
 use Rattle.std.specs.Mem.{type_size}
 use Rattle.thin_block.proofs.SizesLemmas.{first_one, first_many}

@@ -1,6 +1,7 @@
--- This file proves the contract of `set`. If the stored list has an entry of the column, `set`
--- overwrites this entry. Otherwise, it inserts a new entry. In both cases, the list then represents
--- the old map with the new value at the column.
+-- This file proves the contract of `set`. A row stores its entries in a list, which represents a
+-- map. If the list has an entry of the given column, `set` overwrites this entry. Otherwise, `set`
+-- inserts a new entry. In both cases, the new list represents the old map with the new value at
+-- this column.
 use Rattle.std.proofs.Common.{inl, inr, ◌≡◌, ◌+◌, sym, ap, ◌∙◌, length, length-set, arith, refl, Some}
 use Rattle.std.proofs.lemmas.Bool.{cases_lt, false≢true}
 use Rattle.std.specs.FinMap.{len}

@@ -4,9 +4,9 @@ use Rattle.std.proofs.Common.{◌≡◌, ◌+◌, ◌-◌, ◌^◌, ◌<◌, map
 use Rattle.std.specs.FinMap.{len}
 use Rattle.thin_rows.proofs.table.Rows.len.Given as goal
 
--- The count plus the number of entries in the rows that have not been visited yet equals the number
--- of entries in the table. If both numbers are at least `usize::MAX`, they may differ. The count is
--- at most `usize::MAX`.
+-- Let `s` be the count plus the number of entries in the rows that have not been visited yet.
+-- Either `s` equals the number of entries in the table, or both numbers are at least `usize::MAX`.
+-- The count is at most `usize::MAX`.
 abbrev pub invariant-loop-row : goal.invariant-loop-row
 invariant-loop-row g l =
     (min (l.count + sum (map (λ row. len row) l.row-iterator.rest.now)) (2 ^ 64 - 1)

@@ -13,8 +13,9 @@ use Rattle.thin_rows.specs.Table.{row_of}
 use Rattle.thin_rows.proofs.table.Rows.set.Goals as goal
 
 -- A call changes the item at index `i` of the list `xs` from `old` to `new`, and returns `result`.
--- Suppose that a failed call does not change the item: if `result` is an error, then `new` equals
--- `old`. So if the call fails, then writing `new` to index `i` does not change `xs`.
+-- The call fails if `result` is an error. Suppose that a failed call leaves the item unchanged, so
+-- that `new` equals `old`. Then, after a failed call, writing `new` to index `i` does not change
+-- `xs`.
 left : {X Y E : Type 0} (result : Result Y E) (xs : List X) (i : ℕ) (old new : X)
     → slice_get xs i ≡ Some old → OnErr result (new ≡ old) → OnErr result (slice_set xs i new ≡ xs)
 left (Ok _) xs i old new there same = tt

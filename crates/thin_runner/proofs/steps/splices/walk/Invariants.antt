@@ -1,6 +1,6 @@
--- Before each iteration of the loop, `answers` contains the results of the steps so far. These
--- results, followed by the results that the remaining steps will return, are the results of all
--- steps on the `Splice`. The vector `answers` has room for the remaining results.
+-- Before each iteration of the loop, `answers` contains the results of the steps so far, and has
+-- room for the results of the remaining steps. Together, these are the results of all steps on the
+-- `Splice`.
 use Rattle.std.proofs.Common.{◌≡◌, ◌++◌, ◌≤◌, ◌+◌, length, vec_len}
 use Rattle.std.specs.Vec.{vec_capacity}
 use Rattle.std.specs.Vec.Iter.{into_iter_items}

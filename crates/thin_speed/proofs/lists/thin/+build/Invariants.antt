@@ -1,6 +1,6 @@
--- The function `build` makes a tree of `ThinVec`s. It terminates, because it calls itself only with
--- a smaller depth. These calls are in a loop. The loop invariant states that the depth is greater
--- than 0, so subtracting 1 from it does not overflow.
+-- The function `build` makes a tree of `ThinVec`s. It calls itself in a loop, and only with a
+-- smaller depth, so it terminates. The loop invariant states that the depth is greater than 0. So
+-- subtracting 1 from the depth does not overflow.
 use Rattle.std.proofs.Common.{◌<◌}
 use Rattle.thin_speed.proofs.lists.thin.+build.Given as goal
 

@@ -137,8 +137,9 @@ module _ (Z : Al) (X : RattleType) {M : Type 1} {𝓤 : Ura M} (𝓛 : Logic �
     abbrev left : ℕ → ℕ → Answer.Denot → Fml
     left b o = left_by Z X (Grows X) 𝓛 at_mem run κ κT q qT p r.now.inner b o len old new xs
 
-    -- The block `left b o y` and the tokens of the three lifetimes imply the postcondition of
-    -- `grow`, whether the request was refused or passed on to the inner allocator.
+    -- Suppose that the caller owns the block that `left b o y` describes, and the tokens of the
+    -- three lifetimes. Then the postcondition of `grow` holds. The lemma applies both to a request
+    -- that was refused and to a request that was passed on to the inner allocator.
     ends : (b o : ℕ) (y : Bool) (b' o' : ℕ)
         → Sq 𝓛 (‵ (left b o (result_of y b' o')) ∷ ‵ (flft κ q) ∷ ‵ (flft κT qT) ∷ ‵ (flft ρ s)
         ∷ []) (prop (Post (block_ptr b o) (answer_val y b' o')))

@@ -1,7 +1,6 @@
--- `extend_from_copies` calls `reserve_run`, and guarantees the same about the capacity and the
--- error as `reserve_run` does. Only `extend_from_copies` requires the item type to be `Copy`. This
--- makes no difference here, because both contracts depend only on the size and the alignment of an
--- item.
+-- `extend_from_copies` calls `reserve_run`. The contracts of both functions say the same about the
+-- capacity and the error. Only `extend_from_copies` requires the item type to be `Copy`. This makes
+-- no difference here, because both contracts depend only on the size and the alignment of an item.
 use Rattle.std.proofs.Common.{◌+◌, Ok, length, refl}
 use Rattle.thin_block.proofs.CapacityLemmas.{ruled-at}
 use Rattle.thin_vec.proofs.list.ReservesLemmas.{reserves-failed, reserves-then}

@@ -1,6 +1,6 @@
 -- Before each iteration of the loop, the list contains its old items, followed by all items that
--- the iterator has yielded so far. The capacity has not changed, or the growth rule has chosen a
--- new one.
+-- the iterator has yielded so far. Either the capacity has not changed, or the growth rule has
+-- chosen the present capacity.
 use Rattle.std.proofs.Common.{◌≡◌, ◌+◌, ◌≤◌, List, ◌++◌, length}
 use Rattle.std.specs.Iterator.{IsFinite, Yields, size}
 use denote.Param.{param}

@@ -1,5 +1,6 @@
--- The items are in the first slots of the larger block, or, if the allocator fails, of the old
--- block. So the list contains the same items in both cases.
+-- If the growth succeeds, the items are in the first slots of the larger block. If the allocator
+-- fails, the items are still in the first slots of the old block. So the list contains the same
+-- items in both cases.
 use Rattle.std.proofs.Common.{◌≤◌, ap, ◌∙◌, arith, length, refl}
 use denote.Param.{param}
 use Rattle.thin_block.specs.Slots.{items_in}

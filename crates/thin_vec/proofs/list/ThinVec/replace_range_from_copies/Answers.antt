@@ -1,5 +1,5 @@
--- `replace_range_from_copies` calls `reserve`, and guarantees the same about the capacity and the
--- error as `reserve` does. Only `replace_range_from_copies` requires the item type to be `Copy`.
+-- `replace_range_from_copies` calls `reserve`. The contracts of both functions say the same about
+-- the capacity and the error. Only `replace_range_from_copies` requires the item type to be `Copy`.
 -- This makes no difference here, because both contracts depend only on the size and the alignment
 -- of an item.
 use Rattle.std.proofs.Common.{◌≡◌, ◌+◌, ◌-◌, ◌∙◌, Ok, ap, arith, length, refl}

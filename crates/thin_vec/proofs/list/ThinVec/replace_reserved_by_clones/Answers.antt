@@ -1,7 +1,7 @@
--- `replace_reserved_by_clones` first makes the surplus clones, which do not fit into the range, in
--- the slots directly after the range. It appends the other clones to the list, and
--- `replace_by_last` moves them into the range. If an item cannot be cloned, all clones are dropped,
--- so the list contains its old items again.
+-- Some of the clones may not fit into the range. `replace_reserved_by_clones` makes these clones
+-- first, and inserts them directly after the range. Then it appends the other clones to the list,
+-- and `replace_by_last` moves these other clones into the range. If an item cannot be cloned, all
+-- clones are dropped, so the list contains its old items again.
 use Rattle.std.proofs.Common.{if◌then◌else◌, ◌≡◌, ◌+◌, ◌-◌, ◌≤◌, ◌++◌, ◌∙◌, ap, arith, eqb, length, length-append, subst, sym}
 use Rattle.std.proofs.lemmas.List.Elements.{length_all_zip}
 use Rattle.std.specs.List.{AllZip}

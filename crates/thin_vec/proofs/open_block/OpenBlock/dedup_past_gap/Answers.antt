@@ -1,6 +1,6 @@
--- If `Dedups` describes the iterations of the loop that have already been carried out, and also the
--- next iteration, then it describes all of them together. There is always a kept item to compare
--- with.
+-- `Dedups` describes what iterations of the loop have done. If `Dedups` holds for all earlier
+-- iterations, and also for the next iteration, then it holds for all these iterations together.
+-- Before each iteration, there is at least one kept item with which the next item can be compared.
 use Rattle.thin_vec.proofs.edits.DedupLemmas.{dedups-start, dedups-then}
 use Rattle.thin_vec.proofs.open_block.OpenBlock.dedup_past_gap.Goals as goal
 

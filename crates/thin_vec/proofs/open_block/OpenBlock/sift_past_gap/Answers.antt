@@ -1,6 +1,6 @@
--- If `Sifts` describes the iterations of the loop that have already been carried out, and also the
--- next iteration, then it describes all of them together. After the loop, `sift_last` tests the
--- remaining item, if any.
+-- `Sifts` describes what iterations of the loop have done. If `Sifts` holds for all earlier
+-- iterations, and also for the next iteration, then it holds for all these iterations together.
+-- After the loop, `sift_last` tests the remaining item, if there is one.
 use Rattle.thin_vec.proofs.RetainLemmas.{sifts-start, sifts-then}
 use Rattle.thin_vec.proofs.open_block.OpenBlock.sift_past_gap.Goals as goal
 

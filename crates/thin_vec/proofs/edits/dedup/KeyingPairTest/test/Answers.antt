@@ -1,5 +1,6 @@
--- To compare two items, `dedup_by_key` calls its closure first for the later item, and then for the
--- last kept item. The items count as equal if the two keys that the closure returned are equal.
+-- To compare an item with the last kept item, `dedup_by_key` calls its closure first for the item
+-- itself, and then for the last kept item. The two items count as equal if the two keys that the
+-- closure returned are equal.
 use Rattle.std.proofs.Common.{rules}
 use Rattle.thin_vec.proofs.edits.dedup.KeyingPairTest.test.Goals as goal
 

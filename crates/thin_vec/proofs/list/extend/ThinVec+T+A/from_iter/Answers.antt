@@ -15,8 +15,8 @@ use Rattle.thin_vec.specs.List.Extend.{IsCollectedList}
 use Rattle.thin_vec.proofs.list.extend.ThinVec+T+A.from_iter.Goals.{After-extend_unhinted}
 use Rattle.thin_vec.proofs.list.extend.ThinVec+T+A.from_iter.Goals as goal
 
--- After the call to `extend_unhinted`, the capacity is the lower bound of the size hint, or the
--- growth rule has chosen it. `IsCollectedList` allows both.
+-- After the call to `extend_unhinted`, the capacity is either the lower bound of the size hint, or
+-- a capacity that the growth rule has chosen. `IsCollectedList` allows both.
 collected : (g : _) (c : After-extend_unhinted g)
     → IsCollectedList doubling (param 0 g.row.T) c.args.alloc c.extend_unhinted.new.self
     (g.I.Iterator.remaining c.args.iter)
